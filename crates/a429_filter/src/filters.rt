@@ -1,0 +1,122 @@
+//! Filters of labels.
+ghost use Rattle.std.specs.Prelude.{◌≡◌, ◌++◌, ◌∷◌, [], ◌↔◌, Some, None, length, IsErr, OnOk, OnErr, option_map, if◌then◌else◌};
+ghost use Rattle.a429_filter.specs.Filters.{passes, set_passes, filters_of};
+
+use a429_word::Label;
+use std::marker::Model;
+use thiserror::Error;
+
+/// How many filters a receiver can have (profile).
+pub const FILTERS: usize = 32;
+
+/// A label, and a mask whose ones are the bits of the label that count (profile).
+#[derive(Clone, Copy, Debug, PartialEq, Eq)]
+pub struct Filter {
+    pub label: Label,
+    pub mask: u8,
+}
+
+impl Filter {
+    /// Whether a label agrees with the filter's in the bits of the mask.
+    pub fn passes(self, label: Label) -> bool
+        ensures { result ≡ passes self label }
+    {
+        label.value() & self.mask == self.label.value() & self.mask
+    }
+}
+
+/// The set holds 32 filters already.
+#[derive(Clone, Copy, Debug, PartialEq, Eq, Error)]
+#[error("a receiver has at most 32 filters")]
+pub struct Full;
+
+/// The filters of a receiver: a list of at most 32, of which one has to pass a label, or no list,
+/// which passes every label (profile).
+#[derive(Debug, Drop)]
+pub struct FilterSet {
+    listed: bool,
+    len: usize,
+    filters: [Filter; FILTERS],
+}
+
+impl Model for FilterSet {
+    ghost use Rattle.std.specs.Prelude.{◌≤◌, List, Option, Some, None, take, if◌then◌else◌};
+    ghost use Rattle.a429_filter.specs.declared.filters.Filter.{Filter};
+
+    ghost Value = { Option (List Filter) };
+
+    ghost view = { λ s. if s.listed then Some (take s.len s.filters) else None };
+
+    ghost invariant = { λ s. s.len ≤ 32 };
+}
+
+impl FilterSet {
+    /// The set without a list, which passes every label.
+    pub fn all() -> Self
+        ensures { result ≡ None }
+    {
+        FilterSet::empty(false)
+    }
+
+    /// The set of an empty list, which passes no label.
+    pub fn none() -> Self
+        ensures { result ≡ Some [] }
+    {
+        FilterSet::empty(true)
+    }
+
+    fn empty(listed: bool) -> Self
+        ensures { result ≡ (if listed then Some [] else None) }
+    {
+        let unused = Filter {
+            label: Label::new(0),
+            mask: 0,
+        };
+        FilterSet {
+            listed,
+            len: 0,
+            filters: [unused; FILTERS],
+        }
+    }
+
+    /// Adds a filter at the end of the list; to a set without a list, as the one filter of a list.
+    /// Refused just where the list holds 32, and the set is then as before.
+    pub fn add(&mut self, filter: Filter) -> Result<(), Full>
+        ensures full { IsErr result ↔ (length (filters_of self.old) ≡ 32) }
+        ensures ok { OnOk result (self.new ≡ Some (filters_of self.old ++ filter ∷ [])) }
+        ensures err { OnErr result (self.new ≡ self.old) }
+    {
+        let len = if self.listed { self.len } else { 0 };
+        if len == FILTERS {
+            return Err(Full);
+        }
+        self.filters[len] = filter;
+        self.len = len + 1;
+        self.listed = true;
+        Ok(())
+    }
+
+    /// The filters as they were added, or none where there is no list.
+    pub fn list(&self) -> Option<&[Filter]>
+        ensures { option_map (λ filters. filters.now) result ≡ self.now }
+    {
+        if self.listed {
+            Some(&self.filters[..self.len])
+        } else {
+            None
+        }
+    }
+
+    /// Whether a label passes: there is no list, or a filter of it passes the label.
+    pub fn passes(&self, label: Label) -> bool
+        ensures { result ≡ set_passes self.now label }
+    {
+        !self.listed || any_passes(&self.filters[..self.len], label)
+    }
+}
+
+fn any_passes(filters: &[Filter], label: Label) -> bool
+    ensures { result ≡ set_passes (Some filters.now) label }
+{
+    filters.iter().any(|filter| filter.passes(label))
+}

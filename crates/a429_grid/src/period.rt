@@ -1,0 +1,79 @@
+//! Periods of a power of two of slots, and the greatest one that an interval admits.
+ghost use Rattle.std.specs.Prelude.{◌≡◌, ◌≤◌, ◌^◌, ◌↔◌, IsTrue, MatchOption};
+ghost use Rattle.a429_grid.specs.Grid.{IsWithin, IsGridPeriod, HasNoGridPeriod};
+
+use std::marker::Model;
+
+/// What a slot lasts at a rate of 1 bit/s, in microseconds: 36 bit times, which are the 32 bits of a
+/// word and the gap of four behind it (ARINC 429 Part 1; the slot is the profile's).
+const SLOT: u64 = 36_000_000;
+
+/// A period on the slot grid: a power of two of slots, 1 to 8192 (profile). Contracts see its
+/// exponent `k`; it has `2^k` slots.
+#[derive(Clone, Copy, Debug, PartialEq, Eq)]
+pub struct Period {
+    exponent: u32,
+}
+
+impl Model for Period {
+    ghost use Rattle.std.specs.Prelude.{ℕ, ◌≤◌};
+
+    ghost Value = { ℕ };
+
+    ghost view = { λ p. p.exponent };
+
+    ghost invariant = { λ p. p.exponent ≤ 13 };
+
+    ghost inverse = { λ n. record { exponent = n } };
+}
+
+impl Period {
+    /// The period of `2^digits` slots.
+    pub fn of_digits(digits: u32) -> Period
+        requires { digits ≤ 13 }
+        ensures { result ≡ digits }
+    {
+        Period { exponent: digits }
+    }
+
+    /// How many slots the period has.
+    pub fn slots(self) -> u32
+        ensures value { result ≡ 2 ^ self }
+        ensures few { result ≤ 8192 }
+        ensures some { 1 ≤ result }
+    {
+        1 << self.exponent
+    }
+
+    /// How many binary digits count the slots of the period from 0: it has two to that power.
+    pub fn digits(self) -> u32
+        ensures value { result ≡ self }
+        ensures few { result ≤ 13 }
+    {
+        self.exponent
+    }
+}
+
+/// Whether a word that is sent once a period keeps to its interval, `min_us` to `max_us` microseconds,
+/// at this rate in bit/s.
+pub fn fits(period: Period, min_us: u32, max_us: u32, rate: u32) -> bool
+    ensures { IsTrue result ↔ IsWithin min_us max_us rate (2 ^ period) }
+{
+    let lasting = SLOT * u64::from(period.slots());
+    let rate = u64::from(rate);
+    u64::from(min_us) * rate <= lasting && lasting <= u64::from(max_us) * rate
+}
+
+/// The grid period of an interval: the greatest period that keeps to it, at this rate in bit/s; none
+/// where no period does.
+pub fn grid_period(min_us: u32, max_us: u32, rate: u32) -> Option<Period>
+    ensures { MatchOption result (HasNoGridPeriod min_us max_us rate) (λ p. IsGridPeriod min_us max_us rate (2 ^ p)) }
+{
+    for exponent in (0..14).rev() {
+        let period = Period { exponent };
+        if fits(period, min_us, max_us, rate) {
+            return Some(period);
+        }
+    }
+    None
+}

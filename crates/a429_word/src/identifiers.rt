@@ -1,0 +1,76 @@
+//! The two small fields of a word: the SDI and the SSM.
+ghost use Rattle.std.specs.Prelude.{◌≡◌, ◌<◌};
+
+use std::marker::Model;
+
+/// The source and destination identifier, bits 9 and 10 of a word (ARINC 429 Part 1): 0 to 3.
+#[derive(Clone, Copy, Debug, PartialEq, Eq)]
+pub struct Sdi {
+    value: u8,
+}
+
+impl Model for Sdi {
+    ghost use Rattle.std.specs.Prelude.{ℕ, ◌<◌};
+
+    ghost Value = { ℕ };
+
+    ghost view = { λ sdi. sdi.value };
+
+    ghost invariant = { λ sdi. sdi.value < 4 };
+
+    ghost inverse = { λ n. record { value = n } };
+}
+
+impl Sdi {
+    /// The identifier of this number.
+    pub fn new(value: u8) -> Sdi
+        requires { value < 4 }
+        ensures { result ≡ value }
+    {
+        Sdi { value }
+    }
+
+    /// Its number, 0 to 3.
+    pub fn value(self) -> u8
+        ensures value { result ≡ self }
+        ensures small { result < 4 }
+    {
+        self.value
+    }
+}
+
+/// The sign and status matrix, bits 30 and 31 of a word (ARINC 429 Part 1): 0 to 3, bit 31 the upper one.
+#[derive(Clone, Copy, Debug, PartialEq, Eq)]
+pub struct Ssm {
+    value: u8,
+}
+
+impl Model for Ssm {
+    ghost use Rattle.std.specs.Prelude.{ℕ, ◌<◌};
+
+    ghost Value = { ℕ };
+
+    ghost view = { λ ssm. ssm.value };
+
+    ghost invariant = { λ ssm. ssm.value < 4 };
+
+    ghost inverse = { λ n. record { value = n } };
+}
+
+impl Ssm {
+    /// The status of this number.
+    pub fn new(value: u8) -> Ssm
+        requires { value < 4 }
+        ensures { result ≡ value }
+    {
+        Ssm { value }
+    }
+
+    /// Its number, 0 to 3.
+    pub fn value(self) -> u8
+        ensures value { result ≡ self }
+        ensures small { result < 4 }
+    {
+        self.value
+    }
+}

@@ -1,0 +1,11 @@
+//! Words of ARINC 429: labels, fields, parity (ARINC 429 Part 1).
+#![tactic(auto)]
+
+mod identifiers;
+mod labels;
+pub mod laws;
+mod words;
+
+pub use identifiers::{Sdi, Ssm};
+pub use labels::{Label, LabelText};
+pub use words::{DataRange, Parity, Word};
