@@ -1,0 +1,5 @@
+pub mod Places
+pub mod Words
+pub mod Frames
+pub mod Steps
+pub mod Opening

@@ -1,0 +1,93 @@
+-- What a state begins with.
+use Rattle.std.proofs.Common.{◌≡◌, ℕ, zero, suc, ◌+◌, ◌-◌, ◌<◌, ◌≤◌, ◌^◌, Bool, true, false, List, [], ◌∷◌, ◌++◌, length, take, map, replicate, ◌∙◌, sym, ap, subst, refl, arith}
+use Rattle.std.specs.Prelude.{Option, Some, None, IsTrue, ◌&&◌, slice_get, option_map, nat_lt, min}
+use Rattle.std.specs.Option.{option_map_or}
+use Rattle.std.proofs.lemmas.List.{take_more, take_all, map-append, length-map}
+use Rattle.std.proofs.lemmas.Option.{slice_get_within, get_or_from_slice_get, same_Some, none-some}
+use Rattle.std.proofs.lemmas.Bool.{ltb-true, and_parts}
+use Rattle.a429_equipment.specs.declared.rows.SourceRow.{SourceRow}
+use Rattle.a429_equipment.specs.Arrivals.{AreApart}
+use Rattle.a429_slots.specs.Tables.{GroupTable, PlanTable, groups_of, frame_of, cells_of}
+use Rattle.a429_slots.specs.Proposed.{Proposed}
+use Rattle.a429_slots.specs.History.{Opening, accepted_in, current, last_of}
+use Rattle.a429_core.proofs.Places.{map_same}
+use Rattle.a429_core.specs.declared.sources.Kept.{Kept}
+use Rattle.a429_core.specs.Sending.{Sending, all_fit, begun, sending_of}
+use Rattle.a429_core.specs.Standing.{Standing, StandsFor, IsWhole, kept_of}
+
+take_next : {X : Type 0} (xs : List X) (i : ℕ) (x : X) → slice_get xs i ≡ Some x → take (i + 1) xs ≡ take i xs ++ x ∷ []
+take_next xs i x h = take_more xs i x (slice_get_within xs i x h) ∙ ap (λ y. take i xs ++ y ∷ []) (get_or_from_slice_get xs i x x h)
+
+-- ---- frames that fit
+
+fit_append : (first : ℕ) (ts : List GroupTable) (t : GroupTable) → all_fit first ts ≡ true → nat_lt (first + frame_of t) (2 ^ 64) ≡ true → all_fit first (ts ++ t ∷ []) ≡ true
+fit_append first [] t all h = rw h refl
+fit_append first (u ∷ ts) t all h =
+    let parts = and_parts (nat_lt (first + frame_of u) (2 ^ 64)) (all_fit first ts) all in
+    rw (parts.0, fit_append first ts t parts.1 h) refl
+
+pub fit_next : (first : ℕ) (ts : List GroupTable) (i : ℕ) (t : GroupTable) → slice_get ts i ≡ Some t → all_fit first (take i ts) ≡ true → nat_lt (first + frame_of t) (2 ^ 64) ≡ true → all_fit first (take (i + 1) ts) ≡ true
+fit_next first ts i t there all h = ap (all_fit first) (take_next ts i t there) ∙ fit_append first (take i ts) t all h
+
+and_false : (a b : Bool) → b ≡ false → (a && b) ≡ false
+and_false true b h = h
+and_false false b h = refl
+
+pub unfit_at : (first : ℕ) (ts : List GroupTable) (i : ℕ) (t : GroupTable) → slice_get ts i ≡ Some t → nat_lt (first + frame_of t) (2 ^ 64) ≡ false → all_fit first ts ≡ false
+unfit_at first [] i t there h = absurd (none-some t there)
+unfit_at first (u ∷ ts) zero t there h = subst (λ (x : GroupTable). all_fit first (x ∷ ts) ≡ false) (sym (same_Some u t there)) (rw h refl)
+unfit_at first (u ∷ ts) (suc i) t there h = and_false (nat_lt (first + frame_of u) (2 ^ 64)) (all_fit first ts) (unfit_at first ts i t there h)
+
+pub fits_at : (first : ℕ) (ts : List GroupTable) (i : ℕ) (t : GroupTable) → slice_get ts i ≡ Some t → all_fit first ts ≡ true → first + frame_of t < 2 ^ 64
+fits_at first [] i t there all = absurd (none-some t there)
+fits_at first (u ∷ ts) zero t there all =
+    ltb-true (first + frame_of t) (2 ^ 64) (subst (λ (x : GroupTable). nat_lt (first + frame_of x) (2 ^ 64) ≡ true) (same_Some u t there) (and_parts (nat_lt (first + frame_of u) (2 ^ 64)) (all_fit first ts) all).0)
+fits_at first (u ∷ ts) (suc i) t there all = fits_at first ts i t there (and_parts (nat_lt (first + frame_of u) (2 ^ 64)) (all_fit first ts) all).1
+
+pub map_next : (first : ℕ) (ts : List GroupTable) (i : ℕ) (t : GroupTable) → slice_get ts i ≡ Some t → map (begun first) (take (i + 1) ts) ≡ map (begun first) (take i ts) ++ begun first t ∷ []
+map_next first ts i t there = ap (map (begun first)) (take_next ts i t there) ∙ map-append (begun first) (take i ts) (t ∷ [])
+
+-- ---- the state
+
+get_map : {A B : Type 0} (f : A → B) (xs : List A) (i : ℕ) → slice_get (map f xs) i ≡ option_map f (slice_get xs i)
+get_map f [] i = refl
+get_map f (x ∷ xs) zero = refl
+get_map f (x ∷ xs) (suc i) = get_map f xs i
+
+get_replicate : {A B : Type 0} (k : B) (xs : List A) (i : ℕ) → slice_get (replicate (length xs) k) i ≡ option_map (λ _. k) (slice_get xs i)
+get_replicate k [] i = refl
+get_replicate k (x ∷ xs) zero = refl
+get_replicate k (x ∷ xs) (suc i) = get_replicate k xs i
+
+abbrev pub unheard : Kept
+unheard = record { count = 0; last = None }
+
+abbrev pub opened : Proposed → List Kept → List Sending → Standing
+opened q ks ss = record { station = q.station; sources = ks; groups = ss; newest = q.plan }
+
+none_cut : {X : Type 0} (n : ℕ) → ◌≡◌ {A = List X} (take n []) []
+none_cut zero = refl
+none_cut (suc n) = refl
+
+pub stands_at_first : (C first : ℕ) (q : Proposed) (ks : List Kept) (ss : List Sending) → AreApart q.station.sources → IsWhole q → q.plan.number ≡ 0
+    → ks ≡ replicate (length q.station.sources) unheard → ss ≡ map (begun first) (groups_of q.plan)
+    → StandsFor C (record { proposal = q; first = first }) [] (opened q ks ss)
+stands_at_first C first q ks ss apart whole number kept sent =
+    let o : Opening = record { proposal = q; first = first } in
+    record {
+      apart = apart;
+      whole = whole;
+      station = refl;
+      sources = λ i. ap (λ (zs : List Kept). slice_get zs i) kept ∙ (get_replicate unheard q.station.sources i
+          ∙ map_same (λ _. unheard) (λ s. kept_of (accepted_in C o s [])) (slice_get q.station.sources i) (λ s h. sym (ap kept_of (none_cut (2 ^ C - 1)))));
+      groups = λ g. ap (λ (zs : List Sending). slice_get zs g) sent ∙ (get_map (begun first) (groups_of q.plan) g
+          ∙ map_same (begun first) (λ p. sending_of g (current o g p [])) (slice_get (groups_of q.plan) g) (λ p h. none_sent first p));
+      size = ap (λ (zs : List Sending). length zs) sent ∙ length-map (groups_of q.plan) (begun first);
+      number = number ∙ sym (ap (λ (ps : List Proposed). length ps) (none_cut (2 ^ 64 - 1)));
+      newest = sym (ap (λ (ps : List Proposed). groups_of (option_map_or (λ p. p.plan) (last_of ps) q.plan)) (none_cut (2 ^ 64 - 1)));
+      as_many = refl;
+    }
+  where
+    none_sent : (first : ℕ) (p : GroupTable) → begun first p ≡ record { table = p; number = 0; first = first; sent = min 0 (cells_of p) }
+    none_sent first p = let none : 0 ≡ min 0 (cells_of p) = omega arith in ap (λ (n : ℕ). record { table = p; number = 0; first = first; sent = n }) none
+

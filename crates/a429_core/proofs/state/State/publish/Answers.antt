@@ -1,0 +1,19 @@
+use Rattle.std.proofs.Common.{◌≡◌, ◌∙◌, length, ap, sym, true}
+use Rattle.a429_equipment.specs.TableRecord.{TableRecord}
+use Rattle.a429_equipment.specs.SameStation.{same_station}
+use Rattle.a429_slots.specs.Planned.{IsPlanOf}
+use Rattle.a429_slots.specs.Tables.{PlanTable, groups_of}
+use Rattle.a429_core.proofs.Steps.{same_count}
+use Rattle.a429_core.proofs.state.State.publish.Goals as goal
+
+pub invariant_of-self : goal.invariant_of-self
+invariant_of-self g c =
+    let old = c.self.inside in
+    let q = c.args.proposal in
+    let own : IsPlanOf q.station q.plan = c.into_parts-newest.ensures.own in
+    let agrees : same_station old.equipment q.station ≡ true =
+    ap (same_station old.equipment) (sym c.equipment-station.ensures.equipment) ∙ (sym c.same_station.ensures ∙ c.if-not-same_station.false) in
+    let many : length old.groups.items ≡ length q.station.groups = c.self.invariant.3 ∙ same_count old.equipment q.station agrees in
+    let tables : groups_of c.numbered.result ≡ groups_of q.plan =
+    ap (λ (p : PlanTable). groups_of p) c.numbered.ensures ∙ ap (λ (p : PlanTable). groups_of p) (c.deref-2.ensures ∙ c.into_parts-newest.ensures.plan) in
+    (c.self.invariant.0, c.self.invariant.1, many ∙ (sym own.count ∙ sym (ap length tables)), c.self.invariant.3)

@@ -1,0 +1,38 @@
+-- Where a group stands in its frame, as the machine keeps it.
+use Rattle.std.specs.Prelude.{◌+◌, ◌/◌, ◌%◌, ◌^◌, ℕ, Bool, Option, Some, None, List, if◌then◌else◌, nat_lt, min}
+use Rattle.std.specs.List.{list_all}
+use Rattle.a429_slots.specs.Tables.{GroupTable, frame_of, buses_of, cells_of}
+use Rattle.a429_slots.specs.History.{Current, cells_since}
+
+-- the table in force with its plan's number, the frame's first slot, and how many of its cells were sent
+pub record Sending : Type 0 where
+  pub table : GroupTable
+  pub number : ℕ
+  pub first : ℕ
+  pub sent : ℕ
+
+abbrev pub begun : ℕ → GroupTable → Sending
+begun first p = record { table = p; number = 0; first = first; sent = 0 }
+
+-- 64 bits can count the slots of each group's first frame
+abbrev pub all_fit : ℕ → List GroupTable → Bool
+all_fit first tables = list_all (λ p. nat_lt (first + frame_of p) (2 ^ 64)) tables
+
+-- the bus and the slot in the frame of the next cell
+abbrev pub next_cell : Sending → Option (ℕ × ℕ)
+next_cell s = if nat_lt s.sent (cells_of s.table) then Some (s.sent % buses_of s.table, s.sent / buses_of s.table) else None
+
+abbrev pub after_cell : Sending → Sending
+after_cell s = if nat_lt s.sent (cells_of s.table) then record s { sent = s.sent + 1 } else s
+
+-- 64 bits can count the slots of a next frame by this table
+abbrev pub fits_next : Sending → GroupTable → Bool
+fits_next s newest = nat_lt (s.first + frame_of s.table + frame_of newest) (2 ^ 64)
+
+abbrev pub turned : Sending → ℕ → GroupTable → Sending
+turned s number newest =
+    if fits_next s newest then record { table = newest; number = number; first = s.first + frame_of s.table; sent = 0 } else s
+
+-- what the machine keeps of a frame
+abbrev pub sending_of : ℕ → Current → Sending
+sending_of g f = record { table = f.table; number = f.number; first = f.first; sent = min (cells_since g f) (cells_of f.table) }

@@ -1,0 +1,104 @@
+//! Where a group stands in its frame.
+ghost use Rattle.std.specs.Prelude.{◌≡◌, ◌+◌, ◌<◌, ◌^◌, nat_lt, MatchOption, ⊤};
+ghost use Rattle.a429_slots.specs.Tables.{cells_of, frame_of, source_at};
+ghost use Rattle.a429_core.specs.Sending.{begun, next_cell, after_cell, fits_next, turned};
+
+use a429_slots::{GroupPlan, OUTPUTS};
+use std::marker::Model;
+
+/// The plan in force of a group with its number, the first slot of its frame, and how many cells of the
+/// frame were sent.
+#[derive(Drop)]
+pub struct Sender {
+    plan: GroupPlan<OUTPUTS>,
+    number: u64,
+    first: u64,
+    sent: u64,
+}
+
+impl Model for Sender {
+    ghost use Rattle.std.specs.Prelude.{◌≤◌, ◌<◌, ◌+◌, ◌^◌};
+    ghost use Rattle.a429_slots.specs.Tables.{cells_of, frame_of};
+    ghost use Rattle.a429_core.specs.Sending.{Sending};
+
+    ghost Value = { Sending };
+
+    ghost view = { λ s. record { table = s.plan; number = s.number; first = s.first; sent = s.sent } };
+
+    ghost invariant = { λ s. (s.first + frame_of s.plan < 2 ^ 64) × (s.sent ≤ cells_of s.plan) };
+}
+
+impl Sender {
+    /// A group before its first cell, by the opening plan.
+    pub fn open(plan: GroupPlan<OUTPUTS>, first: u64) -> Sender
+        requires { first + frame_of plan < 2 ^ 64 }
+        ensures { result ≡ begun first plan }
+    {
+        Sender {
+            plan,
+            number: 0,
+            first,
+            sent: 0,
+        }
+    }
+
+    fn cells(&self) -> u64
+        ensures { result ≡ cells_of self.now.table }
+    {
+        u64::from(self.plan.buses()) * u64::from(self.plan.frame())
+    }
+
+    /// The first slot of the frame.
+    pub fn first(&self) -> u64
+        ensures { result ≡ self.now.first }
+    {
+        self.first
+    }
+
+    /// Whether cells of the frame are left to send.
+    pub fn is_mid_frame(&self) -> bool
+        ensures { result ≡ (nat_lt self.now.sent (cells_of self.now.table)) }
+    {
+        self.sent < self.cells()
+    }
+
+    /// The number of the source whose words go out on a bus in a slot of the frame.
+    pub fn source_at(&self, bus: u32, slot: u64) -> Option<usize>
+        ensures { result ≡ source_at self.now.table bus slot }
+    {
+        let output = self.plan.at(bus, slot)?;
+        Some(self.plan.source(output))
+    }
+
+    /// The bus and the slot in the frame of the next cell, which then counts as sent.
+    pub fn cell(&mut self) -> Option<(u32, u64)>
+        ensures due { result ≡ next_cell self.old }
+        ensures after { self.new ≡ after_cell self.old }
+        ensures fits { MatchOption result ⊤ (λ c. self.old.first + c.1 < 2 ^ 64) }
+    {
+        if !self.is_mid_frame() {
+            return None;
+        }
+        let buses = u64::from(self.plan.buses());
+        let bus = (self.sent % buses) as u32;
+        let slot = self.sent / buses;
+        self.sent += 1;
+        Some((bus, slot))
+    }
+
+    /// Goes on to the next frame by this plan, unless its slots cannot be counted in 64 bits.
+    pub fn turn(&mut self, number: u64, newest: &GroupPlan<OUTPUTS>) -> bool
+        ensures room { result ≡ fits_next self.old newest.now }
+        ensures after { self.new ≡ turned self.old number newest.now }
+    {
+        let first = self.first + u64::from(self.plan.frame());
+        if u64::MAX - first < u64::from(newest.frame()) {
+            return false;
+        }
+        self.plan = *newest;
+        self.number = number;
+        self.first = first;
+        self.sent = 0;
+        true
+    }
+}

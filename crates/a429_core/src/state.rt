@@ -1,0 +1,256 @@
+//! The machine: one step for each event.
+ghost use Rattle.std.specs.Prelude.{◌≡◌, ◌≤◌, ◌+◌, ◌-◌, ◌^◌, ◌<◌, ◌∷◌, [], ◌++◌, ◌↔◌, List, Ok, Some, None, map, option_and_then, length, IfOk, OnOk, OnErr, IsErrOf, IsOk, IsTrue, false};
+ghost use Rattle.a429_slots.specs.Tables.{groups_of};
+ghost use Rattle.a429_slots.specs.Events.{Event as History_Event};
+ghost use Rattle.a429_slots.specs.History.{Opening};
+ghost use Rattle.a429_core.specs.Answers.{event_of, answer, answers};
+ghost use Rattle.a429_core.specs.Sending.{begun, all_fit};
+ghost use Rattle.a429_core.specs.Standing.{StandsFor, IsWhole, IsWholeEvent, latest, arrived, cell_asked, frame_asked, publish_asked, asked_cell, after_asked, frame_at, stepped};
+
+use crate::events::{Answer, Event, Refusal};
+use crate::sender::Sender;
+use crate::sources::{Kept, keep};
+use a429_equipment::Equipment;
+use a429_slots::{OUTPUTS, Plan, Proposal};
+use a429_word::Word;
+use std::alloc::{AllocError, Global};
+use std::marker::Model;
+use thiserror::Error;
+
+/// Why no state is opened.
+#[derive(Debug, Drop, PartialEq, Error)]
+pub enum OpenFault {
+    /// The first frame of some group has slots that cannot be counted in 64 bits.
+    #[error("slots spent")]
+    SlotsSpent,
+    /// Memory was refused.
+    #[error("out of memory")]
+    NoMemory,
+}
+
+impl From<AllocError> for OpenFault {
+    ghost use Rattle.std.specs.Prelude.{◌≡◌};
+    ghost use Rattle.a429_core.specs.declared.state.OpenFault.TheVariants as fault;
+
+    ghost from_gives = { λ _ e. e ≡ fault.NoMemory };
+
+    fn from(_error: AllocError) -> OpenFault {
+        OpenFault::NoMemory
+    }
+}
+
+/// A station in operation: the last accepted word of each source, where each group stands in its frame,
+/// and the newest plan. It counts the words of a source in `C` bits, 1 to 41.
+#[derive(Drop)]
+pub struct State<const C: u32> {
+    equipment: Equipment,
+    limit: u64,
+    sources: Vec<Kept>,
+    groups: Vec<Sender>,
+    newest: Box<Plan<OUTPUTS>>,
+}
+
+impl<const C: u32> Model for State<C> {
+    ghost use Rattle.std.specs.Prelude.{◌≡◌, ◌-◌, ◌^◌, length};
+    ghost use Rattle.a429_slots.specs.Tables.{groups_of};
+    ghost use Rattle.a429_core.specs.Standing.{Standing};
+
+    ghost Value = { Standing };
+
+    ghost view = { λ s. record { station = s.equipment; sources = s.sources.items; groups = s.groups.items; newest = s.newest.value } };
+
+    ghost invariant = { λ s. (s.limit ≡ 2 ^ C - 1) × (length s.sources.items ≡ length s.equipment.sources) × (length s.groups.items ≡ length (groups_of s.newest.value)) × (length s.groups.items ≡ length s.equipment.groups) };
+}
+
+/// Whether the slots of each group's first frame can be counted in 64 bits.
+fn frames_fit(plan: &Plan<OUTPUTS>, first: u64) -> bool
+    ensures { result ≡ all_fit first (groups_of plan.now) }
+{
+    for group in 0..plan.groups() {
+        if u64::MAX - first < u64::from(plan.group(group).frame()) {
+            return false;
+        }
+    }
+    true
+}
+
+/// The groups before their first cells.
+fn senders_of(alloc: Global, plan: &Plan<OUTPUTS>, first: u64) -> Result<Vec<Sender>, AllocError>
+    requires { IsTrue (all_fit first (groups_of plan.now)) }
+    ensures { IfOk result (λ senders. senders.items ≡ map (begun first) (groups_of plan.now)) }
+{
+    let mut senders = Vec::new(alloc);
+    for group in 0..plan.groups() {
+        senders.push(Sender::open(*plan.group(group), first))?;
+    }
+    Ok(senders)
+}
+
+/// The next cell of a group: its bus, its slot, and the number of the source that stands there.
+fn next_cell(groups: &mut Vec<Sender>, group: usize) -> Option<(u32, u64, Option<usize>)>
+    requires { group < length groups.old.items }
+    ensures due { result ≡ asked_cell groups.old.items group }
+    ensures after { groups.new.items ≡ after_asked groups.old.items group }
+    ensures len { length groups.new.items ≡ length groups.old.items }
+{
+    let sender = &mut groups[group];
+    let first = sender.first();
+    let (bus, slot) = sender.cell()?;
+    Some((bus, first + slot, sender.source_at(bus, slot)))
+}
+
+/// Takes the next frame of a group by the newest plan, where the one before is over.
+fn next_frame(groups: &mut Vec<Sender>, newest: &Plan<OUTPUTS>, group: usize) -> Answer
+    requires group { group < length groups.old.items }
+    requires planned { group < length (groups_of newest.now) }
+    ensures answer { result ≡ (frame_at groups.old.items newest.now group).0 }
+    ensures after { groups.new.items ≡ (frame_at groups.old.items newest.now group).1 }
+    ensures len { length groups.new.items ≡ length groups.old.items }
+{
+    let sender = &mut groups[group];
+    if sender.is_mid_frame() {
+        return Answer::Refused(Refusal::MidFrame);
+    }
+    if sender.turn(newest.number(), newest.group(group)) {
+        Answer::Changed(newest.number())
+    } else {
+        Answer::Refused(Refusal::SlotsSpent)
+    }
+}
+
+impl<const C: u32> State<C> {
+    /// A station to which nothing has happened, whose first frames begin at this slot. Refused with
+    /// `SlotsSpent` where the first frame of some group has slots that cannot be counted in 64 bits.
+    pub fn open(
+        alloc: Global,
+        proposal: Proposal<OUTPUTS>,
+        first_slot: u64,
+    ) -> Result<State<C>, OpenFault>
+        requires { (1 ≤ C) × (C ≤ 41) }
+        ensures stands { IfOk result (StandsFor C (record { proposal = proposal; first = first_slot }) []) }
+        ensures spent { IsErrOf result OpenFault.SlotsSpent ↔ (all_fit first_slot (groups_of proposal.plan) ≡ false) }
+    {
+        let (equipment, newest) = proposal.into_parts();
+        if !frames_fit(&newest, first_slot) {
+            return Err(OpenFault::SlotsSpent);
+        }
+        let unheard = Kept {
+            count: 0,
+            last: None,
+        };
+        let sources = vec![in alloc; unheard; equipment.sources().len()]?;
+        let groups = senders_of(alloc, &newest, first_slot)?;
+        Ok(State {
+            equipment,
+            limit: (1u64 << C) - 1,
+            sources,
+            groups,
+            newest,
+        })
+    }
+
+    fn arrive(&mut self, receiver: usize, raw: u32) -> Answer
+        ensures answer { result ≡ (arrived C self.old receiver raw).0 }
+        ensures after { self.new ≡ (arrived C self.old receiver raw).1 }
+    {
+        if receiver >= self.equipment.receivers().len() {
+            return Answer::Refused(Refusal::NoSuch);
+        }
+        match self.equipment.sort(receiver, raw) {
+            Err(refusal) => Answer::Refused(Refusal::from(refusal)),
+            Ok((source, word)) => {
+                if keep(&mut self.sources, self.limit, source, word) {
+                    Answer::Accepted(source)
+                } else {
+                    Answer::Refused(Refusal::CountSpent)
+                }
+            }
+        }
+    }
+
+    fn cell(&mut self, group: usize) -> Answer
+        ensures answer { result ≡ (cell_asked self.old group).0 }
+        ensures after { self.new ≡ (cell_asked self.old group).1 }
+    {
+        if group >= self.groups.len() {
+            return Answer::Refused(Refusal::NoSuch);
+        }
+        match next_cell(&mut self.groups, group) {
+            None => Answer::Refused(Refusal::FrameEnd),
+            Some((bus, slot, source)) => Answer::Sent(bus, slot, self.latest(source)),
+        }
+    }
+
+    /// The last accepted word of a source.
+    fn latest(&self, source: Option<usize>) -> Option<Word>
+        ensures { result ≡ option_and_then (latest self.now.sources) source }
+    {
+        self.sources.get(source?)?.last
+    }
+
+    fn frame(&mut self, group: usize) -> Answer
+        ensures answer { result ≡ (frame_asked self.old group).0 }
+        ensures after { self.new ≡ (frame_asked self.old group).1 }
+    {
+        if group >= self.groups.len() {
+            return Answer::Refused(Refusal::NoSuch);
+        }
+        next_frame(&mut self.groups, &self.newest, group)
+    }
+
+    fn publish(&mut self, proposal: Proposal<OUTPUTS>) -> Answer
+        ensures answer { result ≡ (publish_asked self.old proposal).0 }
+        ensures after { self.new ≡ (publish_asked self.old proposal).1 }
+        ensures whole { IsWhole proposal }
+    {
+        let station = proposal.equipment();
+        if !self.equipment.same_station(station) {
+            return Answer::Refused(Refusal::StationDiffers);
+        }
+        let last = self.newest.number();
+        if last == u64::MAX {
+            return Answer::Refused(Refusal::CountSpent);
+        }
+        let (_, mut newest) = proposal.into_parts();
+        *newest = newest.numbered(last + 1);
+        self.newest = newest;
+        Answer::Published(last + 1)
+    }
+
+    fn take(&mut self, event: Event) -> Answer
+        ensures answer { result ≡ (stepped C self.old (event_of event)).0 }
+        ensures after { self.new ≡ (stepped C self.old (event_of event)).1 }
+        ensures whole { IsWholeEvent (event_of event) }
+    {
+        match event {
+            Event::Arrive(receiver, raw) => self.arrive(receiver, raw),
+            Event::Cell(group) => self.cell(group),
+            Event::Frame(group) => self.frame(group),
+            Event::Publish(proposal) => self.publish(proposal),
+        }
+    }
+
+    /// Takes one event. It takes no memory and never fails.
+    // For every history that the state stands for, the answer is the one of the definition.
+    pub fn step(&mut self, event: Event) -> Result<Answer, AllocError>
+        ensures ok { IsOk result }
+        ensures answer { (o : Opening) (E : List History_Event) → StandsFor C o E self.old → result ≡ Ok (answer C o E (event_of event)) }
+        ensures stands { (o : Opening) (E : List History_Event) → StandsFor C o E self.old → StandsFor C o (E ++ event_of event ∷ []) self.new }
+    {
+        Ok(self.take(event))
+    }
+
+    /// Takes events one after another. Memory for all answers is taken first; where it is refused,
+    /// nothing happened.
+    pub fn run(&mut self, alloc: Global, events: Vec<Event>) -> Result<Vec<Answer>, AllocError>
+        ensures answers { IfOk result (λ all. (o : Opening) (E : List History_Event) → StandsFor C o E self.old → all.items ≡ answers C o E (map event_of events.items)) }
+        ensures stands { OnOk result ((o : Opening) (E : List History_Event) → StandsFor C o E self.old → StandsFor C o (E ++ map event_of events.items) self.new) }
+        ensures err { OnErr result (self.new ≡ self.old) }
+    {
+        let mut answers = Vec::with_capacity(alloc, events.len())?;
+        for event in events {
+            answers.push(self.take(event))?;
+        }
+        Ok(answers)
+    }
+}

@@ -1,0 +1,53 @@
+-- The root table of the bytes.
+use Rattle.std.proofs.Common.{◌≡◌, ℕ, Bool, true, false, List, [], ◌∷◌, Option, Some, None, option_map, Ok, Err, refl}
+use Rattle.std.specs.Str.{IsUtf8, is_utf8}
+use Rattle.std.proofs.lemmas.Str.{IsUtf8-from_is_utf8, is_utf8-from_IsUtf8}
+use Rattle.toml.specs.Data.{Data, Members, table}
+use Rattle.toml.specs.Parse.{parse_document}
+use Rattle.a429_equipment.specs.declared.fault.FaultKind.{FaultKind}
+use Rattle.a429_equipment.specs.declared.fault.TablePlace.{TablePlace}
+use Rattle.a429_equipment.specs.declared.fault.TableFault.{TableFault}
+use Rattle.a429_equipment.specs.declared.fault.TableFault.TheVariants.{NoMemory, At}
+use Rattle.a429_equipment.specs.Faults.{first, faults}
+use Rattle.a429_equipment.specs.TableRecord.{TableRecord}
+use Rattle.a429_equipment.specs.Stated.{stated}
+use Rattle.a429_equipment.specs.Reading.{document, root_of, judged, reading, GivesUnlessMemory}
+
+abbrev Fault : Type 0
+Fault = FaultKind × TablePlace
+
+no_text : (b : Bool) (bytes : List ℕ) → is_utf8 bytes ≡ b → (IsUtf8 bytes → ⊥) → is_utf8 bytes ≡ false
+no_text true bytes e not_text = absurd (not_text (IsUtf8-from_is_utf8 bytes e))
+no_text false bytes e not_text = e
+
+pub document-no_text : (bytes : List ℕ) → (IsUtf8 bytes → ⊥) → document bytes ≡ None
+unfolding document
+document-no_text bytes not_text = rw (no_text (is_utf8 bytes) bytes refl not_text)
+
+pub document-text : (bytes : List ℕ) (parsed : Option Members) → IsUtf8 bytes → parse_document bytes ≡ parsed → document bytes ≡ option_map table parsed
+unfolding document
+document-text bytes parsed text e = rw (is_utf8-from_IsUtf8 bytes text, e)
+
+judged_fault : (root : Data) (fs : List Fault) (f : Fault) → first fs ≡ Some f → judged root fs ≡ Err f
+judged_fault root [] f e = cc
+judged_fault root (g ∷ gs) f e = cc
+
+judged_none : (root : Data) (fs : List Fault) → first fs ≡ None → judged root fs ≡ Ok (stated root)
+judged_none root [] e = refl
+judged_none root (g ∷ gs) e = cc
+
+pub reading-fault : (bytes : List ℕ) (root : Data) (f : Fault) → root_of (document bytes) ≡ Ok root → first (faults root) ≡ Some f → reading bytes ≡ Err f
+unfolding reading
+reading-fault bytes root f is_root e = rw (is_root, judged_fault root (faults root) f e)
+
+pub reading-stated : (bytes : List ℕ) (root : Data) → root_of (document bytes) ≡ Ok root → first (faults root) ≡ None → reading bytes ≡ Ok (stated root)
+unfolding reading
+reading-stated bytes root is_root e = rw (is_root, judged_none root (faults root) e)
+
+reading-no_root : (bytes : List ℕ) (f : Fault) → root_of (document bytes) ≡ Err f → reading bytes ≡ Err f
+unfolding reading
+reading-no_root bytes f e = rw e
+
+pub no_root_passes : {X Y : Type 0} (v : X → Data) (w : Y → TableRecord) (bytes : List ℕ) (e : TableFault) → GivesUnlessMemory v (Err e) (root_of (document bytes)) → GivesUnlessMemory w (Err e) (reading bytes)
+no_root_passes v w bytes NoMemory h = tt
+no_root_passes v w bytes (At kind place) h = reading-no_root bytes (kind, place) h

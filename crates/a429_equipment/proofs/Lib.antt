@@ -1,0 +1,11 @@
+pub mod Trees
+pub mod Firsts
+pub mod Documents
+pub mod NameNumbers
+pub mod Leastness
+pub mod Absence
+pub mod SoundValues
+pub mod Places
+pub mod Apart
+pub mod Soundness
+pub mod IndexPlaces

@@ -1,0 +1,17 @@
+pub mod TableRecord
+pub mod Arrivals
+pub mod SameStation
+pub mod Sound
+pub mod Index
+pub mod Inside
+pub mod Tree
+pub mod Columns
+pub mod Walk
+pub mod Stops
+pub mod Texts
+pub mod Names
+pub mod Numbers
+pub mod Faults
+pub mod Least
+pub mod Stated
+pub mod Reading

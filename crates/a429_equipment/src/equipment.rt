@@ -1,0 +1,173 @@
+//! An equipment: the record of its table.
+ghost use Rattle.std.specs.Prelude.{◌≡◌, ◌<◌, slice_get, length, Some, IfOk, position};
+ghost use Rattle.std.specs.Result.{result_map_both};
+
+use crate::arrivals::ArrivalRefusal;
+use crate::build::{group_outputs, group_rows, rate_of, receiver_rows, source_rows};
+use crate::document::document;
+use crate::fault::TableFault;
+use crate::index::Index;
+use crate::numbers::Numbers;
+use crate::rows::{GroupRow, OutputRow, ReceiverRow, SourceRow};
+use crate::same::{same_groups, same_receivers, same_sources};
+use crate::search::first_fault;
+use crate::tree::rows_at;
+use crate::walk::walk;
+use a429_word::Word;
+use std::alloc::{AllocError, Global};
+use std::marker::Model;
+
+/// The receivers, sources, groups and outputs of a station, numbered from 0 in table order (profile).
+#[derive(Debug, Drop)]
+pub struct Equipment {
+    rate: u32,
+    receivers: Vec<ReceiverRow>,
+    sources: Vec<SourceRow>,
+    groups: Vec<GroupRow>,
+    outputs: Vec<Vec<OutputRow>>,
+    index: Index,
+}
+
+impl Model for Equipment {
+    ghost use Rattle.a429_equipment.specs.TableRecord.{TableRecord};
+
+    ghost Value = { TableRecord };
+
+    ghost use Rattle.a429_equipment.specs.Inside.{record_of, IsWhole};
+
+    ghost view = { record_of };
+
+    ghost invariant = { IsWhole };
+}
+
+impl Equipment {
+    ghost use Rattle.a429_equipment.specs.Sound.{IsSound};
+    ghost use Rattle.a429_equipment.specs.Arrivals.{sorted, is_for};
+    ghost use Rattle.a429_equipment.specs.SameStation.{same_station};
+    ghost use Rattle.std.specs.Prelude.{None};
+    ghost use Rattle.a429_equipment.specs.Faults.{first, faults};
+    ghost use Rattle.a429_equipment.specs.Stops.{table_of};
+    ghost use Rattle.a429_equipment.specs.Stated.{stated};
+    ghost use Rattle.a429_equipment.specs.Reading.{GivesUnlessMemory, reading};
+
+    /// Reads an equipment table, as TOML (profile: equipment table, version 1). The fault is the first by
+    /// kind, and of its kind the first in walk order: root, receivers, sources, then each group followed
+    /// by its outputs. It is `NoMemory` only where memory ran out.
+    pub fn read(alloc: Global, bytes: &[u8]) -> Result<Equipment, TableFault>
+        ensures { GivesUnlessMemory (λ e. e) result (reading bytes.now) }
+    {
+        let root = document(alloc, bytes)?;
+        let numbers = Numbers::of(alloc, &root)?;
+        let stops = walk(alloc, &root)?;
+        if let Some((kind, place)) = first_fault(&numbers, &stops) {
+            return Err(TableFault::At(kind, place));
+        }
+        Ok(Equipment::stated_by(alloc, &numbers)?)
+    }
+
+    /// The equipment of a table without faults.
+    #[tactic(auto, unfolding(crate::specs::Stated::stated))]
+    fn stated_by(alloc: Global, numbers: &Numbers<'_>) -> Result<Equipment, AllocError>
+        requires { first (faults (table_of numbers.now)) ≡ None }
+        ensures { IfOk result (λ e. e ≡ stated (table_of numbers.now)) }
+    {
+        let root = numbers.root;
+        let receivers = receiver_rows(alloc, rows_at(root, "receiver"))?;
+        let sources = source_rows(alloc, numbers, rows_at(root, "source"))?;
+        let groups = group_rows(alloc, rows_at(root, "group"))?;
+        let outputs = group_outputs(alloc, numbers, rows_at(root, "group"))?;
+        let rate = rate_of(root);
+        let index = Index::of(alloc, &receivers, &sources)?;
+        Ok(Equipment {
+            rate,
+            receivers,
+            sources,
+            groups,
+            outputs,
+            index,
+        })
+    }
+
+    /// The rate of every bus, in bit/s: 100000, or 12000 to 14500 (ARINC 429 Part 1, bit rates).
+    pub fn rate(&self) -> u32
+        ensures rate { result ≡ self.now.rate }
+        ensures sound { IsSound self.now }
+    {
+        self.rate
+    }
+
+    /// The receivers, at most 16.
+    pub fn receivers(&self) -> &[ReceiverRow]
+        ensures rows { result.now ≡ self.now.receivers }
+        ensures sound { IsSound self.now }
+    {
+        self.receivers.as_slice()
+    }
+
+    /// The sources, at most 256. No word of a receiver is for two of them.
+    pub fn sources(&self) -> &[SourceRow]
+        ensures rows { result.now ≡ self.now.sources }
+        ensures sound { IsSound self.now }
+    {
+        self.sources.as_slice()
+    }
+
+    /// The groups, at most 8.
+    pub fn groups(&self) -> &[GroupRow]
+        ensures rows { result.now ≡ self.now.groups }
+        ensures sound { IsSound self.now }
+    {
+        self.groups.as_slice()
+    }
+
+    /// The outputs of a group, 1 to 128.
+    pub fn outputs(&self, group: usize) -> &[OutputRow]
+        requires { group < length self.now.groups }
+        ensures rows { slice_get self.now.outputs group ≡ Some result.now }
+        ensures sound { IsSound self.now }
+    {
+        self.outputs[group].as_slice()
+    }
+
+    /// The number of the source that a raw word is for, which came in at this receiver, with the word
+    /// (profile: sources). Refused are a word of even parity, then a label that passes no filter of the
+    /// receiver, then a word whose label and SDI no source of the receiver has. The cost does not grow
+    /// with the number of sources, and no memory is taken.
+    pub fn sort(&self, receiver: usize, raw: u32) -> Result<(usize, Word), ArrivalRefusal>
+        requires { receiver < length self.now.receivers }
+        ensures sorted { sorted self.now receiver raw ≡ result_map_both (λ found. found.0) (λ refusal. refusal) result }
+        ensures word { IfOk result (λ found. found.1 ≡ raw) }
+    {
+        let Ok(word) = Word::from_raw(raw) else {
+            return Err(ArrivalRefusal::Parity);
+        };
+        let row = &self.receivers[receiver];
+        if !row.filters.passes(word.label()) {
+            return Err(ArrivalRefusal::Filtered);
+        }
+        match self.source_of(receiver, word) {
+            Some(source) => Ok((source, word)),
+            None => Err(ArrivalRefusal::NoSource),
+        }
+    }
+
+    /// The number of the source that a word is for, by one look-up.
+    fn source_of(&self, receiver: usize, word: Word) -> Option<usize>
+        requires { receiver < length self.now.receivers }
+        ensures { result ≡ position (is_for receiver word) self.now.sources }
+    {
+        self.index.source_of(receiver, word.label(), word.sdi())
+    }
+
+    /// Whether two equipments are of one station: equal rate, receivers with their filters as written,
+    /// sources and group names, each in order (profile). Outputs may differ.
+    #[tactic(auto, unfolding(crate::specs::SameStation::same_station))]
+    pub fn same_station(&self, other: &Equipment) -> bool
+        ensures { result ≡ same_station self.now other.now }
+    {
+        self.rate == other.rate
+            && same_receivers(&self.receivers, &other.receivers)
+            && same_sources(&self.sources, &other.sources)
+            && same_groups(&self.groups, &other.groups)
+    }
+}

@@ -1,0 +1,29 @@
+//! The equipment table: the station that it states, and the sources that words are for.
+#![tactic(auto)]
+
+mod arrivals;
+mod build;
+mod columns;
+mod document;
+mod equipment;
+mod fault;
+mod index;
+pub mod laws;
+mod names;
+mod numbers;
+mod repeats;
+mod rows;
+mod same;
+mod search;
+mod shape;
+mod tree;
+mod values;
+mod walk;
+
+pub use arrivals::ArrivalRefusal;
+pub use equipment::Equipment;
+pub use fault::{FaultKind, TableFault, TablePlace};
+pub use rows::{GroupRow, Name, OutputRow, ReceiverRow, SourceRow};
+
+#[cfg(test)]
+mod tests;

@@ -1,0 +1,88 @@
+//! Faults in names: names given twice, and names that stand for nothing.
+
+ghost use Rattle.std.specs.Prelude.{◌≡◌, map, take, codes, slice_get};
+ghost use Rattle.std.specs.Option.{option_copied};
+ghost use Rattle.toml.specs.View.{view};
+ghost use Rattle.a429_equipment.specs.Tree.{rows_at};
+ghost use Rattle.a429_equipment.specs.Stops.{table_of};
+ghost use Rattle.a429_equipment.specs.Names.{is_below};
+ghost use Rattle.a429_equipment.specs.Walk.{earlier, outputs_of};
+ghost use Rattle.a429_equipment.specs.Faults.{repeats_name, names_nothing};
+
+use crate::fault::TablePlace;
+use crate::numbers::Numbers;
+use crate::tree::{rows_at, text_at};
+use crate::walk::Stop;
+use toml::Value;
+
+fn first_rows(rows: &[Value], count: usize) -> &[Value]
+    ensures { result.now ≡ take count rows.now }
+{
+    if count < rows.len() {
+        &rows[..count]
+    } else {
+        rows
+    }
+}
+
+/// The row of a number.
+pub fn nth_row(rows: &[Value], row: usize) -> Option<&Value>
+    ensures { option_copied result ≡ slice_get rows.now row }
+{
+    rows.get(row)
+}
+
+fn outputs_of(root: &Value, group: usize) -> &[Value]
+    ensures { map view result.now ≡ outputs_of (slice_get (rows_at (codes "group") (view root.now)) group) }
+{
+    match nth_row(rows_at(root, "group"), group) {
+        Some(group) => rows_at(group, "output"),
+        None => &[],
+    }
+}
+
+/// The earlier tables of the array that a place lies in.
+#[tactic(auto, unfolding(crate::specs::Walk::earlier), using(crate::proofs::Trees::map_take))]
+pub fn earlier(root: &Value, place: TablePlace) -> &[Value]
+    ensures { map view result.now ≡ earlier (view root.now) place }
+{
+    match place {
+        TablePlace::Root => &[],
+        TablePlace::Receiver(row) => first_rows(rows_at(root, "receiver"), row),
+        TablePlace::Source(row) => first_rows(rows_at(root, "source"), row),
+        TablePlace::Group(row) => first_rows(rows_at(root, "group"), row),
+        TablePlace::Output(group, row) => first_rows(outputs_of(root, group), row),
+    }
+}
+
+/// The name is that of an earlier table of the same array.
+#[tactic(auto, unfolding(crate::specs::Faults::repeats_name, crate::specs::Walk::earlier), using(crate::proofs::NameNumbers::named_before))]
+pub fn repeats_name(numbers: &Numbers<'_>, stop: &Stop) -> bool
+    ensures { result ≡ repeats_name (table_of numbers.now) stop.now.place (view stop.now.value.now) }
+{
+    let name = text_at(stop.value, "name");
+    match stop.place {
+        TablePlace::Receiver(row) => is_below(numbers.receiver(name), row),
+        TablePlace::Source(row) => is_below(numbers.source(name), row),
+        TablePlace::Group(row) => is_below(numbers.group(name), row),
+        _ => false,
+    }
+}
+
+fn is_below(number: Option<usize>, row: usize) -> bool
+    ensures { result ≡ is_below row number }
+{
+    number.is_some_and(|number| number < row)
+}
+
+/// A source's receiver or an output's source has no table.
+#[tactic(auto, unfolding(crate::specs::Faults::names_nothing))]
+pub fn names_nothing(numbers: &Numbers<'_>, stop: &Stop) -> bool
+    ensures { result ≡ names_nothing (table_of numbers.now) stop.now.place (view stop.now.value.now) }
+{
+    match stop.place {
+        TablePlace::Source(_) => numbers.receiver(text_at(stop.value, "receiver")).is_none(),
+        TablePlace::Output(_, _) => numbers.source(text_at(stop.value, "source")).is_none(),
+        _ => false,
+    }
+}

@@ -1,0 +1,73 @@
+//! The rows of an equipment table.
+ghost use Rattle.std.specs.Prelude.{◌≡◌, List, ℕ, string_bytes, IfOk};
+
+use a429_filter::FilterSet;
+use a429_word::{Label, Sdi};
+use std::alloc::{AllocError, Global};
+use std::marker::Model;
+
+/// A name of a receiver, a source or a group: 1 to 16 of `a` to `z`, `0` to `9`, `-` and `_` (profile).
+#[derive(Debug, Drop)]
+pub struct Name {
+    text: String,
+}
+
+impl Model for Name {
+    ghost Value = { List ℕ };
+
+    ghost view = { λ n. string_bytes n.text };
+}
+
+impl Name {
+    /// A copy of the text.
+    pub fn copy_of(alloc: Global, text: &str) -> Result<Name, AllocError>
+        ensures { IfOk result (λ n. n ≡ text.now) }
+    {
+        let text = String::from_str(alloc, text)?;
+        Ok(Name { text })
+    }
+
+    /// Its text.
+    pub fn as_str(&self) -> &str
+        ensures { result.now ≡ self.now }
+    {
+        self.text.as_str()
+    }
+}
+
+/// A receiver: one line, and the filters that the labels of its words have to pass.
+#[derive(Debug, Drop)]
+pub struct ReceiverRow {
+    pub name: Name,
+    /// A set without a list where the table has no `filters`, which passes every label.
+    pub filters: FilterSet,
+}
+
+/// A source: the number of its receiver, its label, and its SDI, where none is any.
+#[derive(Debug, Drop)]
+pub struct SourceRow {
+    pub name: Name,
+    /// The number of its receiver.
+    pub receiver: usize,
+    pub label: Label,
+    /// None where the SDI is any.
+    pub sdi: Option<Sdi>,
+}
+
+/// A group of outputs, which is one set of destinations.
+#[derive(Debug, Drop)]
+pub struct GroupRow {
+    pub name: Name,
+}
+
+/// An output of a group: the number of its source, and the least and the greatest time from one
+/// transmission to the next, in microseconds.
+#[derive(Clone, Copy, Debug, PartialEq, Eq)]
+pub struct OutputRow {
+    /// The number of its source.
+    pub source: usize,
+    /// In microseconds, at least 1.
+    pub min_us: u32,
+    /// In microseconds, at least `min_us` and at most 30000000.
+    pub max_us: u32,
+}

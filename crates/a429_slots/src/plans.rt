@@ -1,0 +1,92 @@
+//! The plans of a station's groups.
+ghost use Rattle.std.specs.Prelude.{◌≡◌, ◌<◌, ◌≤◌, ◌++◌, ◌∷◌, [], length, slice_get, Some};
+ghost use Rattle.a429_slots.specs.Tables.{groups_of};
+
+use crate::group_plan::GroupPlan;
+use std::marker::Model;
+
+/// How many groups a station can have (profile).
+pub const GROUPS: usize = 8;
+
+/// A plan: a slot table for each group, in table order, and the number under which it was published.
+#[derive(Clone, Copy)]
+pub struct Plan<const N: usize> {
+    count: usize,
+    groups: [GroupPlan<N>; GROUPS],
+    number: u64,
+}
+
+impl<const N: usize> Model for Plan<N> {
+    ghost use Rattle.std.specs.Prelude.{◌≡◌, ◌≤◌, length};
+    ghost use Rattle.a429_slots.specs.Tables.{PlanTable};
+
+    ghost Value = { PlanTable };
+
+    ghost view = { λ p. record { count = p.count; groups = p.groups; number = p.number } };
+
+    ghost invariant = { λ p. (p.count ≤ 8) × (length p.groups ≡ 8) };
+
+    ghost inverse = { λ t. record { count = t.count; groups = t.groups; number = t.number } };
+}
+
+impl<const N: usize> Plan<N> {
+    /// The plan of a station without groups, of number 0.
+    pub(crate) fn empty() -> Plan<N>
+        ensures none { groups_of result ≡ [] }
+        ensures number { result.number ≡ 0 }
+    {
+        Plan {
+            count: 0,
+            groups: [GroupPlan::empty(); GROUPS],
+            number: 0,
+        }
+    }
+
+    /// Adds the slot table of the next group.
+    pub(crate) fn push(&mut self, group: GroupPlan<N>)
+        requires { length (groups_of self.old) < 8 }
+        ensures groups { groups_of self.new ≡ groups_of self.old ++ group.entry ∷ [] }
+        ensures number { self.new.number ≡ self.old.number }
+    {
+        self.groups[self.count] = group;
+        self.count += 1;
+    }
+
+    /// How many groups the station has, at most 8.
+    pub fn groups(&self) -> usize
+        ensures value { result ≡ length (groups_of self.now) }
+        ensures few { result ≤ 8 }
+    {
+        self.count
+    }
+
+    /// The slot table of a group.
+    pub fn group(&self, group: usize) -> &GroupPlan<N>
+        requires { group < length (groups_of self.now) }
+        ensures { slice_get (groups_of self.now) group ≡ Some result.now }
+    {
+        let groups: &[GroupPlan<N>] = &self.groups;
+        &groups[group]
+    }
+
+    /// The number under which the plan was published, from 0.
+    pub fn number(&self) -> u64
+        ensures { result ≡ self.now.number }
+    {
+        self.number
+    }
+
+    /// The same plan under this number.
+    pub fn numbered(self, number: u64) -> Plan<N>
+        ensures { result ≡ record self.entry { number = number } }
+    {
+        Plan { number, ..self }
+    }
+
+    /// The same plan once more.
+    pub fn copied(&self) -> Plan<N>
+        ensures { result ≡ self.now }
+    {
+        *self
+    }
+}

@@ -1,0 +1,86 @@
+//! A station's equipment with its own plan.
+ghost use Rattle.std.specs.Prelude.{◌≡◌, ◌≤◌, MatchResult};
+
+use crate::planner::{PlanFault, plan};
+use crate::plans::Plan;
+use a429_equipment::Equipment;
+use std::alloc::Global;
+use std::marker::Model;
+use thiserror::Error;
+
+/// An equipment with the plan of its own groups.
+#[derive(Drop)]
+pub struct Proposal<const N: usize> {
+    equipment: Equipment,
+    plan: Box<Plan<N>>,
+}
+
+impl<const N: usize> Model for Proposal<N> {
+    ghost use Rattle.a429_slots.specs.Proposed.{Proposed};
+
+    ghost Value = { Proposed };
+
+    ghost use Rattle.a429_slots.specs.Planned.{IsPlanOf};
+
+    ghost view = { λ p. record { station = p.equipment; plan = p.plan.value } };
+
+    ghost invariant = { λ p. IsPlanOf p.equipment p.plan.value };
+}
+
+/// An equipment that has no plan, and why.
+#[derive(Debug, Drop, Error)]
+#[error("{fault}")]
+pub struct NoProposal {
+    pub equipment: Equipment,
+    pub fault: PlanFault,
+}
+
+impl<const N: usize> Proposal<N> {
+    ghost use Rattle.a429_slots.specs.Planned.{HaveRoom, IsPlanOf};
+    ghost use Rattle.a429_slots.specs.Faults.{IsFaultOf};
+
+    /// Plans the groups of an equipment. Where `plan` or memory refuses, the equipment comes back with
+    /// the fault.
+    pub fn of(alloc: Global, equipment: Equipment) -> Result<Proposal<N>, NoProposal>
+        requires room { HaveRoom N equipment.outputs }
+        // A plan of so many outputs fits in memory.
+        requires size { N ≤ 65536 }
+        ensures { MatchResult result (λ p. p.station ≡ equipment) (λ none. (none.equipment ≡ equipment) × IsFaultOf equipment none.fault) }
+    {
+        match plan(alloc, &equipment) {
+            Ok(plan) => match Box::new(alloc, plan) {
+                Ok(plan) => Ok(Proposal { equipment, plan }),
+                Err(_) => Err(NoProposal {
+                    equipment,
+                    fault: PlanFault::NoMemory,
+                }),
+            },
+            Err(fault) => Err(NoProposal { equipment, fault }),
+        }
+    }
+
+    /// The equipment.
+    pub fn equipment(&self) -> &Equipment
+        ensures equipment { result.now ≡ self.now.station }
+        ensures own { IsPlanOf self.now.station self.now.plan }
+    {
+        &self.equipment
+    }
+
+    /// Its plan.
+    pub fn plan(&self) -> &Plan<N>
+        ensures plan { result.now ≡ self.now.plan }
+        ensures own { IsPlanOf self.now.station self.now.plan }
+    {
+        &self.plan
+    }
+
+    /// The equipment and its plan, each by itself.
+    pub fn into_parts(self) -> (Equipment, Box<Plan<N>>)
+        ensures equipment { result.0 ≡ self.entry.station }
+        ensures plan { result.1.value ≡ self.entry.plan }
+        ensures own { IsPlanOf self.entry.station self.entry.plan }
+    {
+        (self.equipment, self.plan)
+    }
+}
