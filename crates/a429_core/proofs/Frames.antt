@@ -1,14 +1,14 @@
 -- How the frame of a group goes on by an event.
-use Rattle.std.proofs.Common.{◌≡◌, ℕ, ◌<◌, ◌≤◌, ◌^◌, ◌+◌, Bool, true, false, List, [], ◌∷◌, ◌++◌, ◌∙◌, ap, refl, inl, inr, arith}
-use Rattle.std.specs.Prelude.{reverse, ◌&&◌, if◌then◌else◌, min, nat_lt, nat_le, cond}
+use Rattle.std.proofs.Common.{◌≡◌, ℕ, ◌+◌, true, false, List, [], ◌∷◌, ◌++◌, ◌∙◌, ap, refl, inl, inr, arith}
+use Rattle.std.specs.Prelude.{if◌then◌else◌, min, nat_lt, nat_le, cond}
 use Rattle.std.proofs.lemmas.List.{reverse-append, reverse-reverse}
 use Rattle.std.proofs.lemmas.List.Sums.{sum_by-cons}
 use Rattle.std.proofs.lemmas.Bool.{cases_lt, cases_Bool, lt-ltb, le-ltb, lt-leb, le-leb}
 use Rattle.a429_slots.specs.Tables.{GroupTable, cells_of}
 use Rattle.a429_slots.specs.Events.{Event}
-use Rattle.a429_slots.specs.History.{Opening, Current, current, frame_after, is_taken, next_frame, is_cell, is_frame, cells_since, is_over, has_room, newest_table, newest_number}
+use Rattle.a429_slots.specs.History.{Opening, Current, current, frame_after, is_taken, next_frame, is_cell, is_frame, cells_since, has_room, newest_table, newest_number}
 use Rattle.a429_core.specs.Answers.{frame_answer}
-use Rattle.a429_core.specs.Sending.{Sending, after_cell, sending_of, turned}
+use Rattle.a429_core.specs.Sending.{Sending, after_cell, sending_of}
 use Rattle.a429_core.specs.Standing.{framed}
 
 abbrev pub goes_on : Current → Event → Current

@@ -1,13 +1,12 @@
 -- What a state begins with.
-use Rattle.std.proofs.Common.{◌≡◌, ℕ, zero, suc, ◌+◌, ◌-◌, ◌<◌, ◌≤◌, ◌^◌, Bool, true, false, List, [], ◌∷◌, ◌++◌, length, take, map, replicate, ◌∙◌, sym, ap, subst, refl, arith}
-use Rattle.std.specs.Prelude.{Option, Some, None, IsTrue, ◌&&◌, slice_get, option_map, nat_lt, min}
+use Rattle.std.proofs.Common.{◌≡◌, ℕ, zero, suc, ◌+◌, ◌-◌, ◌<◌, ◌^◌, Bool, true, false, List, [], ◌∷◌, ◌++◌, length, take, map, replicate, ◌∙◌, sym, ap, subst, refl, arith}
+use Rattle.std.specs.Prelude.{Some, None, ◌&&◌, slice_get, option_map, nat_lt, min}
 use Rattle.std.specs.Option.{option_map_or}
-use Rattle.std.proofs.lemmas.List.{take_more, take_all, map-append, length-map}
+use Rattle.std.proofs.lemmas.List.{take_more, map-append, length-map}
 use Rattle.std.proofs.lemmas.Option.{slice_get_within, get_or_from_slice_get, same_Some, none-some}
 use Rattle.std.proofs.lemmas.Bool.{ltb-true, and_parts}
-use Rattle.a429_equipment.specs.declared.rows.SourceRow.{SourceRow}
 use Rattle.a429_equipment.specs.Arrivals.{AreApart}
-use Rattle.a429_slots.specs.Tables.{GroupTable, PlanTable, groups_of, frame_of, cells_of}
+use Rattle.a429_slots.specs.Tables.{GroupTable, groups_of, frame_of, cells_of}
 use Rattle.a429_slots.specs.Proposed.{Proposed}
 use Rattle.a429_slots.specs.History.{Opening, accepted_in, current, last_of}
 use Rattle.a429_core.proofs.Places.{map_same}
@@ -90,4 +89,3 @@ stands_at_first C first q ks ss apart whole number kept sent =
   where
     none_sent : (first : ℕ) (p : GroupTable) → begun first p ≡ record { table = p; number = 0; first = first; sent = min 0 (cells_of p) }
     none_sent first p = let none : 0 ≡ min 0 (cells_of p) = omega arith in ap (λ (n : ℕ). record { table = p; number = 0; first = first; sent = n }) none
-

@@ -1,6 +1,6 @@
 -- One step of what is kept, over every history that it stands for.
-use Rattle.std.proofs.Common.{◌≡◌, ℕ, ◌<◌, ◌≤◌, ◌-◌, ◌^◌, ◌+◌, ◌/◌, ◌%◌, Bool, true, false, List, [], ◌∷◌, ◌++◌, length, get_or, ◌∙◌, sym, ap, subst, refl, inl, inr, arith, append-nil, append_assoc}
-use Rattle.std.specs.Prelude.{Option, Some, None, Result, Ok, Err, ◌==◌, ◌&&◌, option_map, option_and_then, unwrap_or, slice_get, slice_set, min, nat_lt, nat_le, position, if◌then◌else◌}
+use Rattle.std.proofs.Common.{◌≡◌, ℕ, ◌<◌, ◌≤◌, ◌-◌, ◌^◌, ◌+◌, ◌/◌, ◌%◌, true, false, List, [], ◌∷◌, ◌++◌, length, get_or, ◌∙◌, sym, ap, subst, refl, inl, inr, arith, append-nil, append_assoc}
+use Rattle.std.specs.Prelude.{Option, Some, None, Result, Ok, Err, ◌==◌, ◌&&◌, option_map, option_and_then, slice_get, slice_set, min, nat_lt, nat_le, position, if◌then◌else◌}
 use Rattle.std.specs.Option.{option_map_or}
 use Rattle.std.specs.List.{position_or_len}
 use Rattle.std.proofs.lemmas.Option.{slice_get-get_or, same_Some, slice_get_within, slice_get_cases, cond_some}
@@ -12,20 +12,19 @@ use Rattle.a429_equipment.specs.declared.arrivals.ArrivalRefusal.{ArrivalRefusal
 use Rattle.a429_equipment.specs.declared.arrivals.ArrivalRefusal.TheVariants as arrival
 use Rattle.a429_equipment.specs.TableRecord.{TableRecord}
 use Rattle.a429_equipment.specs.Arrivals.{AreApart, passes_at, is_for, sorted}
-use Rattle.a429_equipment.specs.SameStation
 use Rattle.a429_equipment.specs.SameStation.{same_station, all_agree, same_receiver, same_source, same_group}
 use Rattle.a429_slots.specs.Tables.{GroupTable, PlanTable, groups_of, cells_of, buses_of, source_at}
 use Rattle.a429_slots.specs.Proposed.{Proposed}
 use Rattle.a429_slots.specs.Events.{Event, Arrive, Cell, Frame, Publish}
-use Rattle.a429_slots.specs.History.{Opening, Current, current, is_cell, is_frame, cells_since, accepted_in, accepted_by, last_of, proposal_for, published, newest_plan, newest_table, newest_number, cell_due, word_sent}
+use Rattle.a429_slots.specs.History.{Opening, Current, current, is_cell, is_frame, cells_since, accepted_in, accepted_by, last_of, proposal_for, published, newest_plan, newest_table, newest_number}
 use Rattle.a429_core.specs.declared.sources.Kept.{Kept}
 use Rattle.a429_core.specs.declared.events.Answer.{Answer}
-use Rattle.a429_core.specs.declared.events.Answer.TheVariants.{Accepted, Sent, Changed, Published, Refused}
-use Rattle.a429_core.specs.declared.events.Refusal.TheVariants.{NoSuch, CountSpent, FrameEnd, StationDiffers}
+use Rattle.a429_core.specs.declared.events.Answer.TheVariants.{Sent, Published, Refused}
+use Rattle.a429_core.specs.declared.events.Refusal.TheVariants.{NoSuch, CountSpent, StationDiffers}
 use Rattle.a429_core.specs.Answers
 use Rattle.a429_core.specs.Answers.{answer, answers, source_answer, arrive_answer, cell_answer, frame_answer}
 use Rattle.a429_core.specs.Sending.{Sending, sending_of, next_cell, after_cell}
-use Rattle.a429_core.specs.Standing.{Standing, StandsFor, IsWhole, IsWholeEvent, kept_of, count_at, kept_at, put_word, arrived, latest, placed_cell, cell_reply, asked_cell, after_asked, cell_asked, framed, frame_at, frame_asked, publish_asked, stepped}
+use Rattle.a429_core.specs.Standing.{Standing, StandsFor, IsWhole, IsWholeEvent, kept_of, count_at, kept_at, put_word, arrived, latest, placed_cell, cell_reply, asked_cell, after_asked, cell_asked, framed, frame_at, frame_asked, stepped}
 use Rattle.a429_core.proofs.Places.{get_set_same, get_set_other, inside, outside, last_push, none_passes, first_passes, map_same, and_then_same}
 use Rattle.a429_core.proofs.Words.{words_in, accepted_none, accepted_some, accepted_full, kept_none, kept_some, kept_full, word_accepted, word_even, word_filtered, word_unheard, nobody_hears}
 use Rattle.a429_core.proofs.Frames.{current_push, not_taken, cell_push, frame_push, Turned}
@@ -129,9 +128,9 @@ cell_step C o E k v S None h =
     let here : IsGroup o (E ++ Cell k ∷ []) v.groups k = got ∙ rw h refl in
     step_from C o E (Cell k) v (Refused NoSuch, v) (rw (outside v.groups k got) refl) (rw h refl)
     (with_groups C o E (Cell k) v v.groups S none (kept_none (proposal_for o) (2 ^ 64 - 1) E (Cell k) refl) refl (λ g. elim (cases_eq k g) [
-        | inl e ↦ subst (IsGroup o (E ++ Cell k ∷ []) v.groups) e here
-        | inr n ↦ group_stays C o E (Cell k) v S g refl (ne_eqb k g n)
-      ]))
+      | inl e ↦ subst (IsGroup o (E ++ Cell k ∷ []) v.groups) e here
+      | inr n ↦ group_stays C o E (Cell k) v S g refl (ne_eqb k g n)
+    ]))
 cell_step C o E k v S (Some p) h =
     let f = current o k p E in
     let got : slice_get v.groups k ≡ Some (sending_of k f) = S.groups k ∙ rw h refl in
@@ -149,9 +148,9 @@ cell_step C o E k v S (Some p) h =
     ∙ ap (λ (gs : List Sending). (cell_reply v.sources (placed_cell (sending_of k f) (next_cell (sending_of k f))), record v { groups = gs })) later) in
     step_from C o E (Cell k) v (cell_reply v.sources (placed_cell (sending_of k f) (next_cell (sending_of k f))), record v { groups = groups }) made (rw h (cell_answer_is C o E v S k f))
     (with_groups C o E (Cell k) v groups S none (kept_none (proposal_for o) (2 ^ 64 - 1) E (Cell k) refl) (length-set v.groups k (after_cell (sending_of k f))) (λ g. elim (cases_eq k g) [
-        | inl e ↦ subst (IsGroup o (E ++ Cell k ∷ []) groups) e here
-        | inr n ↦ get_set_other v.groups k g (after_cell (sending_of k f)) (λ q. n (sym q)) ∙ group_stays C o E (Cell k) v S g refl (ne_eqb k g n)
-      ]))
+      | inl e ↦ subst (IsGroup o (E ++ Cell k ∷ []) groups) e here
+      | inr n ↦ get_set_other v.groups k g (after_cell (sending_of k f)) (λ q. n (sym q)) ∙ group_stays C o E (Cell k) v S g refl (ne_eqb k g n)
+    ]))
 
 -- ---- frames
 
@@ -162,9 +161,9 @@ frame_step C o E k v S None h =
     let here : IsGroup o (E ++ Frame k ∷ []) v.groups k = got ∙ rw h refl in
     step_from C o E (Frame k) v (Refused NoSuch, v) (rw (outside v.groups k got) refl) (rw h refl)
     (with_groups C o E (Frame k) v v.groups S none (kept_none (proposal_for o) (2 ^ 64 - 1) E (Frame k) refl) refl (λ g. elim (cases_eq k g) [
-        | inl e ↦ subst (IsGroup o (E ++ Frame k ∷ []) v.groups) e here
-        | inr n ↦ group_stays C o E (Frame k) v S g (ne_eqb k g n) refl
-      ]))
+      | inl e ↦ subst (IsGroup o (E ++ Frame k ∷ []) v.groups) e here
+      | inr n ↦ group_stays C o E (Frame k) v S g (ne_eqb k g n) refl
+    ]))
 frame_step C o E k v S (Some p) h =
     let f = current o k p E in
     let n = newest_number o E in
@@ -188,9 +187,9 @@ frame_step C o E k v S (Some p) h =
     get_set_same v.groups k R.1 (slice_get_within v.groups k (sending_of k f) got) ∙ rw h (ap (λ (s : Sending). Some s) (sym next)) in
     step_from C o E (Frame k) v (R.0, record v { groups = groups }) made (rw h turn.answer)
     (with_groups C o E (Frame k) v groups S none (kept_none (proposal_for o) (2 ^ 64 - 1) E (Frame k) refl) (length-set v.groups k R.1) (λ g. elim (cases_eq k g) [
-        | inl e ↦ subst (IsGroup o (E ++ Frame k ∷ []) groups) e here
-        | inr m ↦ get_set_other v.groups k g R.1 (λ q. m (sym q)) ∙ group_stays C o E (Frame k) v S g (ne_eqb k g m) refl
-      ]))
+      | inl e ↦ subst (IsGroup o (E ++ Frame k ∷ []) groups) e here
+      | inr m ↦ get_set_other v.groups k g R.1 (λ q. m (sym q)) ∙ group_stays C o E (Frame k) v S g (ne_eqb k g m) refl
+    ]))
 
 -- ---- arrivals
 

@@ -1,7 +1,6 @@
 -- How the accepted words of a source grow by an event.
 use Rattle.std.proofs.Common.{◌≡◌, ℕ, ◌<◌, ◌≤◌, ◌-◌, ◌^◌, Bool, true, false, List, [], ◌∷◌, ◌++◌, length, take, map, ◌∙◌, sym, ap, refl, arith, append-nil}
-use Rattle.std.specs.Prelude.{Option, Some, None, filter, filter_map, ◌&&◌, if◌then◌else◌, slice_get}
-use Rattle.std.specs.Option.{option_map_or}
+use Rattle.std.specs.Prelude.{Option, Some, None, filter, filter_map, ◌&&◌}
 use Rattle.std.proofs.lemmas.List.{take-append-le, take_all, length-take, length-append, map-append}
 use Rattle.std.proofs.lemmas.List.Elements.{filter_map-append, filter-append}
 use Rattle.std.proofs.lemmas.Option.{slice_get_past}
@@ -9,7 +8,7 @@ use Rattle.a429_word.specs.Bits.{has_odd_parity}
 use Rattle.a429_equipment.specs.declared.rows.SourceRow.{SourceRow}
 use Rattle.a429_equipment.specs.TableRecord.{TableRecord}
 use Rattle.a429_equipment.specs.Arrivals.{accepts, passes_at, is_for}
-use Rattle.a429_slots.specs.Events.{Event, Arrive, Cell, Frame, Publish}
+use Rattle.a429_slots.specs.Events.{Event, Arrive}
 use Rattle.a429_slots.specs.History.{Opening, arrival_of, accepted_in}
 
 pub take_push_room : {A : Type 0} (n : ℕ) (xs : List A) (w : A) → length (take n xs) < n → take n (xs ++ w ∷ []) ≡ take n xs ++ w ∷ []

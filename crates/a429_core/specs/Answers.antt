@@ -1,5 +1,5 @@
 -- What each event is answered after a history, with the refusals in their order.
-use Rattle.std.specs.Prelude.{◌+◌, ◌-◌, ◌^◌, ◌∷◌, [], ◌++◌, ℕ, List, Option, Some, None, Result, Ok, Err, if◌then◌else◌, nat_lt, nat_le, length, slice_get}
+use Rattle.std.specs.Prelude.{◌+◌, ◌-◌, ◌^◌, ◌∷◌, [], ◌++◌, ℕ, List, Result, Ok, Err, if◌then◌else◌, nat_lt, nat_le, length, slice_get}
 use Rattle.std.specs.Option.{option_map_or}
 use Rattle.a429_equipment.specs.declared.arrivals.ArrivalRefusal.{ArrivalRefusal}
 use Rattle.a429_equipment.specs.declared.arrivals.ArrivalRefusal.TheVariants as arrival

@@ -1,5 +1,5 @@
 -- What a state is: what contracts see of it, and the histories that it stands for. Below, what the machine does in one step.
-use Rattle.std.specs.Prelude.{◌≡◌, ◌+◌, ◌-◌, ◌^◌, ◌∷◌, [], ℕ, Bool, List, Option, Some, None, Result, Ok, Err, ⊤, if◌then◌else◌, nat_lt, nat_le, length, slice_get, slice_set, option_and_then, option_map}
+use Rattle.std.specs.Prelude.{◌≡◌, ◌+◌, ◌-◌, ◌^◌, ℕ, List, Option, Some, None, Result, Ok, Err, ⊤, if◌then◌else◌, nat_lt, nat_le, length, slice_get, slice_set, option_and_then, option_map}
 use Rattle.std.specs.Option.{option_map_or}
 use Rattle.a429_equipment.specs.declared.arrivals.ArrivalRefusal.{ArrivalRefusal}
 use Rattle.a429_equipment.specs.TableRecord.{TableRecord}
@@ -114,8 +114,8 @@ abbrev pub publish_asked : Standing → Proposed → Answer × Standing
 publish_asked v q =
     if same_station v.station q.station
     then (if nat_lt v.newest.number (2 ^ 64 - 1)
-      then (Published (v.newest.number + 1), record v { newest = record q.plan { number = v.newest.number + 1 } })
-      else (Refused CountSpent, v))
+    then (Published (v.newest.number + 1), record v { newest = record q.plan { number = v.newest.number + 1 } })
+    else (Refused CountSpent, v))
     else (Refused StationDiffers, v)
 
 abbrev pub stepped : ℕ → Standing → Event → Answer × Standing

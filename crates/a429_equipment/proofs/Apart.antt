@@ -69,9 +69,9 @@ one_label s t v h i =
     let y = label_is t v i in
     let d = x.digits in
     let e = y.digits in
-    let high : x.a ≡ y.a = omega (arith, d.value, e.value, d.high.0, d.high.1, e.high.0, e.high.1, d.middle.0, d.middle.1, e.middle.0, e.middle.1, d.low.0, d.low.1, e.low.0, e.low.1) in
-    let middle : x.b ≡ y.b = omega (arith, d.value, e.value, d.high.0, d.high.1, e.high.0, e.high.1, d.middle.0, d.middle.1, e.middle.0, e.middle.1, d.low.0, d.low.1, e.low.0, e.low.1) in
-    let low : x.c ≡ y.c = omega (arith, d.value, e.value, d.high.0, d.high.1, e.high.0, e.high.1, d.middle.0, d.middle.1, e.middle.0, e.middle.1, d.low.0, d.low.1, e.low.0, e.low.1) in
+    let high : x.a ≡ y.a = omega arith in
+    let middle : x.b ≡ y.b = omega arith in
+    let low : x.c ≡ y.c = omega arith in
     let written : s ≡ x.a ∷ x.b ∷ x.c ∷ [] = x.is in
     let other : t ≡ y.a ∷ y.b ∷ y.c ∷ [] = y.is in
     cc

@@ -15,3 +15,4 @@ pub mod Faults
 pub mod Least
 pub mod Stated
 pub mod Reading
+pub mod Printed

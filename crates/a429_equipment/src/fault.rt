@@ -1,6 +1,7 @@
 //! What is wrong with a table, and where.
 
-ghost use Rattle.std.specs.Prelude.{◌≡◌};
+ghost use Rattle.std.specs.Prelude.{◌≡◌, Some};
+ghost use Rattle.a429_equipment.specs.Printed.{kind_text, place_text};
 ghost use Rattle.a429_equipment.specs.declared.fault.TableFault.TheVariants.{NoMemory};
 
 use std::alloc::{AllocError, AllocFailed};
@@ -65,10 +66,13 @@ pub enum TablePlace {
     Output(usize, usize),
 }
 
-impl fmt::Display for FaultKind {
-    /// As refusals print it: `not-toml` to `empty-group`.
-    fn fmt<W: fmt::Write>(&self, f: &mut fmt::Formatter<W>) -> fmt::Result {
-        let text = match self {
+impl FaultKind {
+    /// Its name in refusals: `not-toml` to `empty-group`.
+    #[tactic(auto, unfolding(crate::specs::Printed::kind_text))]
+    fn text(self) -> &'static str
+        ensures { result.now ≡ kind_text self }
+    {
+        match self {
             FaultKind::NotToml => "not-toml",
             FaultKind::Version => "version",
             FaultKind::UnknownKey => "unknown-key",
@@ -85,13 +89,24 @@ impl fmt::Display for FaultKind {
             FaultKind::DuplicateSource => "duplicate-source",
             FaultKind::DuplicateOutput => "duplicate-output",
             FaultKind::EmptyGroup => "empty-group",
-        };
-        write!(f, "{text}")
+        }
+    }
+}
+
+impl fmt::Display for FaultKind {
+    ghost output = { λ kind. Some (kind_text kind) };
+
+    /// Its name in refusals.
+    fn fmt<W: fmt::Write>(&self, f: &mut fmt::Formatter<W>) -> fmt::Result {
+        write!(f, "{}", self.text())
     }
 }
 
 impl fmt::Display for TablePlace {
+    ghost output = { λ place. Some (place_text place) };
+
     /// As refusals print it: `root`, `receiver 0`, or `output 1 0` with the group first.
+    #[tactic(auto, unfolding(crate::specs::Printed::place_text))]
     fn fmt<W: fmt::Write>(&self, f: &mut fmt::Formatter<W>) -> fmt::Result {
         match self {
             TablePlace::Root => write!(f, "root"),

@@ -1,15 +1,14 @@
 -- The cells of a group's slot table.
-use Rattle.std.proofs.Common.{◌≡◌, ◌≢◌, ℕ, zero, suc, ◌+◌, ◌-◌, ◌<◌, ◌≤◌, ◌*◌, ◌%◌, ◌^◌, ◌∷◌, [], ◌++◌, List, length, take, get_or, arith, refl, ap, ◌∙◌, sym, subst, Bool, true, false, nat_eq, nat_lt, inl, inr, slice_set, max}
-use Rattle.std.specs.Prelude.{Option, Some, None, slice_get, slice_index, position, ◌&&◌, ◌==◌, ◌↔◌, option_map, if◌then◌else◌}
+use Rattle.std.proofs.Common.{◌≡◌, ℕ, zero, suc, ◌+◌, ◌<◌, ◌≤◌, ◌*◌, ◌%◌, ◌^◌, ◌∷◌, [], ◌++◌, List, length, take, get_or, arith, refl, ap, ◌∙◌, sym, subst, Bool, true, false, nat_eq, inl, inr, slice_set, max}
+use Rattle.std.specs.Prelude.{Option, Some, None, slice_get, ◌&&◌, option_map}
 use Rattle.std.specs.List.{position_or_len}
 use Rattle.std.proofs.lemmas.List.{length-take, take_more_set, get_or-set_same, get_or-set_other}
 use Rattle.std.proofs.lemmas.List.Sums.{position_or_len_is}
 use Rattle.std.proofs.lemmas.Bool.{cases_lt, lt-ltb, ne_eqb, eq-eqb, cases_eq}
 use Rattle.std.proofs.lemmas.Nat.{pow_pos, one_shl}
 use Rattle.std.proofs.Math.Nat.{pow-le-pow_right}
-use Rattle.std.proofs.lemmas.Option.{slice_get-get_or, get_or_from_slice_get, none-some, same_Some}
-use Rattle.a429_slots.specs.declared.group_plan.SlotPlace.{SlotPlace}
-use Rattle.a429_slots.specs.Tables.{Placed, placed_from, GroupTable, outputs_of, stands_in, cell_at, source_of, buses_of, frame_of, IsExactlyPeriodic}
+use Rattle.std.proofs.lemmas.Option.{get_or_from_slice_get, none-some, same_Some}
+use Rattle.a429_slots.specs.Tables.{Placed, placed_from, GroupTable, outputs_of, stands_in, cell_at, source_of, IsExactlyPeriodic}
 use Rattle.a429_slots.specs.Planned.{AreWithin}
 use Rattle.a429_slots.proofs.Placing.{length-placed, placed-get, placed-append, placed}
 
@@ -140,9 +139,9 @@ outputs_push n frame frame' count s p ss ps room left right =
 -- a longer frame still holds the periods, and the new one
 pub within_push : (frame count p : ℕ) (ps : List ℕ) → AreWithin frame count ps → count < length ps → AreWithin (max frame p) (count + 1) (slice_set ps count p)
 within_push frame count p ps old room i below = elim (cases_eq i count) [
-    | inl same ↦ omega (arith, subst (λ (j : ℕ). get_or (slice_set ps count p) j 0 ≡ p) (sym same) (get_or-set_same ps count p 0 room))
-    | inr other ↦ omega (arith, get_or-set_other ps count i p 0 other, old i (omega arith))
-  ]
+  | inl same ↦ omega (arith, subst (λ (j : ℕ). get_or (slice_set ps count p) j 0 ≡ p) (sym same) (get_or-set_same ps count p 0 room))
+  | inr other ↦ omega (arith, get_or-set_other ps count i p 0 other, old i (omega arith))
+]
 
 -- the period of an output, as a shift gives it
 pub period_shift : (frame count i slot : ℕ) (ps : List ℕ) → i < count → frame ≤ 13 → AreWithin frame count ps → slot % 2 ^ get_or ps i 0 ≡ slot % (1 * 2 ^ get_or ps i 0 % 2 ^ 64)

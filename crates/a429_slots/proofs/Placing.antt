@@ -1,10 +1,7 @@
 -- Outputs by their numbers, each on a bus of its own.
-use Rattle.std.proofs.Common.{◌≡◌, ℕ, zero, suc, ◌+◌, ◌<◌, ◌≤◌, ◌∷◌, [], ◌++◌, List, length, take, get_or, arith, refl, ap, ◌∙◌, sym, slice_set}
-use Rattle.std.specs.Prelude.{Some, slice_get, slice_index}
-use Rattle.std.proofs.lemmas.List.{length-take}
-use Rattle.std.proofs.lemmas.Option.{slice_get-get_or}
-use Rattle.a429_slots.specs.declared.group_plan.SlotPlace.{SlotPlace}
-use Rattle.a429_slots.specs.Tables.{Placed, placed_from, GroupTable, outputs_of}
+use Rattle.std.proofs.Common.{◌≡◌, ℕ, zero, suc, ◌+◌, ◌<◌, ◌∷◌, [], ◌++◌, List, length, get_or, arith, refl, ap, ◌∙◌}
+use Rattle.std.specs.Prelude.{Some, slice_get}
+use Rattle.a429_slots.specs.Tables.{Placed, placed_from}
 
 pub length-placed : (n : ℕ) (ss ps : List ℕ) → length ss ≡ length ps → length (placed_from n ss ps) ≡ length ss
 length-placed n [] [] h = refl

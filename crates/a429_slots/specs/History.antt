@@ -1,5 +1,5 @@
 -- What a history comes to: the words that were accepted, the plans in force, the cell that is due, and the word that is sent in it.
-use Rattle.std.specs.Prelude.{◌==◌, ◌&&◌, ◌+◌, ◌-◌, ◌/◌, ◌%◌, ◌^◌, ◌∷◌, [], ℕ, Bool, true, false, List, Option, Some, None, if◌then◌else◌, nat_lt, nat_le, length, take, reverse, filter_map, count_by, slice_get, option_and_then, unwrap_or}
+use Rattle.std.specs.Prelude.{◌==◌, ◌&&◌, ◌+◌, ◌-◌, ◌/◌, ◌%◌, ◌^◌, ◌∷◌, [], ℕ, Bool, false, List, Option, Some, None, if◌then◌else◌, nat_lt, nat_le, length, take, reverse, filter_map, count_by, slice_get, option_and_then, unwrap_or}
 use Rattle.std.specs.Option.{option_map_or}
 use Rattle.a429_equipment.specs.declared.rows.SourceRow.{SourceRow}
 use Rattle.a429_equipment.specs.Arrivals.{accepted}

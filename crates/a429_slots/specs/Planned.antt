@@ -1,5 +1,5 @@
 -- What holds of every plan, and when a station has none (profile: layout).
-use Rattle.std.specs.Prelude.{◌≡◌, ◌<◌, ◌≤◌, ◌^◌, ℕ, List, Some, ⊤, length, take, slice_get, slice_index}
+use Rattle.std.specs.Prelude.{◌≡◌, ◌<◌, ◌≤◌, ◌^◌, ℕ, List, Some, length, take, slice_get, slice_index}
 use Rattle.std.specs.List.{AllZip, AllByRecursion}
 use Rattle.a429_grid.specs.Grid.{IsGridPeriod, HasNoGridPeriod}
 use Rattle.a429_equipment.specs.TableRecord.{TableRecord}

@@ -1,5 +1,5 @@
 -- Slot tables as contracts see them, and which output stands in which cell (profile: layout).
-use Rattle.std.specs.Prelude.{◌≡◌, ◌==◌, ◌&&◌, ◌+◌, ◌<◌, ◌*◌, ◌%◌, ◌^◌, ◌↔◌, ℕ, Bool, List, [], ◌∷◌, Option, Some, IsTrue, option_and_then, option_map, position, slice_get, take}
+use Rattle.std.specs.Prelude.{◌≡◌, ◌==◌, ◌&&◌, ◌+◌, ◌<◌, ◌*◌, ◌%◌, ◌^◌, ◌↔◌, ℕ, Bool, List, [], ◌∷◌, Option, Some, option_and_then, option_map, position, slice_get, take}
 use Rattle.a429_slots.specs.declared.group_plan.SlotPlace.{SlotPlace}
 
 -- an output: the number of its source, and where it stands

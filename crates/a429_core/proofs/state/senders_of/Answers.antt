@@ -1,4 +1,4 @@
-use Rattle.std.proofs.Common.{◌≡◌, ◌∙◌, ◌++◌, ◌∷◌, [], List, ap, sym, arith, map, take}
+use Rattle.std.proofs.Common.{◌∙◌, ◌++◌, ◌∷◌, [], List, ap, sym, arith, map, take}
 use Rattle.std.proofs.lemmas.List.{take_all}
 use Rattle.a429_slots.specs.Tables.{groups_of}
 use Rattle.a429_core.specs.Sending.{Sending, begun}

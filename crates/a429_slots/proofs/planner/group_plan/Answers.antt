@@ -1,4 +1,4 @@
-use Rattle.std.proofs.Common.{◌≡◌, ◌∙◌, List, ℕ, map, length, arith, refl, rules, subst, sym, ap}
+use Rattle.std.proofs.Common.{◌≡◌, ◌∙◌, List, map, length, refl, rules, subst, sym, ap}
 use Rattle.std.specs.List.{AllZip}
 use Rattle.std.proofs.lemmas.Slice.Zip.{AllZip-long}
 use Rattle.a429_slots.specs.Tables.{Placed, placed_from}
@@ -21,8 +21,7 @@ spread-requires g c =
 
 pub returns : goal.returns
 returns g c =
-    let same = c.spread.ensures ∙ ap (placed_from 0 (map (λ r. r.source) c.args.outputs.now)) c.deref.ensures.value in
-    (
+    let same = c.spread.ensures ∙ ap (placed_from 0 (map (λ r. r.source) c.args.outputs.now)) c.deref.ensures.value in (
       subst (λ (os : List Placed). AllZip (IsServed c.args.rate) c.args.outputs.now os) (sym same) (serves c.args.rate 0 c.args.outputs.now c.in_ok-periods.periods.items c.in_ok-periods.ensures),
       record { fit = all_fit c.args.rate c.args.outputs.now c.in_ok-periods.periods.items c.in_ok-periods.ensures; few = c.if-outputs-gt-BUSES.false },
     )

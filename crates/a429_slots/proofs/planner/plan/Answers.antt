@@ -1,11 +1,11 @@
-use Rattle.std.proofs.Common.{◌≡◌, ◌∙◌, ◌<◌, ◌≤◌, ◌+◌, List, ℕ, length, take, arith, refl, rules, subst, sym, ap}
+use Rattle.std.proofs.Common.{◌≡◌, ◌∙◌, ◌<◌, ◌≤◌, ◌+◌, List, ℕ, length, take, arith, rules, subst, sym, ap}
 use Rattle.std.specs.List.{AllZip, AllByRecursion}
 use Rattle.std.proofs.lemmas.List.{take_all}
 use Rattle.std.proofs.lemmas.Slice.Zip.{AllZip-long}
 use Rattle.a429_equipment.specs.Sound.{IsSound}
 use Rattle.a429_slots.specs.Tables.{GroupTable, groups_of}
 use Rattle.a429_slots.specs.Planned.{IsPlannedFor, CanBePlanned}
-use Rattle.a429_slots.specs.Faults.{IsFaultOf, IsGroupFault, of_group}
+use Rattle.a429_slots.specs.Faults.{IsFaultOf, IsGroupFault}
 use Rattle.a429_slots.proofs.Planning.{all_at, all_next, zip_next, length-zipped, fault_in}
 use Rattle.a429_slots.proofs.planner.plan.Goals as goal
 

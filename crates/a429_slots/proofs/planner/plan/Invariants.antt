@@ -1,7 +1,6 @@
 use Rattle.std.proofs.Common.{◌≡◌, take}
 use Rattle.std.specs.List.{AllZip, AllByRecursion}
-use Rattle.a429_equipment.specs.TableRecord.{TableRecord}
-use Rattle.a429_slots.specs.Tables.{PlanTable, groups_of}
+use Rattle.a429_slots.specs.Tables.{groups_of}
 use Rattle.a429_slots.specs.Planned.{IsPlannedFor, CanBePlanned}
 use Rattle.a429_slots.proofs.planner.plan.Given as goal
 

@@ -1,4 +1,4 @@
-use Rattle.std.proofs.Common.{◌≡◌, length, take, map}
+use Rattle.std.proofs.Common.{◌≡◌, take, map}
 use Rattle.a429_slots.specs.Tables.{outputs_of, placed_from}
 use Rattle.a429_slots.proofs.planner.spread.Given as goal
 

@@ -1,13 +1,12 @@
-use Rattle.std.proofs.Common.{◌≡◌, ◌∙◌, List, [], ℕ, length, map, replicate, ap, sym, subst, refl}
-use Rattle.a429_slots.specs.Tables.{PlanTable, GroupTable, groups_of}
+use Rattle.std.proofs.Common.{◌≡◌, ◌∙◌, [], ℕ, length, map, replicate, ap, sym, subst}
+use Rattle.a429_slots.specs.Tables.{PlanTable, groups_of}
 use Rattle.a429_slots.specs.Planned.{IsPlanOf}
 use Rattle.a429_slots.specs.Proposed.{Proposed}
 use Rattle.a429_equipment.specs.Sound.{IsSound}
 use Rattle.a429_equipment.specs.TableRecord.{TableRecord}
-use Rattle.a429_core.specs.declared.sources.Kept.{Kept}
-use Rattle.a429_core.specs.Sending.{Sending, begun}
-use Rattle.a429_core.specs.Standing.{Standing, StandsFor}
-use Rattle.a429_core.proofs.Opening.{stands_at_first, opened, unheard}
+use Rattle.a429_core.specs.Sending.{begun}
+use Rattle.a429_core.specs.Standing.{StandsFor}
+use Rattle.a429_core.proofs.Opening.{stands_at_first, unheard}
 use Rattle.a429_core.proofs.state.State.open.Goals as goal
 
 pub returns-clause-stands : goal.returns-clause-stands

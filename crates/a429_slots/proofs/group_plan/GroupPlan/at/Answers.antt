@@ -1,4 +1,4 @@
-use Rattle.std.proofs.Common.{◌≡◌, ◌%◌, ◌^◌, ℕ, None, Some, arith, subst, sym, ap, ◌∙◌, length, ◌<◌}
+use Rattle.std.proofs.Common.{◌≡◌, None, Some, arith, subst, sym, ap, ◌∙◌, length, ◌<◌}
 use Rattle.a429_slots.specs.Tables.{GroupTable, cell_at, outputs_of}
 use Rattle.a429_slots.proofs.Cells.{IsWide, table, wide_here, cell_found, cell_outside, cell_between, period_shift, length-outputs}
 use Rattle.a429_slots.proofs.group_plan.GroupPlan.at.Goals.{then-number-self-via-then-number-self, then-number-self-via-else-number-self+then-slot-self-ne0}

@@ -1,4 +1,4 @@
-use Rattle.std.proofs.Common.{◌≡◌, ◌<◌, ℕ, length, arith, subst, sym, ap, ◌∙◌, get_or}
+use Rattle.std.proofs.Common.{◌≡◌, ◌<◌, ℕ, length, arith, subst, sym, ap, ◌∙◌}
 use Rattle.std.specs.Prelude.{Some, option_map, slice_get, ◌^◌, ◌≤◌}
 use Rattle.a429_slots.specs.Tables.{GroupTable, outputs_of, cell_at, frame_of, IsExactlyPeriodic}
 use Rattle.a429_slots.proofs.Cells.{IsWide, table, wide_here, length-outputs, place_is, periodic, below_frame}

@@ -1,6 +1,6 @@
-use Rattle.std.proofs.Common.{◌≡◌, ◌+◌, ◌<◌, ◌≤◌, ℕ, length, arith, subst, sym, ap, ◌∙◌, get_or, ◌++◌, ◌∷◌, [], List, slice_set}
+use Rattle.std.proofs.Common.{◌+◌, ◌<◌, ℕ, length, arith, subst, sym, ap, ◌∙◌, ◌++◌, ◌∷◌, [], slice_set}
 use Rattle.std.specs.Prelude.{max}
-use Rattle.a429_slots.specs.Tables.{GroupTable, outputs_of, Placed}
+use Rattle.a429_slots.specs.Tables.{GroupTable, outputs_of}
 use Rattle.a429_slots.specs.Planned.{AreWithin}
 use Rattle.a429_slots.proofs.Placing.{placed}
 use Rattle.a429_slots.proofs.Cells.{IsWide, table, wide_here, length-outputs, outputs_push, within_push}

@@ -1,5 +1,5 @@
-use Rattle.std.proofs.Common.{◌≡◌, ◌<◌, ℕ, length, arith, subst, sym, ap, ◌∙◌, get_or}
-use Rattle.std.specs.Prelude.{Some, option_map}
+use Rattle.std.proofs.Common.{◌≡◌, ◌<◌, ℕ, length, arith, subst, sym, get_or}
+use Rattle.std.specs.Prelude.{Some}
 use Rattle.a429_slots.specs.Tables.{GroupTable, outputs_of, source_of}
 use Rattle.a429_slots.proofs.Cells.{IsWide, table, wide_here, length-outputs, source_is}
 use Rattle.a429_slots.proofs.group_plan.GroupPlan.source.Goals as goal

@@ -1,6 +1,6 @@
-use Rattle.std.proofs.Common.{◌≡◌, ◌≤◌, length, take, arith, subst, sym}
+use Rattle.std.proofs.Common.{◌≡◌, length, take, arith, subst, sym}
 use Rattle.std.proofs.lemmas.List.{length-take}
-use Rattle.a429_slots.specs.Tables.{PlanTable, GroupTable, groups_of}
+use Rattle.a429_slots.specs.Tables.{PlanTable, groups_of}
 use Rattle.a429_slots.proofs.plans.Plan.groups.Goals as goal
 
 pub returns-clause-value : goal.returns-clause-value

@@ -1,0 +1,4 @@
+pub mod ReplayWords
+pub mod NameNumbers
+pub mod ScriptLines
+pub mod Playing

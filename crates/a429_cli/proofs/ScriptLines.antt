@@ -1,0 +1,90 @@
+-- The first line of a script, and the events of the lines after it.
+use Rattle.std.proofs.Common.{◌≡◌, ◌∙◌, ◌+◌, ◌<◌, ℕ, suc, Bool, true, false, cond, List, take, drop, [], ◌∷◌, ◌++◌, length, refl, sym, ap, arith, append_assoc, add-one}
+use Rattle.std.specs.Prelude.{◌==◌, Option, Some, None, Result, Ok, Err, nat_lt, option_map, option_and_then, if◌then◌else◌}
+use Rattle.std.specs.List.{position_or_len}
+use Rattle.std.proofs.lemmas.Bool.Decides.{nat_tests}
+use Rattle.a429_cli.specs.ScriptText.{cut, joined_on, lines_of}
+use Rattle.a429_cli.specs.Script.{events_before, event_then, events_from, events_after, first_event, line_event}
+use Rattle.a429_cli.specs.declared.names.Names.{Names}
+use Rattle.a429_cli.specs.declared.script.ScriptEvent.{ScriptEvent}
+
+-- a byte before a cut
+abbrev after_byte : ℕ → ℕ → List ℕ → Option (List ℕ × List ℕ) → Option (List ℕ × List ℕ)
+after_byte b x xs later = if x == b then Some ([], xs) else option_map (λ p. (x ∷ p.0, p.1)) later
+
+below_both : (m n : ℕ) → nat_lt (1 + m) (suc n) ≡ nat_lt m n
+below_both m n = grind (arith, nat_tests)
+
+zero_below : (n : ℕ) → nat_lt 0 (suc n) ≡ true
+zero_below n = grind (arith, nat_tests)
+
+abbrev around : List ℕ → ℕ → List ℕ × List ℕ
+around xs k = (take k xs, drop (k + 1) xs)
+
+abbrev byte_on : ℕ → List ℕ × List ℕ → List ℕ × List ℕ
+byte_on x p = (x ∷ p.0, p.1)
+
+-- a place after a byte
+moved : (x m : ℕ) (xs : List ℕ) (u : Bool) → option_map (around (x ∷ xs)) (cond u (Some (1 + m)) None) ≡ option_map (byte_on x) (option_map (around xs) (cond u (Some m) None))
+moved x m xs true = let one : 1 + m ≡ suc m = omega arith in rw (one, add-one, add-one) refl
+moved x m xs false = refl
+
+cut_on : (b x : ℕ) (xs : List ℕ) (t : Bool) → (x == b) ≡ t → cut b (x ∷ xs) ≡ after_byte b x xs (cut b xs)
+unfolding cut
+cut_on b x xs true e = rw (e, zero_below (length xs)) refl
+cut_on b x xs false e =
+    rw (e, below_both (position_or_len (λ y. y == b) xs) (length xs)) (moved x (position_or_len (λ y. y == b) xs) xs (nat_lt (position_or_len (λ y. y == b) xs) (length xs)))
+
+cut-cons : (b x : ℕ) (xs : List ℕ) → cut b (x ∷ xs) ≡ after_byte b x xs (cut b xs)
+cut-cons b x xs = cut_on b x xs (x == b) refl
+
+-- the lines of a text by its first cut at a line feed
+abbrev lines_by : Option (List ℕ × List ℕ) → List ℕ → List (List ℕ) × List ℕ
+lines_by None text = ([], text)
+lines_by (Some p) text = (p.0 ∷ (lines_of p.1).0, (lines_of p.1).1)
+
+joined : (x : ℕ) (xs : List ℕ) (o : Option (List ℕ × List ℕ)) → joined_on x (lines_by o xs).0 (lines_by o xs).1 ≡ lines_by (option_map (λ p. (x ∷ p.0, p.1)) o) (x ∷ xs)
+joined x xs None = refl
+joined x xs (Some p) = refl
+
+cut_or_joined : (x : ℕ) (xs : List ℕ) (t : Bool) → (x == 10) ≡ t → lines_of xs ≡ lines_by (cut 10 xs) xs → lines_of (x ∷ xs) ≡ lines_by (after_byte 10 x xs (cut 10 xs)) (x ∷ xs)
+cut_or_joined x xs true e later = rw e refl
+cut_or_joined x xs false e later = rw (e, later) (joined x xs (cut 10 xs))
+
+lines-cut : (text : List ℕ) → lines_of text ≡ lines_by (cut 10 text) text
+unfolding cut
+lines-cut [] = refl
+lines-cut (x ∷ xs) = cut_or_joined x xs (x == 10) refl (lines-cut xs) ∙ ap (λ (o : Option (List ℕ × List ℕ)). lines_by o (x ∷ xs)) (sym (cut-cons 10 x xs))
+
+-- what the first event of a text tells of all
+abbrev pub after_first : Names → ℕ → Option (ScriptEvent × List ℕ) → Result (List ScriptEvent) ℕ
+after_first names n None = Err (n + 1)
+after_first names n (Some p) = events_before (p.0 ∷ []) (events_after names (n + 1) p.1)
+
+-- the first event, by the cut and by the event of the line before it
+abbrev first_by : List ℕ → Option ScriptEvent → Option (ScriptEvent × List ℕ)
+first_by rest event = option_map (λ e. (e, rest)) event
+
+from_line : (names : Names) (n : ℕ) (rest : List ℕ) (event : Option ScriptEvent)
+    → event_then event (n + 1) (events_after names (n + 1) rest) ≡ after_first names n (first_by rest event)
+from_line names n rest None = refl
+from_line names n rest (Some e) = refl
+
+from_cut : (names : Names) (n x : ℕ) (xs : List ℕ) (o : Option (List ℕ × List ℕ))
+    → events_from names (n + 1) (lines_by o (x ∷ xs)).0 (lines_by o (x ∷ xs)).1 ≡ after_first names n (option_and_then (λ p. first_by p.1 (line_event names p.0)) o)
+from_cut names n x xs None = refl
+from_cut names n x xs (Some p) = from_line names n p.1 (line_event names p.0)
+
+-- the events of a text that is not empty, after n lines
+pub events_step : (names : Names) (n : ℕ) (text : List ℕ) → 0 < length text → events_after names n text ≡ after_first names n (first_event names text)
+events_step names n [] some = absurd (omega (arith, some))
+events_step names n (x ∷ xs) some =
+    ap (λ (l : List (List ℕ) × List ℕ). events_from names (n + 1) l.0 l.1) (lines-cut (x ∷ xs)) ∙ from_cut names n x xs (cut 10 (x ∷ xs))
+
+pub events_before-nil : (r : Result (List ScriptEvent) ℕ) → events_before [] r ≡ r
+events_before-nil (Ok es) = refl
+events_before-nil (Err n) = refl
+
+pub events_before-append : (es : List ScriptEvent) (e : ScriptEvent) (r : Result (List ScriptEvent) ℕ) → events_before es (events_before (e ∷ []) r) ≡ events_before (es ++ e ∷ []) r
+events_before-append es e (Ok later) = ap (λ (l : List ScriptEvent). Ok l) (sym (append_assoc es (e ∷ []) later))
+events_before-append es e (Err n) = refl

@@ -1,0 +1,11 @@
+pub mod CommandLine
+pub mod AskedNames
+pub mod MemoryFile
+pub mod Names
+pub mod StationNames
+pub mod Lines
+pub mod RefusalText
+pub mod ScriptText
+pub mod Script
+pub mod ScriptEvents
+pub mod Playing

@@ -1,0 +1,37 @@
+-- Texts of scripts: lines, words, and numbers of eight hexadecimal digits (profile: replay script).
+use Rattle.std.specs.Prelude.{◌==◌, ◌&&◌, ◌+◌, ◌-◌, ◌*◌, ◌∷◌, [], ℕ, List, Option, Some, None, if◌then◌else◌, nat_le, length, take, drop, position, option_map, option_and_then}
+use Rattle.std.specs.Str.{is_utf8}
+
+-- the parts before and after the first byte b
+unfoldable pub cut : ℕ → List ℕ → Option (List ℕ × List ℕ)
+cut b text = option_map (λ k. (take k text, drop (k + 1) text)) (position (λ x. x == b) text)
+
+-- bytes that are text
+abbrev pub text_of : List ℕ → Option (List ℕ)
+text_of bytes = if is_utf8 bytes then Some bytes else None
+
+-- in either case
+abbrev pub hex_digit : ℕ → Option ℕ
+hex_digit c =
+    if nat_le 48 c && nat_le c 57 then Some (c - 48)
+    else (if nat_le 97 c && nat_le c 102 then Some (c - 97 + 10)
+    else (if nat_le 65 c && nat_le c 70 then Some (c - 65 + 10) else None))
+
+-- the number of hexadecimal digits that follow those of n
+abbrev pub hex_onto : ℕ → List ℕ → Option ℕ
+hex_onto n [] = Some n
+hex_onto n (c ∷ cs) = option_and_then (λ d. hex_onto (n * 16 + d) cs) (hex_digit c)
+
+-- the number of just eight hexadecimal digits
+unfoldable pub raw_word : List ℕ → Option ℕ
+raw_word text = if length text == 8 then hex_onto 0 text else None
+
+-- a byte that is no line feed, before lines and what stands after the last of them
+abbrev pub joined_on : ℕ → List (List ℕ) → List ℕ → List (List ℕ) × List ℕ
+joined_on x [] rest = ([], x ∷ rest)
+joined_on x (line ∷ lines) rest = ((x ∷ line) ∷ lines, rest)
+
+-- the lines of a text, each without the line feed that ends it, and what stands after the last
+abbrev pub lines_of : List ℕ → List (List ℕ) × List ℕ
+lines_of [] = ([], [])
+lines_of (x ∷ xs) = if x == 10 then ([] ∷ (lines_of xs).0, (lines_of xs).1) else joined_on x (lines_of xs).0 (lines_of xs).1

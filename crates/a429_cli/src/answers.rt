@@ -1,0 +1,44 @@
+//! Lines of answers.
+ghost use Rattle.std.specs.Prelude.{◌≡◌, ◌++◌, OnOk};
+ghost use Rattle.a429_cli.specs.Lines.{answer_line, refusal_text};
+ghost use Rattle.a429_cli.specs.StationNames.{kept_sources};
+
+use crate::names::Names;
+use a429_core::{Answer, Refusal};
+use std::io;
+use std::io::Write;
+
+/// What the program prints of a refused event, after `refused`.
+fn refusal_text(refusal: Refusal) -> &'static str
+    ensures { result.now ≡ refusal_text refusal }
+{
+    match refusal {
+        Refusal::NoSuch => "no-such",
+        Refusal::Parity => "parity",
+        Refusal::Filtered => "filtered",
+        Refusal::NoSource => "no-source",
+        Refusal::CountSpent => "count-spent",
+        Refusal::FrameEnd => "frame-end",
+        Refusal::MidFrame => "mid-frame",
+        Refusal::SlotsSpent => "slots-spent",
+        Refusal::StationDiffers => "station-differs",
+    }
+}
+
+/// Appends the line of an answer. The error is a want of memory, and may leave a part of the line.
+#[tactic(auto, unfolding(crate::specs::Lines::hex))]
+pub fn push_answer(text: &mut Vec<u8>, names: &Names, answer: Answer) -> io::Result<()>
+    ensures { OnOk result (text.new.items ≡ text.old.items ++ answer_line (kept_sources names.now) answer) }
+{
+    match answer {
+        Answer::Accepted(source) => writeln!(text, "accepted {}", names.source(source)),
+        Answer::Sent(bus, slot, Some(word)) => {
+            let raw = word.raw();
+            writeln!(text, "sent {bus} {slot} {raw:08x}")
+        }
+        Answer::Sent(bus, slot, None) => writeln!(text, "sent {bus} {slot} none"),
+        Answer::Changed(number) => writeln!(text, "changed {number}"),
+        Answer::Published(number) => writeln!(text, "published {number}"),
+        Answer::Refused(refusal) => writeln!(text, "refused {}", refusal_text(refusal)),
+    }
+}

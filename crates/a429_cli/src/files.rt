@@ -1,0 +1,34 @@
+//! Files by name.
+ghost use Rattle.std.specs.Prelude.{◌≡◌, Bool, List, ℕ, Option, Some, None, IsTrue, IfOk, Err};
+
+use thiserror::Error;
+
+/// How many bytes a file may have: 16 MiB (profile).
+pub const LARGEST_FILE: usize = 16_777_216;
+
+/// Why a file's bytes are not given.
+#[derive(Clone, Copy, Debug, PartialEq, Eq, Error)]
+pub enum FileFault {
+    /// There is no such file, or it cannot be read.
+    #[error("refused")]
+    Refused,
+    /// Memory was refused.
+    #[error("out of memory")]
+    NoMemory,
+}
+
+/// What gives the bytes of files by their names.
+pub trait FileReader {
+    /// Whether it tells what it has.
+    ghost tells: { Self → Bool };
+
+    /// The bytes that it has under a name.
+    ghost file: { Self → List ℕ → Option (List ℕ) };
+
+    /// All bytes of a file. Where it tells what it has, `Refused` stands just where there are none.
+    fn read(&mut self, name: &str) -> Result<Vec<u8>, FileFault>
+        ensures bytes { IsTrue (tells self.old) → IfOk result (λ bytes. file self.old name.now ≡ Some bytes.items) }
+        ensures refused { IsTrue (tells self.old) → result ≡ Err FileFault.Refused → file self.old name.now ≡ None }
+        ensures tells { tells self.new ≡ tells self.old }
+        ensures keeps { (other : List ℕ) → file self.new other ≡ file self.old other };
+}

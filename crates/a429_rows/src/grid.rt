@@ -1,0 +1,69 @@
+//! Filters, and periods of the slot grid.
+
+use a429_filter::{Filter, FilterSet};
+use a429_grid::{Period, fits, grid_period, reverse};
+use a429_word::Label;
+use std::test::Fail;
+
+#[test]
+fn filters_pass_what_their_masks_leave(rt: HostRuntime) -> Result<(), Fail> {
+    let (group, one) = (Label::parse("200")?, Label::parse("203")?);
+    let mut none = FilterSet::none();
+    let all = FilterSet::all();
+    for value in 0..=255 {
+        assert!(rt; !none.passes(Label::new(value)) && all.passes(Label::new(value)));
+    }
+    assert!(rt; all.list().is_none());
+    let eight = Filter {
+        label: group,
+        mask: 0o370,
+    };
+    none.add(eight)?;
+    assert!(rt; none.passes(Label::parse("207")?) && !none.passes(Label::parse("210")?));
+    let exact = Filter {
+        label: one,
+        mask: 0o377,
+    };
+    let mut only = FilterSet::all();
+    only.add(exact)?;
+    assert!(rt; only.passes(one) && !only.passes(Label::parse("204")?));
+    let mut many = FilterSet::none();
+    for _ in 0..32 {
+        many.add(exact)?;
+    }
+    assert!(rt; many.add(eight).is_err());
+    assert!(rt; many.passes(one) && !many.passes(group));
+    assert_eq!(rt; many.list().map(|filters| filters.len()), Some(32));
+    Ok(())
+}
+
+#[test]
+fn intervals_admit_their_greatest_period(rt: HostRuntime) {
+    // least and greatest interval in microseconds, rate in bit/s, slots of the grid period
+    let cases = [
+        (46080, 46080, 100000, Some(128)),
+        (46081, 90000, 100000, None),
+        (1, 359, 100000, None),
+        (1, 360, 100000, Some(1)),
+        (361, 719, 100000, None),
+        (361, 720, 100000, Some(2)),
+        (2949120, 6000000, 100000, Some(8192)),
+        (2949121, 6000000, 100000, None),
+        (24576000, 30000000, 12000, Some(8192)),
+        (24576001, 30000000, 12000, None),
+        (1, 9931, 14500, Some(2)),
+        (1, 9932, 14500, Some(4)),
+    ];
+    for (min_us, max_us, rate, slots) in cases {
+        let period = grid_period(min_us, max_us, rate).map(|period| period.slots());
+        assert_eq!(rt; period, slots, "{min_us}/{max_us} at {rate}");
+    }
+    let two = Period::of_digits(1);
+    assert_eq!(rt; (two.slots(), two.digits()), (2, 1));
+    assert!(rt; fits(two, 720, 720, 100000));
+    assert!(rt; !fits(two, 721, 800, 100000) && !fits(two, 1, 719, 100000));
+    assert_eq!(rt; reverse(1, 2), 2);
+    assert_eq!(rt; reverse(3, 4), 12);
+    assert_eq!(rt; reverse(1, 13), 4096);
+    assert_eq!(rt; reverse(0, 0), 0);
+}

@@ -1,0 +1,23 @@
+//! Worked examples that cross crates, each with its expected output written by hand.
+#![tactic(auto)]
+
+#[cfg(test)]
+mod fields;
+#[cfg(test)]
+mod files;
+#[cfg(test)]
+mod grid;
+#[cfg(test)]
+mod machine;
+#[cfg(test)]
+mod plans;
+#[cfg(test)]
+mod replays;
+#[cfg(test)]
+mod scripts;
+#[cfg(test)]
+mod support;
+#[cfg(test)]
+mod tables;
+#[cfg(test)]
+mod words;

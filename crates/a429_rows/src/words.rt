@@ -1,0 +1,64 @@
+//! Words of the command line that ask for no command.
+
+use crate::support::{ONE, ran};
+use std::test::Fail;
+
+#[test]
+fn usage_is_told_on_the_other_writer(rt: HostRuntime) -> Result<(), Fail> {
+    let table = ONE.as_bytes();
+    let files = [("t", table), ("s", b"".as_slice()), ("-t", table)];
+    let cases: [&[&str]; 14] = [
+        &[],
+        &["--help"],
+        &["-h"],
+        &["help"],
+        &["help", "replay"],
+        &["replay", "--help"],
+        &["replay"],
+        &["replay", "t"],
+        &["replay", "t", "s", "t"],
+        &["replay", "-t", "s"],
+        &["replay", "t", "--odd"],
+        &["odd"],
+        &["Replay", "t", "s"],
+        &[""],
+    ];
+    for words in cases {
+        let told = ran(&rt, words, &files)?;
+        assert!(rt;
+            told.status == 2 && told.out.is_empty() && !told.err.is_empty(),
+            "for {words:?}"
+        );
+    }
+    Ok(())
+}
+
+#[test]
+fn names_may_be_any_words(rt: HostRuntime) -> Result<(), Fail> {
+    let files = [
+        ("-t", ONE.as_bytes()),
+        ("", b"".as_slice()),
+        ("-", b"cell g\n".as_slice()),
+    ];
+    let played = ran(&rt, &["replay", "--", "-t", "-"], &files)?;
+    assert!(rt; played.is("sent 0 0 none\n", 0));
+    let played = ran(&rt, &["replay", "--", "-t", ""], &files)?;
+    assert!(rt; played.is("", 0));
+    let played = ran(&rt, &["replay", "a b", "s"], &files)?;
+    assert!(rt; played.is("refused file a b\n", 1));
+    Ok(())
+}
+
+#[test]
+fn help_says_what_the_program_is_for(rt: HostRuntime) -> Result<(), Fail> {
+    for (words, text) in [
+        ("--help", "ARINC 429"),
+        ("--help", "replay"),
+        ("help", "Usage: a429"),
+    ] {
+        let told = ran(&rt, &[words], &[])?;
+        let shown = String::from_utf8(told.err).ok().ok_or("no text")?;
+        assert!(rt; shown.contains(text), "{words}: {shown}");
+    }
+    Ok(())
+}
