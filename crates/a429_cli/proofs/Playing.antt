@@ -51,13 +51,8 @@ Appends-out None new text out = tt
 Appends-out (Some a) None text out = out
 Appends-out (Some a) (Some b) text out = rw out refl
 
-appends_kept : (old mid new : Option (List ℕ)) (line : List ℕ) → Appends old mid line → Keeps mid new → Appends old new line
+pub appends_kept : (old mid new : Option (List ℕ)) (line : List ℕ) → Appends old mid line → Keeps mid new → Appends old new line
 appends_kept None mid new line wrote kept = tt
 appends_kept (Some a) None new line wrote kept = absurd wrote
 appends_kept (Some a) (Some b) None line wrote kept = kept
 appends_kept (Some a) (Some b) (Some c) line wrote kept = kept ∙ wrote
-
--- a text with its line feed, and then a flush
-pub line_kept : (text : Option (List ℕ)) (old mid new : Option (List ℕ)) → IfSome (with_newline text) (Appends old mid) → Keeps mid new → IfSome text (λ t. Appends old new (t ++ 10 ∷ []))
-line_kept None old mid new wrote kept = tt
-line_kept (Some t) old mid new wrote kept = appends_kept old mid new (t ++ 10 ∷ []) wrote kept

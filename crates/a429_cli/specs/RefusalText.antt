@@ -1,14 +1,14 @@
 -- The line of a refusal, without its line feed (profile: output).
-use Rattle.std.specs.Prelude.{◌++◌, ℕ, List, Option, Some, None, codes, string_bytes}
+use Rattle.std.specs.Prelude.{◌++◌, ℕ, List, codes, string_bytes}
 use Rattle.std.specs.Fmt.{decimal}
+use Rattle.a429_equipment.specs.Printed.{kind_text, place_text}
 use Rattle.a429_cli.specs.declared.refusals.CommandRefusal.{CommandRefusal}
 use Rattle.a429_cli.specs.declared.refusals.CommandRefusal.TheVariants as refused
 
--- known but for a table's fault, whose kinds and places do not state their texts
-abbrev pub refusal_output : CommandRefusal → Option (List ℕ)
-refusal_output (refused.File name) = Some (codes "refused file " ++ string_bytes name)
-refusal_output (refused.Table kind place) = None
-refusal_output (refused.Unfit group source) = Some (codes "refused unfit " ++ string_bytes group ++ codes " " ++ string_bytes source)
-refusal_output (refused.TooManyBuses group needed) = Some (codes "refused too-many-buses " ++ string_bytes group ++ codes " " ++ decimal needed)
-refusal_output (refused.Script line) = Some (codes "refused script line " ++ decimal line)
-refusal_output refused.Memory = Some (codes "refused memory")
+abbrev pub refusal_line : CommandRefusal → List ℕ
+refusal_line (refused.File name) = codes "refused file " ++ string_bytes name
+refusal_line (refused.Table kind place) = codes "refused table " ++ kind_text kind ++ codes " " ++ place_text place
+refusal_line (refused.Unfit group source) = codes "refused unfit " ++ string_bytes group ++ codes " " ++ string_bytes source
+refusal_line (refused.TooManyBuses group needed) = codes "refused too-many-buses " ++ string_bytes group ++ codes " " ++ decimal needed
+refusal_line (refused.Script line) = codes "refused script line " ++ decimal line
+refusal_line refused.Memory = codes "refused memory"

@@ -23,9 +23,10 @@ pub enum CommandRefusal {
 }
 
 impl fmt::Display for CommandRefusal {
-    ghost use Rattle.a429_cli.specs.RefusalText.{refusal_output};
+    ghost use Rattle.std.specs.Prelude.{Some};
+    ghost use Rattle.a429_cli.specs.RefusalText.{refusal_line};
 
-    ghost output = { refusal_output };
+    ghost output = { λ refusal. Some (refusal_line refusal) };
 
     fn fmt<W: fmt::Write>(&self, f: &mut fmt::Formatter<W>) -> fmt::Result {
         match self {

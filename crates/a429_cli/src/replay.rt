@@ -1,5 +1,5 @@
 //! The command `replay`.
-ghost use Rattle.std.specs.Prelude.{◌≡◌, ◌≤◌, ◌++◌, ◌∷◌, [], List, OnOk, OnErr, IfOk, IfSome, IsTrue};
+ghost use Rattle.std.specs.Prelude.{◌≡◌, ◌≤◌, ◌++◌, ◌∷◌, [], List, OnOk, OnErr, IfOk, IsTrue};
 ghost use Rattle.std.specs.Io.KnownBytes.{Appends, append_known};
 ghost use Rattle.a429_slots.specs.Events.{Event as History_Event};
 ghost use Rattle.a429_slots.specs.History.{Opening};
@@ -7,7 +7,7 @@ ghost use Rattle.a429_core.specs.Answers.{answer};
 ghost use Rattle.a429_core.specs.Standing.{StandsFor};
 ghost use Rattle.a429_cli.specs.Lines.{answer_line};
 ghost use Rattle.a429_cli.specs.Playing.{history_event, answer_lines};
-ghost use Rattle.a429_cli.specs.RefusalText.{refusal_output};
+ghost use Rattle.a429_cli.specs.RefusalText.{refusal_line};
 ghost use Rattle.a429_cli.specs.StationNames.{kept_sources};
 
 use crate::answers::push_answer;
@@ -125,7 +125,7 @@ fn play_all<W: Write>(
 /// Writes the line of a refusal. The status is 1.
 pub fn refuse<W: Write>(out: &mut W, refusal: &CommandRefusal) -> io::Result<u8>
     ensures status { IfOk result (λ status. status ≡ 1) }
-    ensures line { OnOk result (IfSome (refusal_output refusal.now) (λ text. Appends (W.contents out.old) (W.contents out.new) (text ++ 10 ∷ []))) }
+    ensures line { OnOk result (Appends (W.contents out.old) (W.contents out.new) (refusal_line refusal.now ++ 10 ∷ [])) }
 {
     writeln!(out, "{refusal}")?;
     out.flush()?;

@@ -309,51 +309,53 @@ name = \"e\"
 output = []
 ";
 
+/// Edits of that table one after another, with the first fault that is left after each.
+const STEPS: &[(&str, &str, &str)] = &[
+    ("zz = 1", "zz", "not-toml root"),
+    ("zz", "zz = 1", "version root"),
+    ("version = 2", "version = 1", "unknown-key root"),
+    ("zz = 1", "", "missing-key output 0 1"),
+    (
+        "min_us = 2",
+        "min_us = 2\nmax_us = 2",
+        "wrong-kind output 0 0",
+    ),
+    ("min_us = \"1\"", "min_us = 0", "rate root"),
+    ("rate = 1", "rate = 12000", "too-many receiver 0"),
+    ("\"\", \"\"", "\"\"", "name receiver 0"),
+    ("\"R\"", "\"r\"", "duplicate-name receiver 2"),
+    (
+        "name = \"q\"\n[[source]]",
+        "name = \"p\"\n[[source]]",
+        "label receiver 0",
+    ),
+    ("filters = ", "filters = []\n#", "sdi source 0"),
+    ("sdi = 4", "sdi = \"any\"", "interval output 0 0"),
+    ("min_us = 0", "min_us = 1", "unknown-name source 1"),
+    (
+        "receiver = \"z\"",
+        "receiver = \"r\"",
+        "duplicate-source source 1",
+    ),
+    (
+        "\"t\"\nreceiver = \"r\"",
+        "\"t\"\nreceiver = \"q\"",
+        "duplicate-output output 0 1",
+    ),
+    (
+        "source = \"s\"\nmin_us = 2",
+        "source = \"t\"\nmin_us = 2",
+        "empty-group group 1",
+    ),
+    ("[[group]]\nname = \"e\"\noutput = []", "", "none"),
+];
+
 #[test]
 fn asks_kinds_in_order(rt: HostRuntime) -> Result<(), Fail> {
-    let steps = [
-        ("zz = 1", "zz", "not-toml root"),
-        ("zz", "zz = 1", "version root"),
-        ("version = 2", "version = 1", "unknown-key root"),
-        ("zz = 1", "", "missing-key output 0 1"),
-        (
-            "min_us = 2",
-            "min_us = 2\nmax_us = 2",
-            "wrong-kind output 0 0",
-        ),
-        ("min_us = \"1\"", "min_us = 0", "rate root"),
-        ("rate = 1", "rate = 12000", "too-many receiver 0"),
-        ("\"\", \"\"", "\"\"", "name receiver 0"),
-        ("\"R\"", "\"r\"", "duplicate-name receiver 2"),
-        (
-            "name = \"q\"\n[[source]]",
-            "name = \"p\"\n[[source]]",
-            "label receiver 0",
-        ),
-        ("filters = ", "filters = []\n#", "sdi source 0"),
-        ("sdi = 4", "sdi = \"any\"", "interval output 0 0"),
-        ("min_us = 0", "min_us = 1", "unknown-name source 1"),
-        (
-            "receiver = \"z\"",
-            "receiver = \"r\"",
-            "duplicate-source source 1",
-        ),
-        (
-            "\"t\"\nreceiver = \"r\"",
-            "\"t\"\nreceiver = \"q\"",
-            "duplicate-output output 0 1",
-        ),
-        (
-            "source = \"s\"\nmin_us = 2",
-            "source = \"t\"\nmin_us = 2",
-            "empty-group group 1",
-        ),
-        ("[[group]]\nname = \"e\"\noutput = []", "", "none"),
-    ];
     let mut text = String::from_str(rt.alloc(), ALL_FAULTS)?;
-    for (from, to, want) in steps {
+    for (from, to, want) in STEPS {
         text = edited(&rt, text.as_str(), from, to)?;
-        assert_eq!(rt; fault_of(&rt, text.as_bytes())?.as_str(), want, "at {to}");
+        assert_eq!(rt; fault_of(&rt, text.as_bytes())?.as_str(), *want, "at {to}");
     }
     Ok(())
 }

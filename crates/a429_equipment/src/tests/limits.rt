@@ -27,86 +27,88 @@ fn refuses_bytes_that_are_no_text(rt: HostRuntime) -> Result<(), Fail> {
     Ok(())
 }
 
+/// Rows, how many of them, the text before and after them, and the fault that they make.
+const COUNTS: &[(&str, u32, &str, &str, &str)] = &[
+    (
+        ROW_OF_RECEIVER,
+        16,
+        "source = []\ngroup = []\n",
+        "",
+        "duplicate-name receiver 1",
+    ),
+    (
+        ROW_OF_RECEIVER,
+        17,
+        "source = []\ngroup = []\n",
+        "",
+        "too-many root",
+    ),
+    (
+        ROW_OF_SOURCE,
+        256,
+        "receiver = []\ngroup = []\n",
+        "",
+        "duplicate-name source 1",
+    ),
+    (
+        ROW_OF_SOURCE,
+        257,
+        "receiver = []\ngroup = []\n",
+        "",
+        "too-many root",
+    ),
+    (
+        ROW_OF_GROUP,
+        8,
+        "receiver = []\nsource = []\n",
+        "",
+        "duplicate-name group 1",
+    ),
+    (
+        ROW_OF_GROUP,
+        9,
+        "receiver = []\nsource = []\n",
+        "",
+        "too-many root",
+    ),
+    (
+        ROW_OF_OUTPUT,
+        128,
+        "receiver = []\nsource = []\n[[group]]\nname = \"g\"\n",
+        "",
+        "unknown-name output 0 0",
+    ),
+    (
+        ROW_OF_OUTPUT,
+        129,
+        "receiver = []\nsource = []\n[[group]]\nname = \"g\"\n",
+        "",
+        "too-many group 0",
+    ),
+    (
+        "\"\",",
+        32,
+        "source = []\ngroup = []\n[[receiver]]\nname = \"r\"\nfilters = [",
+        "]",
+        "label receiver 0",
+    ),
+    (
+        "\"\",",
+        33,
+        "source = []\ngroup = []\n[[receiver]]\nname = \"r\"\nfilters = [",
+        "]",
+        "too-many receiver 0",
+    ),
+];
+
 #[test]
 fn counts_rows(rt: HostRuntime) -> Result<(), Fail> {
-    let cases = [
-        (
-            ROW_OF_RECEIVER,
-            16,
-            "source = []\ngroup = []\n",
-            "",
-            "duplicate-name receiver 1",
-        ),
-        (
-            ROW_OF_RECEIVER,
-            17,
-            "source = []\ngroup = []\n",
-            "",
-            "too-many root",
-        ),
-        (
-            ROW_OF_SOURCE,
-            256,
-            "receiver = []\ngroup = []\n",
-            "",
-            "duplicate-name source 1",
-        ),
-        (
-            ROW_OF_SOURCE,
-            257,
-            "receiver = []\ngroup = []\n",
-            "",
-            "too-many root",
-        ),
-        (
-            ROW_OF_GROUP,
-            8,
-            "receiver = []\nsource = []\n",
-            "",
-            "duplicate-name group 1",
-        ),
-        (
-            ROW_OF_GROUP,
-            9,
-            "receiver = []\nsource = []\n",
-            "",
-            "too-many root",
-        ),
-        (
-            ROW_OF_OUTPUT,
-            128,
-            "receiver = []\nsource = []\n[[group]]\nname = \"g\"\n",
-            "",
-            "unknown-name output 0 0",
-        ),
-        (
-            ROW_OF_OUTPUT,
-            129,
-            "receiver = []\nsource = []\n[[group]]\nname = \"g\"\n",
-            "",
-            "too-many group 0",
-        ),
-        (
-            "\"\",",
-            32,
-            "source = []\ngroup = []\n[[receiver]]\nname = \"r\"\nfilters = [",
-            "]",
-            "label receiver 0",
-        ),
-        (
-            "\"\",",
-            33,
-            "source = []\ngroup = []\n[[receiver]]\nname = \"r\"\nfilters = [",
-            "]",
-            "too-many receiver 0",
-        ),
-    ];
-    for (part, count, head, tail, want) in cases {
-        let rows = repeated(&rt, part, count)?;
+    for (part, count, head, tail, want) in COUNTS {
+        let rows = repeated(&rt, part, *count)?;
         let text = format!(in rt.alloc(); "version = 1\nrate = 12000\n{head}{rows}{tail}")?;
         assert_eq!(rt;
             fault_of(&rt, text.as_bytes())?.as_str(),
-            want,
+            *want,
             "at {count}"
         );
     }
