@@ -1,4 +1,9 @@
-pub mod ReplayWords
-pub mod NameNumbers
+pub mod PlainWords
+pub mod StoppedWords
+pub mod ManyWords
+pub mod AskedWords
+pub mod Found
+pub mod Refused
+pub mod Numbered
 pub mod ScriptLines
-pub mod Playing
+pub mod PlayedLines

@@ -5,7 +5,7 @@ use Rattle.std.specs.List.{position_or_len}
 use Rattle.std.proofs.lemmas.Bool.Decides.{nat_tests}
 use Rattle.a429_cli.specs.ScriptText.{cut, joined_on, lines_of}
 use Rattle.a429_cli.specs.Script.{events_before, event_then, events_from, events_after, first_event, line_event}
-use Rattle.a429_cli.specs.declared.names.Names.{Names}
+use Rattle.a429_cli.specs.Names.{Naming}
 use Rattle.a429_cli.specs.declared.script.ScriptEvent.{ScriptEvent}
 
 -- a byte before a cut
@@ -57,29 +57,29 @@ lines-cut [] = refl
 lines-cut (x ∷ xs) = cut_or_joined x xs (x == 10) refl (lines-cut xs) ∙ ap (λ (o : Option (List ℕ × List ℕ)). lines_by o (x ∷ xs)) (sym (cut-cons 10 x xs))
 
 -- what the first event of a text tells of all
-abbrev pub after_first : Names → ℕ → Option (ScriptEvent × List ℕ) → Result (List ScriptEvent) ℕ
-after_first names n None = Err (n + 1)
-after_first names n (Some p) = events_before (p.0 ∷ []) (events_after names (n + 1) p.1)
+abbrev pub after_first : Naming → ℕ → ℕ → Option (ScriptEvent × List ℕ) → Result (List ScriptEvent) ℕ
+after_first names further n None = Err (n + 1)
+after_first names further n (Some p) = events_before (p.0 ∷ []) (events_after names further (n + 1) p.1)
 
 -- the first event, by the cut and by the event of the line before it
 abbrev first_by : List ℕ → Option ScriptEvent → Option (ScriptEvent × List ℕ)
 first_by rest event = option_map (λ e. (e, rest)) event
 
-from_line : (names : Names) (n : ℕ) (rest : List ℕ) (event : Option ScriptEvent)
-    → event_then event (n + 1) (events_after names (n + 1) rest) ≡ after_first names n (first_by rest event)
-from_line names n rest None = refl
-from_line names n rest (Some e) = refl
+from_line : (names : Naming) (further : ℕ) (n : ℕ) (rest : List ℕ) (event : Option ScriptEvent)
+    → event_then event (n + 1) (events_after names further (n + 1) rest) ≡ after_first names further n (first_by rest event)
+from_line names further n rest None = refl
+from_line names further n rest (Some e) = refl
 
-from_cut : (names : Names) (n x : ℕ) (xs : List ℕ) (o : Option (List ℕ × List ℕ))
-    → events_from names (n + 1) (lines_by o (x ∷ xs)).0 (lines_by o (x ∷ xs)).1 ≡ after_first names n (option_and_then (λ p. first_by p.1 (line_event names p.0)) o)
-from_cut names n x xs None = refl
-from_cut names n x xs (Some p) = from_line names n p.1 (line_event names p.0)
+from_cut : (names : Naming) (further : ℕ) (n x : ℕ) (xs : List ℕ) (o : Option (List ℕ × List ℕ))
+    → events_from names further (n + 1) (lines_by o (x ∷ xs)).0 (lines_by o (x ∷ xs)).1 ≡ after_first names further n (option_and_then (λ p. first_by p.1 (line_event names further p.0)) o)
+from_cut names further n x xs None = refl
+from_cut names further n x xs (Some p) = from_line names further n p.1 (line_event names further p.0)
 
 -- the events of a text that is not empty, after n lines
-pub events_step : (names : Names) (n : ℕ) (text : List ℕ) → 0 < length text → events_after names n text ≡ after_first names n (first_event names text)
-events_step names n [] some = absurd (omega (arith, some))
-events_step names n (x ∷ xs) some =
-    ap (λ (l : List (List ℕ) × List ℕ). events_from names (n + 1) l.0 l.1) (lines-cut (x ∷ xs)) ∙ from_cut names n x xs (cut 10 (x ∷ xs))
+pub events_step : (names : Naming) (further : ℕ) (n : ℕ) (text : List ℕ) → 0 < length text → events_after names further n text ≡ after_first names further n (first_event names further text)
+events_step names further n [] some = absurd (omega (arith, some))
+events_step names further n (x ∷ xs) some =
+    ap (λ (l : List (List ℕ) × List ℕ). events_from names further (n + 1) l.0 l.1) (lines-cut (x ∷ xs)) ∙ from_cut names further n x xs (cut 10 (x ∷ xs))
 
 pub events_before-nil : (r : Result (List ScriptEvent) ℕ) → events_before [] r ≡ r
 events_before-nil (Ok es) = refl

@@ -1,23 +1,28 @@
--- the command line of the program
-use Rattle.std.specs.Prelude.{◌≢◌, ◌∷◌, [], true, List, codes, ⊤}
+-- The command line of the program.
+use Rattle.std.specs.Prelude.{◌≢◌, ◌∷◌, [], true, Some, List, codes, ⊤}
 use Rattle.clap.specs.Words.{App, Rule, Shape, Text, new_app, new_rule, with_rule, with_subcommand}
+use Rattle.clap.specs.declared.builder.action.ArgAction.TheVariants.{Append}
 
 abbrev pub required_rule : Text → Rule
 required_rule id = record (new_rule id) { required = true }
 
+-- as many values as are given
+abbrev pub many_rule : Text → Rule
+many_rule id = record (new_rule id) { action = Some Append }
+
+abbrev pub word_app : App
+word_app = with_rule (new_app (codes "word")) (required_rule (codes "HEX"))
+
 abbrev pub replay_app : App
-replay_app = with_rule (with_rule (new_app (codes "replay")) (required_rule (codes "TABLE"))) (required_rule (codes "SCRIPT"))
+replay_app = with_rule (with_rule (with_rule (new_app (codes "replay")) (required_rule (codes "TABLE"))) (required_rule (codes "SCRIPT"))) (many_rule (codes "FURTHER"))
 
 abbrev pub top_shape : Shape
 top_shape = record ((new_app (codes "a429")).top) { no_binary_name = true; subcommand_required = true }
 
 unfoldable pub command_line : App
-command_line = with_subcommand (record { top = top_shape; subs = [] }) replay_app.top
+command_line = with_subcommand (with_subcommand (record { top = top_shape; subs = [] }) word_app.top) replay_app.top
 
 -- a name of a file, which no option can be
 abbrev pub IsName : Text → Type 0
 IsName [] = ⊤
 IsName (x ∷ xs) = x ≢ 45
-
-abbrev pub replay_words : Text → Text → List Text
-replay_words table script = codes "replay" ∷ table ∷ script ∷ []

@@ -1,14 +1,9 @@
--- Texts of scripts: lines, words, and numbers of eight hexadecimal digits (profile: replay script).
-use Rattle.std.specs.Prelude.{◌==◌, ◌&&◌, ◌+◌, ◌-◌, ◌*◌, ◌∷◌, [], ℕ, List, Option, Some, None, if◌then◌else◌, nat_le, length, take, drop, position, option_map, option_and_then}
-use Rattle.std.specs.Str.{is_utf8}
+-- Texts of scripts: lines, words, and numbers of hexadecimal or decimal digits (profile: replay script).
+use Rattle.std.specs.Prelude.{◌==◌, ◌&&◌, ◌+◌, ◌-◌, ◌*◌, ◌∷◌, [], ℕ, Bool, false, not, List, Option, Some, None, if◌then◌else◌, nat_lt, nat_le, length, take, drop, position, option_map, option_and_then}
 
 -- the parts before and after the first byte b
 unfoldable pub cut : ℕ → List ℕ → Option (List ℕ × List ℕ)
 cut b text = option_map (λ k. (take k text, drop (k + 1) text)) (position (λ x. x == b) text)
-
--- bytes that are text
-abbrev pub text_of : List ℕ → Option (List ℕ)
-text_of bytes = if is_utf8 bytes then Some bytes else None
 
 -- in either case
 abbrev pub hex_digit : ℕ → Option ℕ
@@ -25,6 +20,23 @@ hex_onto n (c ∷ cs) = option_and_then (λ d. hex_onto (n * 16 + d) cs) (hex_di
 -- the number of just eight hexadecimal digits
 unfoldable pub raw_word : List ℕ → Option ℕ
 raw_word text = if length text == 8 then hex_onto 0 text else None
+
+abbrev pub decimal_digit : ℕ → Option ℕ
+decimal_digit c = if nat_le 48 c && nat_le c 57 then Some (c - 48) else None
+
+-- the number of decimal digits that follow those of n
+abbrev pub decimal_onto : ℕ → List ℕ → Option ℕ
+decimal_onto n [] = Some n
+decimal_onto n (c ∷ cs) = option_and_then (λ d. decimal_onto (n * 10 + d) cs) (decimal_digit c)
+
+-- a zero with digits after it
+abbrev pub has_leading_zero : List ℕ → Bool
+has_leading_zero (c ∷ d ∷ ds) = c == 48
+has_leading_zero _ = false
+
+-- the number of one to ten decimal digits without a leading zero
+unfoldable pub decimal_number : List ℕ → Option ℕ
+decimal_number text = if nat_lt 0 (length text) && nat_le (length text) 10 && not (has_leading_zero text) then decimal_onto 0 text else None
 
 -- a byte that is no line feed, before lines and what stands after the last of them
 abbrev pub joined_on : ℕ → List (List ℕ) → List ℕ → List (List ℕ) × List ℕ

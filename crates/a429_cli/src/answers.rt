@@ -1,7 +1,6 @@
 //! Lines of answers.
 ghost use Rattle.std.specs.Prelude.{◌≡◌, ◌++◌, OnOk};
 ghost use Rattle.a429_cli.specs.Lines.{answer_line, refusal_text};
-ghost use Rattle.a429_cli.specs.StationNames.{kept_sources};
 
 use crate::names::Names;
 use a429_core::{Answer, Refusal};
@@ -28,7 +27,7 @@ fn refusal_text(refusal: Refusal) -> &'static str
 /// Appends the line of an answer. The error is a want of memory, and may leave a part of the line.
 #[tactic(auto, unfolding(crate::specs::Lines::hex))]
 pub fn push_answer(text: &mut Vec<u8>, names: &Names, answer: Answer) -> io::Result<()>
-    ensures { OnOk result (text.new.items ≡ text.old.items ++ answer_line (kept_sources names.now) answer) }
+    ensures { OnOk result (text.new.items ≡ text.old.items ++ answer_line names.now.sources answer) }
 {
     match answer {
         Answer::Accepted(source) => writeln!(text, "accepted {}", names.source(source)),

@@ -1,58 +1,62 @@
-//! Names of a station, and the numbers that stand for them.
-ghost use Rattle.std.specs.Prelude.{◌≡◌, ◌≤◌, ℕ, List, map, length, string_bytes, IfOk, OnOk, Some, None, if◌then◌else◌};
-ghost use Rattle.std.specs.Option.{option_or};
-ghost use Rattle.std.specs.Str.{bytes_eq};
-ghost use Rattle.indexmap.specs.IndexMap.{get_by_text};
-ghost use Rattle.a429_cli.specs.Names.{NumbersNames, name_at};
+//! Names of a station, and the numbers that they stand for.
+ghost use Rattle.std.specs.Prelude.{◌≡◌, ◌≤◌, IfOk, length, map, string_bytes};
+ghost use Rattle.a429_cli.specs.Names.{name_at, naming_of, number_named};
 
 use a429_equipment::{Equipment, GroupRow, ReceiverRow, SourceRow};
-use indexmap::IndexMap;
 use std::alloc::{AllocError, Global};
-use std::str;
+use std::marker::Model;
 
-/// The numbers of a station's receivers and groups by their names, and the names of its sources by number.
-/// A script may have millions of names: so they are gathered once.
+/// The names of a station's receivers, sources and groups, each in table order.
 #[derive(Drop)]
 pub struct Names {
-    receivers: IndexMap<String, u8>,
-    groups: IndexMap<String, u8>,
+    receivers: Vec<String>,
     sources: Vec<String>,
+    groups: Vec<String>,
+}
+
+impl Model for Names {
+    ghost use Rattle.std.specs.Prelude.{◌≤◌, length, map, string_bytes};
+    ghost use Rattle.a429_cli.specs.Names.{Naming};
+
+    ghost Value = { Naming };
+
+    ghost view = { λ n. record { receivers = map string_bytes n.receivers.items; sources = map string_bytes n.sources.items; groups = map string_bytes n.groups.items } };
+
+    ghost invariant = { λ n. (length n.receivers.items ≤ 16) × (length n.groups.items ≤ 8) };
 }
 
 impl Names {
-    ghost use Rattle.a429_cli.specs.StationNames.{AreNamesOf, receiver_named, group_named, kept_sources};
-
     /// Gathers the names of an equipment.
     pub fn of(alloc: Global, equipment: &Equipment) -> Result<Names, AllocError>
-        ensures { IfOk result (λ names. AreNamesOf names equipment.now) }
+        ensures { IfOk result (λ names. names ≡ naming_of equipment.now) }
     {
-        let receivers = receiver_numbers(alloc, equipment.receivers())?;
-        let groups = group_numbers(alloc, equipment.groups())?;
+        let receivers = receiver_names(alloc, equipment.receivers())?;
         let sources = source_names(alloc, equipment.sources())?;
+        let groups = group_names(alloc, equipment.groups())?;
         Ok(Names {
             receivers,
-            groups,
             sources,
+            groups,
         })
     }
 
     /// The number of the receiver with this name.
-    pub fn receiver(&self, name: &str) -> Option<u8>
-        ensures { result ≡ receiver_named self.now name.now }
+    pub fn receiver(&self, name: &[u8]) -> Option<u8>
+        ensures { result ≡ number_named self.now.receivers name.now }
     {
-        self.receivers.get(name).copied()
+        number_of(&self.receivers, name)
     }
 
     /// The number of the group with this name.
-    pub fn group(&self, name: &str) -> Option<u8>
-        ensures { result ≡ group_named self.now name.now }
+    pub fn group(&self, name: &[u8]) -> Option<u8>
+        ensures { result ≡ number_named self.now.groups name.now }
     {
-        self.groups.get(name).copied()
+        number_of(&self.groups, name)
     }
 
     /// The name of the source of this number; nothing where there is no such source.
     pub fn source(&self, number: usize) -> &str
-        ensures { result.now ≡ name_at (kept_sources self.now) number }
+        ensures { result.now ≡ name_at self.now.sources number }
     {
         match self.sources.get(number) {
             Some(name) => name.as_str(),
@@ -61,54 +65,42 @@ impl Names {
     }
 }
 
-/// Gives a name a number, unless it has one.
-fn number_name(
-    numbers: &mut IndexMap<String, u8>,
-    alloc: Global,
-    name: &str,
-    number: u8,
-) -> Result<(), AllocError>
-    ensures { OnOk result ((q : List ℕ) → get_by_text numbers.new q ≡ option_or (get_by_text numbers.old q) (if bytes_eq q name.now then Some number else None)) }
-{
-    if !numbers.contains_key(name) {
-        numbers.insert(String::from_str(alloc, name)?, number)?;
-    }
-    Ok(())
-}
-
+/// The number of the first of these names that is this one.
 #[tactic(auto, unfolding(crate::specs::Names::number_named))]
-fn receiver_numbers(
-    alloc: Global,
-    receivers: &[ReceiverRow],
-) -> Result<IndexMap<String, u8>, AllocError>
-    requires { length receivers.now ≤ 16 }
-    ensures { IfOk result (λ m. NumbersNames m (map (λ r. r.name) receivers.now)) }
+fn number_of(names: &[String], name: &[u8]) -> Option<u8>
+    requires { length names.now ≤ 16 }
+    ensures { result ≡ number_named (map string_bytes names.now) name.now }
 {
-    let mut numbers = IndexMap::new(alloc);
-    for (row, receiver) in receivers.iter().enumerate() {
-        number_name(&mut numbers, alloc, receiver.name.as_str(), row as u8)?;
-    }
-    Ok(numbers)
+    let number = names.iter().position(|own| own.as_bytes() == name)?;
+    Some(number as u8)
 }
 
-#[tactic(auto, unfolding(crate::specs::Names::number_named))]
-fn group_numbers(alloc: Global, groups: &[GroupRow]) -> Result<IndexMap<String, u8>, AllocError>
-    requires { length groups.now ≤ 8 }
-    ensures { IfOk result (λ m. NumbersNames m (map (λ g. g.name) groups.now)) }
-{
-    let mut numbers = IndexMap::new(alloc);
-    for (row, group) in groups.iter().enumerate() {
-        number_name(&mut numbers, alloc, group.name.as_str(), row as u8)?;
-    }
-    Ok(numbers)
-}
-
-fn source_names(alloc: Global, sources: &[SourceRow]) -> Result<Vec<String>, AllocError>
-    ensures { IfOk result (λ names. map string_bytes names.items ≡ map (λ s. s.name) sources.now) }
+fn receiver_names(alloc: Global, rows: &[ReceiverRow]) -> Result<Vec<String>, AllocError>
+    ensures { IfOk result (λ names. map string_bytes names.items ≡ map (λ r. r.name) rows.now) }
 {
     let mut names = Vec::new(alloc);
-    for source in sources {
-        names.push(String::from_str(alloc, source.name.as_str())?)?;
+    for row in rows {
+        names.push(String::from_str(alloc, row.name.as_str())?)?;
+    }
+    Ok(names)
+}
+
+fn source_names(alloc: Global, rows: &[SourceRow]) -> Result<Vec<String>, AllocError>
+    ensures { IfOk result (λ names. map string_bytes names.items ≡ map (λ s. s.name) rows.now) }
+{
+    let mut names = Vec::new(alloc);
+    for row in rows {
+        names.push(String::from_str(alloc, row.name.as_str())?)?;
+    }
+    Ok(names)
+}
+
+fn group_names(alloc: Global, rows: &[GroupRow]) -> Result<Vec<String>, AllocError>
+    ensures { IfOk result (λ names. map string_bytes names.items ≡ map (λ g. g.name) rows.now) }
+{
+    let mut names = Vec::new(alloc);
+    for row in rows {
+        names.push(String::from_str(alloc, row.name.as_str())?)?;
     }
     Ok(names)
 }

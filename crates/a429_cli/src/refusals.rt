@@ -10,6 +10,10 @@ use std::fmt;
 pub enum CommandRefusal {
     /// The file of this name cannot be read, or has more than 16 MiB.
     File(String),
+    /// The text of a word is not eight hexadecimal digits.
+    WordText,
+    /// An even number of the word's 32 bits are ones.
+    Parity,
     /// The table has this fault at this place.
     Table(FaultKind, TablePlace),
     /// The interval of the group's output of this source admits no period of the grid.
@@ -31,6 +35,8 @@ impl fmt::Display for CommandRefusal {
     fn fmt<W: fmt::Write>(&self, f: &mut fmt::Formatter<W>) -> fmt::Result {
         match self {
             CommandRefusal::File(name) => write!(f, "refused file {name}"),
+            CommandRefusal::WordText => write!(f, "refused word-text"),
+            CommandRefusal::Parity => write!(f, "refused parity"),
             CommandRefusal::Table(kind, place) => write!(f, "refused table {kind} {place}"),
             CommandRefusal::Unfit { group, source } => {
                 write!(f, "refused unfit {group} {source}")

@@ -1,36 +1,23 @@
 //! Scripts of events, one a line.
-ghost use Rattle.std.specs.Prelude.{◌≡◌, ◌<◌, length, Ok, IfSome, MatchResult, option_map};
-ghost use Rattle.a429_cli.specs.ScriptText.{cut, text_of, hex_digit, raw_word};
-ghost use Rattle.a429_cli.specs.Script.{arrive_event, group_of, line_event, first_event, script_events, IsScriptRefusal};
+ghost use Rattle.std.specs.List.{AllByRecursion};
+ghost use Rattle.std.specs.Prelude.{◌≡◌, ◌<◌, ℕ, length, Ok, IfOk, IfSome, MatchResult, option_map};
+ghost use Rattle.a429_cli.specs.ScriptText.{cut, decimal_digit, decimal_number, hex_digit, raw_word};
+ghost use Rattle.a429_cli.specs.Script.{arrive_event, line_event, first_event, publish_event, script_events, IsScriptFault};
+ghost use Rattle.a429_cli.specs.Playing.{HasTable};
+ghost use Rattle.a429_cli.specs.RefusalText.{OrMemory};
 
 use crate::names::Names;
 use crate::refusals::CommandRefusal;
-use a429_core::Event;
 use std::alloc::Global;
-use std::str;
 
-/// An event of a script. Receivers and groups are numbered from 0 in table order; a script may have
-/// millions of events, so that each number is kept in a byte.
+/// An event of a script. Receivers and groups are numbered from 0 in table order, the further tables of the
+/// command line from 1. A script may have millions of events: so the small numbers are kept in a byte.
 #[derive(Clone, Copy, Debug, PartialEq, Eq)]
 pub enum ScriptEvent {
     Arrive(u8, u32),
     Cell(u8),
     Frame(u8),
-}
-
-impl ScriptEvent {
-    ghost use Rattle.a429_cli.specs.ScriptEvents.{event_of};
-
-    /// The event of the machine.
-    pub fn event(self) -> Event
-        ensures { result ≡ event_of self }
-    {
-        match self {
-            ScriptEvent::Arrive(receiver, raw) => Event::Arrive(usize::from(receiver), raw),
-            ScriptEvent::Cell(group) => Event::Cell(usize::from(group)),
-            ScriptEvent::Frame(group) => Event::Frame(usize::from(group)),
-        }
-    }
+    Publish(usize),
 }
 
 /// The texts before and after the first byte of this value.
@@ -41,12 +28,6 @@ fn cut_at(text: &[u8], byte: u8) -> Option<(&[u8], &[u8])>
 {
     let at = text.iter().position(|b| *b == byte)?;
     Some((&text[..at], &text[at + 1..]))
-}
-
-fn as_text(bytes: &[u8]) -> Option<&str>
-    ensures { option_map (λ s. s.now) result ≡ text_of bytes.now }
-{
-    str::from_utf8(bytes).ok()
 }
 
 fn hex_digit(digit: u8) -> Option<u32>
@@ -63,7 +44,7 @@ fn hex_digit(digit: u8) -> Option<u32>
 
 /// The number of just eight hexadecimal digits, in either case.
 #[tactic(auto, unfolding(crate::specs::ScriptText::raw_word))]
-fn raw_word(text: &[u8]) -> Option<u32>
+pub fn raw_word(text: &[u8]) -> Option<u32>
     ensures { result ≡ raw_word text.now }
 {
     if text.len() != 8 {
@@ -76,59 +57,101 @@ fn raw_word(text: &[u8]) -> Option<u32>
     Some(raw)
 }
 
+fn decimal_digit(digit: u8) -> Option<u64>
+    ensures value { result ≡ decimal_digit digit }
+    ensures small { IfSome result (λ d. d < 10) }
+{
+    match digit {
+        b'0'..=b'9' => Some(u64::from(digit - b'0')),
+        _ => None,
+    }
+}
+
+/// The number of one to ten decimal digits, of which the first is 0 only where it stands alone.
+#[tactic(auto, unfolding(crate::specs::ScriptText::decimal_number))]
+fn decimal_number(text: &[u8]) -> Option<u64>
+    ensures { result ≡ decimal_number text.now }
+{
+    if text.is_empty() || text.len() > 10 || text.len() > 1 && text[0] == b'0' {
+        return None;
+    }
+    let mut number = 0u64;
+    for digit in text {
+        number = number * 10 + decimal_digit(*digit)?;
+    }
+    Some(number)
+}
+
 fn arrive(names: &Names, words: &[u8]) -> Option<ScriptEvent>
-    ensures { result ≡ arrive_event names.now words.now }
+    ensures event { result ≡ arrive_event names.now words.now }
+    ensures table { (further : ℕ) → IfSome result (HasTable further) }
 {
     let (receiver, raw) = cut_at(words, b' ')?;
-    let receiver = names.receiver(as_text(receiver)?)?;
+    let receiver = names.receiver(receiver)?;
     Some(ScriptEvent::Arrive(receiver, raw_word(raw)?))
 }
 
-fn group_of(names: &Names, name: &[u8]) -> Option<u8>
-    ensures { result ≡ group_of names.now name.now }
+/// The publication of one of so many further tables.
+fn publish(further: usize, number: &[u8]) -> Option<ScriptEvent>
+    ensures event { result ≡ publish_event further number.now }
+    ensures table { IfSome result (HasTable further) }
 {
-    names.group(as_text(name)?)
+    let number = decimal_number(number)?;
+    if number == 0 || number > further as u64 {
+        return None;
+    }
+    Some(ScriptEvent::Publish(number as usize))
 }
 
 /// The event of a line, which is given without its line feed.
 #[tactic(auto, unfolding(crate::specs::Script::line_event))]
-fn read_line(names: &Names, line: &[u8]) -> Option<ScriptEvent>
-    ensures { result ≡ line_event names.now line.now }
+fn read_line(names: &Names, further: usize, line: &[u8]) -> Option<ScriptEvent>
+    ensures event { result ≡ line_event names.now further line.now }
+    ensures table { IfSome result (HasTable further) }
 {
     let (verb, words) = cut_at(line, b' ')?;
     if verb == b"arrive".as_slice() {
         arrive(names, words)
     } else if verb == b"cell".as_slice() {
-        Some(ScriptEvent::Cell(group_of(names, words)?))
+        Some(ScriptEvent::Cell(names.group(words)?))
     } else if verb == b"frame".as_slice() {
-        Some(ScriptEvent::Frame(group_of(names, words)?))
+        Some(ScriptEvent::Frame(names.group(words)?))
+    } else if verb == b"publish".as_slice() {
+        publish(further, words)
     } else {
         None
     }
 }
 
 /// The event of a text's first line, and the text after the line.
-fn first_event<'a>(names: &Names, text: &'a [u8]) -> Option<(ScriptEvent, &'a [u8])>
-    ensures event { option_map (λ p. (p.0, p.1.now)) result ≡ first_event names.now text.entry.now }
+fn first_event<'a>(
+    names: &Names,
+    further: usize,
+    text: &'a [u8],
+) -> Option<(ScriptEvent, &'a [u8])>
+    ensures event { option_map (λ p. (p.0, p.1.now)) result ≡ first_event names.now further text.entry.now }
     ensures shorter { IfSome result (λ p. length p.1.now < length text.entry.now) }
+    ensures table { IfSome result (λ p. HasTable further p.0) }
 {
     let (line, rest) = cut_at(text, b'\n')?;
-    Some((read_line(names, line)?, rest))
+    Some((read_line(names, further, line)?, rest))
 }
 
-/// Reads a script of a station with these names. Refused is the number of its first faulty line, from 1:
-/// of one that is no event, names nothing, or does not end with a line feed.
+/// Reads a script of a station with these names, beside so many further tables. Refused is the number of its
+/// first faulty line, from 1: of one that is no event, names nothing, or does not end with a line feed.
 pub fn read_script(
     alloc: Global,
     names: &Names,
+    further: usize,
     script: &[u8],
 ) -> Result<Vec<ScriptEvent>, CommandRefusal>
-    ensures { MatchResult result (λ events. script_events names.now script.now ≡ Ok events.items) (IsScriptRefusal names.now script.now) }
+    ensures tables { IfOk result (λ events. AllByRecursion (HasTable further) events.items) }
+    ensures events { MatchResult result (λ events. script_events names.now further script.now ≡ Ok events.items) (OrMemory (IsScriptFault names.now further script.now)) }
 {
     let mut events = Vec::new(alloc);
     let mut text = script;
     while !text.is_empty() {
-        let Some((event, rest)) = first_event(names, text) else {
+        let Some((event, rest)) = first_event(names, further, text) else {
             return Err(CommandRefusal::Script(events.len() + 1));
         };
         events.push(event)?;

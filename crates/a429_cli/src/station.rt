@@ -1,4 +1,12 @@
 //! The station of a table, opened for a script.
+ghost use Rattle.std.specs.Prelude.{◌≡◌, ◌≢◌, [], IfOk, MatchResult, string_bytes};
+ghost use Rattle.a429_equipment.specs.Reading.{reading};
+ghost use Rattle.a429_slots.specs.Proposed.{Proposed};
+ghost use Rattle.a429_slots.specs.Faults.{IsFaultOf};
+ghost use Rattle.a429_slots.specs.declared.planner.PlanFault.TheVariants.{Unfit, TooManyBuses};
+ghost use Rattle.a429_cli.specs.Opened.{IsOpened};
+ghost use Rattle.a429_cli.specs.RefusalText.{OrMemory};
+ghost use Rattle.a429_cli.specs.Stations.{IsProposedBy, IsTableRefusal, IsPlanRefusal, group_name, output_name};
 
 use crate::names::Names;
 use crate::refusals::CommandRefusal;
@@ -20,7 +28,9 @@ pub struct Station {
 impl Station {
     /// The station of a table's bytes, to which nothing has happened, at slot 0. Refused is the table's
     /// fault, or else the first fault of its plan.
-    pub fn open(alloc: Global, table: &[u8]) -> Result<Station, CommandRefusal> {
+    pub fn open(alloc: Global, table: &[u8]) -> Result<Station, CommandRefusal>
+        ensures { MatchResult result (λ s. (q : Proposed) × IsProposedBy table.now q × IsOpened q s) (OrMemory (IsTableRefusal table.now)) }
+    {
         let proposal = propose(alloc, table)?;
         let names = Names::of(alloc, proposal.equipment())?;
         match State::open(alloc, proposal, 0) {
@@ -30,7 +40,10 @@ impl Station {
     }
 }
 
-fn propose(alloc: Global, table: &[u8]) -> Result<Proposal<OUTPUTS>, CommandRefusal> {
+/// The proposal of a table's bytes. Refused is the table's fault, or else the first fault of its plan.
+pub fn propose(alloc: Global, table: &[u8]) -> Result<Proposal<OUTPUTS>, CommandRefusal>
+    ensures { MatchResult result (IsProposedBy table.now) (OrMemory (IsTableRefusal table.now)) }
+{
     match Equipment::read(alloc, table) {
         Ok(equipment) => match Proposal::of(alloc, equipment) {
             Ok(proposal) => Ok(proposal),
@@ -42,29 +55,27 @@ fn propose(alloc: Global, table: &[u8]) -> Result<Proposal<OUTPUTS>, CommandRefu
 }
 
 /// The refusal of an equipment that has no plan.
-fn plan_refusal(alloc: Global, none: &NoProposal) -> CommandRefusal {
-    let refusal = match none.fault {
+fn plan_refusal(alloc: Global, none: &NoProposal) -> CommandRefusal
+    ensures { IsFaultOf none.now.equipment none.now.fault → OrMemory (IsPlanRefusal none.now.equipment) result }
+{
+    match none.fault {
         PlanFault::Unfit { group, output } => unfit(alloc, &none.equipment, group, output),
         PlanFault::TooManyBuses { group, needed } => {
             too_many_buses(alloc, &none.equipment, group, needed)
         }
-        PlanFault::NoMemory => Err(CommandRefusal::Memory),
-    };
-    match refusal {
-        Ok(refusal) | Err(refusal) => refusal,
+        PlanFault::NoMemory => CommandRefusal::Memory,
     }
 }
 
-fn unfit(
-    alloc: Global,
-    equipment: &Equipment,
-    group: usize,
-    output: usize,
-) -> Result<CommandRefusal, CommandRefusal> {
-    let source = source_name(equipment, group, output);
-    let source = String::from_str(alloc, source)?;
-    let group = String::from_str(alloc, group_name(equipment, group))?;
-    Ok(CommandRefusal::Unfit { group, source })
+fn unfit(alloc: Global, equipment: &Equipment, group: usize, output: usize) -> CommandRefusal
+    ensures { IsFaultOf equipment.now (Unfit group output) → OrMemory (IsPlanRefusal equipment.now) result }
+{
+    let source = String::from_str(alloc, source_name(equipment, group, output));
+    let group = String::from_str(alloc, group_name(equipment, group));
+    match (group, source) {
+        (Ok(group), Ok(source)) => CommandRefusal::Unfit { group, source },
+        _ => CommandRefusal::Memory,
+    }
 }
 
 fn too_many_buses(
@@ -72,13 +83,19 @@ fn too_many_buses(
     equipment: &Equipment,
     group: usize,
     needed: usize,
-) -> Result<CommandRefusal, CommandRefusal> {
-    let group = String::from_str(alloc, group_name(equipment, group))?;
-    Ok(CommandRefusal::TooManyBuses { group, needed })
+) -> CommandRefusal
+    ensures { IsFaultOf equipment.now (TooManyBuses group needed) → OrMemory (IsPlanRefusal equipment.now) result }
+{
+    match String::from_str(alloc, group_name(equipment, group)) {
+        Ok(group) => CommandRefusal::TooManyBuses { group, needed },
+        Err(_) => CommandRefusal::Memory,
+    }
 }
 
 /// The name of a group; nothing where there is none of this number.
-fn group_name(equipment: &Equipment, group: usize) -> &str {
+fn group_name(equipment: &Equipment, group: usize) -> &str
+    ensures { result.now ≡ group_name equipment.now group }
+{
     match equipment.groups().get(group) {
         Some(row) => row.name.as_str(),
         None => "",
@@ -86,7 +103,9 @@ fn group_name(equipment: &Equipment, group: usize) -> &str {
 }
 
 /// The name of an output's source; nothing where there is no such output.
-fn source_name(equipment: &Equipment, group: usize, output: usize) -> &str {
+fn source_name(equipment: &Equipment, group: usize, output: usize) -> &str
+    ensures { result.now ≡ output_name equipment.now group output }
+{
     if group >= equipment.groups().len() {
         return "";
     }

@@ -1,58 +1,119 @@
 //! The words of the command line.
-ghost use Rattle.std.specs.Prelude.{◌≡◌, map, IfOk, List, ℕ, MatchResult};
-ghost use Rattle.clap.specs.Words.{app_of, kind_of};
-ghost use Rattle.a429_cli.specs.CommandLine.{command_line, IsName, replay_words};
-ghost use Rattle.a429_cli.specs.AskedNames.{names_of};
+ghost use Rattle.std.specs.Prelude.{◌≡◌, Some, map, IfOk, MatchResult};
+ghost use Rattle.clap.specs.Words.{app_of, found_of, kind_of, rows_of};
+ghost use Rattle.a429_cli.specs.CommandLine.{command_line, replay_app, word_app};
+ghost use Rattle.a429_cli.specs.Requests.{Request, HasNames, request_of, request_words};
+ghost use Rattle.a429_cli.specs.AskedRows.{replay_request, word_request};
 
 use clap::error::ErrorKind;
-use clap::{Arg, Command, Error};
+use clap::{Arg, ArgAction, ArgMatches, Command, Error};
 use std::alloc::{AllocError, Global};
 
 const PROGRAM: &str =
     "ARINC 429 data concentrator: takes in words, and sends them on by planned slots";
+
+const WORD: &str = "Tell what a word of 32 bits says: its fields, and its data as BNR and as BCD";
+
+const HEX: &str = "The word, as eight hexadecimal digits";
 
 const REPLAY: &str = "Play the events of a script on a station and print what each is answered";
 
 const TABLE: &str =
     "Equipment table of the station (TOML): its receivers, sources and output groups";
 
-const SCRIPT: &str = "Events, one a line: `arrive RECEIVER HEX`, `cell GROUP` or `frame GROUP`";
+const SCRIPT: &str =
+    "Events, one a line: `arrive RECEIVER HEX`, `cell GROUP`, `frame GROUP` or `publish N`";
+
+const FURTHER: &str = "Further tables, whose plans the script may publish, numbered from 1";
+
+fn word_command<'a>(alloc: Global) -> Result<Command<'a>, AllocError>
+    ensures { IfOk result (λ c. app_of c ≡ word_app) }
+{
+    let hex = Arg::new(alloc, "HEX").required(true).help(HEX);
+    Command::new(alloc, "word").about(WORD).arg(hex)
+}
+
+fn replay_command<'a>(alloc: Global) -> Result<Command<'a>, AllocError>
+    ensures { IfOk result (λ c. app_of c ≡ replay_app) }
+{
+    let table = Arg::new(alloc, "TABLE").required(true).help(TABLE);
+    let script = Arg::new(alloc, "SCRIPT").required(true).help(SCRIPT);
+    let further = Arg::new(alloc, "FURTHER")
+        .action(ArgAction::Append)
+        .help(FURTHER);
+    let replay = Command::new(alloc, "replay").about(REPLAY);
+    replay.arg(table)?.arg(script)?.arg(further)
+}
 
 fn build_command<'a>(alloc: Global) -> Result<Command<'a>, AllocError>
     ensures { IfOk result (λ c. app_of c ≡ command_line) }
 {
-    let table = Arg::new(alloc, "TABLE").required(true).help(TABLE);
-    let script = Arg::new(alloc, "SCRIPT").required(true).help(SCRIPT);
-    let replay = Command::new(alloc, "replay").about(REPLAY);
-    let replay = replay.arg(table)?.arg(script)?;
+    let word = word_command(alloc)?;
+    let replay = replay_command(alloc)?;
     Command::new(alloc, "a429")
         .bin_name("a429")?
         .about(PROGRAM)
         .no_binary_name(true)
         .subcommand_required(true)
+        .subcommand(word)?
         .subcommand(replay)
 }
 
 /// What the words ask for.
 #[derive(Debug, Drop)]
 pub enum Asked<'a> {
-    /// To play the script of this name on the station of the table of this name.
-    Replay { table: &'a str, script: &'a str },
+    /// To tell what the word of this text says.
+    Word { text: &'a str },
+    /// To play the script of this name on the station of the table of this name, beside further tables.
+    Replay {
+        table: &'a str,
+        script: &'a str,
+        further: Vec<&'a str>,
+    },
 }
 
 /// Reads the words of the command line, without the program's name. The error has the usage or help text
 /// for people, and is of kind `OutOfMemory` where memory was refused.
 pub fn parse<'a>(alloc: Global, words: &'a [&'a str]) -> Result<Asked<'a>, Error>
-    // Words of a replay ask for it, and are refused for want of memory alone.
-    ensures replay { (table script : List ℕ) → map (λ w. w.now) words.entry.now ≡ replay_words table script → IsName table → IsName script
-        → MatchResult result (λ asked. names_of asked ≡ (table, script)) (λ e. kind_of e ≡ ErrorKind.OutOfMemory) }
+    // Words of a command ask for it, and are refused for want of memory alone.
+    ensures asked { (r : Request) → map (λ w. w.now) words.entry.now ≡ request_words r → HasNames r
+        → MatchResult result (λ asked. request_of asked ≡ r) (λ e. kind_of e ≡ ErrorKind.OutOfMemory) }
 {
     let command = build_command(alloc)?;
     let matches = command.try_get_matches_from(words)?;
+    if let Some(found) = matches.subcommand_matches("word") {
+        return asked_word(found);
+    }
     if let Some(found) = matches.subcommand_matches("replay") {
-        if let (Some(table), Some(script)) = (found.get_str("TABLE"), found.get_str("SCRIPT")) {
-            return Ok(Asked::Replay { table, script });
-        }
+        return asked_replay(alloc, found);
     }
     Err(Error::from(AllocError))
+}
+
+/// What the words of `word` ask for.
+fn asked_word<'a>(found: &ArgMatches<'a>) -> Result<Asked<'a>, Error>
+    ensures { MatchResult result (λ asked. (r : Request) → word_request (rows_of (found_of found.now)) ≡ Some r → request_of asked ≡ r) (λ e. kind_of e ≡ ErrorKind.OutOfMemory) }
+{
+    match found.get_str("HEX") {
+        Some(text) => Ok(Asked::Word { text }),
+        None => Err(Error::from(AllocError)),
+    }
+}
+
+/// What the words of `replay` ask for.
+fn asked_replay<'a>(alloc: Global, found: &ArgMatches<'a>) -> Result<Asked<'a>, Error>
+    ensures { MatchResult result (λ asked. (r : Request) → replay_request (rows_of (found_of found.now)) ≡ Some r → request_of asked ≡ r) (λ e. kind_of e ≡ ErrorKind.OutOfMemory) }
+{
+    let (Some(table), Some(script)) = (found.get_str("TABLE"), found.get_str("SCRIPT")) else {
+        return Err(Error::from(AllocError));
+    };
+    let further = match found.get_strs("FURTHER") {
+        Some(further) => Vec::from_slice(alloc, further)?,
+        None => Vec::new(alloc),
+    };
+    Ok(Asked::Replay {
+        table,
+        script,
+        further,
+    })
 }

@@ -1,1 +1,3 @@
 pub mod Filters
+pub mod Receiving
+pub mod Sources

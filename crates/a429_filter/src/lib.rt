@@ -1,6 +1,15 @@
-//! Filters of labels, as a receiver has them (profile).
+//! Which words of a line are received: filters of labels, and where words come from (profile).
 #![tactic(auto)]
 
 mod filters;
+mod lines;
+mod sockets;
+mod sources;
 
 pub use filters::{FILTERS, Filter, FilterSet, Full};
+pub use lines::MemoryLine;
+pub use sockets::Socket;
+pub use sources::{LineSource, SourceFault};
+
+#[cfg(test)]
+mod tests;

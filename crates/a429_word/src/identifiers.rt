@@ -1,6 +1,9 @@
 //! The two small fields of a word: the SDI and the SSM.
-ghost use Rattle.std.specs.Prelude.{◌≡◌, ◌<◌};
+ghost use Rattle.std.specs.Prelude.{◌≡◌, ◌<◌, Some};
+ghost use Rattle.std.specs.Fmt.{decimal};
+ghost use Rattle.a429_word.specs.Meanings.{two_bits};
 
+use std::fmt;
 use std::marker::Model;
 
 /// The source and destination identifier, bits 9 and 10 of a word (ARINC 429 Part 1): 0 to 3.
@@ -72,5 +75,24 @@ impl Ssm {
         ensures small { result < 4 }
     {
         self.value
+    }
+}
+
+impl fmt::Display for Sdi {
+    ghost output = { λ sdi. Some (decimal sdi) };
+
+    /// One decimal digit.
+    fn fmt<W: fmt::Write>(&self, f: &mut fmt::Formatter<W>) -> fmt::Result {
+        write!(f, "{}", self.value)
+    }
+}
+
+impl fmt::Display for Ssm {
+    ghost output = { λ ssm. Some (two_bits ssm) };
+
+    /// Two binary digits: bit 31, then bit 30.
+    #[tactic(auto, using(std::proofs::lemmas::Fmt::decimal_digit))]
+    fn fmt<W: fmt::Write>(&self, f: &mut fmt::Formatter<W>) -> fmt::Result {
+        write!(f, "{}{}", self.value / 2, self.value % 2)
     }
 }

@@ -4,8 +4,10 @@
 mod identifiers;
 mod labels;
 pub mod laws;
+mod meanings;
 mod words;
 
 pub use identifiers::{Sdi, Ssm};
 pub use labels::{Label, LabelText};
+pub use meanings::{BcdMeaning, BnrMeaning};
 pub use words::{DataRange, Parity, Word};

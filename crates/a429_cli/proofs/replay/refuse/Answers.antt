@@ -1,7 +1,7 @@
 use Rattle.std.proofs.Common.{rules, ◌++◌, ◌∷◌, []}
 use Rattle.std.specs.Io.KnownBytes.{Appends, Keeps}
 use Rattle.a429_cli.specs.RefusalText.{refusal_line}
-use Rattle.a429_cli.proofs.Playing.{appends_kept}
+use Rattle.a429_cli.proofs.PlayedLines.{appends_kept}
 use Rattle.a429_cli.proofs.replay.refuse.Goals as goal
 
 pub returns-clause-line : goal.returns-clause-line

@@ -1,0 +1,53 @@
+-- Lines that are written one after another.
+use Rattle.std.proofs.Common.{◌≡◌, ◌∙◌, ℕ, List, [], ◌∷◌, ◌++◌, refl, sym, ap, subst, append_assoc, append-nil}
+use Rattle.std.specs.Prelude.{Option, Some, None, Result, Ok}
+use Rattle.std.specs.Io.KnownBytes.{Appends, Keeps, append_known}
+use Rattle.a429_slots.specs.Events.{Event}
+use Rattle.a429_slots.specs.History.{Opening}
+use Rattle.a429_cli.specs.Playing.{Happens, Played}
+use Rattle.a429_cli.specs.declared.script.ScriptEvent.{ScriptEvent}
+
+-- one more event
+pub played_push : (o : Opening) (names further : List (List ℕ)) (E : List Event) (events : List ScriptEvent) (event : ScriptEvent) (M N : List Event) (bytes line : List ℕ)
+    → Played o names further E events M bytes → Happens o names further M event N line → Played o names further E (events ++ event ∷ []) N (bytes ++ line)
+played_push o names further E [] event M N bytes line (same, none) h =
+    (N, line, [], subst (λ (H : List Event). Happens o names further H event N line) same h, (refl, refl), ap (λ (bs : List ℕ). bs ++ line) none ∙ sym (append-nil line))
+played_push o names further E (x ∷ xs) event M N bytes line (next, first, rest, here, later, whole) h =
+    (next, first, rest ++ line, here, played_push o names further next xs event M N rest line later h, ap (λ (bs : List ℕ). bs ++ line) whole ∙ append_assoc first rest line)
+
+-- nothing is lost where bytes go out
+pub Appends-then : (a b c : Option (List ℕ)) (xs ys : List ℕ) → Appends a b xs → Appends b c ys → Appends a c (xs ++ ys)
+Appends-then None b c xs ys first later = tt
+Appends-then (Some a) None None xs ys first later = first
+Appends-then (Some a) None (Some c) xs ys first later = absurd first
+Appends-then (Some a) (Some b) None xs ys first later = later
+Appends-then (Some a) (Some b) (Some c) xs ys first later = rw (later, first, append_assoc) refl
+
+pub Appends-text : (known : Option (List ℕ)) (text line : List ℕ) → Appends (append_known known text) (append_known known (text ++ line)) line
+Appends-text None text line = tt
+Appends-text (Some bs) text line = sym (append_assoc bs text line)
+
+pub Appends-same : (known : Option (List ℕ)) → Appends known known []
+Appends-same None = tt
+Appends-same (Some bs) = sym (append-nil bs)
+
+pub Appends-out : (old new : Option (List ℕ)) (text : List ℕ) → Appends old new text → Appends (append_known old text) (append_known new []) []
+Appends-out None new text out = tt
+Appends-out (Some a) None text out = out
+Appends-out (Some a) (Some b) text out = rw out refl
+
+pub appends_kept : (old mid new : Option (List ℕ)) (line : List ℕ) → Appends old mid line → Keeps mid new → Appends old new line
+appends_kept None mid new line wrote kept = tt
+appends_kept (Some a) None new line wrote kept = absurd wrote
+appends_kept (Some a) (Some b) None line wrote kept = kept
+appends_kept (Some a) (Some b) (Some c) line wrote kept = kept ∙ wrote
+
+pub same_Ok : {X E : Type 0} (x y : X) → ◌≡◌ {A = Result X E} (Ok x) (Ok y) → x ≡ y
+same_Ok x y same = cc
+
+-- what was kept back goes out with what was there
+pub Appends-last : (old mid new : Option (List ℕ)) (text bytes : List ℕ) → Appends (append_known old []) (append_known mid text) bytes → Appends mid new text → Appends old new bytes
+Appends-last None mid new text bytes kept out = tt
+Appends-last (Some a) None new text bytes kept out = absurd kept
+Appends-last (Some a) (Some b) None text bytes kept out = absurd out
+Appends-last (Some a) (Some b) (Some c) text bytes kept out = rw (out, kept, append-nil) refl

@@ -1,0 +1,39 @@
+-- Refusals that are handed on.
+use Rattle.std.proofs.Common.{◌≡◌, ◌∙◌, [], ◌∷◌, ap, refl, sym, subst, ℕ, List, inl, inr}
+use Rattle.std.specs.Prelude.{Option, Some, None, Result, Ok, Err, IfOk, OnOk, MatchResult}
+use Rattle.a429_cli.specs.Files.{IsFileRefusal, IsFirstUnread, readable}
+use Rattle.a429_cli.specs.RefusalText.{OrMemory}
+use Rattle.a429_cli.specs.declared.refusals.CommandRefusal.{CommandRefusal}
+use Rattle.a429_cli.specs.declared.refusals.CommandRefusal.TheVariants as refused
+
+pub or_memory_weaker : (P Q : CommandRefusal → Type 0) (r : CommandRefusal) → (P r → Q r) → OrMemory P r → OrMemory Q r
+or_memory_weaker P Q (refused.File name) more p = more p
+or_memory_weaker P Q refused.WordText more p = more p
+or_memory_weaker P Q refused.Parity more p = more p
+or_memory_weaker P Q (refused.Table kind place) more p = more p
+or_memory_weaker P Q (refused.Unfit group source) more p = more p
+or_memory_weaker P Q (refused.TooManyBuses group needed) more p = more p
+or_memory_weaker P Q (refused.Script line) more p = more p
+or_memory_weaker P Q refused.Memory more p = tt
+
+pub file_refusal_by : (f g : List ℕ → Option (List ℕ)) (name : List ℕ) (r : CommandRefusal) → f name ≡ g name → IsFileRefusal f name r → IsFileRefusal g name r
+file_refusal_by f g name (refused.File told) same (is, none) = (is, rw same at none)
+file_refusal_by f g name refused.WordText same bad = bad
+file_refusal_by f g name refused.Parity same bad = bad
+file_refusal_by f g name (refused.Table kind place) same bad = bad
+file_refusal_by f g name (refused.Unfit group source) same bad = bad
+file_refusal_by f g name (refused.TooManyBuses group needed) same bad = bad
+file_refusal_by f g name (refused.Script line) same bad = bad
+file_refusal_by f g name refused.Memory same bad = bad
+
+pub failed : {X : Type 0} (result : Result X CommandRefusal) (P : X → Type 0) (F : CommandRefusal → Type 0) (e : CommandRefusal) → result ≡ Err e → F e → MatchResult result P F
+failed {X = X} result P F e is f = subst (λ (r : Result X CommandRefusal). MatchResult r P F) (sym is) f
+
+pub unread_by : (f g : List ℕ → Option (List ℕ)) → ((name : List ℕ) → f name ≡ g name) → (names : List (List ℕ)) (r : CommandRefusal) → IsFirstUnread f names r → IsFirstUnread g names r
+unread_by f g same [] r u = u
+unread_by f g same (name ∷ names) r (inl bad) = inl (file_refusal_by f g name r (same name) bad)
+unread_by f g same (name ∷ names) r (inr (bytes, is, u)) = inr (bytes, rw (same name) at is, unread_by f g same names r u)
+
+pub both_ok : {X E Q : Type 0} (result : Result X E) (P R : X → Type 0) → ((x : X) → P x → Q → R x) → IfOk result P → OnOk result Q → IfOk result R
+both_ok (Ok x) P R more p q = more x p q
+both_ok (Err e) P R more p q = tt

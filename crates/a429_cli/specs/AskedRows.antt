@@ -1,0 +1,17 @@
+-- What is asked for by the values that were read of a command's words.
+use Rattle.std.specs.Prelude.{[], ℕ, List, Option, Some, None, codes, if◌then◌else◌, option_and_then, option_map, unwrap_or}
+use Rattle.std.specs.Str.{bytes_eq}
+use Rattle.clap.specs.Words.{Row, Text, first_of, all_of}
+use Rattle.a429_cli.specs.Requests.{Request, Word, Replay}
+
+abbrev pub word_request : List Row → Option Request
+word_request rows = option_map Word (first_of (codes "HEX") rows)
+
+abbrev pub replay_request : List Row → Option Request
+replay_request rows =
+    option_and_then (λ table. option_map (λ script. Replay table script (unwrap_or (all_of (codes "FURTHER") rows) [])) (first_of (codes "SCRIPT") rows))
+    (first_of (codes "TABLE") rows)
+
+-- by the name of the command
+abbrev pub request_by : Text → List Row → Option Request
+request_by name rows = if bytes_eq name (codes "word") then word_request rows else (if bytes_eq name (codes "replay") then replay_request rows else None)

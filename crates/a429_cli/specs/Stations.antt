@@ -1,0 +1,35 @@
+-- Tables as a command reads them: the proposal of a table, or why there is none.
+use Rattle.std.specs.Prelude.{◌≡◌, ℕ, List, [], Ok, Err, slice_get, string_bytes}
+use Rattle.std.specs.Option.{option_map_or}
+use Rattle.a429_equipment.specs.TableRecord.{TableRecord}
+use Rattle.a429_equipment.specs.Reading.{reading}
+use Rattle.a429_slots.specs.Planned.{IsPlanOf}
+use Rattle.a429_slots.specs.Proposed.{Proposed}
+use Rattle.a429_slots.specs.Faults.{IsFaultOf}
+use Rattle.a429_slots.specs.declared.planner.PlanFault.TheVariants as plan
+use Rattle.a429_cli.specs.Names.{name_at, naming_of}
+use Rattle.a429_cli.specs.declared.refusals.CommandRefusal.{CommandRefusal}
+use Rattle.a429_cli.specs.declared.refusals.CommandRefusal.TheVariants as refused
+
+-- a station that the table's bytes state, with a plan of it
+abbrev pub IsProposedBy : List ℕ → Proposed → Type 0
+IsProposedBy table q = (reading table ≡ Ok q.station) × IsPlanOf q.station q.plan
+
+abbrev pub group_name : TableRecord → ℕ → List ℕ
+group_name t g = name_at (naming_of t).groups g
+
+-- the name of the source of output o of group g
+abbrev pub output_name : TableRecord → ℕ → ℕ → List ℕ
+output_name t g o = option_map_or (λ rows. option_map_or (λ row. name_at (naming_of t).sources row.source) (slice_get rows o) []) (slice_get t.outputs g) []
+
+-- the first fault of a station's plan
+abbrev pub IsPlanRefusal : TableRecord → CommandRefusal → Type 0
+IsPlanRefusal t (refused.Unfit group source) =
+    (g : ℕ) × (o : ℕ) × IsFaultOf t (plan.Unfit g o) × (string_bytes group ≡ group_name t g) × (string_bytes source ≡ output_name t g o)
+IsPlanRefusal t (refused.TooManyBuses group needed) = (g : ℕ) × IsFaultOf t (plan.TooManyBuses g needed) × (string_bytes group ≡ group_name t g)
+IsPlanRefusal t _ = ⊥
+
+-- the first fault of a table, or else of its station's plan
+abbrev pub IsTableRefusal : List ℕ → CommandRefusal → Type 0
+IsTableRefusal table (refused.Table kind place) = reading table ≡ Err (kind, place)
+IsTableRefusal table refusal = (t : TableRecord) × (reading table ≡ Ok t) × IsPlanRefusal t refusal

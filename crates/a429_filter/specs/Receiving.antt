@@ -1,0 +1,38 @@
+-- What a socket answers, by the words that it took in the call (profile).
+use Rattle.std.specs.Prelude.{◌≡◌, ◌≤◌, ℕ, Bool, true, false, List, ◌++◌, Option, Result, Ok, Err, length, filter, min, ◌+◌, ◌-◌, ◌^◌, ◌==◌, ◌&&◌}
+use Rattle.a429_word.specs.Bits.{has_odd_parity, label_of}
+use Rattle.a429_filter.specs.declared.filters.Filter.{Filter}
+use Rattle.a429_filter.specs.declared.sources.SourceFault.{SourceFault}
+use Rattle.a429_filter.specs.declared.sources.SourceFault.TheVariants.{Failed, Skipped}
+use Rattle.a429_filter.specs.Filters.{set_passes}
+use Rattle.a429_filter.specs.Sources.{word_given}
+
+-- a raw number of odd parity whose label passes
+abbrev pub accepts : Option (List Filter) → ℕ → Bool
+accepts filters raw = has_odd_parity raw && set_passes filters (label_of raw)
+
+-- an answer is Skipped
+abbrev pub is_skipped : Result (Option ℕ) SourceFault → Bool
+is_skipped (Ok answer) = false
+is_skipped (Err Failed) = false
+is_skipped (Err Skipped) = true
+
+-- the words that were taken are refused ones and then the answer's, which passes;
+-- Skipped stands just where 65536 were refused, and no more are looked at
+pub record Received (filters : Option (List Filter)) (taken : List ℕ) (answer : Result (Option ℕ) SourceFault) : Type 0 where
+  pub refused : List ℕ
+  pub order : taken ≡ refused ++ word_given answer
+  pub passed : filter (accepts filters) taken ≡ word_given answer
+  pub looks : length refused ≤ 65536
+  pub skipped : is_skipped answer ≡ (length refused == 65536)
+
+-- the count of the source's failures after the call: it failed once just where the answer says so
+abbrev pub failures_since : ℕ → Result (Option ℕ) SourceFault → ℕ
+failures_since n (Ok answer) = n
+failures_since n (Err Failed) = min (n + 1) (2 ^ 64 - 1)
+failures_since n (Err Skipped) = n
+
+-- a line with the filters of its receiver
+pub record Standing (L : Type 0) : Type 0 where
+  pub source : L
+  pub filters : Option (List Filter)

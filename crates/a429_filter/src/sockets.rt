@@ -1,0 +1,75 @@
+//! The words of a line that a receiver is for.
+ghost use Rattle.std.specs.Prelude.{◌≡◌, ◌++◌, List, [], ℕ, Ok, Some, None, if◌then◌else◌, option_map};
+ghost use Rattle.a429_filter.specs.Receiving.{Received, accepts, failures_since};
+ghost use Rattle.a429_filter.specs.Sources.{is_end, list_or_none};
+
+use crate::filters::FilterSet;
+use crate::sources::{LineSource, SourceFault};
+use a429_word::Word;
+use std::marker::Model;
+
+/// How many words are looked at in one call (profile).
+const LOOKS: u32 = 65536;
+
+/// A line with the filters of its receiver (profile).
+#[derive(Drop)]
+pub struct Socket<L> {
+    source: L,
+    filters: FilterSet,
+}
+
+impl<L> Model for Socket<L> {
+    ghost use Rattle.a429_filter.specs.Receiving.{Standing};
+
+    ghost Value = { Standing L };
+
+    ghost view = { λ s. record { source = s.source; filters = s.filters } };
+}
+
+/// The word of a raw number, where it has odd parity and its label passes.
+fn accepted(filters: &FilterSet, raw: u32) -> Option<Word>
+    ensures { result ≡ (if accepts filters.now raw then Some raw else None) }
+{
+    let word = Word::from_raw(raw).ok()?;
+    if filters.passes(word.label()) {
+        Some(word)
+    } else {
+        None
+    }
+}
+
+impl<L: LineSource> Socket<L> {
+    /// A socket on a line, with the filters of its receiver.
+    pub fn new(source: L, filters: FilterSet) -> Self
+        ensures source { result.source ≡ source }
+        ensures filters { result.filters ≡ filters }
+    {
+        Socket { source, filters }
+    }
+
+    /// The next word of odd parity whose label passes; other words are skipped. None just where the source
+    /// answered its end before one came. `Failed` just where the source failed in this call, `Skipped` just where
+    /// 65536 words were refused in it; then the words taken stay taken, and the next call goes on.
+    pub fn recv(&mut self) -> Result<Option<Word>, SourceFault>
+        ensures received { (taken : List ℕ) × (L.given self.new.source ≡ L.given self.old.source ++ taken)
+            × (L.left self.old.source ≡ option_map (λ more. taken ++ more) (L.left self.new.source))
+            × Received self.old.filters taken result }
+        ensures ended { L.ended self.new.source ≡ is_end result }
+        ensures all { result ≡ Ok None → list_or_none (L.left self.new.source) ≡ [] }
+        ensures failed { L.failed self.new.source ≡ failures_since (L.failed self.old.source) result }
+        ensures filters { self.new.filters ≡ self.old.filters }
+    {
+        for look in 0..LOOKS {
+            match self.source.next() {
+                Err(_) => return Err(SourceFault::Failed),
+                Ok(None) => return Ok(None),
+                Ok(Some(raw)) => {
+                    if let Some(word) = accepted(&self.filters, raw) {
+                        return Ok(Some(word));
+                    }
+                }
+            }
+        }
+        Err(SourceFault::Skipped)
+    }
+}

@@ -1,0 +1,5 @@
+pub mod Cuts
+pub mod Reports
+pub mod Slots
+pub mod Stages
+pub mod Standing

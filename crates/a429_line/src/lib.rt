@@ -1,0 +1,15 @@
+//! Lines of ARINC 429: from symbols to words, and back (ARINC 429 Part 1, levels and gap).
+#![tactic(auto)]
+
+mod found;
+pub mod laws;
+mod reader;
+mod slot;
+mod stage;
+
+pub use found::{Found, Symbol};
+pub use reader::LineReader;
+pub use slot::{SLOT, write_slot};
+
+#[cfg(test)]
+mod tests;

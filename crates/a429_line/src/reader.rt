@@ -1,0 +1,92 @@
+//! A reader of one line, symbols in any pieces.
+ghost use Rattle.std.specs.Prelude.{◌≡◌, ◌++◌, List, [], OnOk, OnErr, IfOk, is_ok, if◌then◌else◌};
+ghost use Rattle.std.specs.Option.{option_to_list};
+ghost use Rattle.a429_line.specs.Reports.{reports, rest};
+ghost use Rattle.a429_line.specs.Stages.{after_all, due_in};
+ghost use Rattle.a429_line.specs.Standing.{StandsFor};
+ghost use Rattle.a429_line.specs.declared.found.Symbol.{Symbol};
+ghost use Rattle.a429_line.specs.declared.found.Found.{Found};
+
+use crate::found::{Found, Symbol};
+use crate::stage::Stage;
+use std::alloc::AllocError;
+use std::marker::Model;
+
+/// A reader of one line. It keeps nothing of the symbols before the run that it is in, and takes no memory.
+#[derive(Clone, Debug, Drop)]
+pub struct LineReader {
+    stage: Stage,
+}
+
+impl Model for LineReader {
+    ghost use Rattle.a429_line.specs.declared.stage.Stage.{Stage};
+
+    ghost Value = { Stage };
+
+    ghost view = { λ r. r.stage };
+}
+
+/// Adds the report, if there is one.
+fn push_some(out: &mut Vec<Found>, found: Option<Found>) -> Result<(), AllocError>
+    ensures { out.new.items ≡ (if is_ok result then out.old.items ++ option_to_list found else out.old.items) }
+{
+    if let Some(found) = found {
+        out.push(found)?;
+    }
+    Ok(())
+}
+
+/// Takes symbols one after another, and adds the reports that are due. An `Err` leaves the list as it was.
+#[tactic(auto, using(crate::proofs::Steps::due_next, crate::proofs::Steps::after_next, crate::proofs::Steps::due_none, crate::proofs::Steps::after_none))]
+fn take_all(mut stage: Stage, piece: &[Symbol], out: &mut Vec<Found>) -> Result<Stage, AllocError>
+    ensures due { OnOk result (out.new.items ≡ out.old.items ++ due_in stage piece.now) }
+    ensures after { IfOk result (λ now. now ≡ after_all stage piece.now) }
+    ensures err { OnErr result (out.new.items ≡ out.old.items) }
+{
+    let before = out.len();
+    for symbol in piece {
+        let found = stage.take(*symbol);
+        if push_some(out, found).is_err() {
+            out.truncate(before);
+            return Err(AllocError);
+        }
+    }
+    Ok(stage)
+}
+
+impl LineReader {
+    /// A reader at the start of its line.
+    #[tactic(auto, unfolding(crate::specs::Standing::StandsFor, crate::specs::Standing::kept_from, crate::specs::Reports::first_piece, crate::specs::Reports::later_pieces))]
+    pub fn new() -> Self
+        ensures { StandsFor [] result }
+    {
+        LineReader {
+            stage: Stage::Between(0),
+        }
+    }
+
+    /// Takes the next piece of the line, and adds the reports that are due in it at the end of the list.
+    /// Where memory for them is refused, the reader and the list are as before.
+    // For every line that the reader stands for, it then stands for that line with the piece behind it,
+    // and the reports added are those that the longer line has beyond the shorter one's.
+    pub fn feed(&mut self, piece: &[Symbol], out: &mut Vec<Found>) -> Result<(), AllocError>
+        ensures stands { OnOk result ((x : List Symbol) → StandsFor x self.old → StandsFor (x ++ piece.now) self.new) }
+        ensures reports { OnOk result ((x : List Symbol) → StandsFor x self.old → (added : List Found)
+            × (out.new.items ≡ out.old.items ++ added) × (reports (x ++ piece.now) ≡ reports x ++ added)) }
+        ensures err { OnErr result ((self.new ≡ self.old) × (out.new.items ≡ out.old.items)) }
+    {
+        self.stage = take_all(self.stage, piece, out)?;
+        Ok(())
+    }
+
+    /// The length in bits of a run that has not ended and has no report, 0 where there is none.
+    pub fn rest(&self) -> u32
+        ensures { (x : List Symbol) → StandsFor x self.now → result ≡ rest x }
+    {
+        match self.stage {
+            Stage::Within(len, _) => len,
+            Stage::Between(_) => 0,
+            Stage::Reported => 0,
+        }
+    }
+}

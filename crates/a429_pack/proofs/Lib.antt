@@ -1,0 +1,9 @@
+pub mod Counting
+pub mod Entries
+pub mod Fewest
+pub mod Halving
+pub mod Ordered
+pub mod Orders
+pub mod Packings
+pub mod Stretches
+pub mod Tables

@@ -1,0 +1,7 @@
+pub mod Demands
+pub mod Entries
+pub mod Faults
+pub mod Kept
+pub mod Layout
+pub mod Schedules
+pub mod Sums

@@ -1,0 +1,15 @@
+//! The packing of a group's outputs onto the fewest buses (profile: layout).
+#![tactic(auto)]
+
+mod demands;
+mod entry;
+mod packed;
+mod packing;
+mod sums;
+#[cfg(test)]
+mod tests;
+
+pub use demands::{BUSES, Demand, PackFault};
+pub use packed::Packed;
+pub use packing::pack;
+pub use sums::SumTable;

@@ -1,0 +1,131 @@
+//! Demands and their running sums.
+ghost use Rattle.std.specs.Prelude.{◌≡◌, ◌+◌, ◌<◌, ◌≤◌, ◌^◌, ◌↔◌, ◌∷◌, ◌++◌, ℕ, [], Some, None, IfSome, length, sum, slice_index};
+ghost use Rattle.a429_pack.specs.Sums.{start_of, Holds};
+
+use std::marker::Model;
+
+/// Up to `N` demands, and where each one's stretch starts if they follow one another. Contracts see the list
+/// of the demands.
+#[derive(Clone, Copy)]
+pub struct SumTable<const N: usize> {
+    demands: [u32; N],
+    starts: [u32; N],
+    count: usize,
+    total: u32,
+}
+
+impl<const N: usize> Model for SumTable<N> {
+    ghost use Rattle.std.specs.Prelude.{ℕ, List, length, sum, take};
+    ghost use Rattle.std.proofs.Common.{sym};
+    ghost use Rattle.a429_pack.specs.Kept.{AreKept, length-kept, padded, starts_from};
+
+    ghost Value = { List ℕ };
+
+    ghost view = { λ t. take t.count t.demands };
+
+    ghost invariant = { λ t. AreKept N t.demands t.starts t.count t.total };
+
+    ghost inverse = { λ ds. record { demands = padded N ds; starts = padded N (starts_from 0 ds); count = length ds; total = sum ds } };
+
+    ghost inverse_ok = { λ t h i. record {
+      demands = sym h.demands i;
+      starts = sym h.starts i;
+      count = length-kept N t.demands t.count h.room h.demands i;
+      total = sym h.total i;
+    } };
+}
+
+impl<const N: usize> SumTable<N> {
+    /// The table without demands.
+    pub fn new() -> SumTable<N>
+        ensures { result ≡ [] }
+    {
+        SumTable {
+            demands: [0; N],
+            starts: [0; N],
+            count: 0,
+            total: 0,
+        }
+    }
+
+    /// Adds a demand, whose stretch follows the others. The table must have room, and the new total must fit.
+    pub fn push(&mut self, demand: u32)
+        requires room { length self.old < N }
+        requires some { 1 ≤ demand }
+        requires fits { sum self.old + demand < 2 ^ 32 }
+        ensures { self.new ≡ self.old ++ demand ∷ [] }
+    {
+        self.demands[self.count] = demand;
+        self.starts[self.count] = self.total;
+        (self.count, self.total) = (self.count + 1, self.total + demand);
+    }
+
+    /// How many demands there are, at most `N`.
+    pub fn len(&self) -> usize
+        ensures value { result ≡ length self.now }
+        ensures few { result ≤ N }
+    {
+        self.count
+    }
+
+    /// The sum of the demands.
+    pub fn total(&self) -> u32
+        ensures { result ≡ sum self.now }
+    {
+        self.total
+    }
+
+    /// Demand `i`, at least 1.
+    pub fn demand(&self, i: usize) -> u32
+        requires { i < length self.now }
+        ensures value { result ≡ slice_index self.now i }
+        ensures some { 1 ≤ result }
+    {
+        prove!(i < self.count);
+        self.demands[i]
+    }
+
+    /// Where the stretch of demand `i` starts: the sum of the demands before it.
+    pub fn start(&self, i: usize) -> u32
+        requires { i < length self.now }
+        ensures { result ≡ start_of self.now i }
+    {
+        prove!(i < self.count);
+        self.starts[i]
+    }
+
+    /// The demand whose stretch has `x`, none where `x` is not below the total; and how many running sums were
+    /// read to find it, at most as many as the number of demands has binary digits.
+    pub fn find_counted(&self, x: u32) -> (Option<usize>, u32)
+        ensures found { IfSome result.0 (Holds self.now x) }
+        ensures only { (i : ℕ) → Holds self.now x i → result.0 ≡ Some i }
+        ensures none { (result.0 ≡ None) ↔ (sum self.now ≤ x) }
+        ensures probes { (digits : ℕ) → length self.now < 2 ^ digits → result.1 ≤ digits }
+    {
+        if x >= self.total() {
+            return (None, 0);
+        }
+        let mut low = 0;
+        let mut high = self.len();
+        let mut probes = 0;
+        while high - low > 1 {
+            let middle = low + (high - low) / 2;
+            probes += 1;
+            if self.start(middle) <= x {
+                low = middle;
+            } else {
+                high = middle;
+            }
+        }
+        (Some(low), probes)
+    }
+
+    /// The demand whose stretch has `x`, none where `x` is not below the total.
+    pub fn find(&self, x: u32) -> Option<usize>
+        ensures found { IfSome result (Holds self.now x) }
+        ensures only { (i : ℕ) → Holds self.now x i → result ≡ Some i }
+        ensures none { (result ≡ None) ↔ (sum self.now ≤ x) }
+    {
+        self.find_counted(x).0
+    }
+}
