@@ -3,7 +3,7 @@ use Rattle.std.proofs.Common.{◌≡◌, ℕ, zero, suc, ◌+◌, ◌<◌, false
 use Rattle.std.specs.List.{find, flat_map, enumerate_from, AllByRecursion, slice_get}
 use Rattle.toml.specs.Data.{Data}
 use Rattle.a429_equipment.specs.declared.fault.FaultKind.{FaultKind}
-use Rattle.a429_equipment.specs.declared.fault.FaultKind.TheVariants.{Rate, TooMany, Label, Sdi, Interval, UnknownName, DuplicateSource, EmptyGroup}
+use Rattle.a429_equipment.specs.declared.fault.FaultKind.TheVariants.{Rate, TooMany, Name, Label, Sdi, Interval, UnknownName, DuplicateSource, EmptyGroup}
 use Rattle.a429_equipment.specs.declared.fault.TablePlace.TheVariants.{Root, Group}
 use Rattle.a429_equipment.specs.declared.walk.Rows.{Rows}
 use Rattle.a429_equipment.specs.declared.walk.Rows.TheVariants.{Receivers, Sources, Outputs}
@@ -29,6 +29,7 @@ none_stand root (k ∷ ks) h = let n = nowhere_at root k ks (find (stands root k
 pub record IsFaultless (root : Data) : Type 0 where
   pub rate : StandsAtNone root (walk root) Rate
   pub too_many : StandsAtNone root (walk root) TooMany
+  pub name : StandsAtNone root (walk root) Name
   pub label : StandsAtNone root (walk root) Label
   pub sdi : StandsAtNone root (walk root) Sdi
   pub interval : StandsAtNone root (walk root) Interval
@@ -43,6 +44,7 @@ is_faultless root h =
     record {
       rate = n.1.1.1.1.0;
       too_many = n.1.1.1.1.1.0;
+      name = n.1.1.1.1.1.1.0;
       label = n.1.1.1.1.1.1.1.1.0;
       sdi = n.1.1.1.1.1.1.1.1.1.0;
       interval = n.1.1.1.1.1.1.1.1.1.1.0;

@@ -28,11 +28,11 @@ use Rattle.a429_equipment.proofs.Places.{one_name}
 -- ---- labels of one value are one text
 
 -- what three digits with a value are
-record AreDigits (a b c v : ℕ) : Type 0 where
-  high : (48 ≤ a) × (a ≤ 51)
-  middle : (48 ≤ b) × (b ≤ 55)
-  low : (48 ≤ c) × (c ≤ 55)
-  value : 64 * (a - 48) + 8 * (b - 48) + (c - 48) ≡ v
+pub record AreDigits (a b c v : ℕ) : Type 0 where
+  pub high : (48 ≤ a) × (a ≤ 51)
+  pub middle : (48 ≤ b) × (b ≤ 55)
+  pub low : (48 ≤ c) × (c ≤ 55)
+  pub value : 64 * (a - 48) + 8 * (b - 48) + (c - 48) ≡ v
 
 octal_digit : (b : ℕ) → is_octal b ≡ true → (48 ≤ b) × (b ≤ 55)
 octal_digit b h = let p = and_parts _ _ h in (leb-true 48 b p.0, leb-true b 55 p.1)
@@ -48,14 +48,14 @@ digits_are a b c v h =
     record { high = (least, leb-true a 51 few); middle = octal_digit b middle; low = octal_digit c low; value = value }
 
 -- the digits of a text with a value
-record IsLabel (text : List ℕ) (v : ℕ) : Type 0 where
-  a : ℕ
-  b : ℕ
-  c : ℕ
-  is : text ≡ a ∷ b ∷ c ∷ []
-  digits : AreDigits a b c v
+pub record IsLabel (text : List ℕ) (v : ℕ) : Type 0 where
+  pub a : ℕ
+  pub b : ℕ
+  pub c : ℕ
+  pub is : text ≡ a ∷ b ∷ c ∷ []
+  pub digits : AreDigits a b c v
 
-label_is : (text : List ℕ) (v : ℕ) → label_value text ≡ Some v → IsLabel text v
+pub label_is : (text : List ℕ) (v : ℕ) → label_value text ≡ Some v → IsLabel text v
 unfolding label_value
 label_is [] v h = cc
 label_is (a ∷ []) v h = cc

@@ -6,7 +6,7 @@ use Rattle.std.proofs.Math.ListN.{length-map}
 use Rattle.std.specs.List.{flat_map, enumerate_from, AllByRecursion}
 use Rattle.toml.specs.Data.{Data, get}
 use Rattle.a429_equipment.specs.declared.fault.FaultKind.{FaultKind}
-use Rattle.a429_equipment.specs.declared.fault.FaultKind.TheVariants.{Rate, TooMany, Label, Sdi, Interval, UnknownName, DuplicateSource, EmptyGroup}
+use Rattle.a429_equipment.specs.declared.fault.FaultKind.TheVariants.{Rate, TooMany, Name, Label, Sdi, Interval, UnknownName, DuplicateSource, EmptyGroup}
 use Rattle.a429_equipment.specs.declared.fault.TablePlace.TheVariants.{Root, Receiver, Source, Group, Output}
 use Rattle.a429_equipment.specs.declared.rows.OutputRow.{OutputRow}
 use Rattle.a429_equipment.specs.declared.walk.Rows.TheVariants.{Receivers, Sources, Outputs}
@@ -22,6 +22,7 @@ use Rattle.a429_equipment.proofs.Absence.{IsFaultless, is_faultless, is_absent, 
 use Rattle.a429_equipment.proofs.SoundValues.{is_rate, is_interval_within}
 use Rattle.a429_equipment.proofs.Places.{number-lt-length}
 use Rattle.a429_equipment.proofs.Apart.{IsSource, are_apart}
+use Rattle.a429_equipment.proofs.SoundRows.{receiver_names, receivers_are, source_rows_are, group_rows_are}
 
 -- no more than allowed
 record IsFew (root : Data) : Type 0 where
@@ -118,6 +119,13 @@ counts root h =
     all_mapped (output_rows root) _ gs
     (count_is root gs (groups_hold _ _ (λ n g e _. some_at root n g e) 0 gs empty.at_groups) (groups_hold _ _ (λ n g e _. few_outputs_at root n g e) 0 gs many.at_groups))
 
+-- no receiver has more filters than a set takes
+pub few_filters : (root : Data) → first (faults root) ≡ None → AllByRecursion (λ d. length (rows_at (codes "filters") d) ≤ 32) (rows_at (codes "receiver") root)
+few_filters root none =
+    let h = is_faultless root none in
+    let many = is_absent root TooMany h.too_many in
+    rows_hold Receivers _ _ (few_filters_at root) 0 (rows_at (codes "receiver") root) many.at_receivers
+
 pub is_sound : (root : Data) → first (faults root) ≡ None → IsSound (stated root)
 unfolding stated
 is_sound root none =
@@ -126,6 +134,7 @@ is_sound root none =
     let many = is_absent root TooMany h.too_many in
     let names = is_absent root UnknownName h.unknown_name in
     let intervals = is_absent root Interval h.interval in
+    let titles = is_absent root Name h.name in
     let duplicates = is_absent root DuplicateSource h.duplicate_source in
     let limits = few root many.at_root in
     let good = good_sources root h in
@@ -138,13 +147,9 @@ is_sound root none =
       some_outputs = counts root h;
       known_receivers = rw length-map (all_mapped (source_row root) _ (rows_at (codes "source") root) (receiver_below root (rows_at (codes "source") root) good));
       known_sources = rw length-map (outputs_hold root UnknownName (λ o. o.source < length (rows_at (codes "source") root)) (source_below root) names.at_groups);
+      receiver_rows = receivers_are (rows_at (codes "receiver") root) (receiver_names root titles) (few_filters root none);
+      source_rows = source_rows_are root titles;
+      group_rows = group_rows_are root titles;
       intervals = outputs_hold root Interval IsInterval (interval_at root) intervals.at_groups;
       apart = are_apart root good duplicates.at_sources;
     }
-
--- no receiver has more filters than a set takes
-pub few_filters : (root : Data) → first (faults root) ≡ None → AllByRecursion (λ d. length (rows_at (codes "filters") d) ≤ 32) (rows_at (codes "receiver") root)
-few_filters root none =
-    let h = is_faultless root none in
-    let many = is_absent root TooMany h.too_many in
-    rows_hold Receivers _ _ (few_filters_at root) 0 (rows_at (codes "receiver") root) many.at_receivers

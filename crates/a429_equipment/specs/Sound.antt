@@ -1,9 +1,15 @@
--- What holds of the record of every equipment: it keeps to the limits, each number is in range, and its sources are apart.
-use Rattle.std.specs.Prelude.{◌≡◌, ℕ, ◌<◌, ◌≤◌, ◌⊎◌, length}
+-- What holds of the record of every equipment: it keeps to the limits, each number and name is in range, and its sources are apart.
+use Rattle.std.specs.Prelude.{◌≡◌, ℕ, ◌<◌, ◌≤◌, ◌⊎◌, List, length, Some, IfSome, IsTrue, slice_get}
 use Rattle.std.specs.List.{AllByRecursion}
+use Rattle.a429_filter.specs.declared.filters.Filter.{Filter}
+use Rattle.a429_filter.specs.Filters.{filters_of}
+use Rattle.a429_equipment.specs.declared.rows.ReceiverRow.{ReceiverRow}
+use Rattle.a429_equipment.specs.declared.rows.SourceRow.{SourceRow}
+use Rattle.a429_equipment.specs.declared.rows.GroupRow.{GroupRow}
 use Rattle.a429_equipment.specs.declared.rows.OutputRow.{OutputRow}
 use Rattle.a429_equipment.specs.TableRecord.{TableRecord}
 use Rattle.a429_equipment.specs.Arrivals.{AreApart}
+use Rattle.a429_equipment.specs.Texts.{is_name}
 
 -- 100000 bit/s, or 12000 to 14500
 abbrev pub IsRate : ℕ → Type 0
@@ -12,6 +18,22 @@ IsRate rate = (rate ≡ 100000) ⊎ ((12000 ≤ rate) × (rate ≤ 14500))
 -- in microseconds
 abbrev pub IsInterval : OutputRow → Type 0
 IsInterval o = (1 ≤ o.min_us) × (o.min_us ≤ o.max_us) × (o.max_us ≤ 30000000)
+
+-- a label and a mask of 8 bits
+abbrev pub IsFilter : Filter → Type 0
+IsFilter f = (f.label < 256) × (f.mask < 256)
+
+-- a name of its form, and at most 32 filters
+abbrev pub IsReceiverRow : ReceiverRow → Type 0
+IsReceiverRow r = IsTrue (is_name r.name) × (length (filters_of r.filters) ≤ 32) × AllByRecursion IsFilter (filters_of r.filters)
+
+-- a name of its form, a label of 8 bits, and an SDI of 2 bits or any
+abbrev pub IsSourceRow : SourceRow → Type 0
+IsSourceRow s = IsTrue (is_name s.name) × (s.label < 256) × IfSome s.sdi (λ k. k < 4)
+
+-- a name of its form
+abbrev pub IsGroupRow : GroupRow → Type 0
+IsGroupRow g = IsTrue (is_name g.name)
 
 pub record IsSound (t : TableRecord) : Type 0 where
   pub rate : IsRate t.rate
@@ -22,5 +44,12 @@ pub record IsSound (t : TableRecord) : Type 0 where
   pub some_outputs : AllByRecursion (λ os. (1 ≤ length os) × (length os ≤ 128)) t.outputs
   pub known_receivers : AllByRecursion (λ s. s.receiver < length t.receivers) t.sources
   pub known_sources : AllByRecursion (AllByRecursion (λ o. o.source < length t.sources)) t.outputs
+  pub receiver_rows : AllByRecursion IsReceiverRow t.receivers
+  pub source_rows : AllByRecursion IsSourceRow t.sources
+  pub group_rows : AllByRecursion IsGroupRow t.groups
   pub intervals : AllByRecursion (AllByRecursion IsInterval) t.outputs
   pub apart : AreApart t.sources
+
+-- P of each element, by its number
+abbrev pub OfEach : {X : Type 0} → (X → Type 0) → List X → Type 0
+OfEach {X} P xs = (i : ℕ) (x : X) → slice_get xs i ≡ Some x → P x

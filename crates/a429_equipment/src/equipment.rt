@@ -165,7 +165,8 @@ impl Equipment {
     pub fn same_station(&self, other: &Equipment) -> bool
         ensures { result ≡ same_station self.now other.now }
     {
-        self.rate == other.rate
+        let same_rate = self.rate == other.rate;
+        same_rate
             && same_receivers(&self.receivers, &other.receivers)
             && same_sources(&self.sources, &other.sources)
             && same_groups(&self.groups, &other.groups)

@@ -24,6 +24,3 @@ pub use arrivals::ArrivalRefusal;
 pub use equipment::Equipment;
 pub use fault::{FaultKind, TableFault, TablePlace};
 pub use rows::{GroupRow, Name, OutputRow, ReceiverRow, SourceRow};
-
-#[cfg(test)]
-mod tests;

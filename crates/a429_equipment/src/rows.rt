@@ -20,7 +20,7 @@ impl Model for Name {
 
 impl Name {
     /// A copy of the text.
-    pub fn copy_of(alloc: Global, text: &str) -> Result<Name, AllocError>
+    pub(crate) fn copy_of(alloc: Global, text: &str) -> Result<Name, AllocError>
         ensures { IfOk result (λ n. n ≡ text.now) }
     {
         let text = String::from_str(alloc, text)?;
