@@ -3,3 +3,7 @@ pub mod Words
 pub mod Frames
 pub mod Steps
 pub mod Opening
+pub mod InOrder
+pub mod InTurn
+pub mod Accepting
+pub mod Carrying

@@ -2,6 +2,7 @@
 #![tactic(auto)]
 
 mod events;
+pub mod laws;
 mod sender;
 mod sources;
 mod state;

@@ -1,3 +1,6 @@
 pub mod Placing
 pub mod Cells
 pub mod Planning
+pub mod Histories
+pub mod Taking
+pub mod Published

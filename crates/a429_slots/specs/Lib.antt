@@ -4,3 +4,4 @@ pub mod Faults
 pub mod Proposed
 pub mod Events
 pub mod History
+pub mod TakenFrames

@@ -2,6 +2,7 @@
 #![tactic(auto)]
 
 mod group_plan;
+pub mod laws;
 mod outputs;
 mod planner;
 mod plans;

@@ -1,0 +1,60 @@
+-- What the answers of a history come to: which cells of a frame are answered, and where the words in them come from.
+use Rattle.std.specs.Prelude.{◌≡◌, ◌+◌, ◌<◌, ◌++◌, ◌∷◌, [], ℕ, List, Some, None, map, filter, take, replicate, flat_map}
+use Rattle.std.specs.List.{AllByRecursion, range_with_len, zip}
+use Rattle.a429_slots.specs.Tables.{frame_of, buses_of, source_at}
+use Rattle.a429_slots.specs.Events.{Event, Arrive}
+use Rattle.a429_slots.specs.History.{Opening, Current, is_cell}
+use Rattle.a429_core.specs.declared.events.Answer.{Answer}
+use Rattle.a429_core.specs.declared.events.Answer.TheVariants.{Accepted, Sent, Changed, Published, Refused}
+use Rattle.a429_core.specs.declared.events.Refusal.TheVariants.{FrameEnd}
+use Rattle.a429_core.specs.Answers.{answer, answers}
+
+-- ---- words
+
+-- of events that come after E none is answered that the source accepted it
+abbrev pub AcceptsNone : ℕ → Opening → List Event → List Event → ℕ → Type 0
+AcceptsNone C o E events source = AllByRecursion (λ a. a ≡ Accepted source → ⊥) (answers C o E events)
+
+-- the word is the latest that the source accepted: it came in, that was answered Accepted, and of no later word was it
+pub record IsLatest (C : ℕ) (o : Opening) (E : List Event) (source word : ℕ) : Type 0 where
+  pub before : List Event
+  pub receiver : ℕ
+  pub after : List Event
+  pub split : E ≡ before ++ Arrive receiver word ∷ after
+  pub accepted : answer C o before (Arrive receiver word) ≡ Accepted source
+  pub none_later : AcceptsNone C o (before ++ Arrive receiver word ∷ []) after source
+
+-- in the group's frame an output stands on this bus in this slot, and the word is the latest of its source
+pub record CarriesLatest (C : ℕ) (o : Opening) (E : List Event) (f : Current) (bus slot word : ℕ) : Type 0 where
+  pub slot_in_frame : ℕ
+  pub source : ℕ
+  pub counted : slot ≡ f.first + slot_in_frame
+  pub on_a_bus : bus < buses_of f.table
+  pub in_frame : slot_in_frame < frame_of f.table
+  pub stands : source_at f.table bus slot_in_frame ≡ Some source
+  pub latest : IsLatest C o E source word
+
+-- ---- cells
+
+-- the answers to the cells that the group asks for among events that come after E
+abbrev pub cell_answers : ℕ → Opening → ℕ → List Event → List Event → List Answer
+cell_answers C o g E events = map (λ x. x.1) (filter (λ x. is_cell g x.0) (zip events (answers C o E events)))
+
+-- the cells of a frame, slot by slot, in a slot bus by bus: the bus and the slot of each
+abbrev pub cells_in_order : Current → List (ℕ × ℕ)
+cells_in_order f = flat_map (λ slot. map (λ bus. (bus, f.first + slot)) (range_with_len 0 (buses_of f.table))) (range_with_len 0 (frame_of f.table))
+
+-- what a cell is answered, the word set aside
+abbrev pub cell_sent : ℕ × ℕ → Answer
+cell_sent c = Sent c.0 c.1 None
+
+abbrev pub without_word : Answer → Answer
+without_word (Sent bus slot word) = Sent bus slot None
+without_word (Accepted source) = Accepted source
+without_word (Changed number) = Changed number
+without_word (Published number) = Published number
+without_word (Refused refusal) = Refused refusal
+
+-- n cells asked for from the frame's beginning on: its cells in order, each once, and after the last one FrameEnd
+abbrev pub in_turn : Current → ℕ → List Answer
+in_turn f n = take n (map cell_sent (cells_in_order f) ++ replicate n (Refused FrameEnd))
