@@ -1,13 +1,14 @@
-//! The machine at its last slots and counts.
+//! The machine at its last slots and counts, and by pieces.
 
-use crate::support::{ONE, standard};
+use crate::support::{ONE, edited, standard};
 use a429_core::{Answer, Event, OpenFault, Refusal, State};
 use a429_equipment::Equipment;
 use a429_slots::{OUTPUTS, Proposal};
 use a429_word::Word;
 use std::test::Fail;
 
-fn proposal(rt: &HostRuntime, table: &str) -> Result<Proposal<OUTPUTS>, Fail> {
+/// The equipment of a table with its plan.
+pub fn proposal(rt: &HostRuntime, table: &str) -> Result<Proposal<OUTPUTS>, Fail> {
     let equipment = Equipment::read(rt.alloc(), table.as_bytes())?;
     Ok(Proposal::of(rt.alloc(), equipment)?)
 }
@@ -73,5 +74,101 @@ fn numbers_that_stand_for_nothing_are_refused(rt: HostRuntime) -> Result<(), Fai
     assert_eq!(rt; state.step(Event::Frame(1))?, no_such);
     // The cell of the one group is still to be sent.
     assert_eq!(rt; state.step(Event::Cell(0))?, Answer::Sent(0, 0, None));
+    Ok(())
+}
+
+/// An event, as data that can be taken more than once.
+#[derive(Clone, Copy)]
+enum Happening {
+    Word(u32),
+    Cell,
+    Frame,
+    /// A plan of twice the interval.
+    Slower,
+}
+
+const SCRIPT: [Happening; 9] = [
+    Happening::Cell,
+    Happening::Word(0x600000c1),
+    Happening::Slower,
+    Happening::Frame,
+    Happening::Cell,
+    Happening::Word(0x800000c1),
+    Happening::Frame,
+    Happening::Cell,
+    Happening::Cell,
+];
+
+fn event(rt: &HostRuntime, happening: Happening) -> Result<Event, Fail> {
+    match happening {
+        Happening::Word(raw) => Ok(Event::Arrive(0, raw)),
+        Happening::Cell => Ok(Event::Cell(0)),
+        Happening::Frame => Ok(Event::Frame(0)),
+        Happening::Slower => {
+            let slower = edited(rt, ONE, "max_us = 360", "max_us = 720")?;
+            Ok(Event::Publish(proposal(rt, &slower)?))
+        }
+    }
+}
+
+/// Takes a piece of a script: an event alone by `step` where that is asked for, and else all by `run`.
+fn take(
+    rt: &HostRuntime,
+    state: &mut State<41>,
+    mut piece: Vec<Event>,
+    by_step: bool,
+) -> Result<Vec<Answer>, Fail> {
+    if by_step && piece.len() == 1 {
+        let event = piece.pop().ok_or("no event")?;
+        return Ok(vec![in rt.alloc(); state.step(event)?]?);
+    }
+    Ok(state.run(rt.alloc(), piece)?)
+}
+
+/// What the script is answered, where this is its word.
+fn expected(word: Word) -> [Answer; 9] {
+    [
+        Answer::Sent(0, 0, None),
+        Answer::Accepted(0),
+        Answer::Published(1),
+        Answer::Changed(1),
+        Answer::Sent(0, 1, Some(word)),
+        Answer::Refused(Refusal::Parity),
+        Answer::Refused(Refusal::MidFrame),
+        Answer::Sent(0, 2, None),
+        Answer::Refused(Refusal::FrameEnd),
+    ]
+}
+
+/// Whether the script is answered so in pieces: one ends after each event whose binary digit in `cuts` is one.
+fn holds_in_pieces(rt: &HostRuntime, word: Word, cuts: u32, by_step: bool) -> Result<bool, Fail> {
+    let alloc = rt.alloc();
+    let mut state = State::<41>::open(alloc, proposal(rt, ONE)?, 0)?;
+    let mut answers = Vec::new(alloc);
+    let mut piece = Vec::new(alloc);
+    let mut digits = cuts;
+    for happening in &SCRIPT {
+        piece.push(event(rt, *happening)?)?;
+        if digits % 2 == 1 {
+            answers.extend_from_slice(&take(rt, &mut state, piece, by_step)?)?;
+            piece = Vec::new(alloc);
+        }
+        digits /= 2;
+    }
+    answers.extend_from_slice(&take(rt, &mut state, piece, by_step)?)?;
+    Ok(answers.as_slice() == expected(word).as_slice())
+}
+
+#[test]
+fn a_script_is_answered_alike_in_all_pieces(rt: HostRuntime) -> Result<(), Fail> {
+    let word = Word::from_raw(0x600000c1)?;
+    for cuts in 0u32..512 {
+        for by_step in [false, true] {
+            assert!(rt;
+                holds_in_pieces(&rt, word, cuts, by_step)?,
+                "{cuts} {by_step}"
+            );
+        }
+    }
     Ok(())
 }
