@@ -2,18 +2,26 @@
 
 use crate::support::{ONE, ran, repeated, replayed_bytes};
 use a429_cli::{FileFault, FileReader, LARGEST_FILE, MemoryFiles, command};
+use std::alloc::Global;
 use std::io;
 use std::io::{ErrorKind, Write};
 use std::test::Fail;
 
 #[test]
 fn files_are_read_before_any_is_looked_at(rt: HostRuntime) -> Result<(), Fail> {
-    let words = ["replay", "t", "s"];
-    let cases: [(&[(&str, &[u8])], &str); 4] = [
+    let words = ["replay", "t", "s", "u"];
+    let (t, s, u) = (
+        ("t", b"x".as_slice()),
+        ("s", b"x".as_slice()),
+        ("u", b"x".as_slice()),
+    );
+    let cases: [(&[(&str, &[u8])], &str); 6] = [
         (&[], "refused file t\n"),
-        (&[("s", b"")], "refused file t\n"),
-        (&[("t", b"x")], "refused file s\n"),
-        (&[("t", b"x"), ("s", b"x")], "refused table not-toml root\n"),
+        (&[s, u], "refused file t\n"),
+        (&[t], "refused file s\n"),
+        (&[t, u], "refused file s\n"),
+        (&[t, s], "refused file u\n"),
+        (&[t, s, u], "refused table not-toml root\n"),
     ];
     for (files, line) in cases {
         assert!(rt; ran(&rt, &words, files)?.is(line, 1), "for {line:?}");
@@ -34,11 +42,16 @@ fn files_have_at_most_16_mib(rt: HostRuntime) -> Result<(), Fail> {
     Ok(())
 }
 
-/// Has no memory for any file.
+/// Gives empty files, and refuses the one that it is asked for after so many.
 #[derive(Drop)]
-struct NoRoom;
+struct Refusing {
+    alloc: Global,
+    given: usize,
+    fault: FileFault,
+    reads: usize,
+}
 
-impl FileReader for NoRoom {
+impl FileReader for Refusing {
     ghost use Rattle.std.specs.Prelude.{false, None};
 
     ghost tells = { λ _. false };
@@ -46,98 +59,165 @@ impl FileReader for NoRoom {
     ghost file = { λ _ _. None };
 
     fn read(&mut self, _name: &str) -> Result<Vec<u8>, FileFault> {
-        Err(FileFault::NoMemory)
+        self.reads = self.reads.saturating_add(1);
+        if self.reads > self.given {
+            return Err(self.fault);
+        }
+        Ok(Vec::new(self.alloc))
     }
 }
 
 #[test]
-fn want_of_memory_is_told(rt: HostRuntime) -> Result<(), Fail> {
-    let mut out = Vec::new(rt.alloc());
-    let mut err = Vec::new(rt.alloc());
-    let words = ["replay", "t", "s"];
-    let status = command(rt.alloc(), &words, &mut NoRoom, &mut out, &mut err);
-    assert_eq!(rt; status, 1);
-    assert!(rt; out.as_slice() == b"refused memory\n".as_slice());
+fn a_reader_may_refuse_any_file(rt: HostRuntime) -> Result<(), Fail> {
+    let names = ["t", "s", "u", "v"];
+    for given in 0..names.len() {
+        let file = format!(in rt.alloc(); "refused file {}\n", names[given])?;
+        for (fault, line) in [
+            (FileFault::Refused, file.as_str()),
+            (FileFault::NoMemory, "refused memory\n"),
+        ] {
+            let mut files = Refusing {
+                alloc: rt.alloc(),
+                given,
+                fault,
+                reads: 0,
+            };
+            let mut out = Vec::new(rt.alloc());
+            let mut err = Vec::new(rt.alloc());
+            let words = ["replay", "t", "s", "u", "v"];
+            let status = command(rt.alloc(), &words, &mut files, &mut out, &mut err);
+            assert!(rt; status == 1 && err.is_empty(), "after {given} files");
+            assert!(rt; out.as_slice() == line.as_bytes(), "after {given} files");
+            assert!(rt; files.reads == given + 1, "after {given} files");
+        }
+    }
     Ok(())
 }
 
-/// Takes so many bytes, then refuses all.
+/// Takes so many bytes in one call, and fails at the call, a flush too, that comes after so many.
 #[derive(Drop)]
 struct Failing {
     taken: Vec<u8>,
-    room: usize,
-    calls_after: u32,
-    has_failed: bool,
+    piece: usize,
+    good_calls: usize,
+    calls: usize,
 }
 
-impl Write for Failing {
-    fn write(&mut self, buf: &[u8]) -> io::Result<usize> {
-        if self.has_failed {
-            self.calls_after = self.calls_after.saturating_add(1);
+impl Failing {
+    fn new(alloc: Global, piece: usize, good_calls: usize) -> Failing {
+        Failing {
+            taken: Vec::new(alloc),
+            piece,
+            good_calls,
+            calls: 0,
         }
-        if self.room == 0 {
-            self.has_failed = true;
-            return Err(io::Error::from(ErrorKind::WriteZero));
-        }
-        let count = self.room.min(buf.len());
-        self.taken.extend_from_slice(&buf[..count])?;
-        self.room -= count;
-        Ok(count)
     }
 
-    fn flush(&mut self) -> io::Result<()> {
-        if self.has_failed {
-            self.calls_after = self.calls_after.saturating_add(1);
+    fn call(&mut self) -> io::Result<()> {
+        self.calls = self.calls.saturating_add(1);
+        if self.calls > self.good_calls {
+            return Err(io::Error::from(ErrorKind::WriteZero));
         }
         Ok(())
     }
 }
 
-fn failing_after(rt: &HostRuntime, room: usize) -> Failing {
-    Failing {
-        taken: Vec::new(rt.alloc()),
-        room,
-        calls_after: 0,
-        has_failed: false,
+impl Write for Failing {
+    fn write(&mut self, buf: &[u8]) -> io::Result<usize> {
+        self.call()?;
+        let count = self.piece.min(buf.len());
+        self.taken.extend_from_slice(&buf[..count])?;
+        Ok(count)
+    }
+
+    fn flush(&mut self) -> io::Result<()> {
+        self.call()
     }
 }
 
-fn one_files(rt: &HostRuntime, script: &str) -> Result<MemoryFiles, Fail> {
+/// The status of a command, and its two writers.
+#[derive(Drop)]
+struct CutShort {
+    status: u8,
+    out: Failing,
+    err: Failing,
+}
+
+/// Does a command whose two writers each fail after so many calls.
+fn cut_short(
+    rt: &HostRuntime,
+    words: &[&str],
+    script: &str,
+    piece: usize,
+    good_calls: usize,
+) -> Result<CutShort, Fail> {
     let alloc = rt.alloc();
-    let mut files = Vec::new(alloc);
-    files.push((
+    let table = (
         String::from_str(alloc, "t")?,
         Vec::from_slice(alloc, ONE.as_bytes())?,
-    ))?;
-    files.push((
+    );
+    let script = (
         String::from_str(alloc, "s")?,
         Vec::from_slice(alloc, script.as_bytes())?,
-    ))?;
-    Ok(MemoryFiles { files })
+    );
+    let mut files = MemoryFiles {
+        files: vec![in alloc; table, script]?,
+    };
+    let mut out = Failing::new(alloc, piece, good_calls);
+    let mut err = Failing::new(alloc, piece, good_calls);
+    let status = command(alloc, words, &mut files, &mut out, &mut err);
+    Ok(CutShort { status, out, err })
 }
 
+/// Commands, scripts, how many bytes a writer takes in one call, and what is written.
+const WRITTEN: &[(&[&str], &str, usize, &str)] = &[
+    (
+        &["replay", "t", "s"],
+        "cell g\nframe g\n",
+        1,
+        "sent 0 0 none\nchanged 0\n",
+    ),
+    (&["replay", "t", "s"], "x\n", 1, "refused script line 1\n"),
+    (&["word", "12"], "", 1, "refused word-text\n"),
+    (
+        &["word", "600000c1"],
+        "",
+        usize::MAX,
+        "label 203 sdi 0 ssm 11 data 00000\nbnr 0 normal operation\nbcd 00000 minus\n",
+    ),
+];
+
 #[test]
-fn a_failing_writer_ends_the_command(rt: HostRuntime) -> Result<(), Fail> {
-    let words = ["replay", "t", "s"];
-    for (script, lines) in [
-        ("cell g\nframe g\n", "sent 0 0 none\nchanged 0\n"),
-        ("x\n", "refused script line 1\n"),
-    ] {
-        for room in 0..lines.len() {
-            let mut files = one_files(&rt, script)?;
-            let mut out = failing_after(&rt, room);
-            let mut err = Vec::new(rt.alloc());
-            let status = command(rt.alloc(), &words, &mut files, &mut out, &mut err);
-            assert_eq!(rt; status, 1, "room for {room}");
-            assert!(rt; out.taken.as_slice() == &lines.as_bytes()[..room]);
-            assert!(rt; out.calls_after == 0 && err.is_empty(), "room for {room}");
+fn a_writer_may_fail_at_any_call(rt: HostRuntime) -> Result<(), Fail> {
+    for (words, script, piece, lines) in WRITTEN {
+        let whole = cut_short(&rt, words, script, *piece, usize::MAX)?;
+        assert!(rt; whole.status == 0 || lines.starts_with("refused "));
+        assert!(rt;
+            whole.out.taken.as_slice() == lines.as_bytes(),
+            "for {words:?}"
+        );
+        for good_calls in 0..whole.out.calls {
+            let cut = cut_short(&rt, words, script, *piece, good_calls)?;
+            assert!(rt;
+                cut.status == 1 && cut.err.calls == 0,
+                "for {words:?}, {good_calls}"
+            );
+            assert!(rt;
+                cut.out.calls == good_calls + 1,
+                "for {words:?}, {good_calls}"
+            );
+            assert!(rt;
+                lines.as_bytes().starts_with(&cut.out.taken),
+                "for {words:?}, {good_calls}"
+            );
         }
     }
-    let mut files = one_files(&rt, "")?;
-    let mut out = Vec::new(rt.alloc());
-    let mut err = failing_after(&rt, 3);
-    let status = command(rt.alloc(), &["--help"], &mut files, &mut out, &mut err);
-    assert!(rt; status == 1 && out.is_empty() && err.calls_after == 0);
+    let whole = cut_short(&rt, &["--help"], "", 64, usize::MAX)?;
+    for good_calls in 0..whole.err.calls {
+        let cut = cut_short(&rt, &["--help"], "", 64, good_calls)?;
+        assert!(rt; cut.status == 1 && cut.out.calls == 0, "help, {good_calls}");
+        assert!(rt; cut.err.calls == good_calls + 1, "help, {good_calls}");
+    }
     Ok(())
 }
 
@@ -145,22 +225,18 @@ fn a_failing_writer_ends_the_command(rt: HostRuntime) -> Result<(), Fail> {
 fn many_answers_are_written_in_pieces(rt: HostRuntime) -> Result<(), Fail> {
     let script = repeated(&rt, "cell g\nframe g\n", 20000)?;
     let words = ["replay", "t", "s"];
-    let mut files = one_files(&rt, &script)?;
-    let mut out = failing_after(&rt, 100000);
-    let mut err = Vec::new(rt.alloc());
-    let status = command(rt.alloc(), &words, &mut files, &mut out, &mut err);
-    assert!(rt; status == 1 && out.calls_after == 0);
-    assert!(rt;
-        out.taken
-            .as_slice()
-            .starts_with(b"sent 0 0 none\nchanged 0\nsent 0 1 none\n")
-    );
-    let mut out = Vec::new(rt.alloc());
-    let status = command(rt.alloc(), &words, &mut files, &mut out, &mut err);
-    assert!(rt; status == 0);
-    assert!(rt;
-        out.as_slice()
-            .ends_with(b"\nsent 0 19999 none\nchanged 0\n")
-    );
+    let whole = cut_short(&rt, &words, &script, usize::MAX, usize::MAX)?;
+    let lines = whole.out.taken.as_slice();
+    assert!(rt; whole.status == 0 && whole.out.calls > 3);
+    assert!(rt; lines.starts_with(b"sent 0 0 none\nchanged 0\nsent 0 1 none\n"));
+    assert!(rt; lines.ends_with(b"\nsent 0 19999 none\nchanged 0\n"));
+    for good_calls in 0..whole.out.calls {
+        let cut = cut_short(&rt, &words, &script, usize::MAX, good_calls)?;
+        assert!(rt;
+            cut.status == 1 && cut.out.calls == good_calls + 1,
+            "{good_calls}"
+        );
+        assert!(rt; lines.starts_with(&cut.out.taken), "{good_calls}");
+    }
     Ok(())
 }

@@ -14,6 +14,8 @@ mod machine;
 #[cfg(test)]
 mod plans;
 #[cfg(test)]
+mod publishes;
+#[cfg(test)]
 mod replays;
 #[cfg(test)]
 mod scripts;
@@ -21,5 +23,7 @@ mod scripts;
 mod support;
 #[cfg(test)]
 mod tables;
+#[cfg(test)]
+mod word_rows;
 #[cfg(test)]
 mod words;
