@@ -1,9 +1,9 @@
 -- What the words of each command come to.
-use Rattle.std.proofs.Common.{◌≡◌, ◌∙◌, ap, ap₂, sym, refl, codes, true, false, ℕ, List, [], ◌∷◌, ◌++◌, fold}
-use Rattle.std.specs.Prelude.{Option, Some, None, Bool, ◌&&◌, is_some, option_and_then}
+use Rattle.std.proofs.Common.{◌≡◌, ◌∙◌, ap, ap₂, refl, codes, true, false, List, [], ◌∷◌, ◌++◌, fold}
+use Rattle.std.specs.Prelude.{Some, Bool, ◌&&◌, is_some, option_and_then}
 use Rattle.std.specs.List.{list_all}
 use Rattle.std.specs.List.{AllByRecursion}
-use Rattle.clap.specs.Words.{Row, Rule, Shape, Text, is_simple, subcommand_of, takes}
+use Rattle.clap.specs.Words.{Row, Shape, Text, is_simple, subcommand_of, takes}
 use Rattle.clap.specs.Walk.{Held, Names, Walk, idle, positional, value, walk, walked, walk_from, nothing_held, finished, stop_after, to_positional, arg_by_index}
 use Rattle.clap.specs.Simple.{built, built_leaf, entered, inherited, names_of}
 use Rattle.clap.specs.Takes.{default_passes, entered_passes, is_valid, level_passes, settle_passes, step_passes, walk_passes}

@@ -1,5 +1,5 @@
 -- What was found of the words that name a command.
-use Rattle.std.proofs.Common.{◌≡◌, ◌∙◌, ap, sym, refl, true, false, codes, Bool, List, [], ◌∷◌, map}
+use Rattle.std.proofs.Common.{◌≡◌, ◌∙◌, ap, sym, refl, true, false, codes, Bool, List, []}
 use Rattle.std.specs.Prelude.{Option, Some, None, Result, Ok, Err, MatchResult, not, option_and_then, option_map, unwrap_or, Box}
 use Rattle.std.proofs.lemmas.Bool.{and_parts}
 use Rattle.std.proofs.lemmas.Option.{same_Some}

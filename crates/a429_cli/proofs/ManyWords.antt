@@ -1,15 +1,14 @@
 -- A command whose last argument takes as many words as are given.
-use Rattle.std.proofs.Common.{◌≡◌, ◌∙◌, ap, refl, sym, true, false, ℕ, List, [], ◌∷◌, ◌++◌, append_assoc, fold}
-use Rattle.std.specs.Prelude.{Some, None, ◌&&◌}
+use Rattle.std.proofs.Common.{◌≡◌, ◌∙◌, ap, refl, true, ℕ, List, [], ◌∷◌, ◌++◌, append_assoc, fold}
+use Rattle.std.specs.Prelude.{Some, None}
 use Rattle.std.specs.List.{AllByRecursion}
-use Rattle.clap.specs.Words.{Row, Rule, Shape, Text}
-use Rattle.clap.specs.Walk.{Held, Walk, value, positional, walked, finished, to_positional, arg_by_index, settled}
-use Rattle.clap.specs.Walk as walk_of
-use Rattle.clap.specs.Takes.{walk_passes, turn_passes, step_passes, settle_passes}
+use Rattle.clap.specs.Words.{Row, Shape, Text}
+use Rattle.clap.specs.Walk.{Held, Walk, value, positional, walked, finished, to_positional, arg_by_index}
+use Rattle.clap.specs.Takes.{walk_passes, step_passes, settle_passes}
 use Rattle.clap.specs.declared.builder.value_parser.Reading.TheVariants.{AsWritten}
 use Rattle.clap.specs.declared.parser.matches.ValueSource.TheVariants.{CommandLine}
 use Rattle.a429_cli.specs.CommandLine.{IsName}
-use Rattle.a429_cli.proofs.PlainWords.{IsPlainWord, name_is_plain, at_word, for_more, walked_word, turn_of_word}
+use Rattle.a429_cli.proofs.PlainWords.{name_is_plain, at_word, for_more, walked_word, turn_of_word}
 
 abbrev pub row_of_words : Text → List Text → Row
 row_of_words id words = record { id = id; values = words; count = None; source = Some CommandLine; reading = AsWritten }
@@ -26,8 +25,8 @@ held_many id rows words last = record { rows = rows ++ rows_of_many id words; pe
 -- the last argument of the command's takes as many words as are given, at this position, after these rows
 pub record TakesMany (s : Shape) (id : Text) (position : ℕ) (rows : List Row) : Type 0 where
   pub next : (words : List Text) (last word : Text)
-    → to_positional s.rules (arg_by_index s.rules position) word (at_word (held_many id rows words last) positional position) (held_many id rows words last)
-    ≡ at_word (held_many id rows (words ++ last ∷ []) word) positional position
+      → to_positional s.rules (arg_by_index s.rules position) word (at_word (held_many id rows words last) positional position) (held_many id rows words last)
+      ≡ at_word (held_many id rows (words ++ last ∷ []) word) positional position
   pub passes : (words : List Text) (last : Text) → step_passes s position (held_many id rows words last) value ≡ true
   pub settles : (words : List Text) (last : Text) → settle_passes s.rules s.args_override_self (held_many id rows words last) ≡ true
   pub ends : (words : List Text) (last : Text) → finished s.rules (held_many id rows words last) ≡ rows ++ rows_of_many id (words ++ last ∷ [])

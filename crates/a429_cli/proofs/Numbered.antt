@@ -2,8 +2,8 @@
 use Rattle.std.proofs.Common.{◌≡◌, ◌+◌, ◌<◌, ◌++◌, ℕ, zero, suc, Bool, cond, List, map, [], ◌∷◌, length, get_or, arith, refl, ap}
 use Rattle.std.proofs.lemmas.List.{length-map}
 use Rattle.std.specs.List.{AllByRecursion}
-use Rattle.std.specs.Prelude.{Some, None, not, nat_lt, position, Option}
-use Rattle.std.specs.List.{prefix_len, position_or_len}
+use Rattle.std.specs.Prelude.{not, position}
+use Rattle.std.specs.List.{prefix_len}
 
 prefix_len-map : {X Y : Type 0} (f : X → Y) (p : Y → Bool) (xs : List X) → prefix_len p (map f xs) ≡ prefix_len (λ x. p (f x)) xs
 prefix_len-map f p [] = refl

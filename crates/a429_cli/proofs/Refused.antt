@@ -1,7 +1,7 @@
 -- Refusals that are handed on.
-use Rattle.std.proofs.Common.{◌≡◌, ◌∙◌, [], ◌∷◌, ap, refl, sym, subst, ℕ, List, inl, inr}
-use Rattle.std.specs.Prelude.{Option, Some, None, Result, Ok, Err, IfOk, OnOk, MatchResult}
-use Rattle.a429_cli.specs.Files.{IsFileRefusal, IsFirstUnread, readable}
+use Rattle.std.proofs.Common.{◌≡◌, [], ◌∷◌, sym, subst, ℕ, List, inl, inr}
+use Rattle.std.specs.Prelude.{Option, Result, Ok, Err, IfOk, OnOk, MatchResult}
+use Rattle.a429_cli.specs.Files.{IsFileRefusal, IsFirstUnread}
 use Rattle.a429_cli.specs.RefusalText.{OrMemory}
 use Rattle.a429_cli.specs.declared.refusals.CommandRefusal.{CommandRefusal}
 use Rattle.a429_cli.specs.declared.refusals.CommandRefusal.TheVariants as refused

@@ -1,6 +1,6 @@
 -- The words after the one that names a command.
 use Rattle.std.proofs.Common.{◌≡◌, ◌∙◌, ap, refl, sym, true, List, [], ◌∷◌, ◌++◌, append_assoc, append-nil, fold}
-use Rattle.std.specs.Prelude.{Some, is_some, ◌&&◌, ◌||◌}
+use Rattle.std.specs.Prelude.{Some}
 use Rattle.clap.specs.Words.{Rule, Shape, Text}
 use Rattle.clap.specs.Walk.{Names, Walk, walked, walked_from}
 use Rattle.clap.specs.Takes.{walk_passes}

@@ -1,5 +1,5 @@
 -- What is asked for by the values that were read of a command's words.
-use Rattle.std.specs.Prelude.{[], ℕ, List, Option, Some, None, codes, if◌then◌else◌, option_and_then, option_map, unwrap_or}
+use Rattle.std.specs.Prelude.{[], List, Option, None, codes, if◌then◌else◌, option_and_then, option_map, unwrap_or}
 use Rattle.std.specs.Str.{bytes_eq}
 use Rattle.clap.specs.Words.{Row, Text, first_of, all_of}
 use Rattle.a429_cli.specs.Requests.{Request, Word, Replay}

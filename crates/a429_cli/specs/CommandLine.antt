@@ -1,5 +1,5 @@
 -- The command line of the program.
-use Rattle.std.specs.Prelude.{◌≢◌, ◌∷◌, [], true, Some, List, codes, ⊤}
+use Rattle.std.specs.Prelude.{◌≢◌, ◌∷◌, [], true, Some, codes, ⊤}
 use Rattle.clap.specs.Words.{App, Rule, Shape, Text, new_app, new_rule, with_rule, with_subcommand}
 use Rattle.clap.specs.declared.builder.action.ArgAction.TheVariants.{Append}
 

@@ -1,5 +1,5 @@
 -- What the program writes of a script: a line for each event, of the machine's answer, or of the fault of a table that was to be published.
-use Rattle.std.specs.Prelude.{◌≡◌, ◌-◌, ◌≤◌, ◌++◌, ◌∷◌, [], ◌⊎◌, ℕ, List, Some, ⊤, slice_get, length}
+use Rattle.std.specs.Prelude.{◌≡◌, ◌-◌, ◌≤◌, ◌++◌, ◌∷◌, [], ◌⊎◌, ℕ, List, Some, ⊤, slice_get}
 use Rattle.a429_slots.specs.Events.{Event}
 use Rattle.a429_slots.specs.Events as machine
 use Rattle.a429_slots.specs.Proposed.{Proposed}

@@ -2,7 +2,6 @@
 use Rattle.std.specs.Prelude.{◌≡◌, ◌∷◌, [], ◌++◌, ◌⊎◌, ℕ, List, Option, Ok, codes, take, length}
 use Rattle.a429_slots.specs.Events.{Event}
 use Rattle.a429_slots.specs.Proposed.{Proposed}
-use Rattle.a429_slots.specs.History.{Opening}
 use Rattle.a429_cli.specs.Names.{naming_of}
 use Rattle.a429_cli.specs.Files.{AreRead, IsFirstUnread}
 use Rattle.a429_cli.specs.Stations.{IsProposedBy, IsTableRefusal}

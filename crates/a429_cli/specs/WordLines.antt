@@ -1,5 +1,5 @@
 -- The command `word`: what it writes of a word, and its status (profile: output).
-use Rattle.std.specs.Prelude.{◌≡◌, ◌++◌, ◌∷◌, [], ◌-◌, ◌^◌, ℕ, List, Option, Some, None, IsTrue, codes, false, true, if◌then◌else◌}
+use Rattle.std.specs.Prelude.{◌≡◌, ◌++◌, ◌∷◌, [], ◌-◌, ◌^◌, ℕ, List, Option, Some, None, codes, false, if◌then◌else◌}
 use Rattle.std.specs.List.{flat_map}
 use Rattle.std.specs.Fmt.{decimal, signed_decimal, digits, padded_integral, format_spec}
 use Rattle.a429_word.specs.Bits.{label_of, sdi_of, ssm_of, data_of, bnr_of, bcd_of, has_odd_parity}

@@ -52,11 +52,13 @@ pub fn run<'a, F: FileReader, W: Write, V: Write>(
 {
     match parse(alloc, words) {
         Ok(Asked::Word { text }) => tell_word(text, out),
-        Ok(Asked::Replay {
-            table,
-            script,
-            further,
-        }) => replay(alloc, files, table, script, &further, out),
+        Ok(
+            Asked::Replay {
+                table,
+                script,
+                further,
+            },
+        ) => replay(alloc, files, table, script, &further, out),
         Err(error) => match error.kind() {
             ErrorKind::OutOfMemory => refuse(out, &CommandRefusal::Memory),
             _ => {

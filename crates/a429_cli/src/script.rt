@@ -124,11 +124,7 @@ fn read_line(names: &Names, further: usize, line: &[u8]) -> Option<ScriptEvent>
 }
 
 /// The event of a text's first line, and the text after the line.
-fn first_event<'a>(
-    names: &Names,
-    further: usize,
-    text: &'a [u8],
-) -> Option<(ScriptEvent, &'a [u8])>
+fn first_event<'a>(names: &Names, further: usize, text: &'a [u8]) -> Option<(ScriptEvent, &'a [u8])>
     ensures event { option_map (λ p. (p.0, p.1.now)) result ≡ first_event names.now further text.entry.now }
     ensures shorter { IfSome result (λ p. length p.1.now < length text.entry.now) }
     ensures table { IfSome result (λ p. HasTable further p.0) }

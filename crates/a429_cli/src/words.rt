@@ -63,7 +63,9 @@ fn build_command<'a>(alloc: Global) -> Result<Command<'a>, AllocError>
 #[derive(Debug, Drop)]
 pub enum Asked<'a> {
     /// To tell what the word of this text says.
-    Word { text: &'a str },
+    Word {
+        text: &'a str,
+    },
     /// To play the script of this name on the station of the table of this name, beside further tables.
     Replay {
         table: &'a str,

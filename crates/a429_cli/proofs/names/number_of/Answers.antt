@@ -1,4 +1,4 @@
-use Rattle.std.proofs.Common.{rules, tests, ◌≡◌, ℕ, List, map, string_bytes}
+use Rattle.std.proofs.Common.{rules, tests, ◌≡◌, string_bytes}
 use Rattle.std.specs.Prelude.{None, Some, position}
 use Rattle.std.specs.Str.{bytes_eq}
 use Rattle.std.proofs.lemmas.Iterator.Search.{position_from_yields_List}

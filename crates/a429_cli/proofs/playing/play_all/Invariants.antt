@@ -1,4 +1,4 @@
-use Rattle.std.proofs.Common.{◌++◌, ℕ, List, map, take}
+use Rattle.std.proofs.Common.{ℕ, List, map, take}
 use Rattle.std.specs.Io.KnownBytes.{Appends, append_known}
 use Rattle.a429_slots.specs.Events.{Event}
 use Rattle.a429_slots.specs.History.{Opening}

@@ -1,4 +1,4 @@
-use Rattle.std.proofs.Common.{◌≡◌, ◌⊎◌, ◌++◌, ◌∷◌, [], ℕ, List, map, refl, sym, inl, inr}
+use Rattle.std.proofs.Common.{◌⊎◌, ◌++◌, ◌∷◌, [], map, refl, inl, inr}
 use Rattle.std.proofs.lemmas.Result.{IfOk-weaker}
 use Rattle.a429_cli.specs.Files.{IsFirstUnread}
 use Rattle.a429_cli.specs.RefusalText.{refusal_line}
@@ -23,8 +23,8 @@ pub returns-in-Ok-prepare-clause-replayed : goal.returns-in-Ok-prepare-clause-re
 returns-in-Ok-prepare-clause-replayed g c = λ tells.
     let p = c.in-Ok-prepare.ensures.prepared in
     IfOk-weaker c.play_prepared.result _ _ (λ status played.
-        let was = played (input_of c.in-Ok.input) p.0 (rw c.deref.ensures.value refl) p.2 in
-        (was.0, inr (input_of c.in-Ok.input, p.0, c.in-Ok-prepare.prepared.events.items, c.in-Ok.ensures tells, p.1, was.1), was.2))
+    let was = played (input_of c.in-Ok.input) p.0 (rw c.deref.ensures.value refl) p.2 in
+    (was.0, inr (input_of c.in-Ok.input, p.0, c.in-Ok-prepare.prepared.events.items, c.in-Ok.ensures tells, p.1, was.1), was.2))
     c.play_prepared.ensures.played
 
 pub returns-clause-replayed : goal.returns-clause-replayed

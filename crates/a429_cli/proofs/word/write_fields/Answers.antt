@@ -14,4 +14,4 @@ returns g c =
     let first = subst (λ (t : List ℕ). Appends (g.W.Write.contents c.args.out.now) (g.W.Write.contents c.write_name.new.out) t) (ap₂ name_text c.label.ensures c.sdi.ensures) c.in_ok-write_name.ensures in
     let second = subst (λ (t : List ℕ). Appends (g.W.Write.contents c.write_name.new.out) (g.W.Write.contents c.write_status.new.out) t) (ap status_text c.ssm.ensures) c.in_ok-write_status.ensures in
     on_ok_weaker c.write_data.result (λ last. Appends-then _ _ _ (name ++ status) (data_text (data_of word)) (Appends-then _ _ _ name status first second)
-        (subst (λ (t : List ℕ). Appends (g.W.Write.contents c.write_status.new.out) (g.W.Write.contents c.write_data.new.out) t) (ap data_text c.data.ensures) last)) c.write_data.ensures
+    (subst (λ (t : List ℕ). Appends (g.W.Write.contents c.write_status.new.out) (g.W.Write.contents c.write_data.new.out) t) (ap data_text c.data.ensures) last)) c.write_data.ensures

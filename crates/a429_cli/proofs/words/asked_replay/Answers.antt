@@ -1,6 +1,5 @@
-use Rattle.std.proofs.Common.{◌≡◌, ◌∙◌, ap, sym, refl, codes, List, [], map}
-use Rattle.std.specs.Prelude.{Some, None, Option, option_map, unwrap_or}
-use Rattle.clap.specs.Words.{Text, all_of, found_of, rows_of}
+use Rattle.std.proofs.Common.{◌∙◌, refl, codes}
+use Rattle.clap.specs.Words.{found_of, rows_of}
 use Rattle.clap.proofs.WalkLemmas.{first_value-rows, raw_values-rows}
 use Rattle.a429_cli.proofs.Found.{replay_is}
 use Rattle.a429_cli.proofs.words.asked_replay.Goals.{in-Some+in_ok-further-in-Some, in-None}

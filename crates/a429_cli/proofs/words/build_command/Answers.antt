@@ -1,10 +1,10 @@
-use Rattle.std.proofs.Common.{rules, ap, ap₂, codes, true, [], ◌≡◌, ◌∙◌}
+use Rattle.std.proofs.Common.{ap, ap₂, codes, true, [], ◌≡◌, ◌∙◌}
 use Rattle.std.proofs.lemmas.Result.{IfOk-weaker}
 use Rattle.clap.specs.Words.{App, app_of, new_app, with_subcommand}
 use Rattle.clap.specs.Simple.{app_of_fields}
 use Rattle.clap.specs.declared.builder.command.Command.{Command}
 use Rattle.clap.specs.declared.builder.command.Command.TheOpen.{Command-F}
-use Rattle.a429_cli.specs.CommandLine.{replay_app, word_app, top_shape, command_line}
+use Rattle.a429_cli.specs.CommandLine.{word_app, top_shape, command_line}
 use Rattle.a429_cli.proofs.Found.{plain_is_local}
 use Rattle.a429_cli.proofs.words.build_command.Goals as goal
 

@@ -1,9 +1,9 @@
 use Rattle.std.proofs.Common.{◌≡◌, ◌∙◌, ap, sym, refl, subst, codes, true, List, map}
-use Rattle.std.specs.Prelude.{Some, option_and_then, option_map}
+use Rattle.std.specs.Prelude.{option_and_then}
 use Rattle.std.proofs.lemmas.Result.{err_from_is_err_and}
 use Rattle.clap.specs.Words.{App, Row, Text, app_of, found_of, is_simple, kind_of, rows_of, subcommand_of, subcommand_rows_of, takes}
 use Rattle.a429_cli.specs.CommandLine.{command_line}
-use Rattle.a429_cli.specs.Requests.{request_of, request_words}
+use Rattle.a429_cli.specs.Requests.{request_words}
 use Rattle.a429_cli.specs.AskedRows.{request_by}
 use Rattle.a429_cli.proofs.AskedWords.{asked_words, is_simple_here, takes_words}
 use Rattle.a429_cli.proofs.Found.{found_asked, matched_weaker, name_of_rows}

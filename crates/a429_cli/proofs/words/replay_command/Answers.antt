@@ -2,7 +2,7 @@ use Rattle.std.proofs.Common.{rules, ap, ap₂, codes, ◌≡◌, ◌∙◌}
 use Rattle.std.proofs.lemmas.Result.{IfOk-weaker}
 use Rattle.clap.specs.Words.{app_of, new_app, rule_of, with_rule}
 use Rattle.clap.specs.Simple.{app_of_fields}
-use Rattle.a429_cli.specs.CommandLine.{required_rule, many_rule, replay_app}
+use Rattle.a429_cli.specs.CommandLine.{required_rule, many_rule}
 use Rattle.a429_cli.proofs.words.replay_command.Goals as goal
 
 pub returns : goal.returns
