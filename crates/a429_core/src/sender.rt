@@ -66,8 +66,8 @@ impl Sender {
     pub fn source_at(&self, bus: u32, slot: u64) -> Option<usize>
         ensures { result ≡ source_at self.now.table bus slot }
     {
-        let output = self.plan.at(bus, slot)?;
-        Some(self.plan.source(output))
+        let (output, _probes) = self.plan.at_counted(bus, slot);
+        Some(self.plan.source(output?))
     }
 
     /// The bus and the slot in the frame of the next cell, which then counts as sent.

@@ -1,5 +1,9 @@
-pub mod Placing
 pub mod Cells
+pub mod Columns
+pub mod Rows
+pub mod Tabled
+pub mod Planned
+pub mod Gaps
 pub mod Planning
 pub mod Histories
 pub mod Taking

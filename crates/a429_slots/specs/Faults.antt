@@ -2,11 +2,11 @@
 use Rattle.std.specs.Prelude.{ℕ, List, ⊤}
 use Rattle.a429_equipment.specs.TableRecord.{TableRecord}
 use Rattle.a429_equipment.specs.declared.rows.OutputRow.{OutputRow}
+use Rattle.a429_pack.specs.declared.demands.PackFault.{PackFault}
+use Rattle.a429_pack.specs.declared.demands.PackFault.TheVariants as group
 use Rattle.a429_slots.specs.Planned.{IsFirstUnfit, NeedsTooMany, IsFirstFaulty}
 use Rattle.a429_slots.specs.declared.planner.PlanFault.{PlanFault}
 use Rattle.a429_slots.specs.declared.planner.PlanFault.TheVariants as plan
-use Rattle.a429_slots.specs.declared.planner.GroupFault.{GroupFault}
-use Rattle.a429_slots.specs.declared.planner.GroupFault.TheVariants as group
 
 -- the fault stands in the table: its group is the first that cannot be planned, and the fault is that group's
 abbrev pub IsFaultOf : TableRecord → PlanFault → Type 0
@@ -15,12 +15,12 @@ IsFaultOf e (plan.TooManyBuses g needed) = IsFirstFaulty e g (λ rows. NeedsTooM
 IsFaultOf e plan.NoMemory = ⊤
 
 -- of one group
-abbrev pub IsGroupFault : ℕ → List OutputRow → GroupFault → Type 0
+abbrev pub IsGroupFault : ℕ → List OutputRow → PackFault → Type 0
 IsGroupFault rate rows (group.Unfit o) = IsFirstUnfit rate rows o
 IsGroupFault rate rows (group.TooManyBuses needed) = NeedsTooMany rate rows needed
 IsGroupFault rate rows group.NoMemory = ⊤
 
-abbrev pub of_group : ℕ → GroupFault → PlanFault
+abbrev pub of_group : ℕ → PackFault → PlanFault
 of_group g (group.Unfit o) = plan.Unfit g o
 of_group g (group.TooManyBuses needed) = plan.TooManyBuses g needed
 of_group g group.NoMemory = plan.NoMemory

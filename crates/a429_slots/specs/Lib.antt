@@ -1,5 +1,8 @@
 pub mod Tables
+pub mod Kept
 pub mod Planned
+pub mod Changes
+pub mod Asked
 pub mod Faults
 pub mod Proposed
 pub mod Events

@@ -1,14 +1,17 @@
 -- What holds of every plan, and when a station has none (profile: layout).
-use Rattle.std.specs.Prelude.{◌≡◌, ◌<◌, ◌≤◌, ◌^◌, ℕ, List, Some, length, take, slice_get, slice_index}
+use Rattle.std.specs.Prelude.{◌≡◌, ◌<◌, ◌≤◌, ◌/◌, ◌^◌, ℕ, List, Some, length, map, take, slice_get, slice_index, option_and_then}
 use Rattle.std.specs.List.{AllZip, AllByRecursion}
+use Rattle.std.specs.Option.{option_map_or}
 use Rattle.a429_grid.specs.Grid.{IsGridPeriod, HasNoGridPeriod}
+use Rattle.a429_pack.specs.declared.demands.Demand.{Demand}
+use Rattle.a429_pack.specs.Demands.{IsLayoutOrder, greatest, exponent_of, periods_of}
+use Rattle.a429_pack.specs.Schedules.{IsFewest}
+use Rattle.a429_pack.specs.Sums.{start_of}
 use Rattle.a429_equipment.specs.TableRecord.{TableRecord}
 use Rattle.a429_equipment.specs.declared.rows.OutputRow.{OutputRow}
-use Rattle.a429_slots.specs.Tables.{Placed, GroupTable, PlanTable, outputs_of, groups_of}
-
--- no period is longer than the frame
-abbrev pub AreWithin : ℕ → ℕ → List ℕ → Type 0
-AreWithin frame count periods = (i : ℕ) → i < count → slice_index periods i ≤ frame
+use Rattle.a429_equipment.specs.declared.rows.SourceRow.{SourceRow}
+use Rattle.a429_slots.specs.Tables.{Placed, GroupTable, PlanTable, placed_at, outputs_of, order_of, frame_of, buses_of, groups_of}
+use Rattle.a429_slots.specs.Kept.{BeginsAt, StandsJustAt}
 
 -- 2^k is the grid period of the output's interval at this rate
 abbrev pub HasPeriod : ℕ → OutputRow → ℕ → Type 0
@@ -18,15 +21,41 @@ HasPeriod rate row k = IsGridPeriod row.min_us row.max_us rate (2 ^ k)
 abbrev pub IsServed : ℕ → OutputRow → Placed → Type 0
 IsServed rate row o = (o.source ≡ row.source) × HasPeriod rate row o.place.period
 
--- the outputs of a group, each as its row of the equipment table asks
-abbrev pub IsPlannedFor : ℕ → List OutputRow → GroupTable → Type 0
-IsPlannedFor rate rows t = AllZip (IsServed rate) rows (outputs_of t)
+-- what an output asks of the layout: its period, and the label and SDI of its source
+abbrev pub asked_by : List SourceRow → Placed → Demand
+asked_by sources o = record {
+  period = Some o.place.period;
+  label = option_map_or (λ s. s.label) (slice_get sources o.source) 0;
+  sdi = option_and_then (λ s. s.sdi) (slice_get sources o.source);
+}
+
+abbrev pub asked_of : List SourceRow → GroupTable → List Demand
+asked_of sources t = map (asked_by sources) (outputs_of t)
+
+-- The layout: the frame is the greatest period, and the outputs follow one another by period, then label as a number, then SDI with any
+-- before 0, then place in the table. An output has as many places as slots of a frame, and begins where those before it end. The buses
+-- are as few as those of any schedule that has each output within its period.
+pub record IsLayout (sources : List SourceRow) (t : GroupTable) : Type 0 where
+  pub frame : t.frame ≡ greatest (map exponent_of (asked_of sources t))
+  pub order : IsLayoutOrder (asked_of sources t) (order_of t)
+  pub demands : t.demands ≡ map (λ o. frame_of t / 2 ^ slice_index t.periods o) (order_of t)
+  pub places : (k : ℕ) → k < length t.demands → BeginsAt t (slice_index t.order k) (start_of t.demands k)
+  pub fewest : IsFewest (frame_of t) (periods_of (asked_of sources t)) (buses_of t)
+
+-- the outputs of a group, each as its row of the equipment table asks, in cells of its own
+pub record IsPlannedFor (rate : ℕ) (sources : List SourceRow) (rows : List OutputRow) (t : GroupTable) : Type 0 where
+  pub served : AllZip (IsServed rate) rows (outputs_of t)
+  pub layout : IsLayout sources t
+  pub periodic : (o : ℕ) → o < length (outputs_of t)
+      → StandsJustAt t o (placed_at t o).place.bus (placed_at t o).place.offset (2 ^ (placed_at t o).place.period)
+  pub few_buses : buses_of t ≤ 16
+  pub few_slots : frame_of t ≤ 8192
 
 -- the plan of a station: a slot table for each group, in table order, under the number 0
 pub record IsPlanOf (e : TableRecord) (p : PlanTable) : Type 0 where
   pub number : p.number ≡ 0
   pub count : length (groups_of p) ≡ length e.groups
-  pub groups : AllZip (IsPlannedFor e.rate) e.outputs (groups_of p)
+  pub groups : AllZip (IsPlannedFor e.rate e.sources) e.outputs (groups_of p)
 
 -- no group has more than n outputs
 abbrev pub HaveRoom : ℕ → List (List OutputRow) → Type 0
@@ -45,16 +74,19 @@ pub record IsFirstUnfit (rate : ℕ) (rows : List OutputRow) (o : ℕ) : Type 0 
   pub unfit : HasNoGridPeriod row.min_us row.max_us rate
   pub earlier : AllByRecursion (IsFit rate) (take o rows)
 
--- each output has a grid period, and the group needs this many buses, one for each output, which is more than 16
-pub record NeedsTooMany (rate : ℕ) (rows : List OutputRow) (needed : ℕ) : Type 0 where
-  pub fit : AllByRecursion (IsFit rate) rows
-  pub one_each : needed ≡ length rows
-  pub too_many : 16 < needed
+-- each output has a grid period, and the fewest buses on which each recurs within its own are this many
+pub record NeedsBuses (rate : ℕ) (rows : List OutputRow) (needed : ℕ) : Type 0 where
+  pub exponents : List ℕ
+  pub fit : AllZip (HasPeriod rate) rows exponents
+  pub fewest : IsFewest (2 ^ greatest exponents) (map (λ k. 2 ^ k) exponents) needed
+
+-- more than a group can have
+abbrev pub NeedsTooMany : ℕ → List OutputRow → ℕ → Type 0
+NeedsTooMany rate rows needed = NeedsBuses rate rows needed × (16 < needed)
 
 -- neither of the two
-pub record CanBePlanned (rate : ℕ) (rows : List OutputRow) : Type 0 where
-  pub fit : AllByRecursion (IsFit rate) rows
-  pub few : length rows ≤ 16
+abbrev pub CanBePlanned : ℕ → List OutputRow → Type 0
+CanBePlanned rate rows = (needed : ℕ) × NeedsBuses rate rows needed × (needed ≤ 16)
 
 -- group g is the first that cannot be planned, for this reason
 pub record IsFirstFaulty (e : TableRecord) (g : ℕ) (IsFault : List OutputRow → Type 0) : Type 0 where

@@ -1,5 +1,6 @@
 -- Slot tables as contracts see them, and which output stands in which cell (profile: layout).
-use Rattle.std.specs.Prelude.{◌≡◌, ◌==◌, ◌&&◌, ◌+◌, ◌<◌, ◌*◌, ◌%◌, ◌^◌, ◌↔◌, ℕ, Bool, List, [], ◌∷◌, Option, Some, option_and_then, option_map, position, slice_get, take}
+use Rattle.std.specs.Prelude.{◌==◌, ◌&&◌, ◌*◌, ◌%◌, ◌^◌, ℕ, Bool, List, Option, length, map, option_and_then, option_map, position, slice_get, slice_index, take}
+use Rattle.std.specs.List.{range_with_len}
 use Rattle.a429_slots.specs.declared.group_plan.SlotPlace.{SlotPlace}
 
 -- an output: the number of its source, and where it stands
@@ -7,28 +8,40 @@ pub record Placed : Type 0 where
   pub source : ℕ
   pub place : SlotPlace
 
--- the slot table of a group: its frame has 2^frame slots; of `sources` and `periods` the first `count` are those of its outputs, by
--- their numbers, and a period is kept as its exponent
+-- The slot table of a group: its frame has 2^frame slots on each of its buses. The demands are those of its outputs in layout order,
+-- how many slots of a frame each one has. As many elements of the other lists are in use: `order` has the outputs in layout order,
+-- the lists below it are by the outputs' numbers, and a period is kept as its exponent.
 pub record GroupTable : Type 0 where
   pub frame : ℕ
-  pub count : ℕ
+  pub buses : ℕ
+  pub demands : List ℕ
+  pub order : List ℕ
   pub sources : List ℕ
+  pub on_bus : List ℕ
+  pub offsets : List ℕ
   pub periods : List ℕ
 
--- outputs by their numbers from n on, each at offset 0 of a bus of its own
-abbrev pub placed_from : ℕ → List ℕ → List ℕ → List Placed
-placed_from n (s ∷ ss) (p ∷ ps) = record { source = s; place = record { bus = n; offset = 0; period = p } } ∷ placed_from (n + 1) ss ps
-placed_from n _ _ = []
+-- what the table keeps of an output
+abbrev pub placed_at : GroupTable → ℕ → Placed
+placed_at t o = record {
+  source = slice_index t.sources o;
+  place = record { bus = slice_index t.on_bus o; offset = slice_index t.offsets o; period = slice_index t.periods o };
+}
 
+-- the outputs by their numbers
 abbrev pub outputs_of : GroupTable → List Placed
-outputs_of t = placed_from 0 (take t.count t.sources) (take t.count t.periods)
+outputs_of t = map (placed_at t) (range_with_len 0 (length t.demands))
+
+-- the numbers of the outputs in layout order
+abbrev pub order_of : GroupTable → List ℕ
+order_of t = take (length t.demands) t.order
 
 -- how many slots the frame has
 abbrev pub frame_of : GroupTable → ℕ
 frame_of t = 2 ^ t.frame
 
 abbrev pub buses_of : GroupTable → ℕ
-buses_of t = t.count
+buses_of t = t.buses
 
 -- how many cells a frame has: its slots on each bus
 abbrev pub cells_of : GroupTable → ℕ
@@ -42,6 +55,10 @@ stands_in bus slot o = o.place.bus == bus && slot % 2 ^ o.place.period == o.plac
 unfoldable pub cell_at : GroupTable → ℕ → ℕ → Option ℕ
 cell_at t bus slot = position (stands_in bus slot) (outputs_of t)
 
+-- where an output stands
+abbrev pub place_of : GroupTable → ℕ → Option SlotPlace
+place_of t o = option_map (λ p. p.place) (slice_get (outputs_of t) o)
+
 -- the source of an output
 abbrev pub source_of : GroupTable → ℕ → Option ℕ
 source_of t o = option_map (λ p. p.source) (slice_get (outputs_of t) o)
@@ -49,11 +66,6 @@ source_of t o = option_map (λ p. p.source) (slice_get (outputs_of t) o)
 -- the source of the output that stands in a cell
 abbrev pub source_at : GroupTable → ℕ → ℕ → Option ℕ
 source_at t bus slot = option_and_then (source_of t) (cell_at t bus slot)
-
--- one bus and one offset: the output stands in a cell just where the bus is that one and the slot is at the offset of a period
-pub record IsExactlyPeriodic (at : ℕ → ℕ → Option ℕ) (output bus offset period : ℕ) : Type 0 where
-  pub within : offset < period
-  pub cells : (row slot : ℕ) → (at row slot ≡ Some output) ↔ ((row ≡ bus) × (slot % period ≡ offset))
 
 -- the plans of the groups, in order: of `groups` the first `count`
 pub record PlanTable : Type 0 where

@@ -1,12 +1,12 @@
 //! The slot table of one group of outputs.
-ghost use Rattle.std.specs.Prelude.{◌≡◌, ◌+◌, ◌<◌, ◌≤◌, ◌^◌, ◌++◌, ◌∷◌, [], length, slice_get, Some, max, option_map, IfSome};
+ghost use Rattle.std.specs.Prelude.{◌≡◌, ℕ, ◌<◌, ◌≤◌, ◌/◌, ◌^◌, [], length, map, slice_get, Some, IfSome};
 
+use crate::layout::{order_in, periods_in, place_of_cell, places_in, sources_in};
 use crate::outputs::OutputId;
+use a429_equipment::OutputRow;
 use a429_grid::Period;
+use a429_pack::{Demand, Packed, SumTable};
 use std::marker::Model;
-
-/// How many buses a group can have (profile).
-pub const BUSES: usize = 16;
 
 /// How many outputs a group can have (profile).
 pub const OUTPUTS: usize = 128;
@@ -24,55 +24,72 @@ pub struct SlotPlace {
 /// every period.
 #[derive(Clone, Copy)]
 pub struct GroupPlan<const N: usize> {
-    frame: u32,
-    count: usize,
+    frame: Period,
+    buses: u32,
+    sums: SumTable<N>,
+    order: [usize; N],
     sources: [usize; N],
+    on_bus: [u32; N],
+    offsets: [u32; N],
     periods: [u32; N],
 }
 
 impl<const N: usize> Model for GroupPlan<N> {
-    ghost use Rattle.std.specs.Prelude.{◌≤◌};
     ghost use Rattle.a429_slots.specs.Tables.{GroupTable};
-    ghost use Rattle.a429_slots.specs.Planned.{AreWithin};
+    ghost use Rattle.a429_slots.specs.Kept.{IsTable};
 
     ghost Value = { GroupTable };
 
-    ghost view = { λ p. record { frame = p.frame; count = p.count; sources = p.sources; periods = p.periods } };
+    ghost view = { λ p. record { frame = p.frame; buses = p.buses; demands = p.sums; order = p.order; sources = p.sources; on_bus = p.on_bus; offsets = p.offsets; periods = p.periods } };
 
-    ghost invariant = { λ p. (p.count ≤ N) × (p.count ≤ 16) × (p.frame ≤ 13) × AreWithin p.frame p.count p.periods };
+    ghost invariant = { λ p. IsTable N (record { frame = p.frame; buses = p.buses; demands = p.sums; order = p.order; sources = p.sources; on_bus = p.on_bus; offsets = p.offsets; periods = p.periods }) };
 
-    ghost inverse = { λ t. record { frame = t.frame; count = t.count; sources = t.sources; periods = t.periods } };
+    ghost inverse = { λ t. record { frame = t.frame; buses = t.buses; sums = t.demands; order = t.order; sources = t.sources; on_bus = t.on_bus; offsets = t.offsets; periods = t.periods } };
 }
 
 impl<const N: usize> GroupPlan<N> {
-    ghost use Rattle.a429_slots.specs.Tables.{outputs_of, frame_of, buses_of, source_of, cell_at, IsExactlyPeriodic};
+    ghost use Rattle.a429_pack.specs.Demands.{demand_at, frame_of as greatest_period, period_of};
+    ghost use Rattle.a429_slots.specs.Tables.{outputs_of, order_of, frame_of, buses_of, place_of, source_of, cell_at};
+    ghost use Rattle.a429_slots.specs.Kept.{IsTable, StandsJustAt};
+    ghost use Rattle.a429_slots.specs.Asked.{IsTableOf};
 
     /// The table of a group without outputs: no bus, and a frame of one slot.
     pub(crate) fn empty() -> GroupPlan<N>
-        ensures none { outputs_of result ≡ [] }
-        ensures frame { result.frame ≡ 0 }
+        ensures { outputs_of result ≡ [] }
     {
         GroupPlan {
-            frame: 0,
-            count: 0,
+            frame: Period::of_digits(0),
+            buses: 0,
+            sums: SumTable::new(),
+            order: [0; N],
             sources: [0; N],
+            on_bus: [0; N],
+            offsets: [0; N],
             periods: [0; N],
         }
     }
 
-    /// Adds an output, at offset 0 of a bus of its own.
-    pub(crate) fn push(&mut self, source: usize, period: Period)
-        requires room { length (outputs_of self.old) < N }
-        requires buses { length (outputs_of self.old) < 16 }
-        ensures outputs { outputs_of self.new ≡ outputs_of self.old ++ record { source = source; place = record { bus = length (outputs_of self.old); offset = 0; period = period } } ∷ [] }
-        ensures frame { self.new.frame ≡ max self.old.frame period }
+    /// The table of a layout, which was made of the outputs' demands.
+    pub(crate) fn of(packed: &Packed<N>, outputs: &[OutputRow], demands: &[Demand]) -> GroupPlan<N>
+        requires room { length outputs.now ≤ N }
+        requires outputs { length outputs.now ≡ length packed.now.inputs }
+        requires asked { length demands.now ≡ length packed.now.inputs }
+        requires frame { packed.now.frame ≡ greatest_period demands.now }
+        requires demands { packed.now.demands ≡ map (λ i. 2 ^ packed.now.frame / period_of (demand_at demands.now i)) packed.now.inputs }
+        ensures table { IsTableOf packed.now outputs.now demands.now result }
+        ensures sound { IsTable N result }
     {
-        let digits = period.digits();
-        prove!(self.count < N);
-        self.sources[self.count] = source;
-        self.periods[self.count] = digits;
-        self.count += 1;
-        self.frame = self.frame.max(digits);
+        let (on_bus, offsets) = places_in(packed);
+        GroupPlan {
+            frame: packed.frame(),
+            buses: packed.buses(),
+            sums: *packed.sums(),
+            order: order_in(packed),
+            sources: sources_in(outputs),
+            on_bus,
+            offsets,
+            periods: periods_in(demands),
+        }
     }
 
     /// How many buses the group has, at most 16.
@@ -80,7 +97,7 @@ impl<const N: usize> GroupPlan<N> {
         ensures value { result ≡ buses_of self.now }
         ensures few { result ≤ 16 }
     {
-        self.count as u32
+        self.buses
     }
 
     /// How many slots a frame has, 1 to 8192: the greatest period of an output.
@@ -89,42 +106,66 @@ impl<const N: usize> GroupPlan<N> {
         ensures some { 1 ≤ result }
         ensures few { result ≤ 8192 }
     {
-        1 << self.frame
+        self.frame.slots()
     }
 
     /// How many outputs the group has.
     pub fn outputs(&self) -> usize
         ensures { result ≡ length (outputs_of self.now) }
     {
-        self.count
+        self.sums.len()
+    }
+
+    /// The output at place `k` of the layout, counted from 0.
+    pub fn ordered(&self, k: usize) -> OutputId
+        requires { k < length (outputs_of self.now) }
+        ensures value { slice_get (order_of self.now) k ≡ Some result }
+        ensures known { result < length (outputs_of self.now) }
+    {
+        prove!(k < self.sums.len());
+        OutputId::new(self.order[k])
     }
 
     /// The output in a cell: on this bus, in this slot counted from the frame's start. Slots past the
-    /// frame are those of the frames that follow. None is an empty cell, or a bus outside the plan.
+    /// frame are those of the frames that follow. None is an empty cell, or a bus outside the plan. Beside it
+    /// stands how many running sums were read to find it, at most as many as the number of outputs has
+    /// binary digits. It takes no memory.
+    pub fn at_counted(&self, bus: u32, slot: u64) -> (Option<OutputId>, u32)
+        ensures cell { result.0 ≡ cell_at self.now bus slot }
+        ensures known { IfSome result.0 (λ output. output < length (outputs_of self.now)) }
+        ensures probes { (digits : ℕ) → length (outputs_of self.now) < 2 ^ digits → result.1 ≤ digits }
+    {
+        if bus >= self.buses {
+            return (None, 0);
+        }
+        let (found, probes) = self.sums.find_counted(place_of_cell(bus, slot, self.frame));
+        match found {
+            Some(place) => (Some(OutputId::new(self.order[place])), probes),
+            None => (None, probes),
+        }
+    }
+
+    /// The output in a cell, as `at_counted` finds it.
     pub fn at(&self, bus: u32, slot: u64) -> Option<OutputId>
         ensures cell { result ≡ cell_at self.now bus slot }
         ensures known { IfSome result (λ output. output < length (outputs_of self.now)) }
     {
-        let number = bus as usize;
-        if number >= self.count || slot % (1 << self.periods[number]) != 0 {
-            return None;
-        }
-        Some(OutputId::new(number))
+        self.at_counted(bus, slot).0
     }
 
     /// Where an output stands: in these cells and in no others.
     pub fn place(&self, output: OutputId) -> SlotPlace
         requires { output < length (outputs_of self.now) }
-        ensures place { option_map (λ o. o.place) (slice_get (outputs_of self.now) output) ≡ Some result }
-        ensures cells { IsExactlyPeriodic (cell_at self.now) output result.bus result.offset (2 ^ result.period) }
+        ensures place { place_of self.now output ≡ Some result }
+        ensures cells { StandsJustAt self.now output result.bus result.offset (2 ^ result.period) }
         ensures bus { result.bus < buses_of self.now }
         ensures frame { 2 ^ result.period ≤ frame_of self.now }
     {
         let number = output.number();
-        prove!(number < self.count);
+        prove!(number < self.sums.len());
         SlotPlace {
-            bus: number as u32,
-            offset: 0,
+            bus: self.on_bus[number],
+            offset: self.offsets[number],
             period: Period::of_digits(self.periods[number]),
         }
     }
@@ -135,7 +176,7 @@ impl<const N: usize> GroupPlan<N> {
         ensures { source_of self.now output ≡ Some result }
     {
         let number = output.number();
-        prove!(number < self.count);
+        prove!(number < self.sums.len());
         self.sources[number]
     }
 }

@@ -1,5 +1,5 @@
 //! The plans of a station's groups.
-ghost use Rattle.std.specs.Prelude.{◌≡◌, ◌<◌, ◌≤◌, ◌++◌, ◌∷◌, [], length, slice_get, Some};
+ghost use Rattle.std.specs.Prelude.{◌≡◌, ◌<◌, ◌≤◌, ◌++◌, ◌∷◌, [], length, slice_get, slice_set, Some};
 ghost use Rattle.a429_slots.specs.Tables.{groups_of};
 
 use crate::group_plan::GroupPlan;
@@ -29,6 +29,14 @@ impl<const N: usize> Model for Plan<N> {
     ghost inverse = { λ t. record { count = t.count; groups = t.groups; number = t.number } };
 }
 
+/// Sets the slot table of a group.
+fn put<const N: usize>(groups: &mut [GroupPlan<N>], group: usize, table: GroupPlan<N>)
+    requires { group < length groups.old }
+    ensures { groups.new ≡ slice_set groups.old group table.entry }
+{
+    groups[group] = table;
+}
+
 impl<const N: usize> Plan<N> {
     /// The plan of a station without groups, of number 0.
     pub(crate) fn empty() -> Plan<N>
@@ -48,7 +56,7 @@ impl<const N: usize> Plan<N> {
         ensures groups { groups_of self.new ≡ groups_of self.old ++ group.entry ∷ [] }
         ensures number { self.new.number ≡ self.old.number }
     {
-        self.groups[self.count] = group;
+        put(&mut self.groups, self.count, group);
         self.count += 1;
     }
 

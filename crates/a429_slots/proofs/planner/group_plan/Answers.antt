@@ -1,27 +1,75 @@
-use Rattle.std.proofs.Common.{◌≡◌, ◌∙◌, List, map, length, refl, rules, subst, sym, ap}
+use Rattle.std.proofs.Common.{◌≡◌, ◌∙◌, ◌/◌, ◌^◌, List, ap, arith, length, map, rules, subst, sym}
+use Rattle.std.specs.Prelude.{MatchResult}
 use Rattle.std.specs.List.{AllZip}
+use Rattle.std.proofs.lemmas.Result.{err_from_is_err_and}
 use Rattle.std.proofs.lemmas.Slice.Zip.{AllZip-long}
-use Rattle.a429_slots.specs.Tables.{Placed, placed_from}
-use Rattle.a429_slots.specs.Planned.{HasPeriod, IsServed}
-use Rattle.a429_slots.proofs.Planning.{all_fit, serves}
+use Rattle.a429_pack.specs.declared.demands.Demand.{Demand}
+use Rattle.a429_pack.specs.Demands.{AreFit, IsLayoutOrder, demand_at, frame_of, period_of, periods_of}
+use Rattle.a429_pack.specs.Layout.{Layout}
+use Rattle.a429_pack.specs.Schedules.{IsFewest}
+use Rattle.a429_pack.proofs.Orders.{length_permuted}
+use Rattle.a429_slots.specs.Asked.{IsAsked}
+use Rattle.a429_slots.specs.Faults.{IsGroupFault}
+use Rattle.a429_slots.specs.Planned.{IsPlannedFor, CanBePlanned}
+use Rattle.a429_slots.proofs.Planned.{IsMade, planned, can_be, group_fault}
 use Rattle.a429_slots.proofs.planner.group_plan.Goals as goal
 
-pub returns-then-outputs-gt-BUSES : goal.returns-then-outputs-gt-BUSES
-returns-then-outputs-gt-BUSES g c = record {
-  fit = all_fit c.args.rate c.args.outputs.now c.in_ok-periods.periods.items c.in_ok-periods.ensures;
-  one_each = refl;
-  too_many = c.if-outputs-gt-BUSES.true;
-}
+pub pack-requires : goal.pack-requires
+pack-requires g c =
+    let long : length c.in-Ok.demands.items ≡ length c.args.outputs.now = AllZip-long (IsAsked c.args.rate c.args.sources.now) c.args.outputs.now c.in-Ok.demands.items c.in-Ok.ensures in
+    (search rules, (omega (arith, long, ap length c.deref.ensures.value, c.requires.some), omega (arith, long, ap length c.deref.ensures.value, c.requires.room)))
 
-pub spread-requires : goal.spread-requires
-spread-requires g c =
-    let long : length c.deref.result.now ≡ length c.args.outputs.now =
-    ap length c.deref.ensures.value ∙ AllZip-long (HasPeriod c.args.rate) c.args.outputs.now c.in_ok-periods.periods.items c.in_ok-periods.ensures in
-    (search rules, (long, (c.requires, c.if-outputs-gt-BUSES.false)))
+pub returns-in_err-packed : goal.returns-in_err-packed
+returns-in_err-packed g c =
+    let asked : AllZip (IsAsked c.args.rate c.args.sources.now) c.args.outputs.now c.deref.result.now =
+    subst (λ (ds : List Demand). AllZip (IsAsked c.args.rate c.args.sources.now) c.args.outputs.now ds) (sym c.deref.ensures.value) c.in-Ok.ensures in
+    let (fault, is, same) = err_from_is_err_and c.from_residual.result c.from_residual.ensures.1 in
+    subst (λ r. MatchResult r (λ table. IsPlannedFor c.args.rate c.args.sources.now c.args.outputs.now table × CanBePlanned c.args.rate c.args.outputs.now) (IsGroupFault c.args.rate c.args.outputs.now)) (sym is)
+    (subst (IsGroupFault c.args.rate c.args.outputs.now) (sym same) (group_fault c.args.rate c.args.sources.now c.args.outputs.now c.deref.result.now c.in_err-packed.field-0.0 asked c.in_err-packed.ensures.fault))
+
+pub of-requires : goal.of-requires
+of-requires g c =
+    let l : Layout = c.in_ok-packed.packed in
+    let asked : length c.in-Ok.demands.items ≡ length c.args.outputs.now = AllZip-long (IsAsked c.args.rate c.args.sources.now) c.args.outputs.now c.in-Ok.demands.items c.in-Ok.ensures in
+    let same : c.deref.result.now ≡ c.deref-2.result.now = c.deref.ensures.value ∙ sym c.deref-2.ensures.value in
+    let many : length l.inputs ≡ length c.deref.result.now = length_permuted (length c.deref.result.now) l.inputs c.in_ok-packed.ensures.order.all in
+    let long : length c.deref.result.now ≡ length c.args.outputs.now = ap length c.deref.ensures.value ∙ asked in (
+      search rules,
+      (
+        search rules,
+        (
+          c.requires.room,
+          (
+            sym long ∙ sym many,
+            (
+              ap length (sym same) ∙ sym many,
+              (
+                c.in_ok-packed.ensures.frame ∙ ap frame_of same,
+                c.in_ok-packed.ensures.demands ∙ ap (λ (ds : List Demand). map (λ i. 2 ^ l.frame / period_of (demand_at ds i)) l.inputs) same,
+              ),
+            ),
+          ),
+        ),
+      ),
+    )
 
 pub returns : goal.returns
 returns g c =
-    let same = c.spread.ensures ∙ ap (placed_from 0 (map (λ r. r.source) c.args.outputs.now)) c.deref.ensures.value in (
-      subst (λ (os : List Placed). AllZip (IsServed c.args.rate) c.args.outputs.now os) (sym same) (serves c.args.rate 0 c.args.outputs.now c.in_ok-periods.periods.items c.in_ok-periods.ensures),
-      record { fit = all_fit c.args.rate c.args.outputs.now c.in_ok-periods.periods.items c.in_ok-periods.ensures; few = c.if-outputs-gt-BUSES.false },
+    let l : Layout = c.in_ok-packed.packed in
+    let p = c.in_ok-packed.ensures in
+    let same : c.deref.result.now ≡ c.deref-2.result.now = c.deref.ensures.value ∙ sym c.deref-2.ensures.value in
+    let made : IsMade g.row.N c.args.rate c.args.sources.now c.args.outputs.now c.deref-2.result.now l c.of.result =
+    record {
+      asked = subst (λ (ds : List Demand). AllZip (IsAsked c.args.rate c.args.sources.now) c.args.outputs.now ds) (sym c.deref-2.ensures.value) c.in-Ok.ensures;
+      fit = subst AreFit same p.fit;
+      frame = p.frame ∙ ap frame_of same;
+      order = subst (λ (ds : List Demand). IsLayoutOrder ds l.inputs) same p.order;
+      shares = p.demands ∙ ap (λ (ds : List Demand). map (λ i. 2 ^ l.frame / period_of (demand_at ds i)) l.inputs) same;
+      fewest = subst (λ (ds : List Demand). IsFewest (2 ^ l.frame) (periods_of ds) l.buses) same p.fewest;
+      few = p.few;
+      table = c.of.ensures.table;
+      sound = c.of.ensures.sound;
+    } in (
+      planned g.row.N c.args.rate c.args.sources.now c.args.outputs.now c.deref-2.result.now l c.of.result made,
+      can_be g.row.N c.args.rate c.args.sources.now c.args.outputs.now c.deref-2.result.now l c.of.result made,
     )

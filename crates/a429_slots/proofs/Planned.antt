@@ -1,0 +1,171 @@
+-- A table of what the rows ask for is the plan of a group.
+use Rattle.std.proofs.Common.{◌≡◌, ℕ, suc, ◌/◌, ◌^◌, ◌<◌, ◌≤◌, ◌∷◌, [], List, length, get_or, map, arith, refl, ap, ◌∙◌, sym, subst}
+use Rattle.std.specs.Prelude.{Option, Some, None, IsSome, slice_get, option_and_then, unwrap_or}
+use Rattle.std.specs.List.{AllZip}
+use Rattle.std.specs.Option.{option_map_or}
+use Rattle.std.proofs.lemmas.Bool.{false≢true}
+use Rattle.std.proofs.lemmas.List.{length-map, get_or-map, get_or-take}
+use Rattle.std.proofs.lemmas.Simd.{map-map}
+use Rattle.std.proofs.lemmas.Slice.Zip.{AllZip-long}
+use Rattle.a429_grid.specs.Grid.{HasNoGridPeriod}
+use Rattle.a429_grid.proofs.Reversing.{pow_few}
+use Rattle.a429_pack.specs.declared.demands.Demand.{Demand}
+use Rattle.a429_pack.specs.declared.demands.PackFault.{PackFault}
+use Rattle.a429_pack.specs.declared.demands.PackFault.TheVariants as pack
+use Rattle.a429_pack.specs.Demands.{AreFit, IsLayoutOrder, demand_at, exponent_of, period_of, periods_of, greatest}
+use Rattle.a429_pack.specs.Demands as demands
+use Rattle.a429_pack.specs.Faults as faults
+use Rattle.a429_pack.specs.Layout.{Layout}
+use Rattle.a429_pack.specs.Schedules.{IsFewest}
+use Rattle.a429_pack.proofs.Orders.{length_permuted, permuted_below}
+use Rattle.a429_equipment.specs.declared.rows.OutputRow.{OutputRow}
+use Rattle.a429_equipment.specs.declared.rows.SourceRow.{SourceRow}
+use Rattle.a429_slots.specs.Tables.{Placed, GroupTable, placed_at, outputs_of, order_of, frame_of, buses_of}
+use Rattle.a429_slots.specs.Kept.{IsTable}
+use Rattle.a429_slots.specs.Asked.{IsAsked, IsTableOf}
+use Rattle.a429_slots.specs.Planned.{HasPeriod, IsServed, IsLayout, IsPlannedFor, NeedsBuses, CanBePlanned, asked_by, asked_of}
+use Rattle.a429_slots.specs.Faults.{IsGroupFault}
+use Rattle.a429_slots.proofs.Cells.{length-outputs, length-order, output_at, stands_just_at}
+use Rattle.a429_slots.proofs.Rows.{blank, unasked, zipped_at, period_from, first_unfit, have_periods}
+
+zip_by : {A B : Type 0} (R : A → B → Type 0) (xs : List A) (ys : List B) (d : A) (e : B) → length ys ≡ length xs → ((i : ℕ) → i < length xs → R (get_or xs i d) (get_or ys i e)) → AllZip R xs ys
+zip_by R [] [] d e same all = tt
+zip_by R [] (y ∷ ys) d e same all = absurd (omega arith)
+zip_by R (x ∷ xs) [] d e same all = absurd (omega arith)
+zip_by R (x ∷ xs) (y ∷ ys) d e same all = (all 0 (omega arith), zip_by R xs ys d e (omega arith) (λ i below. all (suc i) (omega arith)))
+
+same_lists : {A : Type 0} (xs ys : List A) (d : A) → length xs ≡ length ys → ((i : ℕ) → i < length ys → get_or xs i d ≡ get_or ys i d) → xs ≡ ys
+same_lists [] [] d same all = refl
+same_lists [] (y ∷ ys) d same all = absurd (omega arith)
+same_lists (x ∷ xs) [] d same all = absurd (omega arith)
+same_lists (x ∷ xs) (y ∷ ys) d same all =
+    ap (λ z. z ∷ xs) (all 0 (omega arith)) ∙ ap (λ zs. y ∷ zs) (same_lists xs ys d (omega arith) (λ i below. all (suc i) (omega arith)))
+
+map_where : (f g : ℕ → ℕ) (xs : List ℕ) → ((k : ℕ) → k < length xs → f (get_or xs k 0) ≡ g (get_or xs k 0)) → map f xs ≡ map g xs
+map_where f g [] same = refl
+map_where f g (x ∷ xs) same = ap (λ z. z ∷ map f xs) (same 0 (omega arith)) ∙ ap (λ zs. g x ∷ zs) (map_where f g xs (λ k below. same (suc k) (omega arith)))
+
+-- what is known of a table when it was made of what the rows ask
+pub record IsMade (n rate : ℕ) (sources : List SourceRow) (rows : List OutputRow) (ds : List Demand) (l : Layout) (t : GroupTable) : Type 0 where
+  pub asked : AllZip (IsAsked rate sources) rows ds
+  pub fit : AreFit ds
+  pub frame : l.frame ≡ demands.frame_of ds
+  pub order : IsLayoutOrder ds l.inputs
+  pub shares : l.demands ≡ map (λ i. 2 ^ l.frame / period_of (demand_at ds i)) l.inputs
+  pub fewest : IsFewest (2 ^ l.frame) (periods_of ds) l.buses
+  pub few : l.buses ≤ 16
+  pub table : IsTableOf l rows ds t
+  pub sound : IsTable n t
+
+counts : (n rate : ℕ) (sources : List SourceRow) (rows : List OutputRow) (ds : List Demand) (l : Layout) (t : GroupTable) → IsMade n rate sources rows ds l t
+    → (length t.demands ≡ length ds) × (length ds ≡ length rows)
+counts n rate sources rows ds l t m =
+    let same : length ds ≡ length rows = AllZip-long (IsAsked rate sources) rows ds m.asked in
+    let all : length l.inputs ≡ length ds = length_permuted (length ds) l.inputs m.order.all in
+    (sym (length-order n t m.sound) ∙ ap length m.table.order ∙ all, same)
+
+source_at : (n rate : ℕ) (sources : List SourceRow) (rows : List OutputRow) (ds : List Demand) (l : Layout) (t : GroupTable) → IsMade n rate sources rows ds l t
+    → (i : ℕ) → i < length rows → get_or t.sources i 0 ≡ (get_or rows i blank).source
+source_at n rate sources rows ds l t m i below =
+    let (many, same) = counts n rate sources rows ds l t m in
+    sym (get_or-take (length t.demands) t.sources i 0 (omega arith)) ∙ ap (λ xs. get_or xs i 0) m.table.sources ∙ get_or-map (λ (r : OutputRow). r.source) rows i blank 0 below
+
+period_at : (n rate : ℕ) (sources : List SourceRow) (rows : List OutputRow) (ds : List Demand) (l : Layout) (t : GroupTable) → IsMade n rate sources rows ds l t
+    → (i : ℕ) → i < length rows → get_or t.periods i 0 ≡ exponent_of (demand_at ds i)
+period_at n rate sources rows ds l t m i below =
+    let (many, same) = counts n rate sources rows ds l t m in
+    sym (get_or-take (length t.demands) t.periods i 0 (omega arith)) ∙ ap (λ xs. get_or xs i 0) m.table.periods ∙ get_or-map exponent_of ds i unasked 0 (omega arith)
+
+-- ---- each output as its row asks
+
+some_is : (o : Option ℕ) → IsSome o → Some (unwrap_or o 0) ≡ o
+some_is None some = absurd (false≢true some)
+some_is (Some k) some = refl
+
+asked_is : (rate : ℕ) (sources : List SourceRow) (row : OutputRow) (d : Demand) (o : Placed) → IsAsked rate sources row d → IsSome d.period → o.source ≡ row.source → o.place.period ≡ exponent_of d → asked_by sources o ≡ d
+asked_is rate sources row d o asked some source period =
+    let there : slice_get sources o.source ≡ Some asked.source = ap (slice_get sources) source ∙ asked.there in
+    let label : option_map_or (λ (s : SourceRow). s.label) (slice_get sources o.source) 0 ≡ d.label = ap (λ r. option_map_or (λ (s : SourceRow). s.label) r 0) there ∙ sym asked.label in
+    let sdi : option_and_then (λ (s : SourceRow). s.sdi) (slice_get sources o.source) ≡ d.sdi = ap (option_and_then (λ (s : SourceRow). s.sdi)) there ∙ sym asked.sdi in
+    let when : Some o.place.period ≡ d.period = ap (λ (k : ℕ). Some k) period ∙ some_is d.period some in
+    ap (λ (p : Option ℕ). demand p (option_map_or (λ (s : SourceRow). s.label) (slice_get sources o.source) 0) (option_and_then (λ (s : SourceRow). s.sdi) (slice_get sources o.source))) when
+    ∙ ap (λ (x : ℕ). demand d.period x (option_and_then (λ (s : SourceRow). s.sdi) (slice_get sources o.source))) label
+    ∙ ap (λ (x : Option ℕ). demand d.period d.label x) sdi
+  where
+    demand : Option ℕ → ℕ → Option ℕ → Demand
+    demand p x y = record { period = p; label = x; sdi = y }
+
+asked_same : (n rate : ℕ) (sources : List SourceRow) (rows : List OutputRow) (ds : List Demand) (l : Layout) (t : GroupTable) → IsMade n rate sources rows ds l t → asked_of sources t ≡ ds
+asked_same n rate sources rows ds l t m =
+    let (many, same) = counts n rate sources rows ds l t m in
+    same_lists (asked_of sources t) ds unasked (length-map (outputs_of t) (asked_by sources) ∙ length-outputs t ∙ many) (λ i below.
+    let inside : i < length rows = omega arith in
+    get_or-map (asked_by sources) (outputs_of t) i (placed_at t 0) unasked (omega (arith, length-outputs t))
+    ∙ ap (asked_by sources) (output_at t i (placed_at t 0) (omega arith))
+    ∙ asked_is rate sources (get_or rows i blank) (demand_at ds i) (placed_at t i) (zipped_at (IsAsked rate sources) rows ds i blank unasked inside m.asked) (m.fit i below)
+    (source_at n rate sources rows ds l t m i inside) (period_at n rate sources rows ds l t m i inside))
+
+served : (n rate : ℕ) (sources : List SourceRow) (rows : List OutputRow) (ds : List Demand) (l : Layout) (t : GroupTable) → IsMade n rate sources rows ds l t → AllZip (IsServed rate) rows (outputs_of t)
+served n rate sources rows ds l t m =
+    let (many, same) = counts n rate sources rows ds l t m in
+    zip_by (IsServed rate) rows (outputs_of t) blank (placed_at t 0) (length-outputs t ∙ many ∙ same) (λ i below.
+    let row : OutputRow = get_or rows i blank in
+    let asked : IsAsked rate sources row (demand_at ds i) = zipped_at (IsAsked rate sources) rows ds i blank unasked below m.asked in
+    let period : HasPeriod rate row (exponent_of (demand_at ds i)) =
+    period_from (demand_at ds i).period (HasNoGridPeriod row.min_us row.max_us rate) (HasPeriod rate row) asked.period (m.fit i (omega arith)) in
+    subst (IsServed rate row) (sym (output_at t i (placed_at t 0) (omega arith)))
+    (source_at n rate sources rows ds l t m i below, subst (HasPeriod rate row) (sym (period_at n rate sources rows ds l t m i below)) period))
+
+shares : (n rate : ℕ) (sources : List SourceRow) (rows : List OutputRow) (ds : List Demand) (l : Layout) (t : GroupTable) → IsMade n rate sources rows ds l t
+    → t.demands ≡ map (λ o. frame_of t / 2 ^ get_or t.periods o 0) (order_of t)
+shares n rate sources rows ds l t m =
+    let (many, same) = counts n rate sources rows ds l t m in
+    m.table.demands ∙ m.shares ∙ map_where (λ i. 2 ^ l.frame / period_of (demand_at ds i)) (λ o. frame_of t / 2 ^ get_or t.periods o 0) l.inputs (λ k below.
+    let o : ℕ = get_or l.inputs k 0 in
+    let known : o < length ds = permuted_below (length ds) l.inputs m.order.all k below in
+    ap (λ h. 2 ^ h / period_of (demand_at ds o)) (sym m.table.frame)
+    ∙ ap (λ e. frame_of t / 2 ^ e) (sym (period_at n rate sources rows ds l t m o (omega arith))))
+    ∙ ap (map (λ o. frame_of t / 2 ^ get_or t.periods o 0)) (sym m.table.order)
+
+layout : (n rate : ℕ) (sources : List SourceRow) (rows : List OutputRow) (ds : List Demand) (l : Layout) (t : GroupTable) → IsMade n rate sources rows ds l t → IsLayout sources t
+layout n rate sources rows ds l t m =
+    let back : ds ≡ asked_of sources t = sym (asked_same n rate sources rows ds l t m) in
+    record {
+      frame = m.table.frame ∙ m.frame ∙ ap (λ xs. greatest (map exponent_of xs)) back;
+      order = subst (λ (xs : List Demand). IsLayoutOrder xs (order_of t)) back (subst (IsLayoutOrder ds) (sym m.table.order) m.order);
+      demands = shares n rate sources rows ds l t m;
+      places = m.table.places;
+      fewest = subst (λ (xs : List Demand). IsFewest (frame_of t) (periods_of xs) (buses_of t)) back
+          (subst (λ (h : ℕ). IsFewest (2 ^ h) (periods_of ds) (buses_of t)) (sym m.table.frame) (subst (IsFewest (2 ^ l.frame) (periods_of ds)) (sym m.table.buses) m.fewest));
+    }
+
+pub planned : (n rate : ℕ) (sources : List SourceRow) (rows : List OutputRow) (ds : List Demand) (l : Layout) (t : GroupTable) → IsMade n rate sources rows ds l t → IsPlannedFor rate sources rows t
+planned n rate sources rows ds l t m = record {
+  served = served n rate sources rows ds l t m;
+  layout = layout n rate sources rows ds l t m;
+  periodic = λ o below. stands_just_at n t m.sound o (omega (arith, length-outputs t));
+  few_buses = m.sound.few;
+  few_slots = pow_few t.frame m.sound.frame;
+}
+
+-- ---- how many buses
+
+periods_same : (ds : List Demand) → periods_of ds ≡ map (λ k. 2 ^ k) (map exponent_of ds)
+periods_same ds = sym (map-map (λ (k : ℕ). 2 ^ k) exponent_of ds)
+
+needs : (rate : ℕ) (sources : List SourceRow) (rows : List OutputRow) (ds : List Demand) (needed : ℕ) → AllZip (IsAsked rate sources) rows ds → AreFit ds
+    → IsFewest (2 ^ demands.frame_of ds) (periods_of ds) needed → NeedsBuses rate rows needed
+needs rate sources rows ds needed asked fit fewest = record {
+  exponents = map exponent_of ds;
+  fit = have_periods rate sources rows ds asked fit;
+  fewest = subst (λ (ps : List ℕ). IsFewest (2 ^ demands.frame_of ds) ps needed) (periods_same ds) fewest;
+}
+
+pub can_be : (n rate : ℕ) (sources : List SourceRow) (rows : List OutputRow) (ds : List Demand) (l : Layout) (t : GroupTable) → IsMade n rate sources rows ds l t → CanBePlanned rate rows
+can_be n rate sources rows ds l t m =
+    (l.buses, needs rate sources rows ds l.buses m.asked m.fit (subst (λ (h : ℕ). IsFewest (2 ^ h) (periods_of ds) l.buses) m.frame m.fewest), m.few)
+
+pub group_fault : (rate : ℕ) (sources : List SourceRow) (rows : List OutputRow) (ds : List Demand) (fault : PackFault) → AllZip (IsAsked rate sources) rows ds → faults.IsFaultOf ds fault → IsGroupFault rate rows fault
+group_fault rate sources rows ds (pack.Unfit o) asked first = first_unfit rate sources rows ds o asked first
+group_fault rate sources rows ds (pack.TooManyBuses needed) asked many = (needs rate sources rows ds needed asked many.0 many.2, many.1)
+group_fault rate sources rows ds pack.NoMemory asked none = tt

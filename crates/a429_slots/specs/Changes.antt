@@ -1,0 +1,28 @@
+-- What lies between the cells of an output where the plan of its group changes.
+use Rattle.std.specs.Prelude.{◌≡◌, ℕ, ◌+◌, ◌<◌, Some}
+use Rattle.a429_slots.specs.Tables.{GroupTable, cell_at, frame_of}
+
+-- the output stands in the slot, on some bus
+abbrev pub StandsIn : GroupTable → ℕ → ℕ → Type 0
+StandsIn t output slot = (bus : ℕ) × (cell_at t bus slot ≡ Some output)
+
+-- its last slot in a frame
+pub record IsLastSlot (t : GroupTable) (output slot : ℕ) : Type 0 where
+  pub within : slot < frame_of t
+  pub stands : StandsIn t output slot
+  pub last : (later : ℕ) → slot < later → later < frame_of t → ¬ (StandsIn t output later)
+
+-- its first slot in a frame
+pub record IsFirstSlot (t : GroupTable) (output slot : ℕ) : Type 0 where
+  pub within : slot < frame_of t
+  pub stands : StandsIn t output slot
+  pub first : (earlier : ℕ) → earlier < slot → ¬ (StandsIn t output earlier)
+
+-- how many slots lie between the last cell of an output in a frame by one table and its first in the next frame, which goes by another
+-- table, where the output may have another number
+pub record IsGap (before : GroupTable) (output : ℕ) (after : GroupTable) (same gap : ℕ) : Type 0 where
+  pub from : ℕ
+  pub to : ℕ
+  pub last : IsLastSlot before output from
+  pub first : IsFirstSlot after same to
+  pub apart : from + gap ≡ frame_of before + to
