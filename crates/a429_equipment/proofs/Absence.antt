@@ -3,7 +3,7 @@ use Rattle.std.proofs.Common.{◌≡◌, ℕ, zero, suc, ◌+◌, ◌<◌, false
 use Rattle.std.specs.List.{find, flat_map, enumerate_from, AllByRecursion, slice_get}
 use Rattle.toml.specs.Data.{Data}
 use Rattle.a429_equipment.specs.declared.fault.FaultKind.{FaultKind}
-use Rattle.a429_equipment.specs.declared.fault.FaultKind.TheVariants.{Rate, TooMany, Name, Label, Sdi, Interval, UnknownName, DuplicateSource, EmptyGroup}
+use Rattle.a429_equipment.specs.declared.fault.FaultKind.TheVariants.{Rate, TooMany, Name, DuplicateName, Label, Sdi, Interval, UnknownName, DuplicateSource, DuplicateOutput, EmptyGroup}
 use Rattle.a429_equipment.specs.declared.fault.TablePlace.TheVariants.{Root, Group}
 use Rattle.a429_equipment.specs.declared.walk.Rows.{Rows}
 use Rattle.a429_equipment.specs.declared.walk.Rows.TheVariants.{Receivers, Sources, Outputs}
@@ -30,11 +30,13 @@ pub record IsFaultless (root : Data) : Type 0 where
   pub rate : StandsAtNone root (walk root) Rate
   pub too_many : StandsAtNone root (walk root) TooMany
   pub name : StandsAtNone root (walk root) Name
+  pub duplicate_name : StandsAtNone root (walk root) DuplicateName
   pub label : StandsAtNone root (walk root) Label
   pub sdi : StandsAtNone root (walk root) Sdi
   pub interval : StandsAtNone root (walk root) Interval
   pub unknown_name : StandsAtNone root (walk root) UnknownName
   pub duplicate_source : StandsAtNone root (walk root) DuplicateSource
+  pub duplicate_output : StandsAtNone root (walk root) DuplicateOutput
   pub empty_group : StandsAtNone root (walk root) EmptyGroup
 
 pub is_faultless : (root : Data) → first (faults root) ≡ None → IsFaultless root
@@ -45,11 +47,13 @@ is_faultless root h =
       rate = n.1.1.1.1.0;
       too_many = n.1.1.1.1.1.0;
       name = n.1.1.1.1.1.1.0;
+      duplicate_name = n.1.1.1.1.1.1.1.0;
       label = n.1.1.1.1.1.1.1.1.0;
       sdi = n.1.1.1.1.1.1.1.1.1.0;
       interval = n.1.1.1.1.1.1.1.1.1.1.0;
       unknown_name = n.1.1.1.1.1.1.1.1.1.1.1.0;
       duplicate_source = n.1.1.1.1.1.1.1.1.1.1.1.1.0;
+      duplicate_output = n.1.1.1.1.1.1.1.1.1.1.1.1.1.0;
       empty_group = n.1.1.1.1.1.1.1.1.1.1.1.1.1.1.0;
     }
 
@@ -101,6 +105,23 @@ row_holds array P n zero k (c ∷ ds) d at_k h e =
     let same : c ≡ d = cc in
     subst (λ x. P (row_place array k, x)) same (subst (λ m. P (row_place array m, c)) (omega arith) h.0)
 row_holds array P n (suc i) k (c ∷ ds) d at_k h e = row_holds array P (n + 1) i k ds d (omega arith) h.1 e
+
+-- a group's place, and those of its outputs
+pub group_holds : (P : Stop → Type 0) (n i k : ℕ) (gs : List Data) (g : Data) → k ≡ n + i → AllByRecursion P (flat_map group_stops (enumerate_from n gs)) → slice_get gs i ≡ Some g
+    → P (Group k, g) × AllByRecursion P (numbered (Outputs k) (rows_at (codes "output") g))
+group_holds P n i k [] g at_k h e = cc
+group_holds P n zero k (c ∷ gs) g at_k h e =
+    let same : c ≡ g = cc in
+    let own = all_append P (numbered (Outputs n) (rows_at (codes "output") c)) (flat_map group_stops (enumerate_from (n + 1) gs)) h.1 in
+    let Q : ℕ → Data → Type 0 = λ m x. P (Group m, x) × AllByRecursion P (numbered (Outputs m) (rows_at (codes "output") x)) in
+    subst (λ x. Q k x) same (subst (λ m. Q m c) (omega arith) (h.0, own.0))
+group_holds P n (suc i) k (c ∷ gs) g at_k h e =
+    let later = all_append P (numbered (Outputs n) (rows_at (codes "output") c)) (flat_map group_stops (enumerate_from (n + 1) gs)) h.1 in
+    group_holds P (n + 1) i k gs g (omega arith) later.1 e
+
+pub all_from : {X : Type 0} (P : X → Type 0) (xs : List X) → ((i : ℕ) (x : X) → slice_get xs i ≡ Some x → P x) → AllByRecursion P xs
+all_from P [] h = tt
+all_from P (x ∷ xs) h = (h 0 x refl, all_from P xs (λ i y e. h (suc i) y e))
 
 pub all_mapped : {X Y : Type 0} (f : X → Y) (Q : Y → Type 0) (xs : List X) → AllByRecursion (λ x. Q (f x)) xs → AllByRecursion Q (map f xs)
 all_mapped f Q [] h = tt

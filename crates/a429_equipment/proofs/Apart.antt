@@ -78,7 +78,7 @@ one_label s t v h i =
 
 -- ---- two sources that a word is for meet
 
-some_of : (o : Option ℕ) (x : ℕ) → is_none o ≡ false → unwrap_or o 0 ≡ x → o ≡ Some x
+pub some_of : (o : Option ℕ) (x : ℕ) → is_none o ≡ false → unwrap_or o 0 ≡ x → o ≡ Some x
 some_of None x h e = cc
 some_of (Some y) x h e = ap (λ n. Some n) e
 
@@ -143,7 +143,7 @@ meet root a b r raw s t f g =
 
 -- ---- no two sources meet
 
-not_among : {X : Type 0} (p : X → Bool) (i j : ℕ) (xs : List X) (x : X) → list_any p (take j xs) ≡ false → i < j → slice_get xs i ≡ Some x → p x ≡ false
+pub not_among : {X : Type 0} (p : X → Bool) (i j : ℕ) (xs : List X) (x : X) → list_any p (take j xs) ≡ false → i < j → slice_get xs i ≡ Some x → p x ≡ false
 not_among p i j [] x h below e = cc
 not_among p i zero (y ∷ ys) x h below e = absurd (omega arith)
 not_among p zero (suc j) (y ∷ ys) x h below e = let same : y ≡ x = cc in subst (λ z. p z ≡ false) same (or_parts (p y) _ h).0
@@ -156,7 +156,7 @@ never_meet root i j a b h below e f =
     not_among (λ c. sources_meet c b) i j (rows_at (codes "source") root) a (row_holds Sources (λ s. stands root DuplicateSource s ≡ false) 0 j j (rows_at (codes "source") root) b (omega arith) h f) below e
 
 -- the element that a mapped one is of
-mapped_at : {X Y : Type 0} (f : X → Y) (xs : List X) (i : ℕ) (y : Y) → slice_get (map f xs) i ≡ Some y → (x : X) × (slice_get xs i ≡ Some x) × (f x ≡ y)
+pub mapped_at : {X Y : Type 0} (f : X → Y) (xs : List X) (i : ℕ) (y : Y) → slice_get (map f xs) i ≡ Some y → (x : X) × (slice_get xs i ≡ Some x) × (f x ≡ y)
 mapped_at f [] i y h = cc
 mapped_at f (x ∷ xs) zero y h = (x, refl, same_Some (f x) y h)
 mapped_at f (x ∷ xs) (suc i) y h = mapped_at f xs i y h

@@ -7,6 +7,7 @@ pub mod Absence
 pub mod SoundValues
 pub mod Places
 pub mod Apart
+pub mod Own
 pub mod SoundRows
 pub mod Soundness
 pub mod IndexPlaces

@@ -6,7 +6,7 @@ use Rattle.std.proofs.Math.ListN.{length-map}
 use Rattle.std.specs.List.{flat_map, enumerate_from, AllByRecursion}
 use Rattle.toml.specs.Data.{Data, get}
 use Rattle.a429_equipment.specs.declared.fault.FaultKind.{FaultKind}
-use Rattle.a429_equipment.specs.declared.fault.FaultKind.TheVariants.{Rate, TooMany, Name, Label, Sdi, Interval, UnknownName, DuplicateSource, EmptyGroup}
+use Rattle.a429_equipment.specs.declared.fault.FaultKind.TheVariants.{Rate, TooMany, Name, DuplicateName, Label, Sdi, Interval, UnknownName, DuplicateSource, DuplicateOutput, EmptyGroup}
 use Rattle.a429_equipment.specs.declared.fault.TablePlace.TheVariants.{Root, Receiver, Source, Group, Output}
 use Rattle.a429_equipment.specs.declared.rows.OutputRow.{OutputRow}
 use Rattle.a429_equipment.specs.declared.walk.Rows.TheVariants.{Receivers, Sources, Outputs}
@@ -22,6 +22,7 @@ use Rattle.a429_equipment.proofs.Absence.{IsFaultless, is_faultless, is_absent, 
 use Rattle.a429_equipment.proofs.SoundValues.{is_rate, is_interval_within}
 use Rattle.a429_equipment.proofs.Places.{number-lt-length}
 use Rattle.a429_equipment.proofs.Apart.{IsSource, are_apart}
+use Rattle.a429_equipment.proofs.Own.{own_receivers, own_names, own_groups, own_sources}
 use Rattle.a429_equipment.proofs.SoundRows.{receiver_names, receivers_are, source_rows_are, group_rows_are}
 
 -- no more than allowed
@@ -136,6 +137,7 @@ is_sound root none =
     let intervals = is_absent root Interval h.interval in
     let titles = is_absent root Name h.name in
     let duplicates = is_absent root DuplicateSource h.duplicate_source in
+    let repeated = is_absent root DuplicateName h.duplicate_name in
     let limits = few root many.at_root in
     let good = good_sources root h in
     record {
@@ -152,4 +154,8 @@ is_sound root none =
       group_rows = group_rows_are root titles;
       intervals = outputs_hold root Interval IsInterval (interval_at root) intervals.at_groups;
       apart = are_apart root good duplicates.at_sources;
+      own_receivers = own_receivers root repeated;
+      own_names = own_names root repeated;
+      own_groups = own_groups root repeated;
+      own_sources = own_sources root names (is_absent root DuplicateOutput h.duplicate_output);
     }

@@ -14,5 +14,6 @@ pub mod Numbers
 pub mod Faults
 pub mod Least
 pub mod Stated
+pub mod FilterTexts
 pub mod Reading
 pub mod Printed

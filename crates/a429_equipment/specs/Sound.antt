@@ -1,4 +1,4 @@
--- What holds of the record of every equipment: it keeps to the limits, each number and name is in range, and its sources are apart.
+-- What holds of the record of every equipment: it keeps to the limits, each number and name is in range, its sources are apart, and names and outputs are their own.
 use Rattle.std.specs.Prelude.{◌≡◌, ℕ, ◌<◌, ◌≤◌, ◌⊎◌, List, length, Some, IfSome, IsTrue, slice_get}
 use Rattle.std.specs.List.{AllByRecursion}
 use Rattle.a429_filter.specs.declared.filters.Filter.{Filter}
@@ -35,6 +35,14 @@ IsSourceRow s = IsTrue (is_name s.name) × (s.label < 256) × IfSome s.sdi (λ k
 abbrev pub IsGroupRow : GroupRow → Type 0
 IsGroupRow g = IsTrue (is_name g.name)
 
+-- no two of them have one key
+abbrev pub HaveOwn : {X K : Type 0} → (X → K) → List X → Type 0
+HaveOwn {X} key xs = (i j : ℕ) (x y : X) → slice_get xs i ≡ Some x → slice_get xs j ≡ Some y → key x ≡ key y → i ≡ j
+
+-- no two outputs of a group have one source
+abbrev pub HaveOwnSources : List OutputRow → Type 0
+HaveOwnSources outputs = HaveOwn (λ o. o.source) outputs
+
 pub record IsSound (t : TableRecord) : Type 0 where
   pub rate : IsRate t.rate
   pub few_receivers : length t.receivers ≤ 16
@@ -49,6 +57,10 @@ pub record IsSound (t : TableRecord) : Type 0 where
   pub group_rows : AllByRecursion IsGroupRow t.groups
   pub intervals : AllByRecursion (AllByRecursion IsInterval) t.outputs
   pub apart : AreApart t.sources
+  pub own_receivers : HaveOwn (λ r. r.name) t.receivers
+  pub own_names : HaveOwn (λ s. s.name) t.sources
+  pub own_groups : HaveOwn (λ g. g.name) t.groups
+  pub own_sources : AllByRecursion HaveOwnSources t.outputs
 
 -- P of each element, by its number
 abbrev pub OfEach : {X : Type 0} → (X → Type 0) → List X → Type 0

@@ -51,7 +51,7 @@ fn label_of(text: &[u8]) -> u8
 }
 
 #[tactic(auto, unfolding(crate::specs::Stated::filter_of))]
-fn filter_of(text: &str) -> Filter
+pub fn filter_of(text: &str) -> Filter
     ensures { result ≡ filter_of text.now }
 {
     let bytes = text.as_bytes();

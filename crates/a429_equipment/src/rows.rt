@@ -27,6 +27,13 @@ impl Name {
         Ok(Name { text })
     }
 
+    /// The same name once more. The error is that memory was refused.
+    pub fn copied(&self, alloc: Global) -> Result<Name, AllocError>
+        ensures { IfOk result (λ n. n ≡ self.now) }
+    {
+        Name::copy_of(alloc, self.text.as_str())
+    }
+
     /// Its text.
     pub fn as_str(&self) -> &str
         ensures { result.now ≡ self.now }

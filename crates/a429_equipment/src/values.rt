@@ -96,7 +96,7 @@ pub fn label_value(text: &[u8]) -> Option<u8>
 }
 
 #[tactic(auto, unfolding(crate::specs::Texts::is_filter))]
-fn is_filter(text: &str) -> bool
+pub fn is_filter(text: &str) -> bool
     ensures { result ≡ is_filter text.now }
 {
     let bytes = text.as_bytes();

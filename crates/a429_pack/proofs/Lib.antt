@@ -1,4 +1,6 @@
+pub mod Arranging
 pub mod Counting
+pub mod Demanded
 pub mod Entries
 pub mod Fewest
 pub mod Halving

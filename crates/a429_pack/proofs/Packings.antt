@@ -28,14 +28,14 @@ use Rattle.a429_pack.proofs.Tables.{padded-front, start_more, stretch_within}
 
 -- ---- columns of entries in order
 
-abbrev asked : ℕ → List Demand → ℕ → ℕ
+abbrev pub asked : ℕ → List Demand → ℕ → ℕ
 asked h ds i = 2 ^ (h - exponent_of (demand_at ds i))
 
 demands_are : (h : ℕ) (ds : List Demand) (es : List Entry) → AreInOrder ds es → demands_of h es ≡ map (asked h ds) (inputs_of es)
 demands_are h ds es order =
     ap (demands_of h) order.each ∙ map-map (λ (e : Entry). 2 ^ (h - e.exponent)) (λ i. entry_of i (demand_at ds i)) (inputs_of es)
 
-demand_over : (h e : ℕ) → e ≤ h → 2 ^ h / 2 ^ e ≡ 2 ^ (h - e)
+pub demand_over : (h e : ℕ) → e ≤ h → 2 ^ h / 2 ^ e ≡ 2 ^ (h - e)
 demand_over h e few =
     let digits : (h - e) + e ≡ h = omega arith in
     ap (λ z. z / 2 ^ e) (ap (λ z. 2 ^ z) (sym digits) ∙ pow-add 2 (h - e) e) ∙ shl-shr (2 ^ (h - e)) e
@@ -73,32 +73,38 @@ pub record Packing (h n : ℕ) (ds : List Demand) (is demands : List ℕ) : Type
   pub few : (i : ℕ) → exponent_of (demand_at ds i) ≤ h
   pub stretches : Stretches h n (λ i. h - exponent_of (demand_at ds (get_or is i 0))) (start_of demands)
 
-pub packing_of : (h : ℕ) (ds : List Demand) (es : List Entry) → AreInOrder ds es → h ≡ frame_of ds → Packing h (length ds) ds (inputs_of es) (demands_of h es)
-packing_of h ds es order same =
-    let is : List ℕ = inputs_of es in
+-- from an order in which the periods do not fall
+pub packing_by : (h : ℕ) (ds : List Demand) (is demands : List ℕ) → h ≡ frame_of ds → IsPermutation (range_with_len 0 (length ds)) is
+    → ((i : ℕ) → i + 1 < length is → exponent_of (demand_at ds (get_or is i 0)) ≤ exponent_of (demand_at ds (get_or is (i + 1) 0)))
+    → demands ≡ map (asked h ds) is → Packing h (length ds) ds is demands
+packing_by h ds is demands same moved rising are =
     let n : ℕ = length ds in
-    let inputs : length is ≡ n = length_permuted n is order.order.all in
-    let long : length (demands_of h es) ≡ n = length-map es (λ e. 2 ^ (h - e.exponent)) ∙ sym (length-map es (λ e. e.input)) ∙ inputs in
-    let demand : (i : ℕ) → i < n → get_or (demands_of h es) i 0 ≡ 2 ^ (h - exponent_of (demand_at ds (get_or is i 0))) = λ i below.
-    ap (λ xs. get_or xs i 0) (demands_are h ds es order) ∙ get_or-map (asked h ds) is i 0 0 (omega arith) in
+    let inputs : length is ≡ n = length_permuted n is moved in
+    let long : length demands ≡ n = ap length are ∙ length-map is (asked h ds) ∙ inputs in
+    let demand : (i : ℕ) → i < n → get_or demands i 0 ≡ 2 ^ (h - exponent_of (demand_at ds (get_or is i 0))) = λ i below.
+    ap (λ xs. get_or xs i 0) are ∙ get_or-map (asked h ds) is i 0 0 (omega arith) in
     record {
       many = refl;
       inputs = inputs;
       long = long;
-      moved = order.order.all;
-      orders = orders_of n is inputs order.order.all;
+      moved = moved;
+      orders = orders_of n is inputs moved;
       demand = demand;
       few = λ i. omega (arith, below_frame ds i);
       stretches = record {
         begins = refl;
-        follows = λ i below. start_more (demands_of h es) i (omega arith) ∙ ap (λ z. start_of (demands_of h es) i + z) (demand i below);
-        falling = λ i below.
-            let up : exponent_of (demand_at ds (get_or is i 0)) ≤ exponent_of (demand_at ds (get_or is (i + 1) 0)) =
-            first_least (exponent_of (demand_at ds (get_or is i 0))) (exponent_of (demand_at ds (get_or is (i + 1) 0))) _ (order.order.rising i (omega arith)) in
-            omega arith;
+        follows = λ i below. start_more demands i (omega arith) ∙ ap (λ z. start_of demands i + z) (demand i below);
+        falling = λ i below. omega (arith, rising i (omega arith));
         within = λ i below. omega arith;
       };
     }
+
+pub packing_of : (h : ℕ) (ds : List Demand) (es : List Entry) → AreInOrder ds es → h ≡ frame_of ds → Packing h (length ds) ds (inputs_of es) (demands_of h es)
+packing_of h ds es order same =
+    let is : List ℕ = inputs_of es in
+    packing_by h ds is (demands_of h es) same order.order.all
+    (λ i below. first_least (exponent_of (demand_at ds (get_or is i 0))) (exponent_of (demand_at ds (get_or is (i + 1) 0))) _ (order.order.rising i below))
+    (demands_are h ds es order)
 
 -- ---- the fewest buses
 
@@ -144,7 +150,7 @@ stays a d q =
     ∙ sym (ap (λ z. z / 2 ^ (a + d)) rest ∙ sym (shr-shr (q * 2 ^ a + (2 ^ a - 1)) a d) ∙ ap (λ z. z / 2 ^ d) last)
 
 -- every bus but the last is full
-all_but_last : (buses x t : ℕ) → buses * x < t + x → 1 ≤ t → (buses - 1) * x < t
+pub all_but_last : (buses x t : ℕ) → buses * x < t + x → 1 ≤ t → (buses - 1) * x < t
 all_but_last zero x t tight some = omega arith
 all_but_last (suc m) x t tight some =
     let more : suc m * x ≡ m * x + x = omega arith in

@@ -1,3 +1,4 @@
+pub mod Demanded
 pub mod Demands
 pub mod Entries
 pub mod Faults

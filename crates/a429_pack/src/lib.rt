@@ -3,6 +3,7 @@
 
 mod demands;
 mod entry;
+pub mod laws;
 mod packed;
 mod packing;
 mod sums;

@@ -1,5 +1,5 @@
 //! The slot table of one group of outputs.
-ghost use Rattle.std.specs.Prelude.{◌≡◌, ℕ, ◌<◌, ◌≤◌, ◌/◌, ◌^◌, [], length, map, slice_get, Some, IfSome};
+ghost use Rattle.std.specs.Prelude.{◌≡◌, ℕ, ◌<◌, ◌≤◌, ◌/◌, ◌^◌, [], length, map, slice_get, sum, Some, IfSome};
 
 use crate::layout::{order_in, periods_in, place_of_cell, places_in, sources_in};
 use crate::outputs::OutputId;
@@ -114,6 +114,13 @@ impl<const N: usize> GroupPlan<N> {
         ensures { result ≡ length (outputs_of self.now) }
     {
         self.sums.len()
+    }
+
+    /// How many cells of a frame its outputs fill.
+    pub fn demand(&self) -> u32
+        ensures { result ≡ sum self.now.demands }
+    {
+        self.sums.total()
     }
 
     /// The output at place `k` of the layout, counted from 0.

@@ -1,0 +1,8 @@
+use Rattle.a429_pack.proofs.Demanded.{carried, only}
+use Rattle.a429_pack.proofs.laws.fewest_by_demand.Goals as goal
+
+pub returns-clause-carried : goal.returns-clause-carried
+returns-clause-carried c = carried
+
+pub returns-clause-only : goal.returns-clause-only
+returns-clause-only c = only

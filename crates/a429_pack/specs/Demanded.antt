@@ -1,0 +1,12 @@
+-- What a group asks of its buses, by its outputs' periods alone (profile: layout).
+use Rattle.std.specs.Prelude.{ℕ, ◌-◌, ◌*◌, ◌/◌, ◌^◌, ◌<◌, ◌≤◌, List, map, sum}
+use Rattle.a429_pack.specs.Demands.{greatest}
+
+-- how many cells of a frame the outputs of these periods' exponents fill
+abbrev pub demand_of : List ℕ → ℕ
+demand_of exponents = sum (map (λ k. 2 ^ greatest exponents / 2 ^ k) exponents)
+
+-- so many buses carry the demand in one frame, and one fewer do not
+pub record IsBusCount (exponents : List ℕ) (buses : ℕ) : Type 0 where
+  pub within : demand_of exponents ≤ buses * 2 ^ greatest exponents
+  pub above : (buses - 1) * 2 ^ greatest exponents < demand_of exponents
