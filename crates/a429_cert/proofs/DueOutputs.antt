@@ -1,0 +1,183 @@
+-- The outputs of a planned group are those that are due for it.
+use Rattle.std.proofs.Common.{◌≡◌, ◌≢◌, ℕ, zero, suc, ◌+◌, ◌*◌, ◌/◌, ◌%◌, ◌^◌, ◌<◌, ◌≤◌, max, Bool, true, false, cond, List, [], ◌∷◌, length, get_or, map, Option, Some, None, refl, sym, ap, subst, ◌∙◌, arith, inl, inr}
+use Rattle.std.specs.Prelude.{slice_get, option_map, sum}
+use Rattle.std.specs.List.{AllZip, AllByRecursion, find, fold, sum_by, range_with_len}
+use Rattle.std.specs.Option.{option_map_or}
+use Rattle.std.specs.Str.{bytes_eq}
+use Rattle.std.proofs.Math.Nat.{pow-le-pow_right}
+use Rattle.std.proofs.lemmas.Bool.{cases_lt}
+use Rattle.std.proofs.lemmas.List.Folds.{fold-map}
+use Rattle.std.proofs.lemmas.List.FromFn.{length-map-range_with_len, get_or-map-range_with_len}
+use Rattle.std.proofs.lemmas.List.Sums.{sum-map}
+use Rattle.std.proofs.lemmas.Option.{slice_get-get_or}
+use Rattle.std.proofs.lemmas.Simd.{map-map}
+use Rattle.std.proofs.lemmas.Slice.Zip.{AllZip-long}
+use Rattle.a429_equipment.specs.TableRecord.{TableRecord}
+use Rattle.a429_equipment.specs.declared.rows.OutputRow.{OutputRow}
+use Rattle.a429_equipment.specs.declared.rows.SourceRow.{SourceRow}
+use Rattle.a429_equipment.specs.Sound.{HaveOwn, HaveOwnSources}
+use Rattle.a429_grid.specs.Grid.{IsGridPeriod}
+use Rattle.a429_slots.specs.Tables.{Placed, GroupTable, placed_at, outputs_of}
+use Rattle.a429_slots.specs.Planned.{IsServed}
+use Rattle.a429_pack.specs.Demanded.{demand_of}
+use Rattle.a429_pack.specs.Demands.{greatest}
+use Rattle.a429_cert.specs.declared.due.DueGroup.{DueGroup}
+use Rattle.a429_cert.specs.declared.due.DueOutput.{DueOutput}
+use Rattle.a429_cert.specs.Due.{IsDueOutput}
+use Rattle.a429_cert.specs.Faults.{frame, demand, period_of}
+use Rattle.a429_cert.specs.PlanText.{source_name}
+use Rattle.a429_cert.proofs.Again.{same_again}
+use Rattle.a429_cert.proofs.CheckedPlans.{same_bytes}
+
+-- what a read past the end gives
+abbrev blank : OutputRow
+blank = record { source = 0; min_us = 0; max_us = 0 }
+
+abbrev pub row_at : List OutputRow → ℕ → OutputRow
+row_at rows i = get_or rows i blank
+
+abbrev pub due_at : DueGroup → ℕ → DueOutput
+due_at g i = get_or g.outputs.items i (record { source = []; period = 0 })
+
+-- the periods of a table's outputs, as exponents, by their numbers
+abbrev pub exponents_of : GroupTable → List ℕ
+exponents_of t = map (λ p. p.place.period) (outputs_of t)
+
+-- ---- lists beside one another
+
+pub zipped_at : {A B : Type 0} (R : A → B → Type 0) (xs : List A) (ys : List B) (i : ℕ) (d : A) (e : B) → i < length xs → AllZip R xs ys → R (get_or xs i d) (get_or ys i e)
+zipped_at R [] ys i d e below all = absurd (omega arith)
+zipped_at R (x ∷ xs) [] i d e below all = absurd all
+zipped_at R (x ∷ xs) (y ∷ ys) zero d e below all = all.0
+zipped_at R (x ∷ xs) (y ∷ ys) (suc i) d e below all = zipped_at R xs ys i d e (omega arith) all.1
+
+-- ---- the periods
+
+grid_same : (a b r p q : ℕ) → IsGridPeriod a b r p → IsGridPeriod a b r q → p ≡ q
+grid_same a b r p q h k = omega (arith, h.2 q k.0 k.1, k.2 p h.0 h.1)
+
+pub periods_same : (e : TableRecord) (rows : List OutputRow) (ps : List Placed) (os : List DueOutput) → AllZip (IsServed e.rate) rows ps → AllZip (IsDueOutput e) rows os
+    → map (λ o. o.period) os ≡ map (λ k. 2 ^ k) (map (λ p. p.place.period) ps)
+periods_same e [] [] [] served due = refl
+periods_same e [] [] (o ∷ os) served due = absurd due
+periods_same e [] (p ∷ ps) os served due = absurd served
+periods_same e (r ∷ rows) [] os served due = absurd served
+periods_same e (r ∷ rows) (p ∷ ps) [] served due = absurd due
+periods_same e (r ∷ rows) (p ∷ ps) (o ∷ os) served due =
+    let same : o.period ≡ 2 ^ p.place.period = grid_same r.min_us r.max_us e.rate o.period (2 ^ p.place.period) due.0.period served.0.1 in
+    rw (same, periods_same e rows ps os served.1 due.1) refl
+
+pow_max : (a b : ℕ) → 2 ^ max a b ≡ max (2 ^ a) (2 ^ b)
+pow_max a b =
+    let one : 0 < 2 = omega arith in
+    elim (cases_lt a b) [
+      | inl lt ↦
+          let m : max a b ≡ b = omega arith in
+          let le : 2 ^ a ≤ 2 ^ b = pow-le-pow_right {n = 2} one {i = a} {j = b} (omega arith) in
+          ap (λ (k : ℕ). 2 ^ k) m ∙ omega arith
+      | inr ge ↦
+          let m : max a b ≡ a = omega arith in
+          let le : 2 ^ b ≤ 2 ^ a = pow-le-pow_right {n = 2} one {i = b} {j = a} ge in
+          ap (λ (k : ℕ). 2 ^ k) m ∙ omega arith
+    ]
+
+fold_powers : (ks : List ℕ) (a : ℕ) → 1 ≤ length ks → fold max a (map (λ k. 2 ^ k) ks) ≡ max a (2 ^ greatest ks)
+fold_powers [] a some = absurd (omega arith)
+fold_powers (k ∷ []) a some =
+    let m : max k 0 ≡ k = omega arith in
+    ap (λ (n : ℕ). max a (2 ^ n)) (sym m)
+fold_powers (k ∷ l ∷ ks) a some =
+    let rest = fold_powers (l ∷ ks) (max a (2 ^ k)) (omega arith) in
+    let both = pow_max k (greatest (l ∷ ks)) in
+    rest ∙ omega (arith, both)
+
+-- the frame that is due is the greatest period
+pub frame_is : (g : DueGroup) (ks : List ℕ) → 1 ≤ length ks → map (λ o. o.period) g.outputs.items ≡ map (λ k. 2 ^ k) ks → frame g ≡ 2 ^ greatest ks
+frame_is g ks some same =
+    sym (fold-map max (λ (o : DueOutput). o.period) 0 g.outputs.items) ∙ ap (λ (ps : List ℕ). fold max 0 ps) same ∙ fold_powers ks 0 some ∙ omega arith
+
+shares_same : (h : ℕ) (os : List DueOutput) (ks : List ℕ) → map (λ o. o.period) os ≡ map (λ k. 2 ^ k) ks → sum_by (λ o. h / o.period) os ≡ sum (map (λ k. h / 2 ^ k) ks)
+shares_same h os ks e =
+    let divide : ℕ → ℕ = λ p. h / p in
+    sym (sum-map (λ (o : DueOutput). h / o.period) os) ∙ ap sum (sym (map-map divide (λ (o : DueOutput). o.period) os) ∙ ap (map divide) e ∙ map-map divide (λ (k : ℕ). 2 ^ k) ks)
+
+-- the demand that is due is that of the exponents
+pub demand_is : (g : DueGroup) (ks : List ℕ) → 1 ≤ length ks → map (λ o. o.period) g.outputs.items ≡ map (λ k. 2 ^ k) ks → demand g ≡ demand_of ks
+demand_is g ks some same =
+    ap (λ (h : ℕ). sum_by (λ (o : DueOutput). h / o.period) g.outputs.items) (frame_is g ks some same) ∙ shares_same (2 ^ greatest ks) g.outputs.items ks same
+
+-- ---- the outputs by their numbers
+
+pub length-outputs : (t : GroupTable) → length (outputs_of t) ≡ length t.demands
+length-outputs t = length-map-range_with_len (placed_at t) 0 (length t.demands)
+
+pub output_at : (t : GroupTable) (o : ℕ) (d : Placed) → o < length t.demands → get_or (outputs_of t) o d ≡ placed_at t o
+output_at t o d below = get_or-map-range_with_len (placed_at t) 0 (length t.demands) o o d below (omega arith)
+
+-- the outputs of a planned group, and those that are due for it
+pub record AreSame (e : TableRecord) (rows : List OutputRow) (t : GroupTable) (g : DueGroup) : Type 0 where
+  pub served : AllZip (IsServed e.rate) rows (outputs_of t)
+  pub due : AllZip (IsDueOutput e) rows g.outputs.items
+  pub own : HaveOwnSources rows
+  pub names : HaveOwn (λ s. s.name) e.sources
+
+pub counts : (e : TableRecord) (rows : List OutputRow) (t : GroupTable) (g : DueGroup) → AreSame e rows t g → (length t.demands ≡ length rows) × (length g.outputs.items ≡ length rows)
+counts e rows t g s =
+    (sym (length-outputs t) ∙ AllZip-long (IsServed e.rate) rows (outputs_of t) s.served, AllZip-long (IsDueOutput e) rows g.outputs.items s.due)
+
+served_at : (e : TableRecord) (rows : List OutputRow) (t : GroupTable) (g : DueGroup) → AreSame e rows t g → (i : ℕ) → i < length rows → IsServed e.rate (row_at rows i) (placed_at t i)
+served_at e rows t g s i below =
+    let d : Placed = placed_at t 0 in
+    subst (IsServed e.rate (row_at rows i)) (output_at t i d (omega (arith, (counts e rows t g s).0))) (zipped_at (IsServed e.rate) rows (outputs_of t) i blank d below s.served)
+
+pub due_here : (e : TableRecord) (rows : List OutputRow) (t : GroupTable) (g : DueGroup) → AreSame e rows t g → (i : ℕ) → i < length rows → IsDueOutput e (row_at rows i) (due_at g i)
+due_here e rows t g s i below = zipped_at (IsDueOutput e) rows g.outputs.items i blank (record { source = []; period = 0 }) below s.due
+
+pub source_there : (e : TableRecord) (rows : List OutputRow) (t : GroupTable) (g : DueGroup) (s : AreSame e rows t g) (i : ℕ) (below : i < length rows)
+    → slice_get e.sources (placed_at t i).source ≡ Some (due_here e rows t g s i below).source
+source_there e rows t g s i below = ap (slice_get e.sources) (served_at e rows t g s i below).0 ∙ (due_here e rows t g s i below).there
+
+-- the name that the text gives an output is its due one
+name_same : (e : TableRecord) (rows : List OutputRow) (t : GroupTable) (g : DueGroup) → AreSame e rows t g → (i : ℕ) → i < length rows → (due_at g i).source ≡ source_name e.sources (placed_at t i).source
+name_same e rows t g s i below =
+    (due_here e rows t g s i below).name ∙ sym (ap (λ (o : Option SourceRow). option_map_or (λ (s : SourceRow). s.name) o []) (source_there e rows t g s i below))
+
+period_same : (e : TableRecord) (rows : List OutputRow) (t : GroupTable) (g : DueGroup) → AreSame e rows t g → (i : ℕ) → i < length rows → (due_at g i).period ≡ 2 ^ (placed_at t i).place.period
+period_same e rows t g s i below =
+    let row = row_at rows i in
+    grid_same row.min_us row.max_us e.rate (due_at g i).period (2 ^ (placed_at t i).place.period) (due_here e rows t g s i below).period (served_at e rows t g s i below).1
+
+pub name_own : (e : TableRecord) (rows : List OutputRow) (t : GroupTable) (g : DueGroup) → AreSame e rows t g → (i j : ℕ) → i < length rows → j < length rows → (due_at g i).source ≡ (due_at g j).source → i ≡ j
+name_own e rows t g s i j low-i low-j same =
+    let a = due_here e rows t g s i low-i in
+    let b = due_here e rows t g s j low-j in
+    let named : a.source.name ≡ b.source.name = sym a.name ∙ same ∙ b.name in
+    let one : (row_at rows i).source ≡ (row_at rows j).source = s.names (row_at rows i).source (row_at rows j).source a.source b.source a.there b.there named in
+    s.own i j (row_at rows i) (row_at rows j) (slice_get-get_or rows i blank low-i) (slice_get-get_or rows j blank low-j) one
+
+-- ---- the period that is due for a name
+
+found : (name : List ℕ) (os : List DueOutput) (i p : ℕ) (d : DueOutput) → i < length os → (get_or os i d).source ≡ name → (get_or os i d).period ≡ p
+    → ((j : ℕ) → j < length os → (get_or os j d).source ≡ name → j ≡ i) → option_map (λ o. o.period) (find (λ o. bytes_eq o.source name) os) ≡ Some p
+found name [] i p d below at period only = absurd (omega arith)
+found name (o ∷ os) zero p d below at period only = rw (same_again o.source name at, period) refl
+found name (o ∷ os) (suc i) p d below at period only =
+    let other : bytes_eq o.source name ≡ false = no_match (bytes_eq o.source name) (λ t. let z : 0 ≡ suc i = only 0 (omega arith) (same_bytes o.source name t) in absurd (omega arith)) in
+    rw other (found name os i p d (omega arith) at period (λ j less same. let z : suc j ≡ suc i = only (suc j) (omega arith) same in omega arith))
+  where
+    no_match : (b : Bool) → (b ≡ true → ⊥) → b ≡ false
+    no_match true h = absurd (h refl)
+    no_match false h = refl
+
+pub period_due : (e : TableRecord) (rows : List OutputRow) (t : GroupTable) (g : DueGroup) → AreSame e rows t g → (i : ℕ) → i < length rows
+    → period_of g (source_name e.sources (placed_at t i).source) ≡ Some (2 ^ (placed_at t i).place.period)
+period_due e rows t g s i below =
+    let many = (counts e rows t g s).1 in
+    let named = name_same e rows t g s i below in
+    found (source_name e.sources (placed_at t i).source) g.outputs.items i (2 ^ (placed_at t i).place.period) (record { source = []; period = 0 }) (omega arith) named (period_same e rows t g s i below)
+    (λ j less same. name_own e rows t g s j i (omega arith) below (same ∙ sym named))
+
+pub names_differ : (e : TableRecord) (rows : List OutputRow) (t : GroupTable) (g : DueGroup) → AreSame e rows t g → (i j : ℕ) → i < length rows → j < length rows → i ≢ j
+    → source_name e.sources (placed_at t i).source ≢ source_name e.sources (placed_at t j).source
+names_differ e rows t g s i j low-i low-j other same =
+    other (name_own e rows t g s i j low-i low-j (name_same e rows t g s i low-i ∙ same ∙ sym (name_same e rows t g s j low-j)))

@@ -1,0 +1,71 @@
+-- What is due of a table, gathered row by row.
+use Rattle.std.proofs.Common.{◌≡◌, ℕ, ◌+◌, ◌<◌, ◌∷◌, [], ◌++◌, List, length, take, map, get_or, ap, ◌∙◌, sym, subst}
+use Rattle.std.specs.Prelude.{Some, slice_get}
+use Rattle.std.specs.List.{AllZip, AllByRecursion}
+use Rattle.std.proofs.lemmas.List.{take_more, map-append}
+use Rattle.std.proofs.lemmas.Slice.Zip.{all_zipped_more}
+use Rattle.std.proofs.lemmas.Option.{slice_get-get_or, get_or_from_slice_get, slice_get_within}
+use Rattle.a429_grid.specs.Grid.{IsGridPeriod}
+use Rattle.a429_equipment.specs.TableRecord.{TableRecord}
+use Rattle.a429_equipment.specs.declared.rows.OutputRow.{OutputRow}
+use Rattle.a429_slots.specs.Planned.{IsFit}
+use Rattle.a429_cert.specs.declared.due.DueOutput.{DueOutput}
+use Rattle.a429_cert.specs.declared.due.DueGroup.{DueGroup}
+use Rattle.a429_cert.specs.declared.judging.NoVerdict.{NoVerdict}
+use Rattle.a429_cert.specs.declared.judging.NoVerdict.TheVariants as judge
+use Rattle.a429_cert.specs.Due.{IsDueOutput, IsDueGroup}
+use Rattle.a429_cert.specs.Judged.{IsNoVerdict, IsGroupUnfit}
+
+-- the row that a read past the end gives
+abbrev pub blank : OutputRow
+blank = record { source = 0; min_us = 0; max_us = 0 }
+
+-- ---- lists element by element
+
+pub read_is : {X : Type 0} (xs : List X) (i : ℕ) (x : X) → i < length xs → x ≡ get_or xs i x → slice_get xs i ≡ Some x
+read_is xs i x below is = slice_get-get_or xs i x below ∙ ap (λ y. Some y) (sym is)
+
+take_next : {X : Type 0} (xs : List X) (i : ℕ) (x : X) → slice_get xs i ≡ Some x → take (i + 1) xs ≡ take i xs ++ x ∷ []
+take_next xs i x h = take_more xs i x (slice_get_within xs i x h) ∙ ap (λ y. take i xs ++ y ∷ []) (get_or_from_slice_get xs i x x h)
+
+pub zip_next : {A B : Type 0} (R : A → B → Type 0) (xs : List A) (ys : List B) (i : ℕ) (x : A) (y : B) → slice_get xs i ≡ Some x → AllZip R (take i xs) ys → R x y → AllZip R (take (i + 1) xs) (ys ++ y ∷ [])
+zip_next {A} {B} R xs ys i x y h old new =
+    subst (λ (zs : List A). AllZip R zs (ys ++ y ∷ [])) (sym (take_next xs i x h)) (all_zipped_more R (take i xs) ys x y old new)
+
+pub map_next : {A B C : Type 0} (f : A → C) (g : B → C) (xs : List A) (ys : List B) (i : ℕ) (x : A) (y : B) → slice_get xs i ≡ Some x → map g ys ≡ map f (take i xs) → g y ≡ f x
+    → map g (ys ++ y ∷ []) ≡ map f (take (i + 1) xs)
+map_next {A} {B} {C} f g xs ys i x y h old new =
+    map-append g ys (y ∷ []) ∙ ap (λ (zs : List C). zs ++ g y ∷ []) old ∙ ap (λ (z : C). map f (take i xs) ++ z ∷ []) new
+    ∙ sym (map-append f (take i xs) (x ∷ [])) ∙ ap (map f) (sym (take_next xs i x h))
+
+-- ---- what is due has its grid period
+
+fit_of : (e : TableRecord) (row : OutputRow) (o : DueOutput) → IsDueOutput e row o → IsFit e.rate row
+fit_of e row o d =
+    let p = d.period.0 in
+    (p.0, subst (IsGridPeriod row.min_us row.max_us e.rate) p.2 d.period)
+
+pub fits_of : (e : TableRecord) (rows : List OutputRow) (os : List DueOutput) → AllZip (IsDueOutput e) rows os → AllByRecursion (IsFit e.rate) rows
+fits_of e [] [] h = tt
+fits_of e [] (o ∷ os) h = absurd h
+fits_of e (r ∷ rs) [] h = absurd h
+fits_of e (r ∷ rs) (o ∷ os) h = (fit_of e r o h.0, fits_of e rs os h.1)
+
+pub all_fit : (e : TableRecord) (rows : List (List OutputRow)) (gs : List DueGroup) → AllZip (IsDueGroup e) rows gs → AllByRecursion (AllByRecursion (IsFit e.rate)) rows
+all_fit e [] [] h = tt
+all_fit e [] (g ∷ gs) h = absurd h
+all_fit e (r ∷ rs) [] h = absurd h
+all_fit e (r ∷ rs) (g ∷ gs) h = (fits_of e r g.outputs.items h.0, all_fit e rs gs h.1)
+
+-- the fault of a group, as that of the table
+pub fault_in : (e : TableRecord) (g : ℕ) (none : NoVerdict) → AllByRecursion (AllByRecursion (IsFit e.rate)) (take g e.outputs) → IsGroupUnfit e g none → IsNoVerdict e none
+fault_in e g (judge.Unfit group o) earlier fault =
+    let (same, found) = fault in
+    let (rows, there, unfit) = found in
+    record {
+      rows = rows;
+      there = ap (slice_get e.outputs) same ∙ there;
+      unfit = unfit;
+      earlier = subst (λ (k : ℕ). AllByRecursion (AllByRecursion (IsFit e.rate)) (take k e.outputs)) (sym same) earlier;
+    }
+fault_in e g judge.NoMemory earlier fault = tt

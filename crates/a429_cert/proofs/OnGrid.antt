@@ -1,0 +1,219 @@
+-- The groups of a table that is due: few outputs, each with a power of two for its period.
+use Rattle.std.proofs.Common.{◌≡◌, ℕ, suc, ◌+◌, ◌-◌, ◌*◌, ◌/◌, ◌^◌, ◌<◌, ◌≤◌, max, Bool, true, false, cond, List, [], ◌∷◌, length, map, Option, Some, arith, refl, sym, ap, subst, ◌∙◌, inl, inr, All, sum}
+use Rattle.std.specs.Prelude.{option_map}
+use Rattle.std.specs.List.{AllZip, AllByRecursion, fold, find}
+use Rattle.std.specs.Str.{bytes_eq}
+use Rattle.std.proofs.lemmas.Bool.{cases_lt}
+use Rattle.std.proofs.lemmas.List.Elements.{All-from_recursion}
+use Rattle.std.proofs.lemmas.List.Sums.{sum_by-le, sum-map}
+use Rattle.std.proofs.lemmas.Slice.Zip.{AllZip-long}
+use Rattle.std.proofs.lemmas.Option.{same_Some, none-some}
+use Rattle.std.proofs.lemmas.Nat.{pow_pos, pow_below, pow-add}
+use Rattle.std.proofs.Math.Nat.{div-le_self, pow-le-pow_right}
+use Rattle.a429_grid.specs.Grid.{IsPeriod}
+use Rattle.a429_pack.specs.Demands.{greatest}
+use Rattle.a429_pack.specs.Demanded.{demand_of, IsBusCount}
+use Rattle.a429_pack.specs.Schedules.{IsFewest}
+use Rattle.a429_equipment.specs.TableRecord.{TableRecord}
+use Rattle.a429_equipment.specs.Sound.{IsSound}
+use Rattle.a429_equipment.specs.declared.rows.OutputRow.{OutputRow}
+use Rattle.a429_cert.specs.declared.due.DueOutput.{DueOutput}
+use Rattle.a429_cert.specs.declared.due.DueGroup.{DueGroup}
+use Rattle.a429_cert.specs.declared.due.DueTable.{DueTable}
+use Rattle.a429_cert.specs.Due.{IsDueOutput, IsDueGroup, IsDue}
+use Rattle.a429_cert.specs.Faults.{IsModest, frame, demand, due}
+use Rattle.a429_cert.specs.Checked.{PeriodsNest, StatesPlan, StatePlans}
+use Rattle.a429_cert.specs.Judged.{periods_of, StatesFewest, StateFewest}
+
+abbrev pub HavePeriods : List DueOutput → Type 0
+HavePeriods = AllByRecursion (λ o. IsPeriod o.period)
+
+pub record IsOnGrid (g : DueGroup) : Type 0 where
+  pub periods : HavePeriods g.outputs.items
+  pub some : 1 ≤ length g.outputs.items
+  pub few : length g.outputs.items ≤ 128
+
+-- ---- every table that is due has such groups
+
+have_periods : (e : TableRecord) (rows : List OutputRow) (os : List DueOutput) → AllZip (IsDueOutput e) rows os → HavePeriods os
+have_periods e [] [] h = tt
+have_periods e [] (o ∷ os) h = absurd h
+have_periods e (r ∷ rs) [] h = absurd h
+have_periods e (r ∷ rs) (o ∷ os) h = (h.0.period.0, have_periods e rs os h.1)
+
+abbrev IsShortList : List OutputRow → Type 0
+IsShortList os = (1 ≤ length os) × (length os ≤ 128)
+
+group_on_grid : (e : TableRecord) (rows : List OutputRow) (g : DueGroup) → IsShortList rows → IsDueGroup e rows g → IsOnGrid g
+group_on_grid e rows g short d =
+    let long : length g.outputs.items ≡ length rows = AllZip-long (IsDueOutput e) rows g.outputs.items d in
+    record { periods = have_periods e rows g.outputs.items d; some = omega (arith, short.0, long); few = omega (arith, short.1, long) }
+
+groups_on_grid : (e : TableRecord) (rows : List (List OutputRow)) (gs : List DueGroup) → AllByRecursion IsShortList rows → AllZip (IsDueGroup e) rows gs → AllByRecursion IsOnGrid gs
+groups_on_grid e [] [] short d = tt
+groups_on_grid e [] (g ∷ gs) short d = absurd d
+groups_on_grid e (r ∷ rs) [] short d = absurd d
+groups_on_grid e (r ∷ rs) (g ∷ gs) short d = (group_on_grid e r g short.0 d.0, groups_on_grid e rs gs short.1 d.1)
+
+pub on_grid : (e : TableRecord) (t : DueTable) → IsSound e → IsDue e t → AllByRecursion IsOnGrid t.groups.items
+on_grid e t sound d = groups_on_grid e e.outputs t.groups.items sound.some_outputs d.outputs
+
+-- ---- no sum of a check leaves 64 bits
+
+few_slots : (k : ℕ) → k ≤ 13 → 2 ^ k ≤ 8192
+few_slots k few = let two : 0 < 2 = omega arith in pow-le-pow_right {n = 2} two {i = k} {j = 13} few
+
+period_few : (p : ℕ) → IsPeriod p → p ≤ 8192
+period_few p h = subst (λ (q : ℕ). q ≤ 8192) (sym h.2) (few_slots h.0 h.1)
+
+period_some : (p : ℕ) → IsPeriod p → 0 < p
+period_some p h = subst (λ (q : ℕ). 0 < q) (sym h.2) (pow_pos h.0)
+
+all_some : (os : List DueOutput) → HavePeriods os → AllByRecursion (λ o. 0 < o.period) os
+all_some [] h = tt
+all_some (o ∷ os) h = (period_some o.period h.0, all_some os h.1)
+
+fold_few : (os : List DueOutput) (a : ℕ) → a ≤ 8192 → HavePeriods os → fold (λ a o. max a o.period) a os ≤ 8192
+fold_few [] a few h = few
+fold_few (o ∷ os) a few h = let here = period_few o.period h.0 in fold_few os (max a o.period) (omega arith) h.1
+
+shares_few : (h : ℕ) (os : List DueOutput) → h ≤ 8192 → AllByRecursion (λ o. h / o.period ≤ 8192) os
+shares_few h [] few = tt
+shares_few h (o ∷ os) few = (omega (arith, div-le_self h o.period), shares_few h os few)
+
+few_cells : (s n : ℕ) → s ≤ n * 8192 → n ≤ 128 → s < 2 ^ 64
+few_cells s n cells few = omega arith
+
+modest : (g : DueGroup) → IsOnGrid g → IsModest g
+modest g on =
+    let os : List DueOutput = g.outputs.items in
+    let top : frame g ≤ 8192 = fold_few os 0 (omega arith) on.periods in
+    let cells : demand g ≤ length os * 8192 = sum_by-le (λ o. frame g / o.period) 8192 os (All-from_recursion (λ o. frame g / o.period ≤ 8192) os (shares_few (frame g) os top)) in
+    record {
+      periods = All-from_recursion (λ o. 0 < o.period) os (all_some os on.periods);
+      frame_fits = omega (arith, top);
+      demand_fits = few_cells (demand g) (length os) cells on.few;
+    }
+
+all_modest_by : (gs : List DueGroup) → AllByRecursion IsOnGrid gs → AllByRecursion IsModest gs
+all_modest_by [] on = tt
+all_modest_by (g ∷ gs) on = (modest g on.0, all_modest_by gs on.1)
+
+pub all_modest : (e : TableRecord) (t : DueTable) → IsSound e → IsDue e t → All IsModest t.groups.items
+all_modest e t sound d = All-from_recursion IsModest t.groups.items (all_modest_by t.groups.items (on_grid e t sound d))
+
+lines_few : (gs : List DueGroup) → AllByRecursion IsOnGrid gs → AllByRecursion (λ g. length g.outputs.items + 2 ≤ 130) gs
+lines_few [] on = tt
+lines_few (g ∷ gs) on = (omega (arith, on.0.few), lines_few gs on.1)
+
+pub due_few : (e : TableRecord) (t : DueTable) → IsSound e → IsDue e t → due t.groups.items < 2 ^ 63
+due_few e t sound d =
+    let gs : List DueGroup = t.groups.items in
+    let long : length gs ≡ length e.outputs = AllZip-long (IsDueGroup e) e.outputs gs d.outputs in
+    let lines : due gs ≤ length gs * 130 = sum_by-le (λ g. length g.outputs.items + 2) 130 gs (All-from_recursion (λ g. length g.outputs.items + 2 ≤ 130) gs (lines_few gs (on_grid e t sound d))) in
+    omega (arith, lines, long, sound.few_groups, sound.outputs_of_groups)
+
+-- ---- of two powers of two the smaller divides the greater
+
+found_or : (b : Bool) (o : DueOutput) (rest : Option DueOutput) (p : ℕ) → IsPeriod o.period → (option_map (λ o. o.period) rest ≡ Some p → IsPeriod p)
+    → option_map (λ o. o.period) (cond b (Some o) rest) ≡ Some p → IsPeriod p
+found_or true o rest p here later e = subst IsPeriod (same_Some o.period p e) here
+found_or false o rest p here later e = later e
+
+found_period : (test : DueOutput → Bool) (os : List DueOutput) (p : ℕ) → HavePeriods os → option_map (λ o. o.period) (find test os) ≡ Some p → IsPeriod p
+found_period test [] p h e = absurd (none-some p e)
+found_period test (o ∷ os) p h e = found_or (test o) o (find test os) p h.0 (found_period test os p h.1) e
+
+divides : (i j : ℕ) → 2 ^ i ≤ 2 ^ j → (c : ℕ) × (2 ^ j ≡ 2 ^ i * c)
+divides i j le =
+    elim (cases_lt j i) [
+      | inl lt ↦ absurd (omega (arith, pow_below j i lt, le))
+      | inr within ↦ let split : j ≡ i + (j - i) = omega arith in (2 ^ (j - i), ap (λ (k : ℕ). 2 ^ k) split ∙ pow-add 2 i (j - i))
+    ]
+
+periods_divide : (p q : ℕ) → IsPeriod p → IsPeriod q → p ≤ q → (c : ℕ) × (q ≡ p * c)
+periods_divide p q hp hq le =
+    let (i, _, is) = hp in
+    let (j, _, js) = hq in
+    let (c, times) = divides i j (subst (λ (n : ℕ). 2 ^ i ≤ n) js (subst (λ (n : ℕ). n ≤ q) is le)) in
+    (c, js ∙ times ∙ ap (λ (n : ℕ). n * c) (sym is))
+
+nest : (g : DueGroup) → IsOnGrid g → PeriodsNest g
+nest g on s t p q at-s at-t le =
+    periods_divide p q (found_period (λ o. bytes_eq o.source s) g.outputs.items p on.periods at-s) (found_period (λ o. bytes_eq o.source t) g.outputs.items q on.periods at-t) le
+
+pub all_nest : (gs : List DueGroup) → AllByRecursion IsOnGrid gs → AllByRecursion PeriodsNest gs
+all_nest [] on = tt
+all_nest (g ∷ gs) on = (nest g on.0, all_nest gs on.1)
+
+-- ---- the fewest buses, by the periods' exponents
+
+abbrev exponents_of : (os : List DueOutput) → HavePeriods os → List ℕ
+exponents_of [] h = []
+exponents_of (o ∷ os) h = h.0.0 ∷ exponents_of os h.1
+
+powers : (os : List DueOutput) (h : HavePeriods os) → map (λ k. 2 ^ k) (exponents_of os h) ≡ map (λ o. o.period) os
+powers [] h = refl
+powers (o ∷ os) h = ap (λ (n : ℕ). n ∷ map (λ k. 2 ^ k) (exponents_of os h.1)) (sym h.0.2) ∙ ap (λ (ns : List ℕ). o.period ∷ ns) (powers os h.1)
+
+length-exponents : (os : List DueOutput) (h : HavePeriods os) → length (exponents_of os h) ≡ length os
+length-exponents [] h = refl
+length-exponents (o ∷ os) h = ap suc (length-exponents os h.1)
+
+greater_power : (i j : ℕ) → max (2 ^ i) (2 ^ j) ≡ 2 ^ max i j
+greater_power i j =
+    let two : 0 < 2 = omega arith in
+    elim (cases_lt i j) [
+      | inl lt ↦ let greater : max i j ≡ j = omega arith in let below = pow_below i j lt in rw greater (omega arith)
+      | inr le ↦ let greater : max i j ≡ i = omega arith in let below = pow-le-pow_right {n = 2} two {i = j} {j = i} le in rw greater (omega arith)
+    ]
+
+fold_power : (os : List DueOutput) (h : HavePeriods os) (i : ℕ) → fold (λ a o. max a o.period) (2 ^ i) os ≡ 2 ^ max i (greatest (exponents_of os h))
+fold_power [] h i = let none : i ≡ max i 0 = omega arith in ap (λ (k : ℕ). 2 ^ k) none
+fold_power (o ∷ os) h i =
+    let k : ℕ = h.0.0 in
+    let here : max (2 ^ i) o.period ≡ 2 ^ max i k = ap (max (2 ^ i)) h.0.2 ∙ greater_power i k in
+    let grouped : max (max i k) (greatest (exponents_of os h.1)) ≡ max i (max k (greatest (exponents_of os h.1))) = omega arith in
+    ap (λ (a : ℕ). fold (λ a o. max a o.period) a os) here ∙ fold_power os h.1 (max i k) ∙ ap (λ (k : ℕ). 2 ^ k) grouped
+
+frame_power : (os : List DueOutput) (h : HavePeriods os) → 1 ≤ length os → fold (λ a o. max a o.period) 0 os ≡ 2 ^ greatest (exponents_of os h)
+frame_power [] h some = absurd (omega arith)
+frame_power (o ∷ os) h some =
+    let first : max 0 o.period ≡ o.period = omega arith in
+    ap (λ (a : ℕ). fold (λ a o. max a o.period) a os) (first ∙ h.0.2) ∙ fold_power os h.1 h.0.0
+
+cells_same : (f : ℕ) (os : List DueOutput) (h : HavePeriods os) → map (λ o. f / o.period) os ≡ map (λ k. f / 2 ^ k) (exponents_of os h)
+cells_same f [] h = refl
+cells_same f (o ∷ os) h = ap (λ (n : ℕ). f / n ∷ map (λ o. f / o.period) os) h.0.2 ∙ ap (λ (ns : List ℕ). f / 2 ^ h.0.0 ∷ ns) (cells_same f os h.1)
+
+-- that so many buses carry the demand and one fewer do not makes them the fewest
+abbrev pub FewestByDemand : Type 0
+FewestByDemand = (exponents : List ℕ) (buses : ℕ) → 1 ≤ length exponents → IsBusCount exponents buses → IsFewest (2 ^ greatest exponents) (map (λ k. 2 ^ k) exponents) buses
+
+pub fewest : (g : DueGroup) (buses : ℕ) → FewestByDemand → IsOnGrid g → (buses - 1) * frame g < demand g → demand g ≤ buses * frame g → IsFewest (frame g) (periods_of g) buses
+fewest g buses by_demand on above within =
+    let os : List DueOutput = g.outputs.items in
+    let ks : List ℕ = exponents_of os on.periods in
+    let top : frame g ≡ 2 ^ greatest ks = frame_power os on.periods on.some in
+    let cells : demand g ≡ demand_of ks
+    = sym (sum-map (λ o. frame g / o.period) os) ∙ ap sum (cells_same (frame g) os on.periods) ∙ ap (λ (f : ℕ). sum (map (λ k. f / 2 ^ k) ks)) top in
+    let carried : IsFewest (2 ^ greatest ks) (map (λ k. 2 ^ k) ks) buses
+    = by_demand ks buses (subst (λ (n : ℕ). 1 ≤ n) (sym (length-exponents os on.periods)) on.some) (record {
+      within = subst (λ (f : ℕ). demand_of ks ≤ buses * f) top (subst (λ (d : ℕ). d ≤ buses * frame g) cells within);
+      above = subst (λ (f : ℕ). (buses - 1) * f < demand_of ks) top (subst (λ (d : ℕ). (buses - 1) * frame g < d) cells above);
+    }) in
+    subst (λ (f : ℕ). IsFewest f (periods_of g) buses) (sym top) (subst (λ (ps : List ℕ). IsFewest (2 ^ greatest ks) ps buses) (powers os on.periods) carried)
+
+states_fewest : (g : DueGroup) (lines : List (List ℕ)) → FewestByDemand → IsOnGrid g → StatesPlan g lines → StatesFewest g lines
+states_fewest g lines by_demand on plan =
+    let c = plan.checked in
+    record {
+      plan = plan;
+      fewest = fewest g plan.stated.heading.buses by_demand on
+          (subst (λ (f : ℕ). (plan.stated.heading.buses - 1) * f < demand g) c.greatest c.above)
+          (subst (λ (f : ℕ). demand g ≤ plan.stated.heading.buses * f) c.greatest c.within);
+    }
+
+pub state_fewest : (gs : List DueGroup) (lines : List (List ℕ)) → FewestByDemand → AllByRecursion IsOnGrid gs → StatePlans gs lines → StateFewest gs lines
+state_fewest [] lines by_demand on plans = plans
+state_fewest (g ∷ gs) lines by_demand on plans = (states_fewest g lines by_demand on.0 plans.0, state_fewest gs _ by_demand on.1 plans.1)

@@ -1,0 +1,98 @@
+-- The lines that a plan's outputs are written with.
+use Rattle.std.proofs.Common.{◌≡◌, ℕ, zero, suc, ◌+◌, ◌<◌, ◌≤◌, List, [], ◌∷◌, ◌++◌, length, get_or, map, take, drop, Option, Some, None, refl, sym, ap, subst, ◌∙◌, arith, append_assoc}
+use Rattle.std.specs.Prelude.{slice_get, option_map, IfSome}
+use Rattle.std.specs.List.{AllByRecursion, AllZip, flat_map}
+use Rattle.std.specs.Option.{option_map_or}
+use Rattle.std.proofs.lemmas.List.{take_all, length-take, take_more, drop_more, map-append, flat_map_more}
+use Rattle.std.proofs.lemmas.List.Concat.{flat_map-cons}
+use Rattle.std.proofs.lemmas.Option.{same_Some, slice_get_within, slice_get-get_or}
+use Rattle.a429_equipment.specs.declared.rows.GroupRow.{GroupRow}
+use Rattle.a429_equipment.specs.declared.rows.OutputRow.{OutputRow}
+use Rattle.a429_equipment.specs.declared.rows.SourceRow.{SourceRow}
+use Rattle.a429_equipment.specs.Sound.{IsSound}
+use Rattle.a429_equipment.specs.TableRecord.{TableRecord}
+use Rattle.a429_slots.specs.declared.group_plan.SlotPlace.{SlotPlace}
+use Rattle.a429_slots.specs.Tables.{Placed, GroupTable, PlanTable, placed_at, outputs_of, order_of, place_of, source_of, groups_of}
+use Rattle.a429_slots.specs.Planned.{IsServed, IsPlannedFor, IsPlanOf}
+use Rattle.a429_cert.specs.Spelling.{Listing, output_text}
+use Rattle.a429_cert.specs.Checked.{Stated, stated_text}
+use Rattle.a429_cert.specs.PlanText.{source_name, placed_listing, listing_of, stated_of, stated_groups}
+use Rattle.a429_cert.proofs.DueOutputs.{output_at, length-outputs}
+
+-- ---- an output
+
+output_is : (t : GroupTable) (o : ℕ) → o < length (outputs_of t) → slice_get (outputs_of t) o ≡ Some (placed_at t o)
+output_is t o below =
+    let d : Placed = placed_at t 0 in
+    slice_get-get_or (outputs_of t) o d below ∙ ap (λ (p : Placed). Some p) (output_at t o d (omega (arith, length-outputs t)))
+
+pub listing_is : (sources : List SourceRow) (t : GroupTable) (o n : ℕ) (place : SlotPlace) (row : SourceRow) → o < length (outputs_of t) → place_of t o ≡ Some place → source_of t o ≡ Some n → slice_get sources n ≡ Some row
+    → placed_listing row.name place ≡ listing_of sources t o
+listing_is sources t o n place row below at from there =
+    let is = output_is t o below in
+    let placed : (placed_at t o).place ≡ place = same_Some _ _ (sym (ap (option_map (λ (p : Placed). p.place)) is) ∙ at) in
+    let source : (placed_at t o).source ≡ n = same_Some _ _ (sym (ap (option_map (λ (p : Placed). p.source)) is) ∙ from) in
+    let named : source_name sources (placed_at t o).source ≡ row.name = ap (source_name sources) source ∙ ap (λ (r : Option SourceRow). option_map_or (λ (s : SourceRow). s.name) r []) there in
+    ap (λ (p : SlotPlace). placed_listing row.name p) (sym placed) ∙ ap (λ (w : List ℕ). placed_listing w (placed_at t o).place) (sym named)
+
+-- ---- one more of a list
+
+at_place : {X : Type 0} (xs : List X) (i : ℕ) (x : X) → slice_get xs i ≡ Some x → (i < length xs) × (get_or xs i x ≡ x)
+at_place xs i x e =
+    let below = slice_get_within xs i x e in
+    (below, same_Some _ _ (sym (slice_get-get_or xs i x below) ∙ e))
+
+taken_more : {X : Type 0} (xs : List X) (i : ℕ) (x : X) → slice_get xs i ≡ Some x → take (i + 1) xs ≡ take i xs ++ x ∷ []
+taken_more xs i x e = let p = at_place xs i x e in take_more xs i x p.0 ∙ ap (λ y. take i xs ++ y ∷ []) p.1
+
+left_from : {X : Type 0} (xs : List X) (i : ℕ) (x : X) → slice_get xs i ≡ Some x → drop i xs ≡ x ∷ drop (i + 1) xs
+left_from xs i x e = let p = at_place xs i x e in drop_more xs i x p.0 ∙ ap (λ y. y ∷ drop (i + 1) xs) p.1
+
+-- ---- the outputs of a group
+
+pub outputs_more : (text new old : List ℕ) (f : ℕ → Listing) (order : List ℕ) (k o : ℕ) → slice_get order k ≡ Some o → text ≡ old ++ flat_map output_text (map f (take k order)) → new ≡ text ++ output_text (f o)
+    → new ≡ old ++ flat_map output_text (map f (take (k + 1) order))
+outputs_more text new old f order k o there so now =
+    let more : map f (take (k + 1) order) ≡ map f (take k order) ++ f o ∷ [] = ap (map f) (taken_more order k o there) ∙ map-append f (take k order) (o ∷ []) in
+    now ∙ ap (λ (x : List ℕ). x ++ output_text (f o)) so ∙ flat_map_more output_text old (map f (take k order)) (f o) ∙ ap (λ (ls : List Listing). old ++ flat_map output_text ls) (sym more)
+
+-- ---- the groups
+
+-- the sources of a group's outputs are known
+pub known_sources : (n rate : ℕ) (rows : List OutputRow) (ps : List Placed) → AllZip (IsServed rate) rows ps → AllByRecursion (λ o. o.source < n) rows → AllByRecursion (λ p. p.source < n) ps
+known_sources n rate [] [] served known = tt
+known_sources n rate [] (p ∷ ps) served known = absurd served
+known_sources n rate (r ∷ rows) [] served known = absurd served
+known_sources n rate (r ∷ rows) (p ∷ ps) served known = (omega (arith, served.0.0, known.0), known_sources n rate rows ps served.1 known.1)
+
+pub known_in_group : (n rate i : ℕ) (sources : List SourceRow) (rowss : List (List OutputRow)) (ts : List GroupTable) (t : GroupTable) → AllZip (IsPlannedFor rate sources) rowss ts → AllByRecursion (AllByRecursion (λ o. o.source < n)) rowss → slice_get ts i ≡ Some t
+    → AllByRecursion (λ p. p.source < n) (outputs_of t)
+known_in_group n rate i sources rowss [] t planned known e = absurd cc
+known_in_group n rate i sources [] (u ∷ ts) t planned known e = absurd planned
+known_in_group n rate zero sources (rows ∷ rowss) (u ∷ ts) t planned known e =
+    let same : u ≡ t = cc in
+    subst (λ (v : GroupTable). AllByRecursion (λ p. p.source < n) (outputs_of v)) same (known_sources n rate rows (outputs_of u) planned.0.served known.0)
+known_in_group n rate (suc i) sources (rows ∷ rowss) (u ∷ ts) t planned known e = known_in_group n rate i sources rowss ts t planned.1 known.1 e
+
+-- one more group is written
+pub groups_more : (sources : List SourceRow) (groups : List GroupRow) (ts : List GroupTable) (i : ℕ) (row : GroupRow) (t : GroupTable) (text new whole : List ℕ) → slice_get groups i ≡ Some row → slice_get ts i ≡ Some t
+    → text ++ flat_map stated_text (stated_groups sources (drop i groups) (drop i ts)) ≡ whole → new ≡ text ++ stated_text (stated_of sources row t)
+    → new ++ flat_map stated_text (stated_groups sources (drop (i + 1) groups) (drop (i + 1) ts)) ≡ whole
+groups_more sources groups ts i row t text new whole here there so now =
+    let left : stated_groups sources (drop i groups) (drop i ts) ≡ stated_of sources row t ∷ stated_groups sources (drop (i + 1) groups) (drop (i + 1) ts) = rw (left_from groups i row here, left_from ts i t there) refl in
+    ap (λ (x : List ℕ). x ++ flat_map stated_text (stated_groups sources (drop (i + 1) groups) (drop (i + 1) ts))) now
+    ∙ append_assoc text (stated_text (stated_of sources row t)) (flat_map stated_text (stated_groups sources (drop (i + 1) groups) (drop (i + 1) ts)))
+    ∙ ap (λ (x : List ℕ). text ++ x) (sym (flat_map-cons stated_text (stated_of sources row t) (stated_groups sources (drop (i + 1) groups) (drop (i + 1) ts))))
+    ∙ ap (λ (ss : List Stated). text ++ flat_map stated_text ss) (sym left) ∙ so
+
+-- ---- what is read
+
+pub read_is : {X : Type 0} (xs : List X) (i : ℕ) (x : X) → i < length xs → x ≡ get_or xs i x → slice_get xs i ≡ Some x
+read_is xs i x below is = slice_get-get_or xs i x below ∙ ap (λ y. Some y) (sym is)
+
+-- the whole order
+pub order_whole : (t : GroupTable) (k : ℕ) → length (outputs_of t) ≤ k → take k (order_of t) ≡ order_of t
+order_whole t k past = take_all k (order_of t) (omega (arith, length-take (length t.demands) t.order, length-outputs t))
+
+pub plan_known : (e : TableRecord) (p : PlanTable) (i : ℕ) (t : GroupTable) → IsSound e → IsPlanOf e p → slice_get (groups_of p) i ≡ Some t → AllByRecursion (λ o. o.source < length e.sources) (outputs_of t)
+plan_known e p i t sound planned there = known_in_group (length e.sources) e.rate i e.sources e.outputs (groups_of p) t planned.groups sound.known_sources there

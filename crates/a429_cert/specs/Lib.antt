@@ -1,0 +1,11 @@
+pub mod Spelling
+pub mod Reading
+pub mod Views
+pub mod Lines
+pub mod Due
+pub mod Faults
+pub mod Verdicts
+pub mod Checked
+pub mod PlanText
+pub mod Judged
+pub mod Printed

@@ -1,0 +1,20 @@
+-- The lines of a text.
+use Rattle.std.specs.Prelude.{ℕ, ◌+◌, List, [], ◌∷◌, ◌==◌, if◌then◌else◌, slice_index_or, length, Option, Some, None, position}
+use Rattle.std.specs.List.{onto_first}
+
+-- each line with its line feed; bytes after the last line feed are a line too
+abbrev pub lines_of : List ℕ → List (List ℕ)
+lines_of [] = []
+lines_of (b ∷ bs) = if b == 10 then (b ∷ []) ∷ lines_of bs else onto_first b (lines_of bs)
+
+-- the n-th line from 0; an absent line has no byte
+abbrev pub line_at : List (List ℕ) → ℕ → List ℕ
+line_at lines n = slice_index_or lines n []
+
+abbrev pub after_place : Option ℕ → ℕ → ℕ
+after_place None n = n
+after_place (Some place) n = place + 1
+
+-- how many bytes the first line has
+abbrev pub line_end : List ℕ → ℕ
+line_end text = after_place (position (λ b. b == 10) text) (length text)

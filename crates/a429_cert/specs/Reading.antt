@@ -1,0 +1,89 @@
+-- How a line of a plan text is read from left to right.
+use Rattle.std.specs.Prelude.{ℕ, List, length, take, drop, codes, Option, Some, None, Bool, ◌||◌, ◌&&◌, ◌==◌, nat_eq, nat_le, not, if◌then◌else◌, slice_index}
+use Rattle.std.specs.List.{starts_with, position_or_len, list_all}
+use Rattle.std.specs.Char.{is_ascii_digit}
+use Rattle.std.specs.Str.{bytes_eq}
+use Rattle.std.specs.Str.Parse.{digits_value}
+use Rattle.a429_cert.specs.Spelling as spelled
+use Rattle.a429_cert.specs.Spelling.{Heading, Listing, Bounding, is_break as ends_word}
+
+infixl 10 ◌>>=◌
+abbrev pub ◌>>=◌ : {A B : Type 0} → Option A → (A → Option B) → Option B
+(Some x) >>= f = f x
+None >>= f = None
+
+abbrev pub when : {A : Type 0} → Bool → A → Option A
+when b x = if b then Some x else None
+
+abbrev pub is_break : ℕ → Bool
+is_break = ends_word
+
+-- what follows a text at the front
+unfoldable pub after : List ℕ → List ℕ → Option (List ℕ)
+after text bytes = when (starts_with nat_eq bytes text) (drop (length text) bytes)
+
+-- the word at the front, and the bytes after it
+unfoldable pub word : List ℕ → Option (List ℕ × List ℕ)
+word bytes =
+    let end = position_or_len is_break bytes in
+    if end == 0 then None else Some (take end bytes, drop end bytes)
+
+-- at most ten digits, without leading zeros
+unfoldable pub is_numeral : List ℕ → Bool
+is_numeral w = nat_le (length w) 10 && (nat_le (length w) 1 || not (slice_index w 0 == 48)) && list_all is_ascii_digit w
+
+-- the number that a word spells
+unfoldable pub value_of : List ℕ → Option ℕ
+value_of w = when (is_numeral w) (digits_value 10 w)
+
+-- the number at the front, and the bytes after it
+unfoldable pub number : List ℕ → Option (ℕ × List ℕ)
+number bytes = do
+  w ← word bytes
+  n ← value_of w.0
+  Some (n, w.1)
+
+-- the end of a line
+unfoldable pub is_end : List ℕ → Bool
+is_end bytes = bytes_eq bytes (codes "\n")
+
+unfoldable pub is_plan_line : List ℕ → Bool
+is_plan_line line = bytes_eq line spelled.version_text
+
+unfoldable pub rate_line : List ℕ → Option ℕ
+rate_line line = do
+  rest ← after (codes "rate ") line
+  rate ← number rest
+  when (is_end rate.1) rate.0
+
+unfoldable pub group_line : List ℕ → Option Heading
+group_line line = do
+  rest ← after (codes "group ") line
+  name ← word rest
+  rest ← after (codes " frame ") name.1
+  frame ← number rest
+  rest ← after (codes " buses ") frame.1
+  buses ← number rest
+  when (is_end buses.1) (record { name = name.0; frame = frame.0; buses = buses.0 })
+
+unfoldable pub output_line : List ℕ → Option Listing
+output_line line = do
+  rest ← after (codes "output ") line
+  source ← word rest
+  rest ← after (codes " period ") source.1
+  period ← number rest
+  rest ← after (codes " bus ") period.1
+  bus ← number rest
+  rest ← after (codes " offset ") bus.1
+  offset ← number rest
+  when (is_end offset.1) (record { source = source.0; period = period.0; bus = bus.0; offset = offset.0 })
+
+unfoldable pub bound_line : List ℕ → Option Bounding
+bound_line line = do
+  rest ← after (codes "bound ") line
+  demand ← number rest
+  rest ← after (codes " > ") demand.1
+  full_buses ← number rest
+  rest ← after (codes " * ") full_buses.1
+  frame ← number rest
+  when (is_end frame.1) (record { demand = demand.0; full_buses = full_buses.0; frame = frame.0 })

@@ -1,0 +1,72 @@
+//! The check of a plan text against the bytes of an equipment table.
+
+ghost use Rattle.std.specs.Prelude.{◌≡◌, drop, Ok, IfOk, IfErr};
+ghost use Rattle.a429_equipment.specs.TableRecord.{TableRecord};
+ghost use Rattle.a429_equipment.specs.Reading.{reading};
+ghost use Rattle.a429_cert.specs.declared.due.DueTable.{DueTable as Due};
+ghost use Rattle.a429_cert.specs.Due.{IsDue};
+ghost use Rattle.a429_cert.specs.Lines.{lines_of};
+ghost use Rattle.a429_cert.specs.Verdicts.{verdict};
+ghost use Rattle.a429_cert.specs.Judged.{IsCheckFault, StateFewest};
+
+use crate::judging::{NoVerdict, judge};
+use crate::verdicts::Verdict;
+use a429_equipment::{Equipment, TableFault};
+use std::alloc::Global;
+use thiserror::Error;
+
+/// Why a text was not checked. Groups and outputs are numbered from 0 in table order.
+#[derive(Debug, Drop, Error)]
+pub enum CheckFault {
+    /// The table is not read, for this kind of fault at this place. Want of memory is `NoMemory`.
+    #[error("{0}")]
+    Table(TableFault),
+    /// The output is the first in table order whose interval admits no period of the grid.
+    #[error("output {output} of group {group} has no period")]
+    Unfit { group: usize, output: usize },
+    /// Memory was refused. It may come in place of any other answer.
+    #[error("out of memory")]
+    NoMemory,
+}
+
+impl From<TableFault> for CheckFault {
+    ghost use Rattle.std.specs.Prelude.{◌≡◌};
+    ghost use Rattle.a429_cert.specs.Judged.{of_table};
+
+    ghost from_gives = { λ fault e. e ≡ of_table fault };
+
+    fn from(fault: TableFault) -> CheckFault {
+        match fault {
+            TableFault::At(kind, place) => CheckFault::Table(TableFault::At(kind, place)),
+            TableFault::NoMemory => CheckFault::NoMemory,
+        }
+    }
+}
+
+impl From<NoVerdict> for CheckFault {
+    ghost use Rattle.std.specs.Prelude.{◌≡◌};
+    ghost use Rattle.a429_cert.specs.Judged.{of_judge};
+
+    ghost from_gives = { λ none e. e ≡ of_judge none };
+
+    fn from(none: NoVerdict) -> CheckFault {
+        match none {
+            NoVerdict::Unfit { group, output } => CheckFault::Unfit { group, output },
+            NoVerdict::NoMemory => CheckFault::NoMemory,
+        }
+    }
+}
+
+/// Checks a plan text against the bytes of an equipment table (profile: plan text and equipment table,
+/// version 1). The table is read first (`Table`), then its first output in table order whose interval
+/// admits no grid period is refused (`Unfit`), and then the text is judged as `judge` does.
+pub fn check(alloc: Global, table: &[u8], text: &[u8]) -> Result<Verdict, CheckFault>
+    // The first line that fails, with its first reason.
+    ensures answer { IfOk result (λ v. (e : TableRecord) × (t : Due) × (reading table.now ≡ Ok e) × IsDue e t × (v ≡ verdict t text.now)) }
+    // Of each group the text states a plan, and no schedule that serves the group has fewer buses.
+    ensures fewest { IfOk result (λ v. v ≡ Verdict.Fewest → (e : TableRecord) × (t : Due) × (reading table.now ≡ Ok e) × IsDue e t × StateFewest t.groups.items (drop 2 (lines_of text.now))) }
+    ensures fault { IfErr result (IsCheckFault table.now) }
+{
+    let equipment = Equipment::read(alloc, table)?;
+    Ok(judge(alloc, &equipment, text)?)
+}

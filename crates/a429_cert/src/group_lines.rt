@@ -1,0 +1,109 @@
+//! The lines of a group.
+
+ghost use Rattle.std.specs.Prelude.{◌≡◌, ◌≤◌, ◌<◌, ◌+◌, ◌^◌, ◌/◌, drop, length, Some, None, MatchResult, OnOk};
+ghost use Rattle.std.specs.List.{sum_by};
+ghost use Rattle.a429_cert.specs.Views.{bounding};
+ghost use Rattle.a429_cert.specs.Lines.{lines_of};
+ghost use Rattle.a429_cert.specs.Faults.{frame, group_fault, bound_fault, HasPeriods, Gives, IsModest, group_faults, first_no, buses_of, bound_holds};
+
+use crate::due::DueGroup;
+use crate::line::{BoundLine, GroupLine, bound_line, group_line};
+use crate::lines::Lines;
+use crate::output_lines::check_outputs;
+use crate::stops::{Stop, numbered};
+use crate::verdicts::Reason;
+use std::alloc::Global;
+
+/// The greatest grid period, in slots.
+fn frame(group: &DueGroup) -> u64
+    ensures { result ≡ frame group.now }
+{
+    group
+        .outputs
+        .iter()
+        .fold(0, |greatest, output| greatest.max(output.period))
+}
+
+/// How many cells the outputs fill in a frame.
+fn demand(group: &DueGroup, frame: u64) -> u64
+    requires periods { HasPeriods group.now }
+    requires fits { sum_by (λ o. frame / o.period) group.now.outputs.items < 2 ^ 64 }
+    ensures { result ≡ sum_by (λ o. frame / o.period) group.now.outputs.items }
+{
+    group
+        .outputs
+        .iter()
+        .map(|output| frame / output.period)
+        .sum()
+}
+
+/// What a group's first line says, or the first reason against it.
+#[tactic(auto, unfolding(crate::specs::Faults::group_fault, crate::specs::Faults::buses_of))]
+fn checked_group<'a>(group: &DueGroup, line: &'a [u8]) -> Result<GroupLine<'a>, Reason>
+    ensures fault { MatchResult result (λ _. group_fault group.now line.now ≡ None) (λ r. group_fault group.now line.now ≡ Some r) }
+    ensures says { MatchResult result (λ l. (l.buses ≡ buses_of line.now) × (1 ≤ l.buses) × (l.buses ≤ 16)) (λ _. Unit {0}) }
+{
+    let Some(said) = group_line(line) else {
+        return Err(Reason::Form);
+    };
+    if said.name != group.name.as_str().as_bytes() {
+        return Err(Reason::Group);
+    }
+    if said.frame != frame(group) {
+        return Err(Reason::Frame);
+    }
+    if said.buses == 0 || said.buses > 16 {
+        return Err(Reason::Buses);
+    }
+    Ok(said)
+}
+
+/// Whether a group's last line states its demand, and that this number of buses is the fewest.
+fn bound_holds(group: &DueGroup, buses: u64, said: BoundLine) -> bool
+    requires modest { IsModest group.now }
+    requires some { 1 ≤ buses }
+    requires few { buses ≤ 16 }
+    ensures { result ≡ bound_holds group.now buses (bounding said) }
+{
+    let frame = frame(group);
+    if said.demand != demand(group, frame) || said.full_buses != buses - 1 || said.frame != frame {
+        return false;
+    }
+    said.full_buses * said.frame < said.demand && said.demand <= buses * said.frame
+}
+
+/// The first reason against a group's last line.
+#[tactic(auto, unfolding(crate::specs::Faults::bound_fault))]
+fn checked_bound(group: &DueGroup, buses: u64, line: &[u8]) -> Result<(), Reason>
+    requires modest { IsModest group.now }
+    requires some { 1 ≤ buses }
+    requires few { buses ≤ 16 }
+    ensures { MatchResult result (λ _. bound_fault group.now buses line.now ≡ None) (λ r. bound_fault group.now buses line.now ≡ Some r) }
+{
+    let Some(said) = bound_line(line) else {
+        return Err(Reason::Form);
+    };
+    if bound_holds(group, buses, said) {
+        Ok(())
+    } else {
+        Err(Reason::Bound)
+    }
+}
+
+/// Checks the lines of a group, the first of which has this number.
+pub fn check_group(
+    alloc: Global,
+    group: &DueGroup,
+    number: usize,
+    lines: &mut Lines<'_>,
+) -> Result<(), Stop>
+    requires modest { IsModest group.now }
+    requires fits { number + length group.now.outputs.items + 2 < 2 ^ 64 }
+    ensures answer { Gives result (first_no number (group_faults group.now (lines_of lines.old.rest.now))) }
+    ensures rest { OnOk result (lines_of lines.new.rest.now ≡ drop (length group.now.outputs.items + 2) (lines_of lines.old.rest.now)) }
+{
+    let buses = numbered(number, checked_group(group, lines.next_line()))?.buses;
+    check_outputs(alloc, group, buses, number + 1, lines)?;
+    let last = number + group.outputs.len() + 1;
+    numbered(last, checked_bound(group, buses, lines.next_line()))
+}

@@ -1,0 +1,70 @@
+//! The verdict on a plan text by an equipment.
+
+ghost use Rattle.std.specs.Prelude.{◌≡◌, drop, IfOk, IfErr};
+ghost use Rattle.a429_cert.specs.declared.due.DueTable.{DueTable as Due};
+ghost use Rattle.a429_cert.specs.Due.{IsDue};
+ghost use Rattle.a429_cert.specs.Lines.{lines_of};
+ghost use Rattle.a429_cert.specs.Verdicts.{verdict};
+ghost use Rattle.a429_cert.specs.Judged.{IsNoVerdict, StateFewest};
+
+use crate::due::due_of;
+use crate::stops::Stop;
+use crate::table_lines::check_lines;
+use crate::verdicts::Verdict;
+use a429_equipment::Equipment;
+use a429_pack::laws::fewest_by_demand;
+use std::alloc::{AllocError, AllocFailed, Global};
+use thiserror::Error;
+
+/// Why there is no verdict. Groups and outputs are numbered from 0 in table order.
+#[derive(Clone, Copy, Debug, PartialEq, Eq, Error)]
+pub enum NoVerdict {
+    /// The output is the first in table order whose interval admits no period of the grid.
+    #[error("output {output} of group {group} has no period")]
+    Unfit { group: usize, output: usize },
+    /// Memory was refused. It may come in place of any other answer.
+    #[error("out of memory")]
+    NoMemory,
+}
+
+impl From<AllocError> for NoVerdict {
+    ghost use Rattle.std.specs.Prelude.{◌≡◌};
+    ghost use Rattle.a429_cert.specs.declared.judging.NoVerdict.TheVariants as none;
+
+    ghost from_gives = { λ _ e. e ≡ none.NoMemory };
+
+    fn from(_error: AllocError) -> NoVerdict {
+        NoVerdict::NoMemory
+    }
+}
+
+impl<T: Drop> From<AllocFailed<T>> for NoVerdict {
+    ghost use Rattle.std.specs.Prelude.{◌≡◌};
+    ghost use Rattle.a429_cert.specs.declared.judging.NoVerdict.TheVariants as none;
+
+    ghost from_gives = { λ _ e. e ≡ none.NoMemory };
+
+    fn from(_error: AllocFailed<T>) -> NoVerdict {
+        NoVerdict::NoMemory
+    }
+}
+
+/// Judges a plan text by an equipment (profile: plan text, version 1). The text is walked line by line
+/// against the table; the verdict is the first line that fails, counted from 1, with the first reason
+/// that fits it, else `Fewest`. Before that the first output in table order whose interval admits no
+/// grid period is refused (`Unfit`).
+pub fn judge(alloc: Global, equipment: &Equipment, text: &[u8]) -> Result<Verdict, NoVerdict>
+    // The first line that fails, with its first reason.
+    ensures answer { IfOk result (λ v. (t : Due) × IsDue equipment.now t × (v ≡ verdict t text.now)) }
+    // Of each group the text states a plan, and no schedule that serves the group has fewer buses.
+    ensures fewest { IfOk result (λ v. v ≡ Verdict.Fewest → (t : Due) × IsDue equipment.now t × StateFewest t.groups.items (drop 2 (lines_of text.now))) }
+    ensures fault { IfErr result (IsNoVerdict equipment.now) }
+{
+    fewest_by_demand();
+    let due = due_of(alloc, equipment)?;
+    match check_lines(alloc, &due, text) {
+        Ok(()) => Ok(Verdict::Fewest),
+        Err(Stop::Refused(refused)) => Ok(Verdict::No(refused)),
+        Err(Stop::Memory) => Err(NoVerdict::NoMemory),
+    }
+}

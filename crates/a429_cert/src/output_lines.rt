@@ -1,0 +1,115 @@
+//! The lines of a group's outputs.
+
+ghost use Rattle.std.specs.Prelude.{◌≡◌, ◌<◌, ◌+◌, ◌^◌, map, drop, length, Some, None, MatchResult, OnOk, All};
+ghost use Rattle.std.specs.List.{list_any};
+ghost use Rattle.a429_cert.specs.Views.{listing};
+ghost use Rattle.a429_cert.specs.Reading.{output_line};
+ghost use Rattle.a429_cert.specs.Lines.{lines_of};
+ghost use Rattle.a429_cert.specs.Faults.{period_of, shares, output_fault, is_listed, HasPeriods, Gives, output_faults, first_no};
+
+use crate::due::DueGroup;
+use crate::line::{OutputLine, output_line};
+use crate::lines::Lines;
+use crate::stops::Stop;
+use crate::verdicts::{No, Reason};
+use std::alloc::Global;
+
+/// The grid period in slots of the output with this source; none where the group has no such output.
+fn period_of(group: &DueGroup, source: &[u8]) -> Option<u64>
+    ensures { result ≡ period_of group.now source.now }
+{
+    let output = group
+        .outputs
+        .iter()
+        .find(|output| output.source.as_str().as_bytes() == source)?;
+    Some(output.period)
+}
+
+/// Whether an earlier line lists this source.
+fn is_listed(earlier: &[OutputLine<'_>], source: &[u8]) -> bool
+    ensures { result ≡ is_listed (map listing earlier.now) source.now }
+{
+    earlier.iter().any(|line| line.source == source)
+}
+
+/// Whether two outputs have the same bus and offsets that are equal modulo the smaller period.
+fn shares(first: &OutputLine<'_>, second: &OutputLine<'_>) -> bool
+    requires first { 0 < first.now.period }
+    requires second { 0 < second.now.period }
+    ensures { result ≡ shares (listing first.now) (listing second.now) }
+{
+    let period = first.period.min(second.period);
+    first.bus == second.bus && first.offset % period == second.offset % period
+}
+
+/// Whether an output shares its cells with an earlier one.
+fn shares_any(line: &OutputLine<'_>, earlier: &[OutputLine<'_>]) -> bool
+    requires line { 0 < line.now.period }
+    requires earlier { All (λ l. 0 < l.period) earlier.now }
+    ensures { result ≡ list_any (shares (listing line.now)) (map listing earlier.now) }
+{
+    earlier.iter().any(|other| shares(line, other))
+}
+
+/// What the line of an output says, or the first reason against it.
+#[tactic(auto, unfolding(crate::specs::Faults::output_fault))]
+fn checked_output<'a>(
+    group: &DueGroup,
+    buses: u64,
+    earlier: &[OutputLine<'a>],
+    line: &'a [u8],
+) -> Result<OutputLine<'a>, Reason>
+    requires periods { HasPeriods group.now }
+    requires earlier { All (λ l. 0 < l.period) earlier.now }
+    ensures fault { MatchResult result (λ _. output_fault group.now buses (map listing earlier.now) line.now ≡ None) (λ r. output_fault group.now buses (map listing earlier.now) line.now ≡ Some r) }
+    ensures says { MatchResult result (λ l. (output_line line.now ≡ Some (listing l)) × (0 < l.period)) (λ _. Unit {0}) }
+{
+    let Some(said) = output_line(line) else {
+        return Err(Reason::Form);
+    };
+    let Some(period) = period_of(group, said.source) else {
+        return Err(Reason::Output);
+    };
+    if is_listed(earlier, said.source) {
+        return Err(Reason::Output);
+    }
+    if said.period != period {
+        return Err(Reason::Period);
+    }
+    if buses <= said.bus || said.period <= said.offset {
+        return Err(Reason::Place);
+    }
+    if shares_any(&said, earlier) {
+        return Err(Reason::Shared);
+    }
+    Ok(said)
+}
+
+/// Checks the lines of a group's outputs, the first of which has this number.
+pub fn check_outputs(
+    alloc: Global,
+    group: &DueGroup,
+    buses: u64,
+    number: usize,
+    lines: &mut Lines<'_>,
+) -> Result<(), Stop>
+    requires periods { HasPeriods group.now }
+    requires fits { number + length group.now.outputs.items < 2 ^ 64 }
+    ensures answer { Gives result (first_no number (output_faults group.now buses (lines_of lines.old.rest.now) 0 (length group.now.outputs.items))) }
+    ensures rest { OnOk result (lines_of lines.new.rest.now ≡ drop (length group.now.outputs.items) (lines_of lines.old.rest.now)) }
+{
+    let mut earlier = Vec::new(alloc);
+    for place in 0..group.outputs.len() {
+        let line = lines.next_line();
+        match checked_output(group, buses, &earlier, line) {
+            Ok(said) => earlier.push(said)?,
+            Err(reason) => {
+                return Err(Stop::Refused(No {
+                    reason,
+                    line: number + place,
+                }));
+            }
+        }
+    }
+    Ok(())
+}

@@ -1,0 +1,74 @@
+//! The lines that a table asks for.
+
+ghost use Rattle.std.specs.Prelude.{◌≡◌, ◌<◌, ◌^◌, Some, None, MatchResult, All};
+ghost use Rattle.a429_cert.specs.Lines.{lines_of};
+ghost use Rattle.a429_cert.specs.Faults.{rate_fault, plan_fault, end_fault, Gives, IsModest, groups_faults, first_no, faults, due};
+
+use crate::due::{DueGroup, DueTable};
+use crate::group_lines::check_group;
+use crate::line::{is_plan_line, rate_line};
+use crate::lines::Lines;
+use crate::stops::{Stop, numbered};
+use crate::verdicts::Reason;
+use std::alloc::Global;
+
+/// Checks that no line is left.
+fn checked_end(lines: &mut Lines<'_>) -> Result<(), Reason>
+    ensures { MatchResult result (λ _. end_fault (lines_of lines.old.rest.now) ≡ None) (λ r. end_fault (lines_of lines.old.rest.now) ≡ Some r) }
+{
+    if lines.next_line().is_empty() {
+        Ok(())
+    } else {
+        Err(Reason::Form)
+    }
+}
+
+/// Checks the first line.
+#[tactic(auto, unfolding(crate::specs::Faults::plan_fault))]
+fn checked_plan(line: &[u8]) -> Result<(), Reason>
+    ensures { MatchResult result (λ _. plan_fault line.now ≡ None) (λ r. plan_fault line.now ≡ Some r) }
+{
+    if is_plan_line(line) {
+        Ok(())
+    } else {
+        Err(Reason::Form)
+    }
+}
+
+/// Checks the second line.
+#[tactic(auto, unfolding(crate::specs::Faults::rate_fault))]
+fn checked_rate(table: &DueTable, line: &[u8]) -> Result<(), Reason>
+    ensures { MatchResult result (λ _. rate_fault table.now line.now ≡ None) (λ r. rate_fault table.now line.now ≡ Some r) }
+{
+    match rate_line(line) {
+        None => Err(Reason::Form),
+        Some(rate) if rate != table.rate => Err(Reason::Rate),
+        Some(_) => Ok(()),
+    }
+}
+
+/// Checks the lines from the first group on, the first of which has the number 3.
+fn check_groups(alloc: Global, groups: &[DueGroup], lines: &mut Lines<'_>) -> Result<(), Stop>
+    requires modest { All IsModest groups.now }
+    requires fits { due groups.now < 2 ^ 63 }
+    ensures { Gives result (first_no 3 (groups_faults groups.now (lines_of lines.old.rest.now))) }
+{
+    let mut number = 3;
+    for group in groups {
+        check_group(alloc, group, number, lines)?;
+        number += group.outputs.len() + 2;
+    }
+    numbered(number, checked_end(lines))
+}
+
+/// Checks each line of a text against the table.
+pub fn check_lines(alloc: Global, table: &DueTable, text: &[u8]) -> Result<(), Stop>
+    requires modest { All IsModest table.now.groups.items }
+    requires fits { due table.now.groups.items < 2 ^ 63 }
+    ensures { Gives result (first_no 1 (faults table.now (lines_of text.now))) }
+{
+    let mut lines = Lines::of(text);
+    numbered(1, checked_plan(lines.next_line()))?;
+    numbered(2, checked_rate(table, lines.next_line()))?;
+    check_groups(alloc, &table.groups, &mut lines)
+}

@@ -1,0 +1,103 @@
+//! What a check answers.
+
+ghost use Rattle.std.specs.Prelude.{◌≡◌, Some};
+ghost use Rattle.a429_cert.specs.Printed.{reason_text, no_text, verdict_text};
+
+use std::fmt;
+
+/// Why a line is refused, in the order in which reasons are asked (profile: plan text, version 1).
+#[derive(Clone, Copy, Debug, PartialEq, Eq)]
+pub enum Reason {
+    /// The line is not of the form due here, is not ended by a line feed, is absent, or stands after the
+    /// last line due.
+    Form,
+    /// The rate is not the table's.
+    Rate,
+    /// The name is not that of the group due.
+    Group,
+    /// The frame is not the greatest grid period of the group.
+    Frame,
+    /// The number of buses is 0 or above 16.
+    Buses,
+    /// The source is that of no output of the group, or was listed before in it.
+    Output,
+    /// The period is not the grid period of the output.
+    Period,
+    /// The bus is not below the number of buses, or the offset not below the period.
+    Place,
+    /// An earlier output of the group has the same bus, and an offset that is equal modulo the smaller
+    /// of the two periods.
+    Shared,
+    /// The demand is not the group's, the full buses are not one fewer than the buses, the frame is not
+    /// the group's, or the full buses carry the demand in a frame, or the buses do not.
+    Bound,
+}
+
+/// The first line that is refused, counted from 1, with the first reason against it.
+#[derive(Clone, Copy, Debug, PartialEq, Eq)]
+pub struct No {
+    /// The first reason that stands against the line.
+    pub reason: Reason,
+    /// The line's number, from 1. An absent line has the number that it would have.
+    pub line: usize,
+}
+
+/// What a plan text is answered.
+#[derive(Clone, Copy, Debug, PartialEq, Eq)]
+pub enum Verdict {
+    /// No line is refused: the text states a plan of the table's groups on the fewest buses.
+    Fewest,
+    /// A line is refused.
+    No(No),
+}
+
+impl Reason {
+    /// Its name in answers: `form` to `bound`.
+    #[tactic(auto, unfolding(crate::specs::Printed::reason_text))]
+    fn text(self) -> &'static str
+        ensures { result.now ≡ reason_text self }
+    {
+        match self {
+            Reason::Form => "form",
+            Reason::Rate => "rate",
+            Reason::Group => "group",
+            Reason::Frame => "frame",
+            Reason::Buses => "buses",
+            Reason::Output => "output",
+            Reason::Period => "period",
+            Reason::Place => "place",
+            Reason::Shared => "shared",
+            Reason::Bound => "bound",
+        }
+    }
+}
+
+impl fmt::Display for Reason {
+    ghost output = { λ reason. Some (reason_text reason) };
+
+    /// Its name in answers.
+    fn fmt<W: fmt::Write>(&self, f: &mut fmt::Formatter<W>) -> fmt::Result {
+        write!(f, "{}", self.text())
+    }
+}
+
+impl fmt::Display for No {
+    ghost output = { λ no. Some (no_text no) };
+
+    /// As answers print it: `no shared 6`.
+    fn fmt<W: fmt::Write>(&self, f: &mut fmt::Formatter<W>) -> fmt::Result {
+        write!(f, "no {} {}", self.reason, self.line)
+    }
+}
+
+impl fmt::Display for Verdict {
+    ghost output = { λ verdict. Some (verdict_text verdict) };
+
+    /// As answers print it: `fewest`, or `no` with the reason and the line.
+    fn fmt<W: fmt::Write>(&self, f: &mut fmt::Formatter<W>) -> fmt::Result {
+        match self {
+            Verdict::Fewest => write!(f, "fewest"),
+            Verdict::No(refused) => write!(f, "{refused}"),
+        }
+    }
+}
