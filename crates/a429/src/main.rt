@@ -1,7 +1,7 @@
 //! The program `a429`: an ARINC 429 data concentrator.
 #![tactic(auto)]
 
-use a429_cli::{DiskFiles, command};
+use a429_cli::{CountedWriter, DiskFiles, Output, command};
 use std::alloc::{AllocError, Global};
 use std::io::{ErrorKind, Write};
 use std::process::ExitCode;
@@ -19,10 +19,10 @@ fn texts(alloc: Global, words: &[String]) -> Result<Vec<&str>, AllocError> {
 
 /// Tells why the words cannot be read, and gives the status: 1 where memory was refused, and 2 where a word
 /// is no UTF-8, which is a usage fault.
-fn without_words<W: Write, V: Write>(out: &mut W, err: &mut V, error: &io::Error) -> u8 {
+fn without_words<O: Output, V: Write>(out: &mut O, err: &mut V, error: &io::Error) -> u8 {
     match error.kind() {
         ErrorKind::OutOfMemory => {
-            let _ = out.write_all(b"refused memory\n");
+            let _ = out.put(b"refused memory\n");
             1
         }
         _ => {
@@ -33,7 +33,7 @@ fn without_words<W: Write, V: Write>(out: &mut W, err: &mut V, error: &io::Error
 }
 
 fn main(rt: HostRuntime) -> ExitCode {
-    let mut out = rt.stdout();
+    let mut out = CountedWriter::new(rt.stdout());
     let mut err = rt.stderr();
     let words = match given_words(&rt) {
         Ok(words) => words,

@@ -11,8 +11,8 @@ use Rattle.clap.specs.declared.builder.command.Command.{Command}
 use Rattle.clap.specs.declared.builder.command.Command.TheViews.{out-Command}
 use Rattle.clap.specs.declared.parser.matches.ArgMatches.{ArgMatches}
 use Rattle.clap.specs.declared.parser.matches.ArgMatches.TheViews.{out-ArgMatches, out-SubCommand}
-use Rattle.a429_cli.specs.Requests.{Request, Word, Replay}
-use Rattle.a429_cli.specs.AskedRows.{request_by, word_request, replay_request}
+use Rattle.a429_cli.specs.Requests.{Request, Word, Lines, Plan, Check, Replay}
+use Rattle.a429_cli.specs.AskedRows.{request_by, word_request, lines_request, plan_request, check_request, replay_request}
 
 was_not : (b : Bool) → not b ≡ true → b ≡ false
 was_not true e = cc
@@ -41,6 +41,17 @@ matched_weaker (Err e) P Q F more p = p
 
 pub word_is : (rows : List Row) (t : Text) (r : Request) → Some t ≡ first_of (codes "HEX") rows → word_request rows ≡ Some r → Word t ≡ r
 word_is rows t r at asked = same_Some (Word t) r (ap (option_map Word) at ∙ asked)
+
+pub lines_is : (rows : List Row) (file : Text) (many : Option (List Text)) (filters : List Text) (r : Request) → Some file ≡ first_of (codes "FILE") rows
+    → many ≡ all_of (codes "FILTER") rows → unwrap_or many [] ≡ filters → lines_request rows ≡ Some r → Lines file filters ≡ r
+lines_is rows file many filters r at all is asked =
+    same_Some (Lines file filters) r (ap (λ (fs : List Text). Some (Lines file fs)) (sym is) ∙ (rw (← at, ← all) at asked))
+
+pub plan_is : (rows : List Row) (t : Text) (r : Request) → Some t ≡ first_of (codes "TABLE") rows → plan_request rows ≡ Some r → Plan t ≡ r
+plan_is rows t r at asked = same_Some (Plan t) r (ap (option_map Plan) at ∙ asked)
+
+pub check_is : (rows : List Row) (t s : Text) (r : Request) → Some t ≡ first_of (codes "TABLE") rows → Some s ≡ first_of (codes "PLAN") rows → check_request rows ≡ Some r → Check t s ≡ r
+check_is rows t s r table text asked = same_Some (Check t s) r (rw (← table, ← text) at asked)
 
 pub replay_is : (rows : List Row) (t s : Text) (many : Option (List Text)) (further : List Text) (r : Request) → Some t ≡ first_of (codes "TABLE") rows → Some s ≡ first_of (codes "SCRIPT") rows
     → many ≡ all_of (codes "FURTHER") rows → unwrap_or many [] ≡ further → replay_request rows ≡ Some r → Replay t s further ≡ r

@@ -7,3 +7,5 @@ pub mod Refused
 pub mod Numbered
 pub mod ScriptLines
 pub mod PlayedLines
+pub mod ReportLines
+pub mod FirstFrames

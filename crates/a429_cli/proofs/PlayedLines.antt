@@ -1,10 +1,14 @@
 -- Lines that are written one after another.
-use Rattle.std.proofs.Common.{◌≡◌, ◌∙◌, ℕ, List, [], ◌∷◌, ◌++◌, refl, sym, ap, subst, append_assoc, append-nil}
-use Rattle.std.specs.Prelude.{Option, Some, None, Result, Ok}
-use Rattle.std.specs.Io.KnownBytes.{Appends, Keeps, append_known}
+use Rattle.std.proofs.Common.{◌≡◌, ◌∙◌, ℕ, Bool, true, false, List, [], ◌∷◌, ◌++◌, refl, sym, ap, subst, append_assoc, append-nil, arith, codes, inl, inr, length, take}
+use Rattle.std.specs.Prelude.{Option, Some, None, Result, Ok, IsTrue}
+use Rattle.std.proofs.lemmas.List.{take_all}
+use Rattle.std.specs.Io.KnownBytes.{Appends, append_known}
 use Rattle.a429_slots.specs.Events.{Event}
 use Rattle.a429_slots.specs.History.{Opening}
+use Rattle.a429_slots.specs.Proposed.{Proposed}
+use Rattle.a429_cli.specs.Outputs.{ending, status_of}
 use Rattle.a429_cli.specs.Playing.{Happens, Played}
+use Rattle.a429_cli.specs.Replaying.{IsOutcome, IsPlayed, ReplayInput}
 use Rattle.a429_cli.specs.declared.script.ScriptEvent.{ScriptEvent}
 
 -- one more event
@@ -36,18 +40,22 @@ Appends-out None new text out = tt
 Appends-out (Some a) None text out = out
 Appends-out (Some a) (Some b) text out = rw out refl
 
-pub appends_kept : (old mid new : Option (List ℕ)) (line : List ℕ) → Appends old mid line → Keeps mid new → Appends old new line
-appends_kept None mid new line wrote kept = tt
-appends_kept (Some a) None new line wrote kept = absurd wrote
-appends_kept (Some a) (Some b) None line wrote kept = kept
-appends_kept (Some a) (Some b) (Some c) line wrote kept = kept ∙ wrote
-
 pub same_Ok : {X E : Type 0} (x y : X) → ◌≡◌ {A = Result X E} (Ok x) (Ok y) → x ≡ y
 same_Ok x y same = cc
 
--- what was kept back goes out with what was there
-pub Appends-last : (old mid new : Option (List ℕ)) (text bytes : List ℕ) → Appends (append_known old []) (append_known mid text) bytes → Appends mid new text → Appends old new bytes
-Appends-last None mid new text bytes kept out = tt
-Appends-last (Some a) None new text bytes kept out = absurd kept
-Appends-last (Some a) (Some b) None text bytes kept out = absurd out
-Appends-last (Some a) (Some b) (Some c) text bytes kept out = rw (out, kept, append-nil) refl
+-- what was kept back goes out with what was there, and then the end
+pub Appends-ended : (old mid new : Option (List ℕ)) (text bytes end : List ℕ) → Appends (append_known old []) (append_known mid text) bytes → Appends mid new (text ++ end) → Appends old new (bytes ++ end)
+Appends-ended None mid new text bytes end kept out = tt
+Appends-ended (Some a) None new text bytes end kept out = absurd kept
+Appends-ended (Some a) (Some b) None text bytes end kept out = absurd out
+Appends-ended (Some a) (Some b) (Some c) text bytes end kept out =
+    let before : b ++ text ≡ a ++ bytes = kept ∙ ap (λ (xs : List ℕ). xs ++ bytes) (append-nil a) in
+    out ∙ (sym (append_assoc b text end) ∙ (ap (λ (xs : List ℕ). xs ++ end) before ∙ append_assoc a bytes end))
+
+-- the lines of some events, or of all, with their end
+pub played_ended : (i : ReplayInput) (q : Proposed) (events : List ScriptEvent) (n : ℕ) (lines : List ℕ) (all : Bool) → IsPlayed i q (take n events) lines → (IsTrue all → n ≡ length events)
+    → IsOutcome i q events (status_of all) (lines ++ ending all)
+played_ended i q events n lines true played whole =
+    let every : take n events ≡ events = rw (whole refl) (take_all (length events) events (omega arith)) in
+    inl (subst (λ (bytes : List ℕ). IsPlayed i q events bytes) (sym (append-nil lines)) (rw every at played), refl)
+played_ended i q events n lines false played whole = inr (n, lines, played, refl, sym (append_assoc lines (codes "refused memory") (10 ∷ [])))

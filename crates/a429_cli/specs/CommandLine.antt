@@ -13,6 +13,15 @@ many_rule id = record (new_rule id) { action = Some Append }
 abbrev pub word_app : App
 word_app = with_rule (new_app (codes "word")) (required_rule (codes "HEX"))
 
+abbrev pub lines_app : App
+lines_app = with_rule (with_rule (new_app (codes "lines")) (required_rule (codes "FILE"))) (many_rule (codes "FILTER"))
+
+abbrev pub plan_app : App
+plan_app = with_rule (new_app (codes "plan")) (required_rule (codes "TABLE"))
+
+abbrev pub check_app : App
+check_app = with_rule (with_rule (new_app (codes "check")) (required_rule (codes "TABLE"))) (required_rule (codes "PLAN"))
+
 abbrev pub replay_app : App
 replay_app = with_rule (with_rule (with_rule (new_app (codes "replay")) (required_rule (codes "TABLE"))) (required_rule (codes "SCRIPT"))) (many_rule (codes "FURTHER"))
 
@@ -20,7 +29,8 @@ abbrev pub top_shape : Shape
 top_shape = record ((new_app (codes "a429")).top) { no_binary_name = true; subcommand_required = true }
 
 unfoldable pub command_line : App
-command_line = with_subcommand (with_subcommand (record { top = top_shape; subs = [] }) word_app.top) replay_app.top
+command_line =
+    with_subcommand (with_subcommand (with_subcommand (with_subcommand (with_subcommand (record { top = top_shape; subs = [] }) word_app.top) lines_app.top) plan_app.top) check_app.top) replay_app.top
 
 -- a name of a file, which no option can be
 abbrev pub IsName : Text → Type 0

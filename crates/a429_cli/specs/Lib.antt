@@ -5,11 +5,16 @@ pub mod Names
 pub mod Lines
 pub mod WordLines
 pub mod RefusalText
+pub mod Outputs
 pub mod ScriptText
 pub mod Script
 pub mod Stations
 pub mod Playing
 pub mod Replaying
 pub mod Opened
+pub mod LineFiles
+pub mod LineReports
+pub mod LineReplies
+pub mod PlanReplies
 pub mod Requests
 pub mod AskedRows

@@ -1,5 +1,5 @@
 -- The line of a refusal, without its line feed (profile: output).
-use Rattle.std.specs.Prelude.{◌++◌, ℕ, List, ⊤, codes, string_bytes}
+use Rattle.std.specs.Prelude.{◌≡◌, ◌⊎◌, ◌++◌, ℕ, List, ⊤, codes, string_bytes}
 use Rattle.std.specs.Fmt.{decimal}
 use Rattle.a429_equipment.specs.Printed.{kind_text, place_text}
 use Rattle.a429_cli.specs.declared.refusals.CommandRefusal.{CommandRefusal}
@@ -9,6 +9,8 @@ abbrev pub refusal_line : CommandRefusal → List ℕ
 refusal_line (refused.File name) = codes "refused file " ++ string_bytes name
 refusal_line refused.WordText = codes "refused word-text"
 refusal_line refused.Parity = codes "refused parity"
+refusal_line (refused.LineByte place) = codes "refused line byte " ++ decimal place
+refusal_line (refused.Filter number) = codes "refused filter " ++ decimal number
 refusal_line (refused.Table kind place) = codes "refused table " ++ kind_text kind ++ codes " " ++ place_text place
 refusal_line (refused.Unfit group source) = codes "refused unfit " ++ string_bytes group ++ codes " " ++ string_bytes source
 refusal_line (refused.TooManyBuses group needed) = codes "refused too-many-buses " ++ string_bytes group ++ codes " " ++ decimal needed
@@ -19,3 +21,7 @@ refusal_line refused.Memory = codes "refused memory"
 abbrev pub OrMemory : (CommandRefusal → Type 0) → CommandRefusal → Type 0
 OrMemory Stands refused.Memory = ⊤
 OrMemory Stands refusal = Stands refusal
+
+-- what is told of a refusal: it, or in its place that memory was refused
+abbrev pub IsToldOf : CommandRefusal → CommandRefusal → Type 0
+IsToldOf refusal told = (told ≡ refusal) ⊎ (told ≡ refused.Memory)

@@ -22,6 +22,16 @@ group_name t g = name_at (naming_of t).groups g
 abbrev pub output_name : TableRecord → ℕ → ℕ → List ℕ
 output_name t g o = option_map_or (λ rows. option_map_or (λ row. name_at (naming_of t).sources row.source) (slice_get rows o) []) (slice_get t.outputs g) []
 
+-- the fault of a table
+abbrev pub IsTableFault : List ℕ → CommandRefusal → Type 0
+IsTableFault table (refused.Table kind place) = reading table ≡ Err (kind, place)
+IsTableFault table _ = ⊥
+
+-- an unfit output of a group, by the names of the group and of its source
+abbrev pub IsUnfitNamed : TableRecord → ℕ → ℕ → CommandRefusal → Type 0
+IsUnfitNamed t g o (refused.Unfit group source) = (string_bytes group ≡ group_name t g) × (string_bytes source ≡ output_name t g o)
+IsUnfitNamed t g o _ = ⊥
+
 -- the first fault of a station's plan
 abbrev pub IsPlanRefusal : TableRecord → CommandRefusal → Type 0
 IsPlanRefusal t (refused.Unfit group source) =

@@ -1,13 +1,18 @@
 //! Commands, from words and files to bytes.
-ghost use Rattle.std.specs.Prelude.{◌≡◌, ◌≤◌, List, ℕ, IfOk, IsTrue, map};
+ghost use Rattle.std.specs.Prelude.{◌≡◌, ◌<◌, ◌≤◌, ◌+◌, ◌-◌, ◌^◌, ◌⊎◌, List, ℕ, IfOk, IsTrue, map};
 ghost use Rattle.std.specs.Io.KnownBytes.{Appends};
-ghost use Rattle.a429_cli.specs.Requests.{Request, HasNames, IsReply, IsReplyOrMemory, request_words};
+ghost use Rattle.a429_cli.specs.Outputs.{CountsFault};
+ghost use Rattle.a429_cli.specs.Requests.{Request, HasNames, IsReplyOrMemory, request_words};
 
+use crate::endings::refuse_memory;
 use crate::files::FileReader;
-use crate::refusals::CommandRefusal;
-use crate::replay::{refuse, replay};
+use crate::lines::tell_lines;
+use crate::output::{Output, OutputFault};
+use crate::plan_texts::{print_plan, print_verdict};
+use crate::replay::replay;
 use crate::word::tell_word;
 use crate::words::{Asked, parse};
+use clap::Error;
 use clap::error::ErrorKind;
 use std::alloc::Global;
 use std::io;
@@ -15,43 +20,51 @@ use std::io::Write;
 
 /// Does a command: `words` are those of the command line without the program's name, answers and refusals
 /// go to `out`, usage and help texts to `err`. The status is 0 where the command was done, 1 where it was
-/// refused, and 2 where the words ask for none. Where a writer fails, the status is 1 and nothing more is
-/// written.
-pub fn command<'a, F: FileReader, W: Write, V: Write>(
+/// refused, and 2 where the words ask for none. Where the output or `err` fails, the status is 1 and nothing
+/// more is put or written.
+pub fn command<'a, F: FileReader, O: Output, V: Write>(
     alloc: Global,
     words: &'a [&'a str],
     files: &mut F,
-    out: &mut W,
+    out: &mut O,
     err: &mut V,
 ) -> u8
-    // Where the words ask for something and the status is 0, the bytes written are those of the answer.
-    ensures done { (r : Request) → map (λ w. w.now) words.entry.now ≡ request_words r → HasNames r → IsTrue (F.tells files.old) → result ≡ 0
-        → (bytes : List ℕ) × IsReply (F.file files.old) r 0 bytes × Appends (W.contents out.old) (W.contents out.new) bytes }
+    // Where the words ask for something and no call of the output failed, the bytes put are those of the answer, and so is the status.
+    ensures replied { (r : Request) → map (λ w. w.now) words.entry.now ≡ request_words r → HasNames r → IsTrue (F.tells files.old)
+        → O.failures out.old < 2 ^ 64 - 1 → O.failures out.new ≡ O.failures out.old
+        → (bytes : List ℕ) × IsReplyOrMemory (F.file files.old) r result bytes × Appends (O.contents out.old) (O.contents out.new) bytes }
+    // Where a call of the output failed, the status is 1.
+    ensures failed { (result ≡ 1) ⊎ (O.failures out.new ≡ O.failures out.old) }
+    // After a call that failed there is no further one that fails.
+    ensures once { O.failures out.new ≤ O.failures out.old + 1 }
     ensures asked { (r : Request) → map (λ w. w.now) words.entry.now ≡ request_words r → HasNames r → result ≤ 1 }
     ensures status { result ≤ 2 }
 {
     match run(alloc, words, files, out, err) {
         Ok(status) => status,
-        Err(_) => 1,
+        Err(OutputFault) => 1,
     }
 }
 
-/// The same, where the error is a writer's.
-pub fn run<'a, F: FileReader, W: Write, V: Write>(
+/// The same, where the error is the output's.
+fn run<'a, F: FileReader, O: Output, V: Write>(
     alloc: Global,
     words: &'a [&'a str],
     files: &mut F,
-    out: &mut W,
+    out: &mut O,
     err: &mut V,
-) -> io::Result<u8>
-    // Where the words ask for something, the bytes written are those of the answer, and so is the status.
+) -> Result<u8, OutputFault>
     ensures replied { (r : Request) → map (λ w. w.now) words.entry.now ≡ request_words r → HasNames r → IsTrue (F.tells files.old)
-        → IfOk result (λ status. (bytes : List ℕ) × IsReplyOrMemory (F.file files.old) r status bytes × Appends (W.contents out.old) (W.contents out.new) bytes) }
+        → IfOk result (λ status. (bytes : List ℕ) × IsReplyOrMemory (F.file files.old) r status bytes × Appends (O.contents out.old) (O.contents out.new) bytes) }
     ensures asked { (r : Request) → map (λ w. w.now) words.entry.now ≡ request_words r → HasNames r → IfOk result (λ status. status ≤ 1) }
     ensures status { IfOk result (λ status. status ≤ 2) }
+    ensures faults { CountsFault result (O.failures out.old) (O.failures out.new) }
 {
     match parse(alloc, words) {
-        Ok(Asked::Word { text }) => tell_word(text, out),
+        Ok(Asked::Word { text }) => tell_word(alloc, text, out),
+        Ok(Asked::Lines { file, filters }) => tell_lines(alloc, files, file, &filters, out),
+        Ok(Asked::Plan { table }) => print_plan(alloc, files, table, out),
+        Ok(Asked::Check { table, plan }) => print_verdict(alloc, files, table, plan, out),
         Ok(
             Asked::Replay {
                 table,
@@ -60,12 +73,23 @@ pub fn run<'a, F: FileReader, W: Write, V: Write>(
             },
         ) => replay(alloc, files, table, script, &further, out),
         Err(error) => match error.kind() {
-            ErrorKind::OutOfMemory => refuse(out, &CommandRefusal::Memory),
-            _ => {
-                write!(err, "{error}")?;
-                err.flush()?;
-                Ok(2)
-            }
+            ErrorKind::OutOfMemory => refuse_memory(out),
+            _ => Ok(explain(&error, err)),
         },
     }
+}
+
+/// Writes the usage or help text of an error. The status is 2, or 1 where the writer fails.
+fn explain<V: Write>(error: &Error, err: &mut V) -> u8
+    ensures { result ≤ 2 }
+{
+    match write_text(error, err) {
+        Ok(()) => 2,
+        Err(_) => 1,
+    }
+}
+
+fn write_text<V: Write>(error: &Error, err: &mut V) -> io::Result<()> {
+    write!(err, "{error}")?;
+    err.flush()
 }

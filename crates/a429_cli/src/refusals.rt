@@ -14,6 +14,10 @@ pub enum CommandRefusal {
     WordText,
     /// An even number of the word's 32 bits are ones.
     Parity,
+    /// The byte at this place of a line file, from 0, is the first that stands for nothing.
+    LineByte(usize),
+    /// The filter of this number, from 1, is the first that is none, or the 33rd.
+    Filter(usize),
     /// The table has this fault at this place.
     Table(FaultKind, TablePlace),
     /// The interval of the group's output of this source admits no period of the grid.
@@ -37,6 +41,8 @@ impl fmt::Display for CommandRefusal {
             CommandRefusal::File(name) => write!(f, "refused file {name}"),
             CommandRefusal::WordText => write!(f, "refused word-text"),
             CommandRefusal::Parity => write!(f, "refused parity"),
+            CommandRefusal::LineByte(place) => write!(f, "refused line byte {place}"),
+            CommandRefusal::Filter(number) => write!(f, "refused filter {number}"),
             CommandRefusal::Table(kind, place) => write!(f, "refused table {kind} {place}"),
             CommandRefusal::Unfit { group, source } => {
                 write!(f, "refused unfit {group} {source}")

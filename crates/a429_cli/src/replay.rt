@@ -4,21 +4,23 @@ ghost use Rattle.std.specs.List.{AllByRecursion};
 ghost use Rattle.std.specs.Io.KnownBytes.{Appends};
 ghost use Rattle.a429_slots.specs.Proposed.{Proposed};
 ghost use Rattle.a429_cli.specs.Files.{IsFirstUnread};
+ghost use Rattle.a429_cli.specs.Outputs.{CountsFault};
 ghost use Rattle.a429_cli.specs.Playing.{HasTable};
-ghost use Rattle.a429_cli.specs.RefusalText.{OrMemory, refusal_line};
+ghost use Rattle.a429_cli.specs.RefusalText.{OrMemory};
 ghost use Rattle.a429_cli.specs.Stations.{IsTableRefusal};
 ghost use Rattle.a429_cli.specs.Replaying.{ReplayInput, IsInput, IsStart, IsScriptRefusal, IsOutcome, IsReplay};
 ghost use Rattle.a429_cli.specs.Opened.{IsOpened, input_of};
 
+use crate::buffer::Lines;
+use crate::endings::{finish, refuse};
 use crate::files::FileReader;
-use crate::playing::{Lines, play_all};
+use crate::output::{Output, OutputFault};
+use crate::playing::play_all;
 use crate::reading::{read_file, read_files};
 use crate::refusals::CommandRefusal;
 use crate::script::{ScriptEvent, read_script};
 use crate::station::Station;
 use std::alloc::Global;
-use std::io;
-use std::io::Write;
 
 /// The bytes of the files that a replay reads.
 #[derive(Drop)]
@@ -68,62 +70,48 @@ fn prepare(alloc: Global, input: &Input) -> Result<Prepared, CommandRefusal>
     Ok(Prepared { station, events })
 }
 
-/// Writes the line of a refusal. The status is 1.
-pub fn refuse<W: Write>(out: &mut W, refusal: &CommandRefusal) -> io::Result<u8>
-    ensures status { IfOk result (λ status. status ≡ 1) }
-    ensures line { OnOk result (Appends (W.contents out.old) (W.contents out.new) (refusal_line refusal.now ++ 10 ∷ [])) }
-{
-    writeln!(out, "{refusal}")?;
-    out.flush()?;
-    Ok(1)
-}
-
-/// Plays the events on the station, and writes the lines that they come to. Where memory is refused in the
+/// Plays the events on the station, and puts the lines that they come to. Where memory is refused in the
 /// midst, these lines end with the one that says so.
-fn play_prepared<W: Write>(
+fn play_prepared<O: Output>(
     alloc: Global,
     prepared: Prepared,
     further: &[Vec<u8>],
-    out: &mut W,
-) -> io::Result<u8>
+    out: &mut O,
+) -> Result<u8, OutputFault>
     requires { AllByRecursion (HasTable (length further.now)) prepared.events.items }
     ensures played { IfOk result (λ status. (i : ReplayInput) (q : Proposed) → i.further ≡ map (λ t. t.items) further.now → IsOpened q prepared.station
-        → (bytes : List ℕ) × IsOutcome i q prepared.events.items status bytes × Appends (W.contents out.old) (W.contents out.new) bytes) }
+        → (bytes : List ℕ) × IsOutcome i q prepared.events.items status bytes × Appends (O.contents out.old) (O.contents out.new) bytes) }
     ensures status { IfOk result (λ status. status ≤ 1) }
+    ensures faults { CountsFault result (O.failures out.old) (O.failures out.new) }
 {
     let Prepared { station, events } = prepared;
     let Station { names, mut state } = station;
     let mut lines = Lines::new(alloc);
     let sufficed = play_all(alloc, &mut state, &names, further, &events, &mut lines, out)?;
-    out.write_all(&lines.text)?;
-    if !sufficed {
-        return refuse(out, &CommandRefusal::Memory);
-    }
-    out.flush()?;
-    Ok(0)
+    finish(&lines.text, sufficed, out)
 }
 
-/// Plays a script on the station of a table, and writes one line for each event, or in their place the
+/// Plays a script on the station of a table, and puts one line for each event, or in their place the
 /// one line of a refusal. The status is 0, or 1 where it was refused, by want of memory also in the midst.
-/// The error is the writer's.
-pub fn replay<F: FileReader, W: Write>(
+pub fn replay<F: FileReader, O: Output>(
     alloc: Global,
     files: &mut F,
     table: &str,
     script: &str,
     further: &[&str],
-    out: &mut W,
-) -> io::Result<u8>
+    out: &mut O,
+) -> Result<u8, OutputFault>
     ensures replayed { IsTrue (F.tells files.old) → IfOk result (λ status. (bytes : List ℕ)
-        × IsReplay (F.file files.old) table.now script.now (map (λ n. n.now) further.now) status bytes × Appends (W.contents out.old) (W.contents out.new) bytes) }
+        × IsReplay (F.file files.old) table.now script.now (map (λ n. n.now) further.now) status bytes × Appends (O.contents out.old) (O.contents out.new) bytes) }
     ensures status { IfOk result (λ status. status ≤ 1) }
+    ensures faults { CountsFault result (O.failures out.old) (O.failures out.new) }
 {
     let input = match read_input(alloc, files, table, script, further) {
         Ok(input) => input,
-        Err(refusal) => return refuse(out, &refusal),
+        Err(refusal) => return refuse(alloc, &refusal, out),
     };
     match prepare(alloc, &input) {
         Ok(prepared) => play_prepared(alloc, prepared, &input.further, out),
-        Err(refusal) => refuse(out, &refusal),
+        Err(refusal) => refuse(alloc, &refusal, out),
     }
 }

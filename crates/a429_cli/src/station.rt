@@ -1,12 +1,12 @@
 //! The station of a table, opened for a script.
-ghost use Rattle.std.specs.Prelude.{◌≡◌, ◌≢◌, [], IfOk, MatchResult, string_bytes};
+ghost use Rattle.std.specs.Prelude.{◌≡◌, ◌≢◌, [], Ok, IfOk, MatchResult, string_bytes};
 ghost use Rattle.a429_equipment.specs.Reading.{reading};
 ghost use Rattle.a429_slots.specs.Proposed.{Proposed};
 ghost use Rattle.a429_slots.specs.Faults.{IsFaultOf};
 ghost use Rattle.a429_slots.specs.declared.planner.PlanFault.TheVariants.{Unfit, TooManyBuses};
 ghost use Rattle.a429_cli.specs.Opened.{IsOpened};
 ghost use Rattle.a429_cli.specs.RefusalText.{OrMemory};
-ghost use Rattle.a429_cli.specs.Stations.{IsProposedBy, IsTableRefusal, IsPlanRefusal, group_name, output_name};
+ghost use Rattle.a429_cli.specs.Stations.{IsProposedBy, IsTableFault, IsTableRefusal, IsPlanRefusal, IsUnfitNamed, group_name, output_name};
 
 use crate::names::Names;
 use crate::refusals::CommandRefusal;
@@ -35,7 +35,9 @@ impl Station {
         let names = Names::of(alloc, proposal.equipment())?;
         match State::open(alloc, proposal, 0) {
             Ok(state) => Ok(Station { names, state }),
-            Err(OpenFault::SlotsSpent | OpenFault::NoMemory) => Err(CommandRefusal::Memory),
+            Err(OpenFault::NoMemory) => Err(CommandRefusal::Memory),
+            // the frames of a plan are far too short for that
+            Err(OpenFault::SlotsSpent) => unreachable!(),
         }
     }
 }
@@ -44,11 +46,19 @@ impl Station {
 pub fn propose(alloc: Global, table: &[u8]) -> Result<Proposal<OUTPUTS>, CommandRefusal>
     ensures { MatchResult result (IsProposedBy table.now) (OrMemory (IsTableRefusal table.now)) }
 {
+    let equipment = read_table(alloc, table)?;
+    match Proposal::of(alloc, equipment) {
+        Ok(proposal) => Ok(proposal),
+        Err(none) => Err(plan_refusal(alloc, &none)),
+    }
+}
+
+/// The equipment of a table's bytes. Refused is the table's fault.
+pub fn read_table(alloc: Global, table: &[u8]) -> Result<Equipment, CommandRefusal>
+    ensures { MatchResult result (λ t. reading table.now ≡ Ok t) (OrMemory (IsTableFault table.now)) }
+{
     match Equipment::read(alloc, table) {
-        Ok(equipment) => match Proposal::of(alloc, equipment) {
-            Ok(proposal) => Ok(proposal),
-            Err(none) => Err(plan_refusal(alloc, &none)),
-        },
+        Ok(equipment) => Ok(equipment),
         Err(TableFault::NoMemory) => Err(CommandRefusal::Memory),
         Err(TableFault::At(kind, place)) => Err(CommandRefusal::Table(kind, place)),
     }
@@ -67,8 +77,10 @@ fn plan_refusal(alloc: Global, none: &NoProposal) -> CommandRefusal
     }
 }
 
-fn unfit(alloc: Global, equipment: &Equipment, group: usize, output: usize) -> CommandRefusal
-    ensures { IsFaultOf equipment.now (Unfit group output) → OrMemory (IsPlanRefusal equipment.now) result }
+/// The refusal of an unfit output, by the names of its group and its source.
+pub fn unfit(alloc: Global, equipment: &Equipment, group: usize, output: usize) -> CommandRefusal
+    ensures named { OrMemory (IsUnfitNamed equipment.now group output) result }
+    ensures first { IsFaultOf equipment.now (Unfit group output) → OrMemory (IsPlanRefusal equipment.now) result }
 {
     let source = String::from_str(alloc, source_name(equipment, group, output));
     let group = String::from_str(alloc, group_name(equipment, group));

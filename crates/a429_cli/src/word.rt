@@ -1,15 +1,18 @@
 //! The command `word`.
-ghost use Rattle.std.specs.Prelude.{◌≡◌, ◌≤◌, List, ℕ, IfOk, OnOk};
+ghost use Rattle.std.specs.Prelude.{◌≡◌, ◌≤◌, ◌⊎◌, List, ℕ, IfOk, OnOk};
 ghost use Rattle.std.specs.List.{flat_map};
 ghost use Rattle.a429_word.specs.Bits.{bcd_of};
 ghost use Rattle.std.specs.Fmt.{decimal};
 ghost use Rattle.std.specs.Io.KnownBytes.{Appends};
+ghost use Rattle.a429_cli.specs.Outputs.{CountsFault, IsMemoryReply};
 ghost use Rattle.a429_cli.specs.WordLines.{IsWordReply, bcd_digits, bcd_line, bnr_line, data_text, fields_line, name_text, status_text, word_lines};
 
+use crate::endings::{finish, refuse, refuse_memory};
+use crate::output::{Output, OutputFault};
 use crate::refusals::CommandRefusal;
-use crate::replay::refuse;
 use crate::script::raw_word;
 use a429_word::{Label, Sdi, Ssm, Word};
+use std::alloc::Global;
 use std::io;
 use std::io::Write;
 
@@ -93,18 +96,22 @@ fn write_word<W: Write>(out: &mut W, word: Word) -> io::Result<()>
 }
 
 /// Tells what the word of eight hexadecimal digits says, in either case. Another text is refused
-/// (`word-text`), and one of even parity (`parity`). The error is the writer's.
-pub fn tell_word<W: Write>(text: &str, out: &mut W) -> io::Result<u8>
-    ensures replied { IfOk result (λ status. (bytes : List ℕ) × IsWordReply text.now status bytes × Appends (W.contents out.old) (W.contents out.new) bytes) }
+/// (`word-text`), and one of even parity (`parity`). The status is 0, or 1 where it was refused.
+pub fn tell_word<O: Output>(alloc: Global, text: &str, out: &mut O) -> Result<u8, OutputFault>
+    ensures replied { IfOk result (λ status. (bytes : List ℕ) × (IsWordReply text.now status bytes ⊎ IsMemoryReply status bytes)
+        × Appends (O.contents out.old) (O.contents out.new) bytes) }
     ensures status { IfOk result (λ status. status ≤ 1) }
+    ensures faults { CountsFault result (O.failures out.old) (O.failures out.new) }
 {
     let Some(raw) = raw_word(text.as_bytes()) else {
-        return refuse(out, &CommandRefusal::WordText);
+        return refuse(alloc, &CommandRefusal::WordText, out);
     };
     let Ok(word) = Word::from_raw(raw) else {
-        return refuse(out, &CommandRefusal::Parity);
+        return refuse(alloc, &CommandRefusal::Parity, out);
     };
-    write_word(out, word)?;
-    out.flush()?;
-    Ok(0)
+    let mut lines = Vec::new(alloc);
+    match write_word(&mut lines, word) {
+        Ok(()) => finish(&lines, true, out),
+        Err(_) => refuse_memory(out),
+    }
 }

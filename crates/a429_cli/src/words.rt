@@ -1,9 +1,9 @@
 //! The words of the command line.
 ghost use Rattle.std.specs.Prelude.{◌≡◌, Some, map, IfOk, MatchResult};
 ghost use Rattle.clap.specs.Words.{app_of, found_of, kind_of, rows_of};
-ghost use Rattle.a429_cli.specs.CommandLine.{command_line, replay_app, word_app};
+ghost use Rattle.a429_cli.specs.CommandLine.{check_app, command_line, lines_app, plan_app, replay_app, word_app};
 ghost use Rattle.a429_cli.specs.Requests.{Request, HasNames, request_of, request_words};
-ghost use Rattle.a429_cli.specs.AskedRows.{replay_request, word_request};
+ghost use Rattle.a429_cli.specs.AskedRows.{check_request, lines_request, plan_request, replay_request, word_request};
 
 use clap::error::ErrorKind;
 use clap::{Arg, ArgAction, ArgMatches, Command, Error};
@@ -15,6 +15,22 @@ const PROGRAM: &str =
 const WORD: &str = "Tell what a word of 32 bits says: its fields, and its data as BNR and as BCD";
 
 const HEX: &str = "The word, as eight hexadecimal digits";
+
+const LINES: &str =
+    "Tell what a reader of a line reports: words, faults of the line, and what is left of it";
+
+const FILE: &str =
+    "The line, a byte a symbol: `1` for Hi, `0` for Lo, `.` for Null; spaces and line feeds are skipped";
+
+const FILTER: &str =
+    "Filters of labels, `LLL/MMM` in octal, at most 32: then just the words that one of them passes are told";
+
+const PLAN: &str =
+    "Plan the slot tables of a station on the fewest buses, and print them with the bound that shows it";
+
+const CHECK: &str = "Tell whether the text of a plan shows the fewest buses for a station";
+
+const TEXT: &str = "Text of a plan, as `plan` prints it, whoever wrote it";
 
 const REPLAY: &str = "Play the events of a script on a station and print what each is answered";
 
@@ -33,6 +49,33 @@ fn word_command<'a>(alloc: Global) -> Result<Command<'a>, AllocError>
     Command::new(alloc, "word").about(WORD).arg(hex)
 }
 
+fn lines_command<'a>(alloc: Global) -> Result<Command<'a>, AllocError>
+    ensures { IfOk result (λ c. app_of c ≡ lines_app) }
+{
+    let file = Arg::new(alloc, "FILE").required(true).help(FILE);
+    let filter = Arg::new(alloc, "FILTER")
+        .action(ArgAction::Append)
+        .help(FILTER);
+    let lines = Command::new(alloc, "lines").about(LINES);
+    lines.arg(file)?.arg(filter)
+}
+
+fn plan_command<'a>(alloc: Global) -> Result<Command<'a>, AllocError>
+    ensures { IfOk result (λ c. app_of c ≡ plan_app) }
+{
+    let table = Arg::new(alloc, "TABLE").required(true).help(TABLE);
+    Command::new(alloc, "plan").about(PLAN).arg(table)
+}
+
+fn check_command<'a>(alloc: Global) -> Result<Command<'a>, AllocError>
+    ensures { IfOk result (λ c. app_of c ≡ check_app) }
+{
+    let table = Arg::new(alloc, "TABLE").required(true).help(TABLE);
+    let text = Arg::new(alloc, "PLAN").required(true).help(TEXT);
+    let check = Command::new(alloc, "check").about(CHECK);
+    check.arg(table)?.arg(text)
+}
+
 fn replay_command<'a>(alloc: Global) -> Result<Command<'a>, AllocError>
     ensures { IfOk result (λ c. app_of c ≡ replay_app) }
 {
@@ -49,6 +92,9 @@ fn build_command<'a>(alloc: Global) -> Result<Command<'a>, AllocError>
     ensures { IfOk result (λ c. app_of c ≡ command_line) }
 {
     let word = word_command(alloc)?;
+    let lines = lines_command(alloc)?;
+    let plan = plan_command(alloc)?;
+    let check = check_command(alloc)?;
     let replay = replay_command(alloc)?;
     Command::new(alloc, "a429")
         .bin_name("a429")?
@@ -56,6 +102,9 @@ fn build_command<'a>(alloc: Global) -> Result<Command<'a>, AllocError>
         .no_binary_name(true)
         .subcommand_required(true)
         .subcommand(word)?
+        .subcommand(lines)?
+        .subcommand(plan)?
+        .subcommand(check)?
         .subcommand(replay)
 }
 
@@ -65,6 +114,20 @@ pub enum Asked<'a> {
     /// To tell what the word of this text says.
     Word {
         text: &'a str,
+    },
+    /// To tell what a reader reports of the line in the file of this name, with filters of these texts.
+    Lines {
+        file: &'a str,
+        filters: Vec<&'a str>,
+    },
+    /// To print the plan of the table of this name.
+    Plan {
+        table: &'a str,
+    },
+    /// To judge the text of this name as a plan of the table of this name.
+    Check {
+        table: &'a str,
+        plan: &'a str,
     },
     /// To play the script of this name on the station of the table of this name, beside further tables.
     Replay {
@@ -86,6 +149,15 @@ pub fn parse<'a>(alloc: Global, words: &'a [&'a str]) -> Result<Asked<'a>, Error
     if let Some(found) = matches.subcommand_matches("word") {
         return asked_word(found);
     }
+    if let Some(found) = matches.subcommand_matches("lines") {
+        return asked_lines(alloc, found);
+    }
+    if let Some(found) = matches.subcommand_matches("plan") {
+        return asked_plan(found);
+    }
+    if let Some(found) = matches.subcommand_matches("check") {
+        return asked_check(found);
+    }
     if let Some(found) = matches.subcommand_matches("replay") {
         return asked_replay(alloc, found);
     }
@@ -100,6 +172,40 @@ fn asked_word<'a>(found: &ArgMatches<'a>) -> Result<Asked<'a>, Error>
         Some(text) => Ok(Asked::Word { text }),
         None => Err(Error::from(AllocError)),
     }
+}
+
+/// What the words of `lines` ask for.
+fn asked_lines<'a>(alloc: Global, found: &ArgMatches<'a>) -> Result<Asked<'a>, Error>
+    ensures { MatchResult result (λ asked. (r : Request) → lines_request (rows_of (found_of found.now)) ≡ Some r → request_of asked ≡ r) (λ e. kind_of e ≡ ErrorKind.OutOfMemory) }
+{
+    let Some(file) = found.get_str("FILE") else {
+        return Err(Error::from(AllocError));
+    };
+    let filters = match found.get_strs("FILTER") {
+        Some(filters) => Vec::from_slice(alloc, filters)?,
+        None => Vec::new(alloc),
+    };
+    Ok(Asked::Lines { file, filters })
+}
+
+/// What the words of `plan` ask for.
+fn asked_plan<'a>(found: &ArgMatches<'a>) -> Result<Asked<'a>, Error>
+    ensures { MatchResult result (λ asked. (r : Request) → plan_request (rows_of (found_of found.now)) ≡ Some r → request_of asked ≡ r) (λ e. kind_of e ≡ ErrorKind.OutOfMemory) }
+{
+    match found.get_str("TABLE") {
+        Some(table) => Ok(Asked::Plan { table }),
+        None => Err(Error::from(AllocError)),
+    }
+}
+
+/// What the words of `check` ask for.
+fn asked_check<'a>(found: &ArgMatches<'a>) -> Result<Asked<'a>, Error>
+    ensures { MatchResult result (λ asked. (r : Request) → check_request (rows_of (found_of found.now)) ≡ Some r → request_of asked ≡ r) (λ e. kind_of e ≡ ErrorKind.OutOfMemory) }
+{
+    let (Some(table), Some(plan)) = (found.get_str("TABLE"), found.get_str("PLAN")) else {
+        return Err(Error::from(AllocError));
+    };
+    Ok(Asked::Check { table, plan })
 }
 
 /// What the words of `replay` ask for.

@@ -5,16 +5,17 @@ use Rattle.a429_cli.specs.RefusalText.{refusal_line}
 use Rattle.a429_cli.specs.Stations.{IsTableRefusal}
 use Rattle.a429_cli.specs.Replaying.{IsReplayRefusal, IsScriptRefusal}
 use Rattle.a429_cli.specs.Opened.{input_of}
-use Rattle.a429_cli.proofs.Refused.{both_ok, or_memory_weaker}
+use Rattle.a429_cli.proofs.Refused.{both_ok, or_memory_weaker, told_or_memory}
 use Rattle.a429_cli.proofs.replay.replay.Goals as goal
 
 pub returns-in-Err-clause-replayed : goal.returns-in-Err-clause-replayed
 returns-in-Err-clause-replayed g c = λ tells.
     let file = g.F.FileReader.file c.args.files.now in
     let names = map (λ n. n.now) c.args.further.now in
-    let why = or_memory_weaker (IsFirstUnread file (c.args.table.now ∷ c.args.script.now ∷ names)) (IsReplayRefusal file c.args.table.now c.args.script.now names) c.in-Err.refusal
+    let begun = IsReplayRefusal file c.args.table.now c.args.script.now names in
+    let why = or_memory_weaker (IsFirstUnread file (c.args.table.now ∷ c.args.script.now ∷ names)) begun c.in-Err.refusal
     (λ unread. inl unread) (c.in-Err.ensures tells) in
-    both_ok c.refuse.result _ _ (λ status is wrote. (refusal_line c.in-Err.refusal ++ 10 ∷ [], inl (c.in-Err.refusal, why, is, refl), wrote)) c.refuse.ensures.status c.refuse.ensures.line
+    both_ok c.refuse.result _ _ (λ status is line. (refusal_line line.0 ++ 10 ∷ [], inl (line.0, told_or_memory begun c.in-Err.refusal line.0 line.1 why, is, refl), line.2)) c.refuse.ensures.status c.refuse.ensures.line
 
 pub play_prepared-requires : goal.play_prepared-requires
 play_prepared-requires g c = rw c.deref.ensures.value c.in-Ok-prepare.ensures.tables
@@ -32,6 +33,7 @@ returns-clause-replayed g c = λ tells.
     let file = g.F.FileReader.file c.args.files.now in
     let names = map (λ n. n.now) c.args.further.now in
     let i = input_of c.in-Ok.input in
-    let why = or_memory_weaker (λ r. IsTableRefusal i.table r ⊎ IsScriptRefusal i r) (IsReplayRefusal file c.args.table.now c.args.script.now names) c.in-Err-prepare.refusal
+    let begun = IsReplayRefusal file c.args.table.now c.args.script.now names in
+    let why = or_memory_weaker (λ r. IsTableRefusal i.table r ⊎ IsScriptRefusal i r) begun c.in-Err-prepare.refusal
     (λ cause. inr (i, c.in-Ok.ensures tells, cause)) c.in-Err-prepare.ensures.prepared in
-    both_ok c.refuse-in-Err-prepare.result _ _ (λ status is wrote. (refusal_line c.in-Err-prepare.refusal ++ 10 ∷ [], inl (c.in-Err-prepare.refusal, why, is, refl), wrote)) c.refuse-in-Err-prepare.ensures.status c.refuse-in-Err-prepare.ensures.line
+    both_ok c.refuse-in-Err-prepare.result _ _ (λ status is line. (refusal_line line.0 ++ 10 ∷ [], inl (line.0, told_or_memory begun c.in-Err-prepare.refusal line.0 line.1 why, is, refl), line.2)) c.refuse-in-Err-prepare.ensures.status c.refuse-in-Err-prepare.ensures.line

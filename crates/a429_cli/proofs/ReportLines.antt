@@ -1,0 +1,76 @@
+-- What is printed of the reports of a line, piece by piece.
+use Rattle.std.proofs.Common.{◌≡◌, ◌∙◌, ◌+◌, ◌∷◌, [], ◌++◌, ℕ, List, Bool, true, false, ap, arith, refl, sym, length, take, append_assoc, append-nil, codes, inl, inr}
+use Rattle.std.specs.Prelude.{Option, Some, None, filter, filter_map}
+use Rattle.std.proofs.lemmas.Grind.{flat_map-append}
+use Rattle.std.proofs.lemmas.List.{length-map, map-append}
+use Rattle.std.proofs.lemmas.List.Elements.{filter-append, filter_map-append}
+use Rattle.std.proofs.Math.Seq.{take-append_seam, take-append-add, take-length}
+use Rattle.std.specs.List.{flat_map}
+use Rattle.a429_line.specs.Reports.{first_piece, later_pieces, reports, runs, runs_from}
+use Rattle.a429_line.specs.declared.found.Found.{Found}
+use Rattle.a429_line.specs.declared.found.Symbol.{Symbol}
+use Rattle.a429_filter.specs.Filters.{filters_of}
+use Rattle.a429_filter.specs.Receiving.{accepts}
+use Rattle.a429_filter.specs.Sources.{raw_found}
+use Rattle.a429_filter.specs.declared.filters.Filter.{Filter}
+use Rattle.a429_equipment.specs.Stated.{filter_of}
+use Rattle.a429_cli.specs.LineFiles.{symbol_of, symbols_of}
+use Rattle.a429_cli.specs.LineReports.{found_line, printed, received, word_line}
+use Rattle.a429_cli.specs.LineReplies.{IsPrinted, IsTold, IsToldInPart, filter_list}
+use Rattle.a429_cli.specs.Outputs.{ending, status_of}
+
+-- ---- reports
+
+pub printed-nil : (filters : Option (List Filter)) → printed filters [] ≡ []
+printed-nil None = refl
+printed-nil (Some fs) = refl
+
+pub printed-append : (filters : Option (List Filter)) (xs ys : List Found) → printed filters (xs ++ ys) ≡ printed filters xs ++ printed filters ys
+printed-append None xs ys = flat_map-append found_line xs ys
+printed-append (Some fs) xs ys =
+    ap (flat_map word_line) (ap (filter (accepts (Some fs))) (filter_map-append raw_found xs ys) ∙ filter-append (accepts (Some fs)) (filter_map raw_found xs) (filter_map raw_found ys))
+    ∙ flat_map-append word_line (received (Some fs) xs) (received (Some fs) ys)
+
+-- of a line without symbols
+pub no_reports : reports (symbols_of []) ≡ []
+unfolding reports runs runs_from first_piece later_pieces
+no_reports = refl
+
+pub nothing_left : (bytes : List ℕ) → length bytes ≡ 0 → bytes ≡ []
+nothing_left [] none = refl
+nothing_left (b ∷ bytes) none = absurd (omega (arith, none))
+
+-- of a line of which a piece was taken
+pub pieces_whole : (bytes past left piece later : List ℕ) → bytes ≡ past ++ left → piece ++ later ≡ left → bytes ≡ (past ++ piece) ++ later
+pieces_whole bytes past left piece later is cut = is ∙ (ap (λ (rest : List ℕ). past ++ rest) (sym cut) ∙ sym (append_assoc past piece later))
+
+pub symbols-append : (xs ys : List ℕ) → symbols_of (xs ++ ys) ≡ symbols_of xs ++ symbols_of ys
+symbols-append xs ys = filter_map-append symbol_of xs ys
+
+pub symbols_cut : (bytes past left : List ℕ) → bytes ≡ past ++ left → symbols_of bytes ≡ symbols_of past ++ symbols_of left
+symbols_cut bytes past left is = ap symbols_of is ∙ symbols-append past left
+
+-- all reports of a first part
+pub told_before : (filters : Option (List Filter)) (line first later : List Symbol) → line ≡ first ++ later → IsToldInPart filters line (printed filters (reports first))
+told_before filters line first later is = (length first, length (reports first), rw (is, take-append_seam first later, take-length (reports first)) refl)
+
+-- these and some of those that a further piece adds
+pub told_within : (filters : Option (List Filter)) (line first later : List Symbol) (earlier found : List Found) (n : ℕ) → line ≡ first ++ later → reports first ≡ earlier ++ found
+    → IsToldInPart filters line (printed filters earlier ++ printed filters (take n found))
+told_within filters line first later earlier found n is whole =
+    (length first, length earlier + n, rw (is, take-append_seam first later, whole, take-append-add earlier found n, printed-append filters earlier (take n found)) refl)
+
+-- with the end of the lines
+pub told_ended : (filters : Option (List Filter)) (line : List Symbol) (all : Bool) (lines : List ℕ) → IsPrinted filters line all lines → IsTold filters line (status_of all) (lines ++ ending all)
+told_ended filters line true lines is = inl (append-nil lines ∙ is, refl)
+told_ended filters line false lines part = inr (lines, part, refl, sym (append_assoc lines (codes "refused memory") (10 ∷ [])))
+
+-- ---- filters
+
+pub filter_list-push : (texts : List (List ℕ)) (text : List ℕ) → Some (filters_of (filter_list texts) ++ filter_of text ∷ []) ≡ filter_list (texts ++ text ∷ [])
+filter_list-push [] text = refl
+filter_list-push (t ∷ ts) text = ap (λ (fs : List Filter). Some (filter_of t ∷ fs)) (sym (map-append filter_of ts (text ∷ [])))
+
+pub length-filter_list : (texts : List (List ℕ)) → length (filters_of (filter_list texts)) ≡ length texts
+length-filter_list [] = refl
+length-filter_list (t ∷ ts) = length-map (t ∷ ts) filter_of

@@ -1,0 +1,65 @@
+-- The command `lines`: what it writes, and its status.
+use Rattle.std.specs.Prelude.{◌≡◌, ◌==◌, ◌||◌, ◌+◌, ◌∷◌, [], ◌++◌, ◌⊎◌, ℕ, List, Bool, true, false, Option, Some, None, codes, map, take, is_none, if◌then◌else◌}
+use Rattle.a429_line.specs.declared.found.Symbol.{Symbol}
+use Rattle.a429_line.specs.Reports.{reports, rest}
+use Rattle.a429_filter.specs.declared.filters.Filter.{Filter}
+use Rattle.a429_equipment.specs.Stated.{filter_of}
+use Rattle.a429_equipment.specs.FilterTexts.{filter_read}
+use Rattle.a429_cli.specs.Files.{readable, IsFileRefusal}
+use Rattle.a429_cli.specs.LineFiles.{symbols_of, first_bad_byte}
+use Rattle.a429_cli.specs.LineReports.{printed, rest_line}
+use Rattle.a429_cli.specs.RefusalText.{OrMemory, refusal_line}
+use Rattle.a429_cli.specs.declared.refusals.CommandRefusal.{CommandRefusal}
+use Rattle.a429_cli.specs.declared.refusals.CommandRefusal.TheVariants as refused
+
+-- the number from 1 of the first filter that is refused, behind n that are not: it is not of its form, or 32 stand before it
+abbrev pub first_bad_filter : ℕ → List (List ℕ) → Option ℕ
+first_bad_filter n [] = None
+first_bad_filter n (text ∷ texts) = if n == 32 || is_none (filter_read text) then Some (n + 1) else first_bad_filter (n + 1) texts
+
+-- the filters of texts; no list where there are none
+abbrev pub filter_list : List (List ℕ) → Option (List Filter)
+filter_list [] = None
+filter_list (text ∷ texts) = Some (map filter_of (text ∷ texts))
+
+-- the number is that of the first filter that is refused
+abbrev pub IsFilterRefusal : List (List ℕ) → CommandRefusal → Type 0
+IsFilterRefusal filters (refused.Filter n) = first_bad_filter 0 filters ≡ Some n
+IsFilterRefusal filters _ = ⊥
+
+-- the place is that of the first byte that a line file cannot have
+abbrev pub IsByteRefusal : List ℕ → CommandRefusal → Type 0
+IsByteRefusal bytes (refused.LineByte place) = first_bad_byte bytes ≡ Some place
+IsByteRefusal bytes _ = ⊥
+
+-- these are the bytes of the file, and none of the filters is refused
+abbrev pub IsRead : (List ℕ → Option (List ℕ)) → List ℕ → List (List ℕ) → List ℕ → Type 0
+IsRead file name filters bytes = (readable (file name) ≡ Some bytes) × (first_bad_filter 0 filters ≡ None)
+
+-- why nothing is told of a line: the file, then a filter, then a byte
+abbrev pub IsLinesRefusal : (List ℕ → Option (List ℕ)) → List ℕ → List (List ℕ) → CommandRefusal → Type 0
+IsLinesRefusal file name filters refusal =
+    IsFileRefusal file name refusal
+    ⊎ ((bytes : List ℕ) × (readable (file name) ≡ Some bytes) × IsFilterRefusal filters refusal)
+    ⊎ ((bytes : List ℕ) × IsRead file name filters bytes × IsByteRefusal bytes refusal)
+
+-- these lines are what is printed of some reports of a first part of a line
+abbrev pub IsToldInPart : Option (List Filter) → List Symbol → List ℕ → Type 0
+IsToldInPart filters line lines = (k : ℕ) × (n : ℕ) × (lines ≡ printed filters (take n (reports (take k line))))
+
+-- these lines are what is printed of all reports of a line and of its rest, or else of some reports
+abbrev pub IsPrinted : Option (List Filter) → List Symbol → Bool → List ℕ → Type 0
+IsPrinted filters line true lines = lines ≡ printed filters (reports line) ++ rest_line filters (rest line)
+IsPrinted filters line false lines = IsToldInPart filters line lines
+
+-- what is told of a line, and the status: all its reports and its rest, or some reports and then that memory was refused
+abbrev pub IsTold : Option (List Filter) → List Symbol → ℕ → List ℕ → Type 0
+IsTold filters line status bytes =
+    ((bytes ≡ printed filters (reports line) ++ rest_line filters (rest line)) × (status ≡ 0))
+    ⊎ ((lines : List ℕ) × IsToldInPart filters line lines × (status ≡ 1) × (bytes ≡ lines ++ codes "refused memory" ++ 10 ∷ []))
+
+-- what is written of a line file with filters of these texts, and the status: the line of a refusal, or what is told of the line
+abbrev pub IsLinesReply : (List ℕ → Option (List ℕ)) → List ℕ → List (List ℕ) → ℕ → List ℕ → Type 0
+IsLinesReply file name filters status bytes =
+    ((refusal : CommandRefusal) × OrMemory (IsLinesRefusal file name filters) refusal × (status ≡ 1) × (bytes ≡ refusal_line refusal ++ 10 ∷ []))
+    ⊎ ((content : List ℕ) × IsRead file name filters content × (first_bad_byte content ≡ None) × IsTold (filter_list filters) (symbols_of content) status bytes)

@@ -1,0 +1,34 @@
+-- What the program prints of the reports of a line (profile: output).
+use Rattle.std.specs.Prelude.{◌++◌, ◌∷◌, [], ℕ, List, Option, Some, None, codes, filter, filter_map, if◌then◌else◌, nat_lt}
+use Rattle.std.specs.List.{flat_map}
+use Rattle.std.specs.Fmt.{decimal}
+use Rattle.a429_line.specs.declared.found.Found.{Found}
+use Rattle.a429_line.specs.declared.found.Found.TheVariants.{Word, Parity, Short, Long, Gap}
+use Rattle.a429_filter.specs.declared.filters.Filter.{Filter}
+use Rattle.a429_filter.specs.Receiving.{accepts}
+use Rattle.a429_filter.specs.Sources.{raw_found}
+use Rattle.a429_cli.specs.Lines.{hex}
+
+abbrev pub word_line : ℕ → List ℕ
+word_line raw = codes "word " ++ hex raw ++ 10 ∷ []
+
+abbrev pub found_line : Found → List ℕ
+found_line (Word raw) = word_line raw
+found_line (Parity raw) = codes "parity " ++ hex raw ++ 10 ∷ []
+found_line (Short bits) = codes "short " ++ decimal bits ++ 10 ∷ []
+found_line Long = codes "long" ++ 10 ∷ []
+found_line (Gap nulls) = codes "gap " ++ decimal nulls ++ 10 ∷ []
+
+-- the words that a socket with these filters gives of a line with these reports
+abbrev pub received : Option (List Filter) → List Found → List ℕ
+received filters found = filter (accepts filters) (filter_map raw_found found)
+
+-- each report, or where there is a list of filters each word that a socket gives
+abbrev pub printed : Option (List Filter) → List Found → List ℕ
+printed None found = flat_map found_line found
+printed (Some filters) found = flat_map word_line (received (Some filters) found)
+
+-- the bits at the end of a line that have no report, where there are any and no list of filters
+abbrev pub rest_line : Option (List Filter) → ℕ → List ℕ
+rest_line None rest = if nat_lt 0 rest then codes "rest " ++ decimal rest ++ 10 ∷ [] else []
+rest_line (Some filters) rest = []

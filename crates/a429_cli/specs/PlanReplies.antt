@@ -1,0 +1,70 @@
+-- The commands `plan` and `check`: what they write, and their status (profile: output).
+use Rattle.std.specs.Prelude.{◌≡◌, ◌∷◌, [], ◌++◌, ◌⊎◌, ℕ, List, Option, Ok, Err, Some, string_bytes}
+use Rattle.a429_equipment.specs.TableRecord.{TableRecord}
+use Rattle.a429_equipment.specs.Reading.{reading}
+use Rattle.a429_slots.specs.Proposed.{Proposed}
+use Rattle.a429_cert.specs.PlanText.{plan_text_of}
+use Rattle.a429_cert.specs.Due.{IsDue, IsFirstUnfitOf}
+use Rattle.a429_cert.specs.Verdicts.{verdict}
+use Rattle.a429_cert.specs.Printed.{verdict_text}
+use Rattle.a429_cert.specs.declared.due.DueTable.{DueTable}
+use Rattle.a429_cert.specs.declared.verdicts.Verdict.{Verdict}
+use Rattle.a429_cert.specs.declared.verdicts.Verdict.TheVariants as verdicts
+use Rattle.a429_cli.specs.Files.{AreRead, IsFirstUnread, IsFileRefusal, readable}
+use Rattle.a429_cli.specs.Stations.{IsProposedBy, IsTableRefusal, group_name, output_name}
+use Rattle.a429_cli.specs.RefusalText.{OrMemory, refusal_line}
+use Rattle.a429_cli.specs.declared.refusals.CommandRefusal.{CommandRefusal}
+use Rattle.a429_cli.specs.declared.refusals.CommandRefusal.TheVariants as refused
+
+-- ---- plan
+
+-- the text of the plan of the table in a file
+abbrev pub IsPlanTextOf : (List ℕ → Option (List ℕ)) → List ℕ → List ℕ → Type 0
+IsPlanTextOf file name text = (table : List ℕ) × (q : Proposed) × (readable (file name) ≡ Some table) × IsProposedBy table q × (text ≡ plan_text_of q.station q.plan)
+
+-- why there is none: the file, or its table, or the plan of that
+abbrev pub IsNoPlan : (List ℕ → Option (List ℕ)) → List ℕ → CommandRefusal → Type 0
+IsNoPlan file name refusal = IsFileRefusal file name refusal ⊎ ((table : List ℕ) × (readable (file name) ≡ Some table) × IsTableRefusal table refusal)
+
+-- what is written of the table in a file, and the status: the line of a refusal, or the text of its plan
+abbrev pub IsPlanReply : (List ℕ → Option (List ℕ)) → List ℕ → ℕ → List ℕ → Type 0
+IsPlanReply file name status bytes =
+    ((refusal : CommandRefusal) × OrMemory (IsNoPlan file name) refusal × (status ≡ 1) × (bytes ≡ refusal_line refusal ++ 10 ∷ []))
+    ⊎ (IsPlanTextOf file name bytes × (status ≡ 0))
+
+-- ---- check
+
+-- the fault of a table, or else its first output in table order that admits no grid period, by the names of group and source
+abbrev pub IsUnjudged : List ℕ → CommandRefusal → Type 0
+IsUnjudged table (refused.Table kind place) = reading table ≡ Err (kind, place)
+IsUnjudged table (refused.Unfit group source) =
+    (t : TableRecord) × (g : ℕ) × (o : ℕ) × (reading table ≡ Ok t) × IsFirstUnfitOf t g o × (string_bytes group ≡ group_name t g) × (string_bytes source ≡ output_name t g o)
+IsUnjudged table _ = ⊥
+
+-- the verdict on a text by a table's bytes
+abbrev pub IsJudged : List ℕ → List ℕ → Verdict → Type 0
+IsJudged table text v = (t : TableRecord) × (due : DueTable) × (reading table ≡ Ok t) × IsDue t due × (v ≡ verdict due text)
+
+-- the verdict on the text in a file by the table in another
+abbrev pub IsVerdictOf : (List ℕ → Option (List ℕ)) → List ℕ → List ℕ → Verdict → Type 0
+IsVerdictOf file name plan v = (table : List ℕ) × (text : List ℕ) × AreRead file (name ∷ plan ∷ []) (table ∷ text ∷ []) × IsJudged table text v
+
+-- why there is none: a file, or the table
+abbrev pub IsNoVerdict : (List ℕ → Option (List ℕ)) → List ℕ → List ℕ → CommandRefusal → Type 0
+IsNoVerdict file name plan refusal =
+    IsFirstUnread file (name ∷ plan ∷ []) refusal ⊎ ((table : List ℕ) × (text : List ℕ) × AreRead file (name ∷ plan ∷ []) (table ∷ text ∷ []) × IsUnjudged table refusal)
+
+-- 0 where the text shows the fewest buses
+abbrev pub verdict_status : Verdict → ℕ
+verdict_status verdicts.Fewest = 0
+verdict_status (verdicts.No _) = 1
+
+-- the line of a verdict, and its status
+abbrev pub IsVerdictReply : Verdict → ℕ → List ℕ → Type 0
+IsVerdictReply v status bytes = (status ≡ verdict_status v) × (bytes ≡ verdict_text v ++ 10 ∷ [])
+
+-- what is written of a table and a text in files, and the status: the line of a refusal, or of the verdict
+abbrev pub IsCheckReply : (List ℕ → Option (List ℕ)) → List ℕ → List ℕ → ℕ → List ℕ → Type 0
+IsCheckReply file name plan status bytes =
+    ((refusal : CommandRefusal) × OrMemory (IsNoVerdict file name plan) refusal × (status ≡ 1) × (bytes ≡ refusal_line refusal ++ 10 ∷ []))
+    ⊎ ((v : Verdict) × IsVerdictOf file name plan v × IsVerdictReply v status bytes)

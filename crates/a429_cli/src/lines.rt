@@ -1,0 +1,177 @@
+//! The command `lines`.
+ghost use Rattle.std.specs.Prelude.{◌≡◌, ◌==◌, ◌||◌, ◌≤◌, ◌++◌, ◌∷◌, [], List, ℕ, Some, None, IfOk, OnOk, IsTrue, MatchResult, is_none, length, map, not};
+ghost use Rattle.std.specs.Io.KnownBytes.{Appends, append_known};
+ghost use Rattle.a429_line.specs.Reports.{reports};
+ghost use Rattle.a429_line.specs.Standing.{StandsFor};
+ghost use Rattle.a429_line.specs.declared.found.Symbol.{Symbol};
+ghost use Rattle.a429_filter.specs.Filters.{filters_of};
+ghost use Rattle.a429_equipment.specs.Stated.{filter_of};
+ghost use Rattle.a429_equipment.specs.FilterTexts.{filter_read};
+ghost use Rattle.a429_cli.specs.LineFiles.{first_bad_byte, symbols_of};
+ghost use Rattle.a429_cli.specs.LineReplies.{IsFilterRefusal, IsLinesRefusal, IsLinesReply, IsPrinted, IsRead, IsTold, filter_list, first_bad_filter};
+ghost use Rattle.a429_cli.specs.Outputs.{CountsFault};
+ghost use Rattle.a429_cli.specs.RefusalText.{OrMemory};
+
+use crate::buffer::Lines;
+use crate::endings::{finish, refuse};
+use crate::files::FileReader;
+use crate::line_files::{first_bad_byte, push_symbols};
+use crate::output::{Output, OutputFault};
+use crate::reading::read_file;
+use crate::refusals::CommandRefusal;
+use crate::reports::{print_reports, push_rest};
+use a429_equipment::filter_of_text;
+use a429_filter::FilterSet;
+use a429_line::{Found, LineReader, Symbol};
+use std::alloc::{AllocError, Global};
+
+/// How many bytes of a line file are looked at together.
+const PIECE: usize = 4096;
+
+/// The bytes of a line file, and the filters of its receiver.
+#[derive(Drop)]
+struct Line {
+    bytes: Vec<u8>,
+    filters: FilterSet,
+}
+
+/// A reader of a line, with the symbols of the piece that it took last, and the reports that were due in it.
+#[derive(Drop)]
+struct Pieces {
+    reader: LineReader,
+    symbols: Vec<Symbol>,
+    found: Vec<Found>,
+}
+
+impl Pieces {
+    /// A reader at the start of its line.
+    fn new(alloc: Global) -> Pieces
+        ensures { StandsFor [] result.reader }
+    {
+        Pieces {
+            reader: LineReader::new(),
+            symbols: Vec::new(alloc),
+            found: Vec::new(alloc),
+        }
+    }
+
+    /// Takes the next piece of the line.
+    fn take(&mut self, piece: &[u8]) -> Result<(), AllocError>
+        ensures { OnOk result ((x : List Symbol) → StandsFor x self.old.reader → StandsFor (x ++ symbols_of piece.now) self.new.reader
+            × (reports (x ++ symbols_of piece.now) ≡ reports x ++ self.new.found.items)) }
+    {
+        self.symbols.clear();
+        self.found.clear();
+        push_symbols(&mut self.symbols, piece)?;
+        self.reader.feed(&self.symbols, &mut self.found)
+    }
+}
+
+/// Adds the filter of a text at the end of the list. Whether the text has one, and the list room for it.
+fn add_filter(filters: &mut FilterSet, text: &str) -> bool
+    ensures added { result ≡ not (length (filters_of filters.old) == 32 || is_none (filter_read text.now)) }
+    ensures list { IsTrue result → filters.new ≡ Some (filters_of filters.old ++ filter_of text.now ∷ []) }
+{
+    match filter_of_text(text) {
+        Some(filter) => filters.add(filter).is_ok(),
+        None => false,
+    }
+}
+
+/// The filters of texts, no list where there are none. Refused is the first that is no filter, or the 33rd.
+fn read_filters(texts: &[&str]) -> Result<FilterSet, CommandRefusal>
+    ensures { MatchResult result (λ filters. (filters ≡ filter_list (map (λ t. t.now) texts.now)) × (first_bad_filter 0 (map (λ t. t.now) texts.now) ≡ None))
+        (IsFilterRefusal (map (λ t. t.now) texts.now)) }
+{
+    let mut filters = FilterSet::all();
+    for (place, text) in texts.iter().enumerate() {
+        if !add_filter(&mut filters, text) {
+            return Err(CommandRefusal::Filter(place + 1));
+        }
+    }
+    Ok(filters)
+}
+
+/// Reads a line file, and the filters of its receiver. Refused is the file, then a filter, then a byte.
+fn read_line<F: FileReader>(
+    alloc: Global,
+    files: &mut F,
+    name: &str,
+    filters: &[&str],
+) -> Result<Line, CommandRefusal>
+    ensures { IsTrue (F.tells files.old) → MatchResult result (λ l. IsRead (F.file files.old) name.now (map (λ f. f.now) filters.now) l.bytes.items
+        × (first_bad_byte l.bytes.items ≡ None) × (l.filters ≡ filter_list (map (λ f. f.now) filters.now)))
+        (OrMemory (IsLinesRefusal (F.file files.old) name.now (map (λ f. f.now) filters.now))) }
+{
+    let bytes = read_file(alloc, files, name)?;
+    let filters = read_filters(filters)?;
+    match first_bad_byte(&bytes) {
+        Some(place) => Err(CommandRefusal::LineByte(place)),
+        None => Ok(Line { bytes, filters }),
+    }
+}
+
+/// Appends what is printed of a line's reports, piece by piece, and of its rest. The lines are put out where
+/// they have become many, and those that are left stand in `lines`. Whether memory sufficed for all.
+fn print_line<O: Output>(
+    alloc: Global,
+    line: &Line,
+    lines: &mut Lines,
+    out: &mut O,
+) -> Result<bool, OutputFault>
+    ensures printed { IfOk result (λ all. (told : List ℕ) × IsPrinted line.now.filters (symbols_of line.now.bytes.items) all told
+        × Appends (append_known (O.contents out.old) lines.old.text.items) (append_known (O.contents out.new) lines.new.text.items) told) }
+    ensures faults { CountsFault result (O.failures out.old) (O.failures out.new) }
+{
+    let mut pieces = Pieces::new(alloc);
+    let mut left = line.bytes.as_slice();
+    while !left.is_empty() {
+        let (piece, later) = left.split_at(left.len().min(PIECE));
+        let Ok(()) = pieces.take(piece) else {
+            return Ok(false);
+        };
+        if !print_reports(&line.filters, &pieces.found, lines, out)? {
+            return Ok(false);
+        }
+        left = later;
+    }
+    let Ok(()) = push_rest(lines, &line.filters, pieces.reader.rest()) else {
+        return Ok(false);
+    };
+    Ok(true)
+}
+
+/// Puts what is printed of a line. Where memory is refused in the midst, the lines so far end with the one
+/// that says so.
+fn tell_line<O: Output>(alloc: Global, line: &Line, out: &mut O) -> Result<u8, OutputFault>
+    ensures told { IfOk result (λ status. (bytes : List ℕ) × IsTold line.now.filters (symbols_of line.now.bytes.items) status bytes × Appends (O.contents out.old) (O.contents out.new) bytes) }
+    ensures status { IfOk result (λ status. status ≤ 1) }
+    ensures faults { CountsFault result (O.failures out.old) (O.failures out.new) }
+{
+    let mut lines = Lines::new(alloc);
+    let sufficed = print_line(alloc, line, &mut lines, out)?;
+    finish(&lines.text, sufficed, out)
+}
+
+/// Tells what a reader reports of the line in a file: one line for each report, and one for a rest that has
+/// none. With filters, at most 32, one line for each word that a socket on the line gives. In their place stands
+/// the one line of a refusal: the file cannot be read (`file`), a filter is not `LLL/MMM` or is the 33rd
+/// (`filter`), a byte is neither a symbol nor a space or a line feed (`line byte`). The status is 0, or 1 where
+/// it was refused, by want of memory also in the midst.
+pub fn tell_lines<F: FileReader, O: Output>(
+    alloc: Global,
+    files: &mut F,
+    name: &str,
+    filters: &[&str],
+    out: &mut O,
+) -> Result<u8, OutputFault>
+    ensures told { IsTrue (F.tells files.old) → IfOk result (λ status. (bytes : List ℕ)
+        × IsLinesReply (F.file files.old) name.now (map (λ f. f.now) filters.now) status bytes × Appends (O.contents out.old) (O.contents out.new) bytes) }
+    ensures status { IfOk result (λ status. status ≤ 1) }
+    ensures faults { CountsFault result (O.failures out.old) (O.failures out.new) }
+{
+    match read_line(alloc, files, name, filters) {
+        Ok(line) => tell_line(alloc, &line, out),
+        Err(refusal) => refuse(alloc, &refusal, out),
+    }
+}

@@ -1,0 +1,130 @@
+//! The commands `plan` and `check`.
+ghost use Rattle.std.specs.Prelude.{◌≡◌, ◌≤◌, ◌++◌, ◌∷◌, ◌⊎◌, [], List, ℕ, IfOk, IsTrue, MatchResult, OnOk};
+ghost use Rattle.std.specs.Io.KnownBytes.{Appends};
+ghost use Rattle.a429_cert.specs.Printed.{verdict_text};
+ghost use Rattle.a429_cli.specs.Outputs.{CountsFault, IsMemoryReply};
+ghost use Rattle.a429_cli.specs.PlanReplies.{IsCheckReply, IsJudged, IsNoPlan, IsNoVerdict, IsPlanReply, IsPlanTextOf, IsUnjudged, IsVerdictOf, IsVerdictReply, verdict_status};
+ghost use Rattle.a429_cli.specs.RefusalText.{OrMemory};
+
+use crate::endings::{finish, refuse, refuse_memory};
+use crate::files::FileReader;
+use crate::output::{Output, OutputFault};
+use crate::reading::read_file;
+use crate::refusals::CommandRefusal;
+use crate::station::{propose, read_table, unfit};
+use a429_cert::{NoVerdict, Verdict, judge, plan_text};
+use std::alloc::Global;
+use std::io;
+use std::io::Write;
+
+/// The text of the plan of the table in a file. Refused is the file, then the table, then its plan.
+fn planned<F: FileReader>(
+    alloc: Global,
+    files: &mut F,
+    name: &str,
+) -> Result<Vec<u8>, CommandRefusal>
+    ensures { IsTrue (F.tells files.old) → MatchResult result (λ text. IsPlanTextOf (F.file files.old) name.now text.items) (OrMemory (IsNoPlan (F.file files.old) name.now)) }
+{
+    let table = read_file(alloc, files, name)?;
+    let proposal = propose(alloc, &table)?;
+    Ok(plan_text(alloc, &proposal)?)
+}
+
+/// Puts the text of the plan of the table in a file, or the one line of a refusal. The status is 0, or 1 where
+/// it was refused.
+pub fn print_plan<F: FileReader, O: Output>(
+    alloc: Global,
+    files: &mut F,
+    name: &str,
+    out: &mut O,
+) -> Result<u8, OutputFault>
+    ensures planned { IsTrue (F.tells files.old) → IfOk result (λ status. (bytes : List ℕ)
+        × IsPlanReply (F.file files.old) name.now status bytes × Appends (O.contents out.old) (O.contents out.new) bytes) }
+    ensures status { IfOk result (λ status. status ≤ 1) }
+    ensures faults { CountsFault result (O.failures out.old) (O.failures out.new) }
+{
+    match planned(alloc, files, name) {
+        Ok(text) => finish(&text, true, out),
+        Err(refusal) => refuse(alloc, &refusal, out),
+    }
+}
+
+/// The verdict on a text by a table's bytes. Refused is the table's fault, then the first output in table order
+/// whose interval admits no period of the grid.
+fn judged(alloc: Global, table: &[u8], text: &[u8]) -> Result<Verdict, CommandRefusal>
+    ensures { MatchResult result (IsJudged table.now text.now) (OrMemory (IsUnjudged table.now)) }
+{
+    let equipment = read_table(alloc, table)?;
+    match judge(alloc, &equipment, text) {
+        Ok(verdict) => Ok(verdict),
+        Err(NoVerdict::Unfit { group, output }) => Err(unfit(alloc, &equipment, group, output)),
+        Err(NoVerdict::NoMemory) => Err(CommandRefusal::Memory),
+    }
+}
+
+/// The verdict on the text in a file by the table in another. Refused is the first file, then the second, then
+/// the table.
+fn judged_files<F: FileReader>(
+    alloc: Global,
+    files: &mut F,
+    table: &str,
+    plan: &str,
+) -> Result<Verdict, CommandRefusal>
+    ensures { IsTrue (F.tells files.old) → MatchResult result (IsVerdictOf (F.file files.old) table.now plan.now) (OrMemory (IsNoVerdict (F.file files.old) table.now plan.now)) }
+{
+    let table = read_file(alloc, files, table)?;
+    let text = read_file(alloc, files, plan)?;
+    judged(alloc, &table, &text)
+}
+
+/// Writes the line of a verdict.
+fn write_verdict<W: Write>(out: &mut W, verdict: Verdict) -> io::Result<()>
+    ensures { OnOk result (Appends (W.contents out.old) (W.contents out.new) (verdict_text verdict ++ 10 ∷ [])) }
+{
+    writeln!(out, "{verdict}")
+}
+
+/// The status that belongs to a verdict: 0 where the text shows the fewest buses, else 1.
+fn status_of(verdict: Verdict) -> u8
+    ensures { result ≡ verdict_status verdict }
+{
+    match verdict {
+        Verdict::Fewest => 0,
+        Verdict::No(_) => 1,
+    }
+}
+
+/// Puts the line of a verdict, or where memory for it is refused the one that says so.
+fn tell_verdict<O: Output>(alloc: Global, verdict: Verdict, out: &mut O) -> Result<u8, OutputFault>
+    ensures told { IfOk result (λ status. (bytes : List ℕ) × (IsVerdictReply verdict status bytes ⊎ IsMemoryReply status bytes) × Appends (O.contents out.old) (O.contents out.new) bytes) }
+    ensures status { IfOk result (λ status. status ≤ 1) }
+    ensures faults { CountsFault result (O.failures out.old) (O.failures out.new) }
+{
+    let mut line = Vec::new(alloc);
+    let Ok(()) = write_verdict(&mut line, verdict) else {
+        return refuse_memory(out);
+    };
+    out.put(&line)?;
+    out.flush()?;
+    Ok(status_of(verdict))
+}
+
+/// Puts the line of the verdict on the text in a file by the table in another, or the one line of a refusal. The
+/// status is 0 where the text shows the fewest buses for the table, else 1.
+pub fn print_verdict<F: FileReader, O: Output>(
+    alloc: Global,
+    files: &mut F,
+    table: &str,
+    plan: &str,
+    out: &mut O,
+) -> Result<u8, OutputFault>
+    ensures judged { IsTrue (F.tells files.old) → IfOk result (λ status. (bytes : List ℕ)
+        × IsCheckReply (F.file files.old) table.now plan.now status bytes × Appends (O.contents out.old) (O.contents out.new) bytes) }
+    ensures status { IfOk result (λ status. status ≤ 1) }
+    ensures faults { CountsFault result (O.failures out.old) (O.failures out.new) }
+{
+    match judged_files(alloc, files, table, plan) {
+        Ok(verdict) => tell_verdict(alloc, verdict, out),
+        Err(refusal) => refuse(alloc, &refusal, out),
+    }
+}
