@@ -66,17 +66,14 @@ fn proposed(rt: &HostRuntime, groups: (Outputs, Outputs)) -> Result<Proposal<OUT
     proposal(rt, &table)
 }
 
-#[test]
-fn groups_change_at_frames_of_their_own(rt: HostRuntime) -> Result<(), Fail> {
-    let (a, b) = (Some(Word::from_raw(0x80)?), Some(Word::from_raw(0x40)?));
-    let mut state = State::<41>::open(rt.alloc(), proposed(&rt, FIRST)?, 0)?;
-    let events = vec![in rt.alloc();
+/// Publishes the second plans after `g` has sent its frame, and `h` half of its own.
+fn widening(rt: &HostRuntime) -> Result<Vec<Event>, Fail> {
+    Ok(vec![in rt.alloc();
         Event::Arrive(0, 0x80),
         Event::Arrive(0, 0x40),
         Event::Cell(0),
         Event::Cell(1),
-        // `g` has sent its frame, `h` half of its own
-        Event::Publish(proposed(&rt, SECOND)?),
+        Event::Publish(proposed(rt, SECOND)?),
         Event::Cell(0),
         Event::Frame(1),
         Event::Frame(0),
@@ -91,7 +88,14 @@ fn groups_change_at_frames_of_their_own(rt: HostRuntime) -> Result<(), Fail> {
         Event::Cell(0),
         Event::Frame(0),
         Event::Cell(0),
-    ]?;
+    ]?)
+}
+
+#[test]
+fn groups_change_at_frames_of_their_own(rt: HostRuntime) -> Result<(), Fail> {
+    let (a, b) = (Some(Word::from_raw(0x80)?), Some(Word::from_raw(0x40)?));
+    let mut state = State::<41>::open(rt.alloc(), proposed(&rt, FIRST)?, 0)?;
+    let answers = state.run(rt.alloc(), widening(&rt)?)?;
     let expected = [
         Answer::Accepted(0),
         Answer::Accepted(1),
@@ -113,37 +117,40 @@ fn groups_change_at_frames_of_their_own(rt: HostRuntime) -> Result<(), Fail> {
         Answer::Changed(1),
         Answer::Sent(0, 3, a),
     ];
-    let answers = state.run(rt.alloc(), events)?;
     assert_eq!(rt; answers.as_slice(), expected.as_slice());
     Ok(())
+}
+
+/// Publishes several plans within one frame of `g`, and then one more. `h` stays in its first frame until the last events.
+fn overtaking(rt: &HostRuntime) -> Result<Vec<Event>, Fail> {
+    Ok(vec![in rt.alloc();
+        Event::Arrive(0, 0x40),
+        Event::Cell(0),
+        Event::Publish(proposed(rt, SECOND)?),
+        Event::Publish(proposed(rt, THIRD)?),
+        Event::Frame(0),
+        Event::Cell(0),
+        Event::Cell(0),
+        Event::Publish(proposed(rt, FIRST)?),
+        Event::Frame(0),
+        Event::Cell(0),
+        Event::Cell(0),
+        Event::Cell(0),
+        Event::Frame(0),
+        Event::Cell(0),
+        Event::Frame(1),
+        Event::Cell(1),
+        Event::Cell(1),
+        Event::Frame(1),
+        Event::Cell(1),
+    ]?)
 }
 
 #[test]
 fn the_newest_of_several_plans_is_taken(rt: HostRuntime) -> Result<(), Fail> {
     let b = Some(Word::from_raw(0x40)?);
     let mut state = State::<41>::open(rt.alloc(), proposed(&rt, FIRST)?, 0)?;
-    let events = vec![in rt.alloc();
-        Event::Arrive(0, 0x40),
-        Event::Cell(0),
-        Event::Publish(proposed(&rt, SECOND)?),
-        Event::Publish(proposed(&rt, THIRD)?),
-        Event::Frame(0),
-        Event::Cell(0),
-        Event::Cell(0),
-        Event::Publish(proposed(&rt, FIRST)?),
-        Event::Frame(0),
-        Event::Cell(0),
-        Event::Cell(0),
-        Event::Cell(0),
-        Event::Frame(0),
-        Event::Cell(0),
-        // `h` is still in its first frame
-        Event::Frame(1),
-        Event::Cell(1),
-        Event::Cell(1),
-        Event::Frame(1),
-        Event::Cell(1),
-    ]?;
+    let answers = state.run(rt.alloc(), overtaking(&rt)?)?;
     let expected = [
         Answer::Accepted(1),
         Answer::Sent(0, 0, None),
@@ -165,7 +172,6 @@ fn the_newest_of_several_plans_is_taken(rt: HostRuntime) -> Result<(), Fail> {
         Answer::Changed(3),
         Answer::Sent(0, 2, b),
     ];
-    let answers = state.run(rt.alloc(), events)?;
     assert_eq!(rt; answers.as_slice(), expected.as_slice());
     Ok(())
 }

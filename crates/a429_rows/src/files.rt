@@ -1,7 +1,7 @@
 //! Files that cannot be read, and writers that fail.
 
 use crate::support::{ONE, ran, repeated, replayed_bytes};
-use a429_cli::{FileFault, FileReader, LARGEST_FILE, MemoryFiles, command};
+use a429_cli::{CountedWriter, FileFault, FileReader, LARGEST_FILE, MemoryFiles, command};
 use std::alloc::Global;
 use std::io;
 use std::io::{ErrorKind, Write};
@@ -82,12 +82,15 @@ fn a_reader_may_refuse_any_file(rt: HostRuntime) -> Result<(), Fail> {
                 fault,
                 reads: 0,
             };
-            let mut out = Vec::new(rt.alloc());
+            let mut out = CountedWriter::new(Vec::new(rt.alloc()));
             let mut err = Vec::new(rt.alloc());
             let words = ["replay", "t", "s", "u", "v"];
             let status = command(rt.alloc(), &words, &mut files, &mut out, &mut err);
             assert!(rt; status == 1 && err.is_empty(), "after {given} files");
-            assert!(rt; out.as_slice() == line.as_bytes(), "after {given} files");
+            assert!(rt;
+                out.writer.as_slice() == line.as_bytes(),
+                "after {given} files"
+            );
             assert!(rt; files.reads == given + 1, "after {given} files");
         }
     }
@@ -135,10 +138,11 @@ impl Write for Failing {
     }
 }
 
-/// The status of a command, and its two writers.
+/// The status of a command, how many calls of the output failed, and the two writers.
 #[derive(Drop)]
 struct CutShort {
     status: u8,
+    failures: u64,
     out: Failing,
     err: Failing,
 }
@@ -163,10 +167,19 @@ fn cut_short(
     let mut files = MemoryFiles {
         files: vec![in alloc; table, script]?,
     };
-    let mut out = Failing::new(alloc, piece, good_calls);
+    let mut out = CountedWriter::new(Failing::new(alloc, piece, good_calls));
     let mut err = Failing::new(alloc, piece, good_calls);
     let status = command(alloc, words, &mut files, &mut out, &mut err);
-    Ok(CutShort { status, out, err })
+    let CountedWriter {
+        writer: out,
+        failures,
+    } = out;
+    Ok(CutShort {
+        status,
+        failures,
+        out,
+        err,
+    })
 }
 
 /// Commands, scripts, how many bytes a writer takes in one call, and what is written.
@@ -196,6 +209,7 @@ fn a_writer_may_fail_at_any_call(rt: HostRuntime) -> Result<(), Fail> {
             whole.out.taken.as_slice() == lines.as_bytes(),
             "for {words:?}"
         );
+        assert!(rt; whole.failures == 0, "for {words:?}");
         for good_calls in 0..whole.out.calls {
             let cut = cut_short(&rt, words, script, *piece, good_calls)?;
             assert!(rt;
@@ -206,6 +220,7 @@ fn a_writer_may_fail_at_any_call(rt: HostRuntime) -> Result<(), Fail> {
                 cut.out.calls == good_calls + 1,
                 "for {words:?}, {good_calls}"
             );
+            assert!(rt; cut.failures == 1, "for {words:?}, {good_calls}");
             assert!(rt;
                 lines.as_bytes().starts_with(&cut.out.taken),
                 "for {words:?}, {good_calls}"

@@ -2,6 +2,10 @@
 #![tactic(auto)]
 
 #[cfg(test)]
+mod air_data;
+#[cfg(test)]
+mod certificates;
+#[cfg(test)]
 mod changes;
 #[cfg(test)]
 mod fields;
@@ -9,6 +13,8 @@ mod fields;
 mod files;
 #[cfg(test)]
 mod grid;
+#[cfg(test)]
+mod line_rows;
 #[cfg(test)]
 mod machine;
 #[cfg(test)]

@@ -33,7 +33,7 @@ fn slots_end_with_their_numbers(rt: HostRuntime) -> Result<(), Fail> {
 
 #[test]
 fn slots_of_longer_frames_end_sooner(rt: HostRuntime) -> Result<(), Fail> {
-    let table = standard(&rt, 100000, &[(1, 1440)])?;
+    let table = standard(&rt, 100000, &[(1, 720), (1, 1440), (1, 1440)])?;
     let first = 18446744073709551611;
     let mut state = State::<41>::open(rt.alloc(), proposal(&rt, &table)?, first)?;
     for slot in first..=18446744073709551614 {

@@ -1,5 +1,6 @@
 //! Plans and proposals, and the machine under several plans.
 
+use crate::machine::proposal;
 use crate::support::{ONE, edited, standard};
 use a429_core::{Answer, Event, Refusal, State};
 use a429_equipment::Equipment;
@@ -7,11 +8,6 @@ use a429_grid::Period;
 use a429_slots::{GroupPlan, OUTPUTS, OutputId, Plan, PlanFault, Proposal, SlotPlace, gap, plan};
 use a429_word::Word;
 use std::test::Fail;
-
-fn proposal(rt: &HostRuntime, table: &str) -> Result<Proposal<OUTPUTS>, Fail> {
-    let equipment = Equipment::read(rt.alloc(), table.as_bytes())?;
-    Ok(Proposal::of(rt.alloc(), equipment)?)
-}
 
 /// The plan of a table's first group.
 fn first_group(rt: &HostRuntime, table: &str) -> Result<GroupPlan<OUTPUTS>, Fail> {
@@ -121,6 +117,33 @@ fn outputs_are_laid_out_by_period(rt: HostRuntime) -> Result<(), Fail> {
     assert!(rt; is_planned(&rt, &[two, four, eight, eight], 8, 1, &all)?);
     let last = [(0, 0, 1), (1, 0, 1), (2, 0, 1), (3, 0, 8)];
     assert!(rt; is_planned(&rt, &[(1, 360), (1, 360), (1, 360), eight], 8, 4, &last)?);
+    Ok(())
+}
+
+#[test]
+fn places_do_not_follow_the_order_of_the_outputs(rt: HostRuntime) -> Result<(), Fail> {
+    let table = standard(&rt, 100000, &[(1, 720), (1, 1440), (1, 1440)])?;
+    let first = "[[group.output]]\nsource = \"a\"\nmin_us = 1\nmax_us = 720\n";
+    let others = edited(&rt, &table, first, "")?;
+    let moved = format!(in rt.alloc(); "{others}{first}")?;
+    let group = first_group(&rt, &moved)?;
+    assert_eq!(rt; (group.frame(), group.buses(), group.outputs()), (4, 1, 3));
+    let (b, c, a) = (OutputId::new(0), OutputId::new(1), OutputId::new(2));
+    assert_eq!(rt;
+        (group.source(b), group.source(c), group.source(a)),
+        (1, 2, 0)
+    );
+    assert_eq!(rt;
+        places(&rt, &group)?.as_slice(),
+        [(0, 1, 4), (0, 3, 4), (0, 0, 2)].as_slice()
+    );
+    assert_eq!(rt;
+        (group.ordered(0), group.ordered(1), group.ordered(2)),
+        (a, b, c)
+    );
+    for (slot, output) in [(0, a), (1, b), (2, a), (3, c)] {
+        assert_eq!(rt; group.at(0, slot), Some(output), "{slot}");
+    }
     Ok(())
 }
 

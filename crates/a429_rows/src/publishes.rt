@@ -20,6 +20,23 @@ fn published<'a>(
     ran(rt, &words, &files)
 }
 
+/// Whether these events are answered so, beside these further tables.
+fn is_answered<'a>(
+    rt: &HostRuntime,
+    table: &'a str,
+    further: &[&'a str],
+    events: &[(&str, &str)],
+) -> Result<bool, Fail> {
+    let mut script = String::new(rt.alloc());
+    let mut lines = String::new(rt.alloc());
+    for (event, answer) in events {
+        script.push_str(&format!(in rt.alloc(); "{event}\n")?)?;
+        lines.push_str(&format!(in rt.alloc(); "{answer}\n")?)?;
+    }
+    let played = published(rt, table, &script, further)?;
+    Ok(played.is(&lines, 0))
+}
+
 /// Events on a station that sends `a` and `b` in each slot, on two buses. The first further table sends `a`
 /// alone in every other slot, the second is the station's own, and the others have no plan for it.
 const EVENTS: &[(&str, &str)] = &[
@@ -53,14 +70,58 @@ fn published_tables_come_into_force(rt: HostRuntime) -> Result<(), Fail> {
     let unfit = standard(&rt, 100000, &[(1, 359), (1, 360)])?;
     let many = standard(&rt, 100000, &[(1, 360); 17])?;
     let further = [alone.as_str(), &both, ONE, "x", &unfit, &many];
-    let mut script = String::new(rt.alloc());
-    let mut lines = String::new(rt.alloc());
-    for (event, answer) in EVENTS {
-        script.push_str(&format!(in rt.alloc(); "{event}\n")?)?;
-        lines.push_str(&format!(in rt.alloc(); "{answer}\n")?)?;
-    }
-    let played = published(&rt, &both, &script, &further)?;
-    assert!(rt; played.is(&lines, 0));
+    assert!(rt; is_answered(&rt, &both, &further, EVENTS)?);
+    Ok(())
+}
+
+/// Outputs `a`, `b` and `c` on one bus: `a` in every other slot, `b` and `c` in every fourth.
+const ONE_BUS: &[(u32, u32)] = &[(1, 720), (1, 1440), (1, 1440)];
+
+/// The same on two buses: `a` and `b` in every other slot, `c` in every fourth.
+const TWO_BUSES: &[(u32, u32)] = &[(1, 720), (1, 720), (1, 1440)];
+
+/// Events on the one bus, where the further table asks for two.
+const WIDENED: &[(&str, &str)] = &[
+    ("arrive r 800000c0", "accepted c"),
+    ("cell g", "sent 0 0 none"),
+    ("publish 1", "published 1"),
+    ("cell g", "sent 0 1 none"),
+    ("cell g", "sent 0 2 none"),
+    ("cell g", "sent 0 3 800000c0"),
+    ("cell g", "refused frame-end"),
+    ("frame g", "changed 1"),
+    ("cell g", "sent 0 4 none"),
+    ("cell g", "sent 1 4 800000c0"),
+    ("cell g", "sent 0 5 none"),
+    ("frame g", "refused mid-frame"),
+];
+
+#[test]
+fn a_published_plan_waits_for_the_next_frame(rt: HostRuntime) -> Result<(), Fail> {
+    let one = standard(&rt, 100000, ONE_BUS)?;
+    let two = standard(&rt, 100000, TWO_BUSES)?;
+    assert!(rt; is_answered(&rt, &one, &[&two], WIDENED)?);
+    Ok(())
+}
+
+/// Events on the one bus, where the first further table asks for two, the second is the station's own and the
+/// third another station's.
+const OVERTAKEN: &[(&str, &str)] = &[
+    ("cell g", "sent 0 0 none"),
+    ("cell g", "sent 0 1 none"),
+    ("cell g", "sent 0 2 none"),
+    ("cell g", "sent 0 3 none"),
+    ("publish 1", "published 1"),
+    ("publish 2", "published 2"),
+    ("publish 3", "refused station-differs"),
+    ("frame g", "changed 2"),
+];
+
+#[test]
+fn a_frame_takes_the_newest_published_plan(rt: HostRuntime) -> Result<(), Fail> {
+    let one = standard(&rt, 100000, ONE_BUS)?;
+    let two = standard(&rt, 100000, TWO_BUSES)?;
+    assert!(rt; is_answered(&rt, &one, &[&two, &one, ONE], OVERTAKEN)?);
     Ok(())
 }
 

@@ -34,6 +34,18 @@ fn a_frame_has_each_output_once_a_period(rt: HostRuntime) -> Result<(), Fail> {
 }
 
 #[test]
+fn each_cell_has_the_word_that_came_last_before_it(rt: HostRuntime) -> Result<(), Fail> {
+    // `a` stands in slots 0 and 2, `b` in 1 and `c` in 3
+    let table = standard(&rt, 100000, &[(1, 720), (1, 1440), (1, 1440)])?;
+    let script = "arrive r 00000080\ncell g\ncell g\narrive r 00000c80\ncell g\ncell g\ncell g\n";
+    let lines =
+        "accepted a\nsent 0 0 00000080\nsent 0 1 none\naccepted a\nsent 0 2 00000c80\nsent 0 3 none\nrefused frame-end\n";
+    let played = replayed(&rt, &table, script)?;
+    assert!(rt; played.is(lines, 0));
+    Ok(())
+}
+
+#[test]
 fn groups_stand_in_frames_of_their_own(rt: HostRuntime) -> Result<(), Fail> {
     let second =
         "[[group]]\nname = \"h\"\n[[group.output]]\nsource = \"s\"\nmin_us = 1\nmax_us = 360\n";

@@ -1,6 +1,6 @@
 //! Tables, and commands over files in memory.
 
-use a429_cli::{MemoryFiles, command};
+use a429_cli::{CountedWriter, MemoryFiles, command};
 use std::test::Fail;
 
 /// One receiver, one source of label 203 and any SDI, and one group that sends it in every slot.
@@ -46,9 +46,10 @@ pub fn ran(rt: &HostRuntime, words: &[&str], files: &[(&str, &[u8])]) -> Result<
         ))?;
     }
     let mut files = MemoryFiles { files: named };
-    let mut out = Vec::new(alloc);
+    let mut out = CountedWriter::new(Vec::new(alloc));
     let mut err = Vec::new(alloc);
     let status = command(alloc, words, &mut files, &mut out, &mut err);
+    let CountedWriter { writer: out, .. } = out;
     Ok(Outcome { out, err, status })
 }
 
