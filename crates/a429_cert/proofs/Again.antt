@@ -1,6 +1,5 @@
 -- Lines that state a checked plan have no fault.
-use Rattle.std.proofs.Common.{◌≡◌, ◌≢◌, ℕ, ◌+◌, ◌-◌, ◌*◌, ◌<◌, ◌≤◌, Bool, true, false, cond, eqb, ltb, leb, not, ◌&&◌, ◌||◌, List, [], ◌∷◌, ◌++◌, length, Option, Some, None, refl, sym, ap, subst, ◌∙◌, arith, rules, eq-eqb, ◌%◌, min, inl, inr, map, take, append_assoc, suc, add-one}
-use Rattle.std.specs.Prelude.{unwrap_or, is_none}
+use Rattle.std.proofs.Common.{◌≡◌, ◌≢◌, ℕ, ◌+◌, ◌-◌, ◌*◌, ◌<◌, ◌≤◌, Bool, true, false, cond, eqb, ltb, ◌&&◌, ◌||◌, List, [], ◌∷◌, ◌++◌, length, None, refl, sym, ◌∙◌, arith, rules, eq-eqb, ◌%◌, min, inl, inr, map, take, append_assoc, add-one}
 use Rattle.std.specs.List.{AllByRecursion, list_any, onto_first, filter_map}
 use Rattle.std.specs.Str.{bytes_eq}
 use Rattle.std.proofs.lemmas.Bool.{and_parts, eqb-true, cases_lt, lt-ltb, le-leb}
@@ -10,9 +9,9 @@ use Rattle.std.proofs.lemmas.Bool.Decides.{nat_tests}
 use Rattle.std.proofs.lemmas.Slice.Eq.{bytes_eq-Decides}
 use Rattle.a429_cert.specs.declared.due.DueGroup.{DueGroup}
 use Rattle.a429_cert.specs.Spelling.{Heading, Listing, Bounding, group_text, output_text, bound_text, FitsHeading, FitsListing, FitsBounding}
-use Rattle.a429_cert.specs.Reading.{group_line, output_line}
+use Rattle.a429_cert.specs.Reading.{output_line}
 use Rattle.a429_cert.specs.Lines.{lines_of, line_at}
-use Rattle.a429_cert.specs.Faults.{group_fault, output_fault, frame, period_of, is_listed, shares, has_bad_place, output_faults, first_no, group_faults, bound_fault, bound_holds, demand, buses_of}
+use Rattle.a429_cert.specs.Faults.{group_fault, output_fault, frame, is_listed, shares, has_bad_place, output_faults, first_no, group_faults, bound_fault, bound_holds, demand, buses_of}
 use Rattle.a429_cert.specs.Checked.{Stated, IsChecked, IsPlaced, AreApart, EachPair}
 use Rattle.a429_cert.proofs.LineLaws.{group_again, output_again, bound_again}
 use Rattle.a429_cert.proofs.CheckedPlans.{HeadingHolds, ListingHolds, same_bytes, buses_said}

@@ -1,10 +1,10 @@
 -- The lines of a text that is spelled line by line.
-use Rattle.std.proofs.Common.{◌≡◌, ℕ, Bool, true, false, cond, eqb, not, ◌&&◌, ◌||◌, List, [], ◌∷◌, ◌++◌, map, refl, sym, ap, ◌∙◌, append_assoc}
+use Rattle.std.proofs.Common.{◌≡◌, ℕ, Bool, true, false, cond, eqb, not, ◌&&◌, ◌||◌, List, [], ◌∷◌, ◌++◌, map, refl, ap, ◌∙◌, append_assoc}
 use Rattle.std.specs.Prelude.{codes}
 use Rattle.std.specs.List.{AllByRecursion, list_all, onto_first, flat_map}
 use Rattle.std.specs.Fmt.{decimal}
 use Rattle.std.proofs.lemmas.List.Concat.{flat_map-cons}
-use Rattle.a429_cert.specs.Spelling.{Heading, Listing, Bounding, is_break, IsWord, IsShort, rate_text, group_text, output_text, bound_text, FitsHeading, FitsListing, FitsBounding}
+use Rattle.a429_cert.specs.Spelling.{Heading, Listing, Bounding, is_break, IsShort, rate_text, group_text, output_text, bound_text, FitsHeading, FitsListing, FitsBounding}
 use Rattle.a429_cert.specs.Lines.{lines_of}
 use Rattle.a429_cert.specs.Checked.{Stated, stated_text}
 use Rattle.a429_cert.proofs.Fields.{decimal_word}

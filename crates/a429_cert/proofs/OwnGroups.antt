@@ -1,5 +1,5 @@
 -- What the text of a plan states for a group is a checked plan.
-use Rattle.std.proofs.Common.{◌≡◌, ◌≢◌, ℕ, zero, suc, ◌+◌, ◌-◌, ◌*◌, ◌/◌, ◌%◌, ◌^◌, ◌<◌, ◌≤◌, max, Bool, true, false, leb, List, [], ◌∷◌, length, get_or, map, take, Option, Some, None, refl, sym, ap, subst, ◌∙◌, arith}
+use Rattle.std.proofs.Common.{◌≡◌, ◌≢◌, ℕ, zero, suc, ◌-◌, ◌*◌, ◌/◌, ◌^◌, ◌<◌, ◌≤◌, true, false, leb, List, [], ◌∷◌, length, get_or, map, Option, Some, refl, sym, ap, subst, ◌∙◌, arith}
 use Rattle.std.specs.Prelude.{slice_get, sum}
 use Rattle.std.specs.Option.{option_map_or}
 use Rattle.std.specs.List.{AllZip, AllByRecursion, sum_by, range_with_len, list_all}
@@ -8,7 +8,7 @@ use Rattle.std.proofs.Math.Nat.{pow-le-pow_right, mul-le-mul}
 use Rattle.std.proofs.lemmas.Bool.{and_parts, leb-true}
 use Rattle.std.proofs.lemmas.Bool.Decides.{nat_tests}
 use Rattle.std.proofs.lemmas.List.{length-map, get_or-map, get_or-take}
-use Rattle.std.proofs.lemmas.List.FromFn.{length-map-range_with_len, get_or-map-range_with_len, length-range_with_len}
+use Rattle.std.proofs.lemmas.List.FromFn.{get_or-map-range_with_len, length-range_with_len}
 use Rattle.std.proofs.lemmas.List.Sorted.{length_permutation, sum_by-IsPermutation}
 use Rattle.std.proofs.lemmas.List.Elements.{All-from_recursion}
 use Rattle.std.proofs.lemmas.List.Sums.{sum-map, sum_by_more_le}
@@ -21,21 +21,20 @@ use Rattle.a429_equipment.specs.declared.rows.SourceRow.{SourceRow}
 use Rattle.a429_equipment.specs.Sound.{HaveOwn, HaveOwnSources, IsSourceRow, IsGroupRow}
 use Rattle.a429_equipment.specs.Texts.{is_name, is_name_byte}
 use Rattle.a429_pack.specs.Demanded.{demand_of, IsBusCount}
-use Rattle.a429_pack.specs.Demands.{greatest, exponent_of, period_of, periods_of}
+use Rattle.a429_pack.specs.Demands.{greatest, exponent_of, periods_of}
 use Rattle.a429_pack.specs.Schedules.{IsFewest}
 use Rattle.a429_pack.specs.Sums.{start_of}
 use Rattle.a429_slots.specs.Tables.{Placed, GroupTable, placed_at, outputs_of, order_of, frame_of, buses_of, cell_at}
 use Rattle.a429_slots.specs.Kept.{StandsJustAt}
-use Rattle.a429_slots.specs.Planned.{IsServed, IsPlannedFor, asked_by, asked_of}
+use Rattle.a429_slots.specs.Planned.{IsPlannedFor, asked_by, asked_of}
 use Rattle.a429_cert.specs.declared.due.DueGroup.{DueGroup}
 use Rattle.a429_cert.specs.Due.{IsDueOutput}
-use Rattle.a429_cert.specs.Faults.{frame, demand}
-use Rattle.a429_cert.specs.Spelling.{Listing, IsWord, is_break, FitsHeading, FitsListing, FitsBounding}
-use Rattle.a429_cert.specs.Checked.{Stated, Fills, AreApart, IsPlaced, EachPair, IsChecked}
+use Rattle.a429_cert.specs.Spelling.{IsWord, is_break, FitsListing}
+use Rattle.a429_cert.specs.Checked.{AreApart, IsPlaced, EachPair}
 use Rattle.a429_cert.specs.PlanText.{source_name, listing_of, stated_of}
 use Rattle.a429_cert.proofs.Again.{FitsStated, StatesBound}
 use Rattle.a429_cert.proofs.Answered.{Matches}
-use Rattle.a429_cert.proofs.Arranged.{order_below, order_once, each_pair, each_listing, each_placed}
+use Rattle.a429_cert.proofs.Arranged.{order_below, order_once, each_pair, each_placed}
 use Rattle.a429_cert.proofs.DueOutputs.{AreSame, exponents_of, length-outputs, counts, periods_same, frame_is, demand_is, due_here, source_there, period_due, names_differ}
 
 -- the fewest buses of a schedule carry the demand, and one fewer do not

@@ -1,12 +1,10 @@
 -- The text of a table's own plan has no fault.
-use Rattle.std.proofs.Common.{◌≡◌, ℕ, suc, ◌+◌, ◌^◌, ◌<◌, ◌≤◌, Bool, true, List, [], ◌∷◌, ◌++◌, length, map, None, Some, refl, sym, ap, ◌∙◌, arith, inl, inr, eq-eqb}
-use Rattle.std.specs.Prelude.{codes}
+use Rattle.std.proofs.Common.{◌≡◌, ℕ, ◌≤◌, List, [], ◌∷◌, ◌++◌, length, map, None, refl, sym, ap, ◌∙◌, arith, inl, inr, eq-eqb}
 use Rattle.std.specs.List.{AllZip, AllByRecursion, flat_map}
-use Rattle.std.specs.Fmt.{decimal}
 use Rattle.a429_equipment.specs.TableRecord.{TableRecord}
 use Rattle.a429_equipment.specs.declared.rows.GroupRow.{GroupRow}
 use Rattle.a429_equipment.specs.declared.rows.OutputRow.{OutputRow}
-use Rattle.a429_equipment.specs.Sound.{HaveOwnSources, IsRate, IsSourceRow, IsGroupRow, IsSound}
+use Rattle.a429_equipment.specs.Sound.{HaveOwnSources, IsRate, IsGroupRow, IsSound}
 use Rattle.a429_slots.specs.Tables.{GroupTable, PlanTable, groups_of}
 use Rattle.a429_slots.specs.Planned.{IsPlannedFor, IsPlanOf}
 use Rattle.a429_cert.specs.declared.verdicts.Verdict.TheVariants as verdicts
@@ -14,7 +12,7 @@ use Rattle.a429_cert.specs.declared.due.DueGroup.{DueGroup}
 use Rattle.a429_cert.specs.declared.due.DueTable.{DueTable}
 use Rattle.a429_cert.specs.Due.{IsDueOutput, IsDue}
 use Rattle.a429_cert.specs.Faults.{faults, groups_faults, first_no, plan_fault, rate_fault}
-use Rattle.a429_cert.specs.Lines.{lines_of, line_at}
+use Rattle.a429_cert.specs.Lines.{lines_of}
 use Rattle.a429_cert.specs.Spelling.{IsShort, version_text, rate_text}
 use Rattle.a429_cert.specs.Checked.{stated_text}
 use Rattle.a429_cert.specs.PlanText.{stated_groups, plan_text_of}

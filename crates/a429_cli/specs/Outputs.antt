@@ -1,5 +1,5 @@
 -- What is put out by a command, and how it ends (profile: output).
-use Rattle.std.specs.Prelude.{◌≡◌, ◌+◌, ◌-◌, ◌^◌, ◌++◌, ◌∷◌, [], ◌⊎◌, ℕ, List, Bool, true, false, Result, MatchResult, codes, min}
+use Rattle.std.specs.Prelude.{◌≡◌, ◌+◌, ◌-◌, ◌^◌, ◌++◌, ◌∷◌, [], ℕ, List, Bool, true, false, Result, MatchResult, codes, min}
 
 -- a call that fails is counted, and no other; at the last value of 64 bits the count stays
 abbrev pub CountsFault : {X E : Type 0} → Result X E → ℕ → ℕ → Type 0

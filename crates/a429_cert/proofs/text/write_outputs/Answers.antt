@@ -1,4 +1,4 @@
-use Rattle.std.proofs.Common.{◌≡◌, ◌++◌, ◌≤◌, ◌∙◌, ap, arith, length, map, string_bytes, ℕ, List}
+use Rattle.std.proofs.Common.{◌++◌, ◌≤◌, ◌∙◌, ap, arith, length, map, string_bytes, ℕ, List}
 use Rattle.std.specs.List.{flat_map}
 use Rattle.a429_slots.specs.Tables.{order_of, outputs_of}
 use Rattle.a429_cert.specs.Spelling.{output_text}

@@ -1,4 +1,4 @@
-use Rattle.std.proofs.Common.{◌≡◌, ◌∙◌, ◌∷◌, [], inr}
+use Rattle.std.proofs.Common.{◌∙◌, ◌∷◌, [], inr}
 use Rattle.a429_cli.specs.Files.{AreRead}
 use Rattle.a429_cli.specs.PlanReplies.{IsJudged, IsNoVerdict, IsUnjudged, IsVerdictOf}
 use Rattle.a429_cli.specs.RefusalText.{OrMemory}
