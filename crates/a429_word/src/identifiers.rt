@@ -45,7 +45,7 @@ impl Sdi {
 /// The sign and status matrix, bits 30 and 31 of a word (ARINC 429 Part 1): 0 to 3, bit 31 the upper one.
 #[derive(Clone, Copy, Debug, PartialEq, Eq)]
 pub struct Ssm {
-    value: u8,
+    bits: u8,
 }
 
 impl Model for Ssm {
@@ -53,20 +53,20 @@ impl Model for Ssm {
 
     ghost Value = { ℕ };
 
-    ghost view = { λ ssm. ssm.value };
+    ghost view = { λ ssm. ssm.bits };
 
-    ghost invariant = { λ ssm. ssm.value < 4 };
+    ghost invariant = { λ ssm. ssm.bits < 4 };
 
-    ghost inverse = { λ n. record { value = n } };
+    ghost inverse = { λ n. record { bits = n } };
 }
 
 impl Ssm {
     /// The status of this number.
-    pub fn new(value: u8) -> Ssm
-        requires { value < 4 }
-        ensures { result ≡ value }
+    pub fn new(bits: u8) -> Ssm
+        requires { bits < 4 }
+        ensures { result ≡ bits }
     {
-        Ssm { value }
+        Ssm { bits }
     }
 
     /// Its number, 0 to 3.
@@ -74,7 +74,7 @@ impl Ssm {
         ensures value { result ≡ self }
         ensures small { result < 4 }
     {
-        self.value
+        self.bits
     }
 }
 
@@ -93,6 +93,6 @@ impl fmt::Display for Ssm {
     /// Two binary digits: bit 31, then bit 30.
     #[tactic(auto, using(std::proofs::lemmas::Fmt::decimal_digit))]
     fn fmt<W: fmt::Write>(&self, f: &mut fmt::Formatter<W>) -> fmt::Result {
-        write!(f, "{}{}", self.value / 2, self.value % 2)
+        write!(f, "{}{}", self.bits / 2, self.bits % 2)
     }
 }
