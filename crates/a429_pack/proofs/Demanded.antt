@@ -9,6 +9,7 @@ use Rattle.std.proofs.lemmas.List.Sums.{sum_by-cons}
 use Rattle.std.proofs.lemmas.Nat.{pow_pos}
 use Rattle.std.proofs.lemmas.Simd.{map-map}
 use Rattle.std.proofs.Math.Nat.{le-max_left, le-max_right, mul-le-mul_right}
+use Rattle.a429_grid.specs.Blocks.{HasPeriodicBlocks}
 use Rattle.a429_pack.specs.declared.demands.Demand.{Demand}
 use Rattle.a429_pack.specs.Demanded.{demand_of, IsBusCount}
 use Rattle.a429_pack.specs.Demands.{demand_at, exponent_of, frame_of, greatest, periods_of}
@@ -66,15 +67,15 @@ total_is exponents =
     ∙ ap sum (asked_from h 0 exponents exponents start (omega arith))
 
 -- the demand by the frame, rounded up, is the fewest
-ceiling_is_fewest : (exponents : List ℕ) (buses : ℕ) → buses ≡ div_ceil (demand_of exponents) (2 ^ greatest exponents)
+ceiling_is_fewest : ((h : ℕ) → HasPeriodicBlocks h) → (exponents : List ℕ) (buses : ℕ) → buses ≡ div_ceil (demand_of exponents) (2 ^ greatest exponents)
     → IsFewest (2 ^ greatest exponents) (map (λ k. 2 ^ k) exponents) buses
-ceiling_is_fewest exponents buses is =
+ceiling_is_fewest blocks exponents buses is =
     let h : ℕ = greatest exponents in
     let ds : List Demand = outputs_of exponents in
     let order : List ℕ = (order_of exponents).order in
     let demands : List ℕ = map (asked h ds) order in
     let packing : Packing h (length ds) ds order demands =
-    packing_by h ds order demands (sym (frame_is exponents)) (order_of exponents).moved
+    packing_by h ds order demands (blocks h) (sym (frame_is exponents)) (order_of exponents).moved
     (λ i below. (order_of exponents).rising i (i + 1) 0 (omega arith) below) refl in
     subst (λ (periods : List ℕ). IsFewest (2 ^ h) periods buses) (periods_are exponents)
     (fewest h (length ds) ds order demands buses packing (is ∙ ap (λ t. div_ceil t (2 ^ h)) (sym (total_is exponents))))
@@ -94,13 +95,13 @@ ceiling_is x total buses within above m fits tight =
       ]
     ]
 
-pub carried : (exponents : List ℕ) (buses : ℕ) → 1 ≤ length exponents → IsBusCount exponents buses
+pub carried : ((h : ℕ) → HasPeriodicBlocks h) → (exponents : List ℕ) (buses : ℕ) → 1 ≤ length exponents → IsBusCount exponents buses
     → IsFewest (2 ^ greatest exponents) (map (λ k. 2 ^ k) exponents) buses
-carried exponents buses some count =
+carried blocks exponents buses some count =
     let x : ℕ = 2 ^ greatest exponents in
     let total : ℕ = demand_of exponents in
     let fits : (total ≤ div_ceil total x * x) × (div_ceil total x * x < total + x) = ceil_fits (greatest exponents) total x (div_ceil total x) refl refl in
-    ceiling_is_fewest exponents buses (ceiling_is x total buses count.within count.above (div_ceil total x) fits.0 fits.1)
+    ceiling_is_fewest blocks exponents buses (ceiling_is x total buses count.within count.above (div_ceil total x) fits.0 fits.1)
 
 -- no two numbers are the fewest
 one_fewest : (frame : ℕ) (periods : List ℕ) (m n : ℕ) → IsFewest frame periods m → IsFewest frame periods n → m ≡ n
@@ -116,14 +117,14 @@ some_demand (k ∷ exponents) some =
     let h : ℕ = greatest (k ∷ exponents) in
     omega (arith, sum_by-cons (λ x. x) (2 ^ h / 2 ^ k) (map (λ j. 2 ^ h / 2 ^ j) exponents), demand_over h k (le-max_left k (greatest exponents)), pow_pos (h - k))
 
-pub only : (exponents : List ℕ) (buses : ℕ) → 1 ≤ length exponents
+pub only : ((h : ℕ) → HasPeriodicBlocks h) → (exponents : List ℕ) (buses : ℕ) → 1 ≤ length exponents
     → IsFewest (2 ^ greatest exponents) (map (λ k. 2 ^ k) exponents) buses → IsBusCount exponents buses
-only exponents buses some least =
+only blocks exponents buses some least =
     let x : ℕ = 2 ^ greatest exponents in
     let total : ℕ = demand_of exponents in
     let ceiling : ℕ = div_ceil total x in
     let fits : (total ≤ ceiling * x) × (ceiling * x < total + x) = ceil_fits (greatest exponents) total x ceiling refl refl in
-    let same : ceiling ≡ buses = one_fewest x (map (λ k. 2 ^ k) exponents) ceiling buses (ceiling_is_fewest exponents ceiling refl) least in
+    let same : ceiling ≡ buses = one_fewest x (map (λ k. 2 ^ k) exponents) ceiling buses (ceiling_is_fewest blocks exponents ceiling refl) least in
     subst (IsBusCount exponents) same (record {
       within = fits.0;
       above = all_but_last ceiling x total fits.1 (some_demand exponents some);

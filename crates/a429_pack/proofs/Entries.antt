@@ -53,6 +53,11 @@ pub greatest_more : (ds : List Demand) (i : ℕ) (d : Demand) → i < length ds
     → greatest (map exponent_of (take (i + 1) ds)) ≡ max (greatest (map exponent_of (take i ds))) (exponent_of (get_or ds i d))
 greatest_more ds i d below = ap greatest (map_more exponent_of ds i d below) ∙ greatest-push (map exponent_of (take i ds)) (exponent_of (get_or ds i d))
 
+pub up_to_greatest : (xs : List ℕ) (i : ℕ) → i < length xs → get_or xs i 0 ≤ greatest xs
+up_to_greatest [] i below = absurd (omega arith)
+up_to_greatest (x ∷ xs) zero below = le-max_left x (greatest xs)
+up_to_greatest (x ∷ xs) (suc i) below = omega (arith, up_to_greatest xs i (omega arith), le-max_right x (greatest xs))
+
 -- no output has a longer period than the frame
 pub below_frame : (ds : List Demand) (i : ℕ) → exponent_of (demand_at ds i) ≤ frame_of ds
 below_frame [] i = omega arith

@@ -6,10 +6,11 @@ use Rattle.std.proofs.lemmas.Bool.{cases_lt}
 use Rattle.std.proofs.lemmas.Nat.{pow-add, pow_pos, div_below, shl-shr}
 use Rattle.std.proofs.lemmas.Option.{same_Some, none-some}
 use Rattle.std.proofs.Math.Nat.{mul-le-mul_right}
+use Rattle.a429_grid.specs.Blocks.{place_in}
 use Rattle.a429_grid.specs.Reversal.{reversed}
 use Rattle.a429_pack.specs.Schedules.{Schedule, RecursWithin, Serves, IsFewest, IsExactlyPeriodic}
 use Rattle.a429_pack.proofs.Counting.{total, total-zero, total-suc, total-ext, total-reordered, demands_fit, Orders, orders_apart, orders_found}
-use Rattle.a429_pack.proofs.Stretches.{Stretches, place_in, holder, holder_at, holder_is, stands, offset_below, rises, slot_at}
+use Rattle.a429_pack.proofs.Stretches.{Stretches, holder, holder_at, holder_is, stands, offset_below, rises, slot_at}
 
 -- the output in a cell
 pub cell_of : ℕ → ℕ → (ℕ → ℕ) → (ℕ → ℕ) → ℕ → ℕ → Option ℕ

@@ -8,7 +8,8 @@ use Rattle.std.proofs.lemmas.List.{take_all}
 use Rattle.std.proofs.lemmas.List.FromFn.{get_or-range_with_len, length-range_with_len}
 use Rattle.std.proofs.lemmas.List.Sums.{sum_by_more, get_or-le-sum_by}
 use Rattle.std.proofs.lemmas.List.Sorted.{length_permutation, sum_by-IsPermutation}
-use Rattle.a429_pack.proofs.Counting.{total, total-zero, total-suc, total-ext, total-constant, names, names_same, names_other, picked, Orders}
+use Rattle.a429_pack.specs.Orders.{NamesEachOnce}
+use Rattle.a429_pack.proofs.Counting.{total, total-zero, total-suc, total-ext, total-constant, names, names_same, names_other, picked, orders_apart, orders_found, Orders}
 
 -- a sum of a list, by its places
 total-sum_by : (f : ℕ → ℕ) (xs : List ℕ) (n : ℕ) → n ≤ length xs → total n (λ i. f (get_or xs i 0)) ≡ sum_by f (take n xs)
@@ -66,3 +67,14 @@ length_permuted n xs moved = length_permutation (range_with_len 0 n) xs moved �
 -- each of its numbers is below n
 pub permuted_below : (n : ℕ) (xs : List ℕ) → IsPermutation (range_with_len 0 n) xs → (i : ℕ) → i < length xs → get_or xs i 0 < n
 permuted_below n xs moved i below = (orders_of n xs (length_permuted n xs moved) moved).inside i (omega (arith, length_permuted n xs moved))
+
+-- the four facts in one
+pub names_each_once : (n : ℕ) (xs : List ℕ) → IsPermutation (range_with_len 0 n) xs → NamesEachOnce n xs
+names_each_once n xs moved =
+    let orders : Orders n (λ i. get_or xs i 0) = orders_of n xs (length_permuted n xs moved) moved in
+    record {
+      length = length_permuted n xs moved;
+      below = orders.inside;
+      place = orders_found n (λ i. get_or xs i 0) orders;
+      once = orders_apart n (λ i. get_or xs i 0) orders;
+    }

@@ -7,8 +7,8 @@ use Rattle.std.proofs.lemmas.Grind.{div_ceil_times}
 use Rattle.std.proofs.lemmas.List.{length-map, get_or-map, take_all}
 use Rattle.std.proofs.lemmas.Nat.{pow-add, pow_pos, shl-shr, shr-shr, div-mul-add}
 use Rattle.std.proofs.lemmas.Simd.{map-map}
-use Rattle.std.proofs.Math.Nat.{mul-le-mul_right}
-use Rattle.a429_grid.proofs.Reversing.{pow_few}
+use Rattle.std.proofs.Math.Nat.{mul-le-mul_right, pow-le-pow_right}
+use Rattle.a429_grid.specs.Blocks.{HasPeriodicBlocks}
 use Rattle.a429_grid.specs.Reversal.{reversed}
 use Rattle.a429_pack.specs.declared.demands.Demand.{Demand}
 use Rattle.a429_pack.specs.declared.entry.Entry.{Entry}
@@ -74,10 +74,10 @@ pub record Packing (h n : ℕ) (ds : List Demand) (is demands : List ℕ) : Type
   pub stretches : Stretches h n (λ i. h - exponent_of (demand_at ds (get_or is i 0))) (start_of demands)
 
 -- from an order in which the periods do not fall
-pub packing_by : (h : ℕ) (ds : List Demand) (is demands : List ℕ) → h ≡ frame_of ds → IsPermutation (range_with_len 0 (length ds)) is
+pub packing_by : (h : ℕ) (ds : List Demand) (is demands : List ℕ) → HasPeriodicBlocks h → h ≡ frame_of ds → IsPermutation (range_with_len 0 (length ds)) is
     → ((i : ℕ) → i + 1 < length is → exponent_of (demand_at ds (get_or is i 0)) ≤ exponent_of (demand_at ds (get_or is (i + 1) 0)))
     → demands ≡ map (asked h ds) is → Packing h (length ds) ds is demands
-packing_by h ds is demands same moved rising are =
+packing_by h ds is demands blocks same moved rising are =
     let n : ℕ = length ds in
     let inputs : length is ≡ n = length_permuted n is moved in
     let long : length demands ≡ n = ap length are ∙ length-map is (asked h ds) ∙ inputs in
@@ -96,13 +96,14 @@ packing_by h ds is demands same moved rising are =
         follows = λ i below. start_more demands i (omega arith) ∙ ap (λ z. start_of demands i + z) (demand i below);
         falling = λ i below. omega (arith, rising i (omega arith));
         within = λ i below. omega arith;
+        blocks = blocks;
       };
     }
 
-pub packing_of : (h : ℕ) (ds : List Demand) (es : List Entry) → AreInOrder ds es → h ≡ frame_of ds → Packing h (length ds) ds (inputs_of es) (demands_of h es)
-packing_of h ds es order same =
+pub packing_of : (h : ℕ) (ds : List Demand) (es : List Entry) → HasPeriodicBlocks h → AreInOrder ds es → h ≡ frame_of ds → Packing h (length ds) ds (inputs_of es) (demands_of h es)
+packing_of h ds es blocks order same =
     let is : List ℕ = inputs_of es in
-    packing_by h ds is (demands_of h es) same order.order.all
+    packing_by h ds is (demands_of h es) blocks same order.order.all
     (λ i below. first_least (exponent_of (demand_at ds (get_or is i 0))) (exponent_of (demand_at ds (get_or is (i + 1) 0))) _ (order.order.rising i below))
     (demands_are h ds es order)
 
@@ -209,7 +210,8 @@ kept_in n h es sums array demands same =
 pub sum_small : (h total buses : ℕ) → h ≤ 13 → buses ≡ div_ceil total (2 ^ h) → buses ≤ 16 → total < 2 ^ 32
 sum_small h total buses low is few =
     let fits : (total ≤ buses * 2 ^ h) × (buses * 2 ^ h < total + 2 ^ h) = ceil_fits h total (2 ^ h) buses refl is in
-    omega (arith, fits.0, pow_few h low, mul-le-mul_right {m = buses} {n = 16} (2 ^ h) few)
+    let one : 0 < 2 = omega arith in
+    omega (arith, fits.0, pow-le-pow_right {n = 2} one {i = h} {j = 13} low, mul-le-mul_right {m = buses} {n = 16} (2 ^ h) few)
 
 pub length-order : (ds : List Demand) (es : List Entry) → AreInOrder ds es → length es ≡ length ds
 length-order ds es order = sym (length-map es (λ e. e.input)) ∙ length_permuted (length ds) (inputs_of es) order.order.all

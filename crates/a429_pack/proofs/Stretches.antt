@@ -6,8 +6,7 @@ use Rattle.std.proofs.lemmas.Bool.Decides.{nat_tests}
 use Rattle.std.proofs.lemmas.Nat.{pow-add, mod-mul-add, mod_below, div-add-mod'}
 use Rattle.std.proofs.lemmas.Option.{same_Some, none-some}
 use Rattle.a429_grid.specs.Reversal.{reversed}
-use Rattle.a429_grid.proofs.Reversing.{reversed_below}
-use Rattle.a429_grid.proofs.Blocks.{in_block, on_block, offset_of, bus_of}
+use Rattle.a429_grid.specs.Blocks.{HasPeriodicBlocks, place_in}
 
 -- n stretches, one behind the other, of powers of two that fall, none above 2 ^ h
 pub record Stretches (h n : ℕ) (k s : ℕ → ℕ) : Type 0 where
@@ -15,10 +14,7 @@ pub record Stretches (h n : ℕ) (k s : ℕ → ℕ) : Type 0 where
   pub follows : (i : ℕ) → i < n → s (i + 1) ≡ s i + 2 ^ k i
   pub falling : (i : ℕ) → i + 1 < n → k (i + 1) ≤ k i
   pub within : (i : ℕ) → i < n → k i ≤ h
-
--- the place of a slot among all: bus by bus, and on a bus by the reversed slot
-abbrev pub place_in : ℕ → ℕ → ℕ → ℕ
-place_in h bus slot = bus * 2 ^ h + reversed h (slot % 2 ^ h)
+  pub blocks : HasPeriodicBlocks h
 
 -- the stretch that holds a place
 pub holder : (ℕ → ℕ) → ℕ → ℕ → Option ℕ
@@ -47,29 +43,15 @@ IsIn h start k bus slot = (start ≤ place_in h bus slot) × (place_in h bus slo
 pub stands : (h n : ℕ) (k s : ℕ → ℕ) → Stretches h n k s → (i : ℕ) → i < n → (bus slot : ℕ)
     → IsIn h (s i) (k i) bus slot ↔ ((bus ≡ s i / 2 ^ h) × (slot % 2 ^ (h - k i) ≡ reversed h (s i % 2 ^ h)))
 stands h n k s laid i below bus slot =
-    let few : k i ≤ h = laid.within i below in
     let (q, start) = aligned h n k s laid i below in
-    let digits : (h - k i) + k i ≡ h = omega arith in
-    let P : ℕ → ℕ → Type 0 = λ z start. IsIn z start (k i) bus slot ↔ ((bus ≡ start / 2 ^ z) × (slot % 2 ^ (h - k i) ≡ reversed z (start % 2 ^ z))) in
-    let there : P ((h - k i) + k i) (q * 2 ^ k i) = (
-      (λ (low, high).
-          let (b, o) = in_block (k i) (h - k i) q bus slot low high in
-          (b ∙ sym (bus_of (k i) (h - k i) q), o ∙ sym (offset_of (k i) (h - k i) q))),
-      (λ (b, o). on_block (k i) (h - k i) q bus slot (b ∙ bus_of (k i) (h - k i) q) (o ∙ offset_of (k i) (h - k i) q)),
-    )
-    in
-    subst (λ (z : ℕ). P z (s i)) digits (subst (P ((h - k i) + k i)) (sym start) there)
+    subst (λ (z : ℕ). IsIn h z (k i) bus slot ↔ ((bus ≡ z / 2 ^ h) × (slot % 2 ^ (h - k i) ≡ reversed h (z % 2 ^ h)))) (sym start)
+    (laid.blocks.slots (k i) q bus slot (laid.within i below))
 
 -- the offset is below the period
 pub offset_below : (h n : ℕ) (k s : ℕ → ℕ) → Stretches h n k s → (i : ℕ) → i < n → reversed h (s i % 2 ^ h) < 2 ^ (h - k i)
 offset_below h n k s laid i below =
-    let few : k i ≤ h = laid.within i below in
     let (q, start) = aligned h n k s laid i below in
-    let digits : (h - k i) + k i ≡ h = omega arith in
-    let P : ℕ → ℕ → Type 0 = λ z start. reversed z (start % 2 ^ z) < 2 ^ (h - k i) in
-    let there : P ((h - k i) + k i) (q * 2 ^ k i) =
-    subst (λ (v : ℕ). v < 2 ^ (h - k i)) (sym (offset_of (k i) (h - k i) q)) (reversed_below (h - k i) (q % 2 ^ (h - k i))) in
-    subst (λ (z : ℕ). P z (s i)) digits (subst (P ((h - k i) + k i)) (sym start) there)
+    subst (λ (z : ℕ). reversed h (z % 2 ^ h) < 2 ^ (h - k i)) (sym start) (laid.blocks.offset (k i) q (laid.within i below))
 
 -- the starts rise
 pub rises : (h n : ℕ) (k s : ℕ → ℕ) → Stretches h n k s → (i d : ℕ) → i + d ≤ n → s i ≤ s (i + d)

@@ -4,16 +4,13 @@ use Rattle.std.specs.List.{All}
 use Rattle.std.proofs.Math.ListN.{set, get_or-append}
 use Rattle.std.proofs.Math.Seq.{set-append_seam, take-append_seam}
 use Rattle.std.proofs.lemmas.Bool.{cases_lt}
-use Rattle.std.proofs.lemmas.List.{get_or-take, take-take, take_more_set}
+use Rattle.std.proofs.lemmas.List.{take-take, take_more_set}
 use Rattle.std.proofs.lemmas.List.Elements.{All-push}
 use Rattle.std.proofs.lemmas.List.Sums.{sum_by-append, sum_by-cons, sum_by-take-le, sum_by_more}
 use Rattle.a429_pack.specs.Kept.{padded, starts_from, AreKept, length-kept}
 use Rattle.a429_pack.specs.Sums.{start_of, Holds}
 
 -- ---- padded lists
-
-pub padded-nothing : (n : ℕ) → replicate n 0 ≡ padded n []
-padded-nothing n = let same : n ≡ n - 0 = omega arith in ap (λ k. replicate k 0) same
 
 pub padded-set : (n : ℕ) (xs : List ℕ) (x : ℕ) → length xs < n → set (padded n xs) (length xs) x ≡ padded n (xs ++ x ∷ [])
 padded-set n xs x room =
@@ -81,9 +78,6 @@ stretch_within ds x i (inside, low, high) = omega (arith, start_more ds i inside
 -- what an array has in front is what it keeps
 pub kept_read : (n : ℕ) (xs : List ℕ) (i : ℕ) → i < length xs → get_or (padded n xs) i 0 ≡ get_or xs i 0
 kept_read n xs i below = get_or-append xs (replicate (n - length xs) 0) 0 i below
-
-pub demand_kept : (first : List ℕ) (count i : ℕ) → i < count → get_or first i 0 ≡ get_or (take count first) i 0
-demand_kept first count i below = sym (get_or-take count first i 0 below)
 
 pub start_kept : (n : ℕ) (first second : List ℕ) (count end i : ℕ) → AreKept n first second count end → i < count → get_or second i 0 ≡ start_of (take count first) i
 start_kept n first second count end i kept below =

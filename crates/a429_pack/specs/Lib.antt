@@ -4,5 +4,6 @@ pub mod Entries
 pub mod Faults
 pub mod Kept
 pub mod Layout
+pub mod Orders
 pub mod Schedules
 pub mod Sums

@@ -1,8 +1,14 @@
-//! What follows from the definitions of schedules.
-ghost use Rattle.std.specs.Prelude.{ℕ, ◌≤◌, ◌^◌, List, length, map};
+//! What follows from the definitions of schedules, orders and stretches.
+ghost use Rattle.std.specs.Prelude.{◌≡◌, ℕ, ◌<◌, ◌≤◌, ◌^◌, List, length, map, slice_index, sum};
+ghost use Rattle.std.specs.List.{range_with_len};
+ghost use Rattle.std.specs.List.Sorted.{IsPermutation};
 ghost use Rattle.a429_pack.specs.Demanded.{IsBusCount};
 ghost use Rattle.a429_pack.specs.Demands.{greatest};
+ghost use Rattle.a429_pack.specs.Orders.{NamesEachOnce};
 ghost use Rattle.a429_pack.specs.Schedules.{IsFewest};
+ghost use Rattle.a429_pack.specs.Sums.{Holds};
+
+use a429_grid::laws::blocks_are_periodic;
 
 /// The fewest buses that any schedule of a group needs are those that carry its demand in one frame, where one
 /// fewer do not. The group is given by its outputs' periods in slots, as exponents of two, and a frame is the
@@ -12,4 +18,23 @@ pub fn fewest_by_demand()
         → IsFewest (2 ^ greatest exponents) (map (λ k. 2 ^ k) exponents) buses }
     ensures only { (exponents : List ℕ) (buses : ℕ) → 1 ≤ length exponents
         → IsFewest (2 ^ greatest exponents) (map (λ k. 2 ^ k) exponents) buses → IsBusCount exponents buses }
+{
+    blocks_are_periodic();
+}
+
+/// No number of a list is above its greatest, by the definition of `greatest`.
+pub fn none_is_above_the_greatest()
+    ensures { (numbers : List ℕ) (i : ℕ) → i < length numbers → slice_index numbers i ≤ greatest numbers }
+{}
+
+/// A permutation of the numbers below `n` has each of them at just one place, since their range has each of them once.
+pub fn orders_name_each_once()
+    ensures { (n : ℕ) (order : List ℕ) → IsPermutation (range_with_len 0 n) order → NamesEachOnce n order }
+{}
+
+/// Each stretch starts where the one before it ends: so two that hold one place are the same, and a place that is
+/// held is below the sum of the demands.
+pub fn stretches_are_apart()
+    ensures apart { (demands : List ℕ) (x i j : ℕ) → Holds demands x i → Holds demands x j → i ≡ j }
+    ensures within { (demands : List ℕ) (x i : ℕ) → Holds demands x i → x < sum demands }
 {}

@@ -13,6 +13,7 @@ use crate::entry::Entry;
 use crate::packed::Packed;
 use crate::sums::SumTable;
 use a429_grid::Period;
+use a429_grid::laws::blocks_are_periodic;
 use a429_word::Sdi;
 use std::alloc::Global;
 
@@ -123,6 +124,7 @@ pub fn pack<const N: usize>(alloc: Global, demands: &[Demand]) -> Result<Packed<
     ensures few { IfOk result (λ p. p.buses ≤ 16) }
     ensures fault { IfErr result (IsFaultOf demands.now) }
 {
+    blocks_are_periodic();
     let entries = in_order(alloc, demands)?;
     let frame = greatest_period(demands);
     let needed = buses_needed(&entries, frame);

@@ -3,12 +3,12 @@ use Rattle.std.proofs.Common.{◌≡◌, ℕ, suc, ◌/◌, ◌^◌, ◌<◌, �
 use Rattle.std.specs.Prelude.{Option, Some, None, IsSome, slice_get, option_and_then, unwrap_or}
 use Rattle.std.specs.List.{AllZip}
 use Rattle.std.specs.Option.{option_map_or}
+use Rattle.std.proofs.Math.Nat.{pow-le-pow_right}
 use Rattle.std.proofs.lemmas.Bool.{false≢true}
 use Rattle.std.proofs.lemmas.List.{length-map, get_or-map, get_or-take}
 use Rattle.std.proofs.lemmas.Simd.{map-map}
 use Rattle.std.proofs.lemmas.Slice.Zip.{AllZip-long}
 use Rattle.a429_grid.specs.Grid.{HasNoGridPeriod}
-use Rattle.a429_grid.proofs.Reversing.{pow_few}
 use Rattle.a429_pack.specs.declared.demands.Demand.{Demand}
 use Rattle.a429_pack.specs.declared.demands.PackFault.{PackFault}
 use Rattle.a429_pack.specs.declared.demands.PackFault.TheVariants as pack
@@ -17,7 +17,7 @@ use Rattle.a429_pack.specs.Demands as demands
 use Rattle.a429_pack.specs.Faults as faults
 use Rattle.a429_pack.specs.Layout.{Layout}
 use Rattle.a429_pack.specs.Schedules.{IsFewest}
-use Rattle.a429_pack.proofs.Orders.{length_permuted, permuted_below}
+use Rattle.a429_pack.specs.Orders.{NamesEachOnce}
 use Rattle.a429_equipment.specs.declared.rows.OutputRow.{OutputRow}
 use Rattle.a429_equipment.specs.declared.rows.SourceRow.{SourceRow}
 use Rattle.a429_slots.specs.Tables.{Placed, GroupTable, placed_at, outputs_of, order_of, frame_of, buses_of}
@@ -25,7 +25,7 @@ use Rattle.a429_slots.specs.Kept.{IsTable}
 use Rattle.a429_slots.specs.Asked.{IsAsked, IsTableOf}
 use Rattle.a429_slots.specs.Planned.{HasPeriod, IsServed, IsLayout, IsPlannedFor, NeedsBuses, CanBePlanned, asked_by, asked_of}
 use Rattle.a429_slots.specs.Faults.{IsGroupFault}
-use Rattle.a429_slots.proofs.Cells.{length-outputs, length-order, output_at, stands_just_at}
+use Rattle.a429_slots.proofs.Cells.{HasEach, AreApart, length-outputs, output_at, stands_just_at}
 use Rattle.a429_slots.proofs.Rows.{blank, unasked, zipped_at, period_from, first_unfit, have_periods}
 
 zip_by : {A B : Type 0} (R : A → B → Type 0) (xs : List A) (ys : List B) (d : A) (e : B) → length ys ≡ length xs → ((i : ℕ) → i < length xs → R (get_or xs i d) (get_or ys i e)) → AllZip R xs ys
@@ -56,13 +56,15 @@ pub record IsMade (n rate : ℕ) (sources : List SourceRow) (rows : List OutputR
   pub few : l.buses ≤ 16
   pub table : IsTableOf l rows ds t
   pub sound : IsTable n t
+  pub inputs : NamesEachOnce (length ds) l.inputs
+  pub each : HasEach t
+  pub apart : AreApart t
 
 counts : (n rate : ℕ) (sources : List SourceRow) (rows : List OutputRow) (ds : List Demand) (l : Layout) (t : GroupTable) → IsMade n rate sources rows ds l t
     → (length t.demands ≡ length ds) × (length ds ≡ length rows)
 counts n rate sources rows ds l t m =
     let same : length ds ≡ length rows = AllZip-long (IsAsked rate sources) rows ds m.asked in
-    let all : length l.inputs ≡ length ds = length_permuted (length ds) l.inputs m.order.all in
-    (sym (length-order n t m.sound) ∙ ap length m.table.order ∙ all, same)
+    (sym m.each.length ∙ ap length m.table.order ∙ m.inputs.length, same)
 
 source_at : (n rate : ℕ) (sources : List SourceRow) (rows : List OutputRow) (ds : List Demand) (l : Layout) (t : GroupTable) → IsMade n rate sources rows ds l t
     → (i : ℕ) → i < length rows → get_or t.sources i 0 ≡ (get_or rows i blank).source
@@ -122,7 +124,7 @@ shares n rate sources rows ds l t m =
     let (many, same) = counts n rate sources rows ds l t m in
     m.table.demands ∙ m.shares ∙ map_where (λ i. 2 ^ l.frame / period_of (demand_at ds i)) (λ o. frame_of t / 2 ^ get_or t.periods o 0) l.inputs (λ k below.
     let o : ℕ = get_or l.inputs k 0 in
-    let known : o < length ds = permuted_below (length ds) l.inputs m.order.all k below in
+    let known : o < length ds = m.inputs.below k (omega (arith, m.inputs.length)) in
     ap (λ h. 2 ^ h / period_of (demand_at ds o)) (sym m.table.frame)
     ∙ ap (λ e. frame_of t / 2 ^ e) (sym (period_at n rate sources rows ds l t m o (omega arith))))
     ∙ ap (map (λ o. frame_of t / 2 ^ get_or t.periods o 0)) (sym m.table.order)
@@ -143,9 +145,9 @@ pub planned : (n rate : ℕ) (sources : List SourceRow) (rows : List OutputRow) 
 planned n rate sources rows ds l t m = record {
   served = served n rate sources rows ds l t m;
   layout = layout n rate sources rows ds l t m;
-  periodic = λ o below. stands_just_at n t m.sound o (omega (arith, length-outputs t));
+  periodic = λ o below. stands_just_at n t m.sound m.each m.apart o (omega (arith, length-outputs t));
   few_buses = m.sound.few;
-  few_slots = pow_few t.frame m.sound.frame;
+  few_slots = let one : 0 < 2 = omega arith in pow-le-pow_right {n = 2} one {i = t.frame} {j = 13} m.sound.frame;
 }
 
 -- ---- how many buses

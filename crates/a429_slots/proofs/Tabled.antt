@@ -1,20 +1,16 @@
 -- A layout of demands makes a slot table.
-use Rattle.std.proofs.Common.{◌≡◌, ℕ, ◌+◌, ◌-◌, ◌/◌, ◌%◌, ◌^◌, ◌<◌, ◌≤◌, List, length, take, get_or, map, arith, refl, ap, ◌∙◌, sym, subst}
+use Rattle.std.proofs.Common.{◌≡◌, ℕ, ◌+◌, ◌-◌, ◌/◌, ◌%◌, ◌^◌, ◌<◌, ◌≤◌, List, length, take, get_or, map, sum, arith, refl, ap, ◌∙◌, sym, subst}
 use Rattle.std.specs.List.{range_with_len}
 use Rattle.std.specs.List.Sorted.{IsPermutation}
-use Rattle.std.proofs.lemmas.List.{get_or-map, get_or-take}
-use Rattle.std.proofs.lemmas.List.Sums.{sum_by-take-le}
+use Rattle.std.proofs.lemmas.List.{length-map, get_or-map, get_or-take}
 use Rattle.std.proofs.lemmas.Nat.{pow-add, pow_pos, shl-shr, div_below}
 use Rattle.a429_grid.specs.Reversal.{reversed}
 use Rattle.a429_pack.specs.declared.demands.Demand.{Demand}
 use Rattle.a429_pack.specs.Demands.{demand_at, exponent_of, period_of, frame_of}
 use Rattle.a429_pack.specs.Layout.{Layout, IsLaidOut}
+use Rattle.a429_pack.specs.Orders.{NamesEachOnce}
 use Rattle.a429_pack.specs.Schedules.{IsExactlyPeriodic}
-use Rattle.a429_pack.specs.Sums.{start_of}
-use Rattle.a429_pack.proofs.Counting.{orders_found}
-use Rattle.a429_pack.proofs.Entries.{below_frame}
-use Rattle.a429_pack.proofs.Orders.{orders_of, length_permuted, permuted_below}
-use Rattle.a429_pack.proofs.Tables.{start_more}
+use Rattle.a429_pack.specs.Sums.{start_of, Holds}
 use Rattle.a429_equipment.specs.declared.rows.OutputRow.{OutputRow}
 use Rattle.a429_slots.specs.Tables.{GroupTable}
 use Rattle.a429_slots.specs.Kept.{HoldsCell, IsTable}
@@ -44,6 +40,9 @@ table frame buses demands c = record {
 -- what is known of the columns when a table is made of them
 pub record AreColumns (l : Layout) (rows : List OutputRow) (ds : List Demand) (c : Columns) : Type 0 where
   pub laid : IsLaidOut l
+  pub each : NamesEachOnce (length l.demands) l.inputs
+  pub within : (x k : ℕ) → Holds l.demands x k → x < sum l.demands
+  pub longest : (o : ℕ) → o < length (map exponent_of ds) → get_or (map exponent_of ds) o 0 ≤ frame_of ds
   pub rows_long : length rows ≡ length l.inputs
   pub asked_long : length ds ≡ length l.inputs
   pub greatest : l.frame ≡ frame_of ds
@@ -65,9 +64,6 @@ period_back h e few =
     let digits : e + (h - e) ≡ h = omega arith in
     ap (λ z. 2 ^ h / z) (share_is h e few) ∙ ap (λ z. z / 2 ^ (h - e)) (ap (λ z. 2 ^ z) (sym digits) ∙ pow-add 2 e (h - e)) ∙ shl-shr (2 ^ e) (h - e)
 
-many : (l : Layout) → IsLaidOut l → length l.inputs ≡ length l.demands
-many l laid = length_permuted (length l.demands) l.inputs laid.inputs
-
 -- the output at a place
 order_at : (l : Layout) (rows : List OutputRow) (ds : List Demand) (c : Columns) → AreColumns l rows ds c → (k : ℕ) → k < length l.inputs → get_or c.order k 0 ≡ get_or l.inputs k 0
 order_at l rows ds c p k below = sym (get_or-take (length l.inputs) c.order k 0 below) ∙ ap (λ xs. get_or xs k 0) p.order
@@ -79,14 +75,17 @@ period_at l rows ds c p o below =
     ∙ get_or-map exponent_of ds o unasked 0 (omega (arith, p.asked_long))
 
 few_exponent : (l : Layout) (rows : List OutputRow) (ds : List Demand) (c : Columns) → AreColumns l rows ds c → (o : ℕ) → o < length l.inputs → get_or c.periods o 0 ≤ l.frame
-few_exponent l rows ds c p o below = omega (arith, period_at l rows ds c p o below, below_frame ds o, p.greatest)
+few_exponent l rows ds c p o below =
+    let there : get_or c.periods o 0 ≡ get_or (map exponent_of ds) o 0 =
+    sym (get_or-take (length ds) c.periods o 0 (omega (arith, p.asked_long))) ∙ ap (λ xs. get_or xs o 0) p.periods in
+    omega (arith, there, p.longest o (omega (arith, length-map ds exponent_of, p.asked_long)), p.greatest)
 
 -- the share of the output at a place
 share_at : (l : Layout) (rows : List OutputRow) (ds : List Demand) (c : Columns) → AreColumns l rows ds c → (k : ℕ) → k < length l.inputs
     → get_or l.demands k 0 ≡ 2 ^ l.frame / 2 ^ get_or c.periods (get_or l.inputs k 0) 0
 share_at l rows ds c p k below =
     let o : ℕ = get_or l.inputs k 0 in
-    let known : o < length l.inputs = omega (arith, permuted_below (length l.demands) l.inputs p.laid.inputs k below, many l p.laid) in
+    let known : o < length l.inputs = omega (arith, p.each.below k (omega (arith, p.each.length)), p.each.length) in
     ap (λ xs. get_or xs k 0) p.shares ∙ get_or-map (λ i. 2 ^ l.frame / period_of (demand_at ds i)) l.inputs k 0 0 below
     ∙ ap (λ e. 2 ^ l.frame / 2 ^ e) (sym (period_at l rows ds c p o known))
 
@@ -94,35 +93,27 @@ share_at l rows ds c p k below =
 begins_inside : (l : Layout) (rows : List OutputRow) (ds : List Demand) (c : Columns) → AreColumns l rows ds c → (k : ℕ) → k < length l.inputs → start_of l.demands k / 2 ^ l.frame < l.buses
 begins_inside l rows ds c p k below =
     let o : ℕ = get_or l.inputs k 0 in
-    let known : o < length l.inputs = omega (arith, permuted_below (length l.demands) l.inputs p.laid.inputs k below, many l p.laid) in
+    let known : o < length l.inputs = omega (arith, p.each.below k (omega (arith, p.each.length)), p.each.length) in
     let share : get_or l.demands k 0 ≡ 2 ^ (l.frame - get_or c.periods o 0) =
     share_at l rows ds c p k below ∙ share_is l.frame (get_or c.periods o 0) (few_exponent l rows ds c p o known) in
-    let next : start_of l.demands (k + 1) ≡ start_of l.demands k + get_or l.demands k 0 = start_more l.demands k (omega (arith, many l p.laid)) in
-    div_below (start_of l.demands k) (2 ^ l.frame) l.buses (pow_pos l.frame)
-    (omega (arith, share, pow_pos (l.frame - get_or c.periods o 0), next, sum_by-take-le (λ x. x) l.demands (k + 1), p.laid.room))
-
--- the place of an output in the layout
-place_of : (l : Layout) → IsLaidOut l → (o : ℕ) → o < length l.inputs → (k : ℕ) × (k < length l.inputs) × (get_or l.inputs k 0 ≡ o)
-place_of l laid o below =
-    let n : ℕ = length l.inputs in
-    let moved : IsPermutation (range_with_len 0 n) l.inputs = subst (λ (m : ℕ). IsPermutation (range_with_len 0 m) l.inputs) (sym (many l laid)) laid.inputs in
-    orders_found n (λ k. get_or l.inputs k 0) (orders_of n l.inputs refl moved) o below
+    let holds : Holds l.demands (start_of l.demands k) k = (omega (arith, p.each.length), omega arith, omega (arith, share, pow_pos (l.frame - get_or c.periods o 0))) in
+    div_below (start_of l.demands k) (2 ^ l.frame) l.buses (pow_pos l.frame) (omega (arith, p.within (start_of l.demands k) k holds, p.laid.room))
 
 periodic_at : (l : Layout) (rows : List OutputRow) (ds : List Demand) (c : Columns) → AreColumns l rows ds c → (k : ℕ) → k < length l.inputs
     → IsExactlyPeriodic (HoldsCell (table l.frame l.buses l.demands c) k) (get_or c.on_bus (get_or l.inputs k 0) 0) (get_or c.offsets (get_or l.inputs k 0) 0) (2 ^ get_or c.periods (get_or l.inputs k 0) 0)
 periodic_at l rows ds c p k below =
     let o : ℕ = get_or l.inputs k 0 in
-    let known : o < length l.inputs = omega (arith, permuted_below (length l.demands) l.inputs p.laid.inputs k below, many l p.laid) in
+    let known : o < length l.inputs = omega (arith, p.each.below k (omega (arith, p.each.length)), p.each.length) in
     let period : 2 ^ l.frame / get_or l.demands k 0 ≡ 2 ^ get_or c.periods o 0 =
     ap (λ z. 2 ^ l.frame / z) (share_at l rows ds c p k below) ∙ period_back l.frame (get_or c.periods o 0) (few_exponent l rows ds c p o known) in
     subst (λ (z : ℕ). IsExactlyPeriodic (HoldsCell (table l.frame l.buses l.demands c) k) z (get_or c.offsets o 0) (2 ^ get_or c.periods o 0)) (sym (p.bus k below))
     (subst (λ (z : ℕ). IsExactlyPeriodic (HoldsCell (table l.frame l.buses l.demands c) k) (start_of l.demands k / 2 ^ l.frame) z (2 ^ get_or c.periods o 0)) (sym (p.offset k below))
     (subst (λ (z : ℕ). IsExactlyPeriodic (HoldsCell (table l.frame l.buses l.demands c) k) (start_of l.demands k / 2 ^ l.frame) (reversed l.frame (start_of l.demands k % 2 ^ l.frame)) z) period
-    (p.laid.periodic k (omega (arith, many l p.laid)))))
+    (p.laid.periodic k (omega (arith, p.each.length)))))
 
 pub is_table : (n : ℕ) (l : Layout) (rows : List OutputRow) (ds : List Demand) (c : Columns) → AreColumns l rows ds c → length l.inputs ≤ n → IsTable n (table l.frame l.buses l.demands c)
 is_table n l rows ds c p room =
-    let count : length l.inputs ≡ length l.demands = many l p.laid in
+    let count : length l.inputs ≡ length l.demands = p.each.length in
     let order : take (length l.demands) c.order ≡ l.inputs = ap (λ m. take m c.order) (sym count) ∙ p.order in
     record {
       room = omega arith;
@@ -132,7 +123,8 @@ is_table n l rows ds c p room =
       fits = p.laid.room;
       within = λ o below. few_exponent l rows ds c p o (omega arith);
       on_bus = λ o below.
-          let (k, inside, is) = place_of l p.laid o (omega arith) in
+          let (k, here, is) = p.each.place o below in
+          let inside : k < length l.inputs = omega arith in
           subst (λ (z : ℕ). get_or c.on_bus z 0 < l.buses) is (omega (arith, p.bus k inside, begins_inside l rows ds c p k inside));
       periodic = λ k below.
           let inside : k < length l.inputs = omega arith in
@@ -142,7 +134,7 @@ is_table n l rows ds c p room =
 
 pub is_table_of : (l : Layout) (rows : List OutputRow) (ds : List Demand) (c : Columns) → AreColumns l rows ds c → IsTableOf l rows ds (table l.frame l.buses l.demands c)
 is_table_of l rows ds c p =
-    let count : length l.inputs ≡ length l.demands = many l p.laid in
+    let count : length l.inputs ≡ length l.demands = p.each.length in
     record {
       frame = refl;
       buses = refl;

@@ -5,6 +5,7 @@ use crate::layout::{order_in, periods_in, place_of_cell, places_in, sources_in};
 use crate::outputs::OutputId;
 use a429_equipment::OutputRow;
 use a429_grid::Period;
+use a429_pack::laws::{none_is_above_the_greatest, orders_name_each_once, stretches_are_apart};
 use a429_pack::{Demand, Packed, SumTable};
 use std::marker::Model;
 
@@ -79,6 +80,9 @@ impl<const N: usize> GroupPlan<N> {
         ensures table { IsTableOf packed.now outputs.now demands.now result }
         ensures sound { IsTable N result }
     {
+        none_is_above_the_greatest();
+        orders_name_each_once();
+        stretches_are_apart();
         let (on_bus, offsets) = places_in(packed);
         GroupPlan {
             frame: packed.frame(),
@@ -129,6 +133,7 @@ impl<const N: usize> GroupPlan<N> {
         ensures value { slice_get (order_of self.now) k ≡ Some result }
         ensures known { result < length (outputs_of self.now) }
     {
+        orders_name_each_once();
         prove!(k < self.sums.len());
         OutputId::new(self.order[k])
     }
@@ -142,6 +147,8 @@ impl<const N: usize> GroupPlan<N> {
         ensures known { IfSome result.0 (λ output. output < length (outputs_of self.now)) }
         ensures probes { (digits : ℕ) → length (outputs_of self.now) < 2 ^ digits → result.1 ≤ digits }
     {
+        orders_name_each_once();
+        stretches_are_apart();
         if bus >= self.buses {
             return (None, 0);
         }
@@ -168,6 +175,8 @@ impl<const N: usize> GroupPlan<N> {
         ensures bus { result.bus < buses_of self.now }
         ensures frame { 2 ^ result.period ≤ frame_of self.now }
     {
+        orders_name_each_once();
+        stretches_are_apart();
         let number = output.number();
         prove!(number < self.sums.len());
         SlotPlace {

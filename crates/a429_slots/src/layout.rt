@@ -6,6 +6,7 @@ ghost use Rattle.a429_pack.specs.Sums.{start_of};
 
 use a429_equipment::OutputRow;
 use a429_grid::{Period, reverse};
+use a429_pack::laws::orders_name_each_once;
 use a429_pack::{Demand, Packed};
 
 /// The numbers of the outputs in layout order.
@@ -76,6 +77,7 @@ pub fn places_in<const N: usize>(packed: &Packed<N>) -> ([u32; N], [u32; N])
     ensures bus { (k : ℕ) → k < length packed.now.inputs → slice_index result.0 (slice_index packed.now.inputs k) ≡ start_of packed.now.demands k / 2 ^ packed.now.frame }
     ensures offset { (k : ℕ) → k < length packed.now.inputs → slice_index result.1 (slice_index packed.now.inputs k) ≡ reversed packed.now.frame (start_of packed.now.demands k % 2 ^ packed.now.frame) }
 {
+    orders_name_each_once();
     let frame = packed.frame();
     let mut buses = [0; N];
     let mut offsets = [0; N];

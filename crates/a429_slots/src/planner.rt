@@ -9,6 +9,7 @@ use crate::group_plan::GroupPlan;
 use crate::plans::Plan;
 use a429_equipment::{Equipment, OutputRow, SourceRow};
 use a429_grid::grid_period;
+use a429_pack::laws::{orders_name_each_once, stretches_are_apart};
 use a429_pack::{Demand, PackFault, pack};
 use std::alloc::{AllocError, Global};
 use thiserror::Error;
@@ -74,6 +75,8 @@ fn group_plan<const N: usize>(
     requires known { AllByRecursion (λ o. o.source < length sources.now) outputs.now }
     ensures { MatchResult result (λ table. IsPlannedFor rate sources.now outputs.now table × CanBePlanned rate outputs.now) (IsGroupFault rate outputs.now) }
 {
+    orders_name_each_once();
+    stretches_are_apart();
     let Ok(demands) = demands_of(alloc, rate, sources, outputs) else {
         return Err(PackFault::NoMemory);
     };

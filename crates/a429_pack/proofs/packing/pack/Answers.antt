@@ -24,7 +24,7 @@ returns-then-needed-gt-BUSES-clause-fault g c =
     let h : ℕ = c.greatest_period-frame.result in
     let needed : c.buses_needed-needed.result ≡ div_ceil (sum (demands_of h es)) (2 ^ h) =
     c.buses_needed-needed.ensures ∙ ap (λ (xs : List Entry). div_ceil (sum (demands_of h xs)) (2 ^ h)) c.deref.ensures.value in
-    let p = packing_of h ds es c.in_ok-entries.ensures c.greatest_period-frame.ensures.value in (
+    let p = packing_of h ds es (c.blocks_are_periodic.ensures h) c.in_ok-entries.ensures c.greatest_period-frame.ensures.value in (
       c.in_ok-entries.ensures.fit,
       c.if-needed-gt-BUSES.true,
       subst (λ (k : ℕ). IsFewest (2 ^ k) (periods_of ds) c.buses_needed-needed.result) c.greatest_period-frame.ensures.value
@@ -59,7 +59,7 @@ invariant_of-result g c =
     let buses : ℕ = c.buses_needed-needed.result in
     let needed : buses ≡ div_ceil (sum (demands_of h es)) (2 ^ h) =
     c.buses_needed-needed.ensures ∙ ap (λ (xs : List Entry). div_ceil (sum (demands_of h xs)) (2 ^ h)) c.deref.ensures.value in
-    let p = packing_of h ds es c.in_ok-entries.ensures c.greatest_period-frame.ensures.value in
+    let p = packing_of h ds es (c.blocks_are_periodic.ensures h) c.in_ok-entries.ensures c.greatest_period-frame.ensures.value in
     let sums : c.sums_of.result ≡ demands_of h es = c.sums_of.ensures ∙ ap (demands_of h) c.deref-2.ensures.value in
     let inputs : c.inputs_in.result ≡ padded g.row.N is = c.inputs_in.ensures ∙ ap (λ (xs : List Entry). padded g.row.N (inputs_of xs)) c.deref-3.ensures.value in
     let front : take (length c.sums_of.result) c.inputs_in.result ≡ is = kept_in g.row.N h es c.sums_of.result c.inputs_in.result sums inputs in
@@ -88,4 +88,4 @@ returns-clause-fewest g c =
     let h : ℕ = c.greatest_period-frame.result in
     let needed : c.buses_needed-needed.result ≡ div_ceil (sum (demands_of h es)) (2 ^ h) =
     c.buses_needed-needed.ensures ∙ ap (λ (xs : List Entry). div_ceil (sum (demands_of h xs)) (2 ^ h)) c.deref.ensures.value in
-    fewest h (length ds) ds (inputs_of es) (demands_of h es) c.buses_needed-needed.result (packing_of h ds es c.in_ok-entries.ensures c.greatest_period-frame.ensures.value) needed
+    fewest h (length ds) ds (inputs_of es) (demands_of h es) c.buses_needed-needed.result (packing_of h ds es (c.blocks_are_periodic.ensures h) c.in_ok-entries.ensures c.greatest_period-frame.ensures.value) needed

@@ -2,36 +2,37 @@ use Rattle.std.proofs.Common.{◌≡◌, ◌<◌, ◌∙◌, ◌/◌, ◌%◌, �
 use Rattle.std.proofs.lemmas.List.{length-set}
 use Rattle.a429_grid.specs.Reversal.{reversed}
 use Rattle.a429_pack.specs.Layout.{IsLaidOut}
+use Rattle.a429_pack.specs.Orders.{NamesEachOnce}
 use Rattle.a429_pack.specs.Sums.{start_of}
-use Rattle.a429_pack.proofs.Orders.{length_permuted}
 use Rattle.a429_slots.proofs.Columns.{placed_more}
 use Rattle.a429_slots.proofs.layout.places_in.Goals as goal
 
 pub start-start-requires : goal.start-start-requires
 start-start-requires g c =
     let laid : IsLaidOut c.args.packed.now = c.frame-frame.ensures.laid_out in
-    let many : length c.args.packed.now.inputs ≡ length c.args.packed.now.demands = length_permuted (length c.args.packed.now.demands) c.args.packed.now.inputs laid.inputs in
-    (search rules, omega (arith, ap length c.sums.ensures.value))
+    let each : NamesEachOnce (length c.args.packed.now.demands) c.args.packed.now.inputs =
+    c.orders_name_each_once.ensures (length c.args.packed.now.demands) c.args.packed.now.inputs laid.inputs in
+    (search rules, omega (arith, each.length, ap length c.sums.ensures.value))
 
 pub loop-place-preserved : goal.loop-place-preserved
 loop-place-preserved g c =
     let l = c.args.packed.now in
     let laid : IsLaidOut l = c.frame-frame.ensures.laid_out in
-    let many : length l.inputs ≡ length l.demands = length_permuted (length l.demands) l.inputs laid.inputs in
+    let each : NamesEachOnce (length l.demands) l.inputs = c.orders_name_each_once.ensures (length l.demands) l.inputs laid.inputs in
     let start : c.start-start.result ≡ start_of l.demands c.loop-place.place = c.start-start.ensures ∙ ap (λ (ds : List ℕ). start_of ds c.loop-place.place) c.sums.ensures.value in
     let slots : c.slots.result ≡ 2 ^ l.frame = c.slots.ensures.value ∙ ap (λ (h : ℕ). 2 ^ h) c.frame-frame.ensures.value in
     let bus : c.start-start.result / c.slots.result ≡ start_of l.demands c.loop-place.place / 2 ^ l.frame =
     ap (λ (s : ℕ). s / c.slots.result) start ∙ ap (λ (h : ℕ). start_of l.demands c.loop-place.place / h) slots in
     let offset : c.offset_at.result ≡ reversed l.frame (start_of l.demands c.loop-place.place % 2 ^ l.frame) =
     c.offset_at.ensures ∙ ap (λ (h : ℕ). reversed h (c.start-start.result % 2 ^ h)) c.frame-frame.ensures.value ∙ ap (λ (s : ℕ). reversed l.frame (s % 2 ^ l.frame)) start in
-    let below : c.loop-place.place < length l.demands = omega arith in
+    let below : c.loop-place.place < length l.demands = omega (arith, each.length) in
     record {
       wide_buses = length-set c.loop-place.buses c.input-output.result (c.start-start.result / c.slots.result) ∙ c.loop-place.invariant.wide_buses;
       wide_offsets = length-set c.loop-place.offsets c.input-output.result c.offset_at.result ∙ c.loop-place.invariant.wide_offsets;
       bus = placed_more (length l.demands) l.inputs c.loop-place.buses (λ k. start_of l.demands k / 2 ^ l.frame) c.loop-place.place c.input-output.result
-          (c.start-start.result / c.slots.result) laid.inputs below c.input-output.ensures.value
+          (c.start-start.result / c.slots.result) each below c.input-output.ensures.value
           (omega (arith, c.input-output.ensures.known, c.len-place-end.ensures.room, c.loop-place.invariant.wide_buses)) bus c.loop-place.invariant.bus;
       offset = placed_more (length l.demands) l.inputs c.loop-place.offsets (λ k. reversed l.frame (start_of l.demands k % 2 ^ l.frame)) c.loop-place.place c.input-output.result
-          c.offset_at.result laid.inputs below c.input-output.ensures.value
+          c.offset_at.result each below c.input-output.ensures.value
           (omega (arith, c.input-output.ensures.known, c.len-place-end.ensures.room, c.loop-place.invariant.wide_offsets)) offset c.loop-place.invariant.offset;
     }

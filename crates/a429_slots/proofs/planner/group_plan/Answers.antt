@@ -7,10 +7,10 @@ use Rattle.a429_pack.specs.declared.demands.Demand.{Demand}
 use Rattle.a429_pack.specs.Demands.{AreFit, IsLayoutOrder, demand_at, frame_of, period_of, periods_of}
 use Rattle.a429_pack.specs.Layout.{Layout}
 use Rattle.a429_pack.specs.Schedules.{IsFewest}
-use Rattle.a429_pack.proofs.Orders.{length_permuted}
 use Rattle.a429_slots.specs.Asked.{IsAsked}
 use Rattle.a429_slots.specs.Faults.{IsGroupFault}
 use Rattle.a429_slots.specs.Planned.{IsPlannedFor, CanBePlanned}
+use Rattle.a429_slots.specs.Tables.{order_of}
 use Rattle.a429_slots.proofs.Planned.{IsMade, planned, can_be, group_fault}
 use Rattle.a429_slots.proofs.planner.group_plan.Goals as goal
 
@@ -32,7 +32,7 @@ of-requires g c =
     let l : Layout = c.in_ok-packed.packed in
     let asked : length c.in-Ok.demands.items ≡ length c.args.outputs.now = AllZip-long (IsAsked c.args.rate c.args.sources.now) c.args.outputs.now c.in-Ok.demands.items c.in-Ok.ensures in
     let same : c.deref.result.now ≡ c.deref-2.result.now = c.deref.ensures.value ∙ sym c.deref-2.ensures.value in
-    let many : length l.inputs ≡ length c.deref.result.now = length_permuted (length c.deref.result.now) l.inputs c.in_ok-packed.ensures.order.all in
+    let many : length l.inputs ≡ length c.deref.result.now = (c.orders_name_each_once.ensures (length c.deref.result.now) l.inputs c.in_ok-packed.ensures.order.all).length in
     let long : length c.deref.result.now ≡ length c.args.outputs.now = ap length c.deref.ensures.value ∙ asked in (
       search rules,
       (
@@ -69,6 +69,9 @@ returns g c =
       few = p.few;
       table = c.of.ensures.table;
       sound = c.of.ensures.sound;
+      inputs = c.orders_name_each_once.ensures (length c.deref-2.result.now) l.inputs (subst (λ (ds : List Demand). IsLayoutOrder ds l.inputs) same p.order).all;
+      each = c.orders_name_each_once.ensures (length c.of.result.demands) (order_of c.of.result) c.of.ensures.sound.order;
+      apart = c.stretches_are_apart.ensures.apart c.of.result.demands;
     } in (
       planned g.row.N c.args.rate c.args.sources.now c.args.outputs.now c.deref-2.result.now l c.of.result made,
       can_be g.row.N c.args.rate c.args.sources.now c.args.outputs.now c.deref-2.result.now l c.of.result made,

@@ -2,9 +2,9 @@ use Rattle.std.proofs.Common.{◌≡◌, ◌<◌, ◌∙◌, ℕ, None, Some, ap
 use Rattle.std.specs.Prelude.{Option, IfSome}
 use Rattle.std.proofs.lemmas.Option.{none-some}
 use Rattle.a429_pack.specs.Sums.{Holds}
-use Rattle.a429_slots.specs.Tables.{GroupTable, outputs_of, cell_at}
+use Rattle.a429_slots.specs.Tables.{GroupTable, outputs_of, order_of, cell_at}
 use Rattle.a429_slots.specs.Kept.{IsTable, HoldsCell}
-use Rattle.a429_slots.proofs.Cells.{length-outputs, cell_found, cell_empty, cell_outside, ordered_below}
+use Rattle.a429_slots.proofs.Cells.{HasEach, length-outputs, cell_found, cell_empty, cell_outside, ordered_below}
 use Rattle.a429_slots.proofs.group_plan.GroupPlan.at_counted.Goals as goal
 
 pub returns-then-bus-self-clause-cell : goal.returns-then-bus-self-clause-cell
@@ -12,27 +12,30 @@ returns-then-bus-self-clause-cell g c =
     let p = c.self.inside in
     let t : GroupTable = record { frame = p.frame; buses = p.buses; demands = p.sums; order = p.order; sources = p.sources; on_bus = p.on_bus; offsets = p.offsets; periods = p.periods } in
     let w : IsTable g.row.N t = c.self.invariant in
-    subst (λ (u : GroupTable). None ≡ cell_at u c.args.bus c.args.slot) c.self.view_is (sym (cell_outside g.row.N t w c.args.bus c.args.slot c.if-bus-self.true))
+    let each : HasEach t = c.orders_name_each_once.ensures (length t.demands) (order_of t) w.order in
+    subst (λ (u : GroupTable). None ≡ cell_at u c.args.bus c.args.slot) c.self.view_is (sym (cell_outside g.row.N t w each (c.stretches_are_apart.ensures.within t.demands) c.args.bus c.args.slot c.if-bus-self.true))
 
 pub returns-in-Some-clause-cell : goal.returns-in-Some-clause-cell
 returns-in-Some-clause-cell g c =
     let p = c.self.inside in
     let t : GroupTable = record { frame = p.frame; buses = p.buses; demands = p.sums; order = p.order; sources = p.sources; on_bus = p.on_bus; offsets = p.offsets; periods = p.periods } in
     let w : IsTable g.row.N t = c.self.invariant in
+    let each : HasEach t = c.orders_name_each_once.ensures (length t.demands) (order_of t) w.order in
     let found : IfSome (Some c.in-Some.place) (Holds t.demands c.place_of_cell.result) =
     subst (λ (r : Option ℕ). IfSome r (Holds t.demands c.place_of_cell.result)) c.in-Some.is c.find_counted-found.ensures.found in
     let holds : HoldsCell t c.in-Some.place c.args.bus c.args.slot = subst (λ (y : ℕ). Holds t.demands y c.in-Some.place) c.place_of_cell.ensures found in
     subst (λ (u : GroupTable). Some c.new.result ≡ cell_at u c.args.bus c.args.slot) c.self.view_is
-    (ap (λ (o : ℕ). Some o) c.new.ensures ∙ sym (cell_found g.row.N t w c.in-Some.place c.args.bus c.args.slot holds))
+    (ap (λ (o : ℕ). Some o) c.new.ensures ∙ sym (cell_found g.row.N t w each (c.stretches_are_apart.ensures.apart t.demands) c.in-Some.place c.args.bus c.args.slot holds))
 
 pub returns-in-Some-clause-known : goal.returns-in-Some-clause-known
 returns-in-Some-clause-known g c =
     let p = c.self.inside in
     let t : GroupTable = record { frame = p.frame; buses = p.buses; demands = p.sums; order = p.order; sources = p.sources; on_bus = p.on_bus; offsets = p.offsets; periods = p.periods } in
     let w : IsTable g.row.N t = c.self.invariant in
+    let each : HasEach t = c.orders_name_each_once.ensures (length t.demands) (order_of t) w.order in
     let found : IfSome (Some c.in-Some.place) (Holds t.demands c.place_of_cell.result) =
     subst (λ (r : Option ℕ). IfSome r (Holds t.demands c.place_of_cell.result)) c.in-Some.is c.find_counted-found.ensures.found in
-    let inside : c.new.result < length (outputs_of t) = omega (arith, c.new.ensures, ordered_below g.row.N t w c.in-Some.place found.0, length-outputs t) in
+    let inside : c.new.result < length (outputs_of t) = omega (arith, c.new.ensures, ordered_below t each c.in-Some.place found.0, length-outputs t) in
     subst (λ (u : GroupTable). c.new.result < length (outputs_of u)) c.self.view_is inside
 
 pub returns-in-Some-clause-probes : goal.returns-in-Some-clause-probes
@@ -45,8 +48,9 @@ returns-in-None-clause-cell g c =
     let p = c.self.inside in
     let t : GroupTable = record { frame = p.frame; buses = p.buses; demands = p.sums; order = p.order; sources = p.sources; on_bus = p.on_bus; offsets = p.offsets; periods = p.periods } in
     let w : IsTable g.row.N t = c.self.invariant in
+    let each : HasEach t = c.orders_name_each_once.ensures (length t.demands) (order_of t) w.order in
     subst (λ (u : GroupTable). None ≡ cell_at u c.args.bus c.args.slot) c.self.view_is
-    (sym (cell_empty g.row.N t w c.args.bus c.args.slot (λ k holds.
+    (sym (cell_empty g.row.N t w each c.args.bus c.args.slot (λ k holds.
     none-some k (sym c.in-None.is ∙ c.find_counted-found.ensures.only k (subst (λ (y : ℕ). Holds t.demands y k) (sym c.place_of_cell.ensures) holds)))))
 
 pub returns-in-None-clause-probes : goal.returns-in-None-clause-probes

@@ -1,4 +1,5 @@
-use Rattle.std.proofs.Common.{◌≡◌, ◌∙◌, ℕ, List, ap, arith, subst, sym}
+use Rattle.std.proofs.Common.{◌≡◌, ◌∙◌, ℕ, List, ap, arith, length, map, subst, sym}
+use Rattle.a429_pack.specs.Demands.{exponent_of}
 use Rattle.a429_slots.specs.Tables.{GroupTable}
 use Rattle.a429_slots.specs.Kept.{IsTable}
 use Rattle.a429_slots.specs.Asked.{IsTableOf}
@@ -17,6 +18,9 @@ columns g c = record {
 are_columns : (g : _) (c : goal.After-periods_in g) → AreColumns c.args.packed.now c.args.outputs.now c.args.demands.now (columns g c)
 are_columns g c = record {
   laid = c.frame.ensures.laid_out;
+  each = c.orders_name_each_once.ensures (length c.args.packed.now.demands) c.args.packed.now.inputs c.frame.ensures.laid_out.inputs;
+  within = c.stretches_are_apart.ensures.within c.args.packed.now.demands;
+  longest = c.none_is_above_the_greatest.ensures (map exponent_of c.args.demands.now);
   rows_long = c.requires.outputs;
   asked_long = c.requires.asked;
   greatest = c.requires.frame;

@@ -2,7 +2,7 @@ use Rattle.std.proofs.Common.{◌≡◌, ◌<◌, ◌∙◌, ℕ, ap, arith, len
 use Rattle.std.specs.Prelude.{Some, slice_get}
 use Rattle.a429_slots.specs.Tables.{GroupTable, outputs_of, order_of}
 use Rattle.a429_slots.specs.Kept.{IsTable}
-use Rattle.a429_slots.proofs.Cells.{length-outputs, order_is, ordered_below}
+use Rattle.a429_slots.proofs.Cells.{HasEach, length-outputs, order_is, ordered_below}
 use Rattle.a429_slots.proofs.group_plan.GroupPlan.ordered.Goals as goal
 
 pub prove-unreachable-requires : goal.prove-unreachable-requires
@@ -15,15 +15,17 @@ returns-clause-value g c =
     let p = c.self.inside in
     let t : GroupTable = record { frame = p.frame; buses = p.buses; demands = p.sums; order = p.order; sources = p.sources; on_bus = p.on_bus; offsets = p.offsets; periods = p.periods } in
     let w : IsTable g.row.N t = c.self.invariant in
+    let each : HasEach t = c.orders_name_each_once.ensures (length t.demands) (order_of t) w.order in
     let below : c.args.k < length t.demands = omega (arith, c.len.ensures.value, c.if-prove.false) in
     subst (λ (u : GroupTable). slice_get (order_of u) c.args.k ≡ Some c.new.result) c.self.view_is
-    (order_is g.row.N t w c.args.k below ∙ ap (λ (o : ℕ). Some o) (sym c.new.ensures))
+    (order_is t each c.args.k below ∙ ap (λ (o : ℕ). Some o) (sym c.new.ensures))
 
 pub returns-clause-known : goal.returns-clause-known
 returns-clause-known g c =
     let p = c.self.inside in
     let t : GroupTable = record { frame = p.frame; buses = p.buses; demands = p.sums; order = p.order; sources = p.sources; on_bus = p.on_bus; offsets = p.offsets; periods = p.periods } in
     let w : IsTable g.row.N t = c.self.invariant in
+    let each : HasEach t = c.orders_name_each_once.ensures (length t.demands) (order_of t) w.order in
     let below : c.args.k < length t.demands = omega (arith, c.len.ensures.value, c.if-prove.false) in
-    let inside : c.new.result < length (outputs_of t) = omega (arith, c.new.ensures, ordered_below g.row.N t w c.args.k below, length-outputs t) in
+    let inside : c.new.result < length (outputs_of t) = omega (arith, c.new.ensures, ordered_below t each c.args.k below, length-outputs t) in
     subst (λ (u : GroupTable). c.new.result < length (outputs_of u)) c.self.view_is inside

@@ -1,7 +1,7 @@
 use Rattle.std.proofs.Common.{◌≡◌, ◌<◌, ◌≤◌, ◌∙◌, ◌^◌, ℕ, ap, arith, get_or, length, sym, subst}
 use Rattle.std.specs.Prelude.{Some, option_map, slice_get}
 use Rattle.std.proofs.Math.Nat.{pow-le-pow_right}
-use Rattle.a429_slots.specs.Tables.{GroupTable, outputs_of, frame_of, buses_of}
+use Rattle.a429_slots.specs.Tables.{GroupTable, outputs_of, order_of, frame_of, buses_of}
 use Rattle.a429_slots.specs.Kept.{IsTable, StandsJustAt}
 use Rattle.a429_slots.proofs.Cells.{length-outputs, place_is, stands_just_at}
 use Rattle.a429_slots.proofs.group_plan.GroupPlan.place.Goals as goal
@@ -30,7 +30,8 @@ returns-clause-cells g c =
     let below : o < length t.demands = omega (arith, c.len.ensures.value, c.if-prove.false) in
     subst (λ (n : ℕ). StandsJustAt c.args.self.now n (get_or t.on_bus o 0) (get_or t.offsets o 0) (2 ^ c.of_digits.result)) c.number-number.ensures
     (subst (λ (u : GroupTable). StandsJustAt u o (get_or t.on_bus o 0) (get_or t.offsets o 0) (2 ^ c.of_digits.result)) c.self.view_is
-    (subst (λ (k : ℕ). StandsJustAt t o (get_or t.on_bus o 0) (get_or t.offsets o 0) (2 ^ k)) (sym c.of_digits.ensures) (stands_just_at g.row.N t w o below)))
+    (subst (λ (k : ℕ). StandsJustAt t o (get_or t.on_bus o 0) (get_or t.offsets o 0) (2 ^ k)) (sym c.of_digits.ensures) (stands_just_at g.row.N t w
+    (c.orders_name_each_once.ensures (length t.demands) (order_of t) w.order) (c.stretches_are_apart.ensures.apart t.demands) o below)))
 
 pub returns-clause-bus : goal.returns-clause-bus
 returns-clause-bus g c =

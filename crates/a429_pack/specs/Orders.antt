@@ -1,0 +1,9 @@
+-- Lists that put the numbers below n in an order.
+use Rattle.std.specs.Prelude.{◌≡◌, ℕ, ◌<◌, List, length, slice_index}
+
+-- each number below n stands at one place of the list, and no other number does
+pub record NamesEachOnce (n : ℕ) (order : List ℕ) : Type 0 where
+  pub length : length order ≡ n
+  pub below : (k : ℕ) → k < n → slice_index order k < n
+  pub place : (o : ℕ) → o < n → (k : ℕ) × (k < n) × (slice_index order k ≡ o)
+  pub once : (i j : ℕ) → i < n → j < n → slice_index order i ≡ slice_index order j → i ≡ j
