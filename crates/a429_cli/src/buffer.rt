@@ -1,5 +1,5 @@
 //! Lines on their way out.
-ghost use Rattle.std.specs.Prelude.{◌≡◌, ◌++◌, ◌∷◌, [], codes, OnOk, OnErr};
+ghost use Rattle.std.specs.Prelude.{◌≡◌, ◌<◌, ◌++◌, ◌∷◌, [], codes, length, OnOk, OnErr};
 ghost use Rattle.std.specs.Fmt.{decimal};
 ghost use Rattle.std.specs.Io.KnownBytes.{Appends, append_known};
 ghost use Rattle.a429_cli.specs.LineReports.{found_line};
@@ -90,6 +90,7 @@ impl Lines {
 /// Puts lines out where they have become many, and goes on with none.
 pub fn put_if_full<O: Output>(text: &mut Vec<u8>, out: &mut O) -> Result<(), OutputFault>
     ensures put { OnOk result (Appends (append_known (O.contents out.old) text.old.items) (append_known (O.contents out.new) text.new.items) []) }
+    ensures few { OnOk result (length text.new.items < 65536) }
     ensures faults { CountsFault result (O.failures out.old) (O.failures out.new) }
 {
     if text.len() >= FULL {

@@ -1,5 +1,5 @@
 //! Scripts played on a station.
-ghost use Rattle.std.specs.Prelude.{◌≡◌, ◌≤◌, ◌++◌, ◌∷◌, [], List, ℕ, OnOk, OnErr, IfOk, IsTrue, MatchResult, map, length, take};
+ghost use Rattle.std.specs.Prelude.{◌≡◌, ◌<◌, ◌≤◌, ◌++◌, ◌∷◌, [], List, ℕ, OnOk, OnErr, IfOk, IsTrue, MatchResult, map, length, take};
 ghost use Rattle.std.specs.List.{AllByRecursion};
 ghost use Rattle.std.specs.Io.KnownBytes.{Appends, append_known};
 ghost use Rattle.a429_slots.specs.Events.{Event as History_Event};
@@ -82,6 +82,7 @@ pub fn play_all<O: Output>(
         → (n : ℕ) × (M : List History_Event) × (bytes : List ℕ) × Played o names.now.sources (map (λ t. t.items) further.now) E (take n events.now) M bytes
         × Appends (append_known (O.contents out.old) lines.old.text.items) (append_known (O.contents out.new) lines.new.text.items) bytes
         × (IsTrue all → n ≡ length events.now)) }
+    ensures few { OnOk result (length lines.old.text.items < 65536 → length lines.new.text.items < 65536) }
     ensures faults { CountsFault result (O.failures out.old) (O.failures out.new) }
 {
     for event in events {

@@ -1,5 +1,5 @@
 //! Lines of what is reported of a line.
-ghost use Rattle.std.specs.Prelude.{◌≡◌, ◌≤◌, ◌++◌, ◌∷◌, [], List, ℕ, IfOk, OnOk, OnErr, IsTrue, option_map, if◌then◌else◌, length, take};
+ghost use Rattle.std.specs.Prelude.{◌≡◌, ◌<◌, ◌≤◌, ◌++◌, ◌∷◌, [], List, ℕ, IfOk, OnOk, OnErr, IsTrue, option_map, if◌then◌else◌, length, take};
 ghost use Rattle.std.specs.Option.{option_to_list};
 ghost use Rattle.std.specs.Io.KnownBytes.{Appends, append_known};
 ghost use Rattle.a429_cli.specs.LineReports.{found_line, printed, received, rest_line};
@@ -73,6 +73,7 @@ pub fn print_reports<O: Output>(
     ensures printed { IfOk result (λ all. (n : ℕ)
         × Appends (append_known (O.contents out.old) lines.old.text.items) (append_known (O.contents out.new) lines.new.text.items) (printed filters.now (take n reports.now))
         × (IsTrue all → n ≡ length reports.now)) }
+    ensures few { OnOk result (length lines.old.text.items < 65536 → length lines.new.text.items < 65536) }
     ensures faults { CountsFault result (O.failures out.old) (O.failures out.new) }
 {
     for found in reports {

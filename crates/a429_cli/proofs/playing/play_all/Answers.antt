@@ -7,7 +7,7 @@ use Rattle.a429_cli.proofs.PlayedLines.{Appends-same, Appends-text, Appends-then
 use Rattle.a429_cli.proofs.playing.play_all.Goals as goal
 
 pub loop-event-init : goal.loop-event-init
-loop-event-init g c = record { played = λ o E s. (E, [], (refl, refl), s, Appends-same _); kept = refl }
+loop-event-init g c = record { played = λ o E s. (E, [], (refl, refl), s, Appends-same _); few = λ h. h; kept = refl }
 
 pub returns-in_default-clause-played : goal.returns-in_default-clause-played
 returns-in_default-clause-played g c = λ o E s.
@@ -29,6 +29,7 @@ loop-event-preserved g c = record {
       rw now.4 (Appends-text _ _ _) in
       let last = rw (append-nil now.1) at (Appends-then _ _ _ _ _ one c.in_ok-put_if_full.ensures.put) in
       (now.0, was.1 ++ now.1, rw more (played_push o names further E past here was.0 now.0 was.1 now.1 was.2 now.2), now.3, Appends-then _ _ _ _ _ was.4 last);
+  few = λ h. c.in_ok-put_if_full.ensures.few;
   kept = c.in_ok-put_if_full.ensures.faults ∙ c.loop-event.invariant.kept;
 }
 

@@ -7,7 +7,7 @@ use Rattle.a429_cli.proofs.ReportLines.{printed-append, printed-nil}
 use Rattle.a429_cli.proofs.reports.print_reports.Goals as goal
 
 pub loop-found-init : goal.loop-found-init
-loop-found-init g c = record { printed = rw (printed-nil c.args.filters.now) (Appends-same (append_known (g.O.Output.contents c.args.out.now) c.args.lines.now.text.items)); kept = refl }
+loop-found-init g c = record { printed = rw (printed-nil c.args.filters.now) (Appends-same (append_known (g.O.Output.contents c.args.out.now) c.args.lines.now.text.items)); few = λ h. h; kept = refl }
 
 pub returns-in_default-clause-printed : goal.returns-in_default-clause-printed
 returns-in_default-clause-printed g c =
@@ -26,6 +26,7 @@ loop-found-preserved g c =
     let last = rw (append-nil (printed c.args.filters.now (here ∷ []))) at (Appends-then _ _ _ _ _ one c.in_ok-put_if_full.ensures.put) in
     record {
       printed = rw (more, printed-append c.args.filters.now past (here ∷ [])) (Appends-then _ _ _ _ _ c.loop-found.invariant.printed last);
+      few = λ h. c.in_ok-put_if_full.ensures.few;
       kept = c.in_ok-put_if_full.ensures.faults ∙ c.loop-found.invariant.kept;
     }
 
