@@ -1,5 +1,5 @@
 -- The outputs of a planned group are those that are due for it.
-use Rattle.std.proofs.Common.{◌≡◌, ◌≢◌, ℕ, zero, suc, ◌/◌, ◌^◌, ◌<◌, ◌≤◌, max, Bool, true, false, List, [], ◌∷◌, length, get_or, map, Option, Some, refl, sym, ap, subst, ◌∙◌, arith, inl, inr}
+use Rattle.std.proofs.Common.{◌≡◌, ◌≢◌, ℕ, zero, suc, ◌/◌, ◌^◌, ◌<◌, ◌≤◌, max, Bool, true, false, List, [], ◌∷◌, length, get_or, map, Option, Some, None, refl, sym, ap, subst, ◌∙◌, arith, inl, inr}
 use Rattle.std.specs.Prelude.{slice_get, option_map, sum}
 use Rattle.std.specs.List.{AllZip, find, fold, sum_by}
 use Rattle.std.specs.Option.{option_map_or}
@@ -31,7 +31,7 @@ use Rattle.a429_cert.proofs.CheckedPlans.{same_bytes}
 
 -- what a read past the end gives
 abbrev blank : OutputRow
-blank = record { source = 0; min_us = 0; max_us = 0 }
+blank = record { source = 0; min_us = 0; max_us = 0; hold = None }
 
 abbrev pub row_at : List OutputRow → ℕ → OutputRow
 row_at rows i = get_or rows i blank

@@ -1,6 +1,6 @@
 -- What is due of a table, gathered row by row.
 use Rattle.std.proofs.Common.{◌≡◌, ℕ, ◌+◌, ◌<◌, ◌∷◌, [], ◌++◌, List, length, take, map, get_or, ap, ◌∙◌, sym, subst}
-use Rattle.std.specs.Prelude.{Some, slice_get}
+use Rattle.std.specs.Prelude.{Some, None, slice_get}
 use Rattle.std.specs.List.{AllZip, AllByRecursion}
 use Rattle.std.proofs.lemmas.List.{take_more, map-append}
 use Rattle.std.proofs.lemmas.Slice.Zip.{all_zipped_more}
@@ -18,7 +18,7 @@ use Rattle.a429_cert.specs.Judged.{IsNoVerdict, IsGroupUnfit}
 
 -- the row that a read past the end gives
 abbrev pub blank : OutputRow
-blank = record { source = 0; min_us = 0; max_us = 0 }
+blank = record { source = 0; min_us = 0; max_us = 0; hold = None }
 
 -- ---- lists element by element
 

@@ -16,3 +16,4 @@ pub mod OwnText
 pub mod PlanLines
 pub mod Gathered
 pub mod OnGrid
+mod Shown

@@ -1,5 +1,7 @@
 //! What holds of the definitions that the contracts cite.
-ghost use Rattle.std.specs.Prelude.{◌≡◌, List, ℕ, Some};
+ghost use Rattle.std.specs.Prelude.{◌≡◌, List, ℕ, Some, drop};
+ghost use Rattle.a429_cert.specs.Lines.{lines_of};
+ghost use Rattle.a429_cert.specs.Judged.{StateFewest};
 ghost use Rattle.a429_equipment.specs.TableRecord.{TableRecord};
 ghost use Rattle.a429_equipment.specs.Sound.{IsSound};
 ghost use Rattle.a429_slots.specs.Tables.{PlanTable};
@@ -42,6 +44,13 @@ pub fn bound_lines()
 /// the table of its equipment.
 pub fn own_text_is_fewest()
     ensures { (e : TableRecord) (p : PlanTable) (t : DueTable) → IsSound e → IsPlanOf e p → IsDue e t → verdict t (plan_text_of e p) ≡ Fewest }
+{
+    fewest_by_demand();
+}
+
+/// A text that is answered by `fewest` states a plan of every group, and no schedule that serves the group has fewer buses.
+pub fn fewest_is_shown()
+    ensures { (e : TableRecord) (t : DueTable) (text : List ℕ) → IsSound e → IsDue e t → verdict t text ≡ Fewest → StateFewest t.groups.items (drop 2 (lines_of text)) }
 {
     fewest_by_demand();
 }

@@ -8,7 +8,7 @@ use Rattle.a429_equipment.specs.declared.rows.OutputRow.{OutputRow}
 use Rattle.a429_equipment.specs.declared.rows.SourceRow.{SourceRow}
 use Rattle.a429_slots.specs.Planned.{IsPlanOf, IsPlannedFor}
 use Rattle.a429_slots.specs.Tables.{GroupTable, PlanTable, frame_of, groups_of}
-use Rattle.a429_core.specs.Sending.{all_fit}
+use Rattle.a429_slots.specs.Sending.{all_fit}
 
 fits_from_0 : (slots : ℕ) → slots ≤ 8192 → nat_lt (0 + slots) (2 ^ 64) ≡ true
 fits_from_0 slots few = lt-ltb (0 + slots) (2 ^ 64) (omega (arith, few))

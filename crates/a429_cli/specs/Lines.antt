@@ -1,10 +1,10 @@
 -- The lines that the program writes, each without its line feed (profile: output).
 use Rattle.std.specs.Prelude.{◌++◌, ◌∷◌, [], ℕ, List, Option, Some, None, codes, ◌-◌, ◌^◌, false}
 use Rattle.std.specs.Fmt.{decimal, digits, padded_integral, format_spec}
-use Rattle.a429_core.specs.declared.events.Answer.{Answer}
-use Rattle.a429_core.specs.declared.events.Answer.TheVariants.{Accepted, Sent, Changed, Published, Refused}
-use Rattle.a429_core.specs.declared.events.Refusal.{Refusal}
-use Rattle.a429_core.specs.declared.events.Refusal.TheVariants as why
+use Rattle.a429_slots.specs.declared.answers.Answer.{Answer}
+use Rattle.a429_slots.specs.declared.answers.Answer.TheVariants.{Accepted, Sent, Changed, Published, Refused}
+use Rattle.a429_slots.specs.declared.answers.Refusal.{Refusal}
+use Rattle.a429_slots.specs.declared.answers.Refusal.TheVariants as why
 use Rattle.a429_cli.specs.Names.{name_at}
 
 -- eight hexadecimal digits in lower case

@@ -4,7 +4,7 @@ use Rattle.a429_slots.specs.Events.{Event}
 use Rattle.a429_slots.specs.Events as machine
 use Rattle.a429_slots.specs.Proposed.{Proposed}
 use Rattle.a429_slots.specs.History.{Opening}
-use Rattle.a429_core.specs.Answers.{answer}
+use Rattle.a429_slots.specs.Answers.{answer}
 use Rattle.a429_cli.specs.Lines.{answer_line}
 use Rattle.a429_cli.specs.RefusalText.{refusal_line}
 use Rattle.a429_cli.specs.Stations.{IsProposedBy, IsTableRefusal}

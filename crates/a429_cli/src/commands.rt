@@ -39,6 +39,10 @@ pub fn command<'a, F: FileReader, O: Output, V: Write>(
     ensures once { O.failures out.new ≤ O.failures out.old + 1 }
     ensures asked { (r : Request) → map (λ w. w.now) words.entry.now ≡ request_words r → HasNames r → result ≤ 1 }
     ensures status { result ≤ 2 }
+    // Words that ask for something leave `err` alone.
+    ensures quiet { (r : Request) → map (λ w. w.now) words.entry.now ≡ request_words r → HasNames r → V.contents err.new ≡ V.contents err.old }
+    // Where the words ask for nothing, nothing is put.
+    ensures silent { result ≡ 2 → O.contents out.new ≡ O.contents out.old }
 {
     match run(alloc, words, files, out, err) {
         Ok(status) => status,
@@ -59,6 +63,8 @@ fn run<'a, F: FileReader, O: Output, V: Write>(
     ensures asked { (r : Request) → map (λ w. w.now) words.entry.now ≡ request_words r → HasNames r → IfOk result (λ status. status ≤ 1) }
     ensures status { IfOk result (λ status. status ≤ 2) }
     ensures faults { CountsFault result (O.failures out.old) (O.failures out.new) }
+    ensures quiet { (r : Request) → map (λ w. w.now) words.entry.now ≡ request_words r → HasNames r → V.contents err.new ≡ V.contents err.old }
+    ensures silent { IfOk result (λ status. status ≡ 2 → O.contents out.new ≡ O.contents out.old) }
 {
     match parse(alloc, words) {
         Ok(Asked::Word { text }) => tell_word(alloc, text, out),

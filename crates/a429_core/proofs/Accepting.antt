@@ -15,11 +15,11 @@ use Rattle.a429_equipment.specs.SameStation.{same_station}
 use Rattle.a429_slots.specs.Tables.{GroupTable, groups_of}
 use Rattle.a429_slots.specs.Proposed.{Proposed}
 use Rattle.a429_slots.specs.Events.{Event, Arrive, Cell, Frame, Publish}
-use Rattle.a429_slots.specs.History.{Opening, Current, current, accepted_in, accepted_by, last_of, newest_number, newest_table, cell_due, is_over, has_room, word_sent}
-use Rattle.a429_core.specs.declared.events.Answer.{Answer}
-use Rattle.a429_core.specs.declared.events.Answer.TheVariants.{Accepted, Sent, Changed, Published, Refused}
-use Rattle.a429_core.specs.declared.events.Refusal.TheVariants.{NoSuch, CountSpent, FrameEnd, MidFrame, SlotsSpent, StationDiffers}
-use Rattle.a429_core.specs.Answers.{answer, answers, source_answer, cell_answer, frame_answer}
+use Rattle.a429_slots.specs.History.{Opening, Current, current, accepted_in, accepted_by, last_of, newest_number, newest_table, cell_due, answered_cells, is_over, has_room, word_sent}
+use Rattle.a429_slots.specs.declared.answers.Answer.{Answer}
+use Rattle.a429_slots.specs.declared.answers.Answer.TheVariants.{Accepted, Sent, Changed, Published, Refused}
+use Rattle.a429_slots.specs.declared.answers.Refusal.TheVariants.{NoSuch, CountSpent, FrameEnd, MidFrame, SlotsSpent, StationDiffers}
+use Rattle.a429_slots.specs.Answers.{answer, answers, source_answer, cell_answer, frame_answer}
 use Rattle.a429_core.specs.Sends.{IsLatest}
 use Rattle.a429_core.proofs.Places.{none_passes, first_passes, last_push}
 use Rattle.a429_core.proofs.Words.{words_in, accepted_none, accepted_some, accepted_full, word_accepted, word_even, word_filtered, word_unheard, nobody_hears}
@@ -45,9 +45,9 @@ cell_accepts_none C o E g = go (slice_get (groups_of o.proposal.plan) g)
     due E f None w = refl
     due E f (Some c) w = refl
 
-    go : (x : Option GroupTable) → source_in (option_map_or (λ p. cell_answer C o E g (current o g p E)) x (Refused NoSuch)) ≡ None
+    go : (x : Option GroupTable) → source_in (option_map_or (λ p. cell_answer C o E g (answered_cells C o g p E) (current o g p E)) x (Refused NoSuch)) ≡ None
     go None = refl
-    go (Some p) = due E (current o g p E) (cell_due g (current o g p E)) (λ c. word_sent C o E (current o g p E) c)
+    go (Some p) = due E (current o g p E) (cell_due g (current o g p E)) (λ c. word_sent C o E (answered_cells C o g p E) (current o g p E) c)
 
 frame_accepts_none : (C : ℕ) (o : Opening) (E : List Event) (g : ℕ) → source_in (answer C o E (Frame g)) ≡ None
 frame_accepts_none C o E g = go (slice_get (groups_of o.proposal.plan) g)

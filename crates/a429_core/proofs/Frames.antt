@@ -7,8 +7,8 @@ use Rattle.std.proofs.lemmas.Bool.{cases_lt, cases_Bool, lt-ltb, le-ltb, lt-leb,
 use Rattle.a429_slots.specs.Tables.{GroupTable, cells_of}
 use Rattle.a429_slots.specs.Events.{Event}
 use Rattle.a429_slots.specs.History.{Opening, Current, current, frame_after, is_taken, next_frame, is_cell, is_frame, cells_since, has_room, newest_table, newest_number}
-use Rattle.a429_core.specs.Answers.{frame_answer}
-use Rattle.a429_core.specs.Sending.{Sending, after_cell, sending_of}
+use Rattle.a429_slots.specs.Answers.{frame_answer}
+use Rattle.a429_slots.specs.Sending.{Sending, after_cell, sending_of}
 use Rattle.a429_core.specs.Standing.{framed}
 
 abbrev pub goes_on : Current → Event → Current

@@ -11,9 +11,9 @@ use Rattle.std.proofs.lemmas.Bool.{cases_lt, lt-ltb, le-ltb}
 use Rattle.std.proofs.Math.Nat.{mul_comm}
 use Rattle.a429_slots.specs.Tables.{buses_of, frame_of, cells_of}
 use Rattle.a429_slots.specs.History.{Current}
-use Rattle.a429_core.specs.declared.events.Answer.{Answer}
-use Rattle.a429_core.specs.declared.events.Answer.TheVariants.{Refused}
-use Rattle.a429_core.specs.declared.events.Refusal.TheVariants.{FrameEnd}
+use Rattle.a429_slots.specs.declared.answers.Answer.{Answer}
+use Rattle.a429_slots.specs.declared.answers.Answer.TheVariants.{Refused}
+use Rattle.a429_slots.specs.declared.answers.Refusal.TheVariants.{FrameEnd}
 use Rattle.a429_core.specs.Sends.{cells_in_order, cell_sent, in_turn}
 
 range_joined : (a x y : ℕ) → range_with_len a (x + y) ≡ range_with_len a x ++ range_with_len (a + x) y

@@ -7,12 +7,12 @@ use Rattle.std.proofs.lemmas.List.Sums.{sum_by-cons}
 use Rattle.std.proofs.lemmas.Bool.{cases_Bool, cases_lt, and_parts, eqb-true, eq-eqb, lt-ltb, le-ltb, leb-true}
 use Rattle.a429_slots.specs.Tables.{GroupTable, groups_of, cells_of}
 use Rattle.a429_slots.specs.Events.{Event, Arrive, Cell, Frame, Publish}
-use Rattle.a429_slots.specs.History.{Opening, Current, current, is_cell, is_frame, is_over, has_room, cells_since, newest_number, newest_table, next_frame}
+use Rattle.a429_slots.specs.History.{Opening, Current, AnsweredCell, answered_cells, current, is_cell, is_frame, is_over, has_room, cells_since, newest_number, newest_table, next_frame}
 use Rattle.a429_slots.specs.TakenFrames.{is_taken_after, NoneTaken, BeginsFrame}
-use Rattle.a429_core.specs.declared.events.Answer.{Answer}
-use Rattle.a429_core.specs.declared.events.Answer.TheVariants.{Changed, Refused}
-use Rattle.a429_core.specs.declared.events.Refusal.TheVariants.{NoSuch, MidFrame, SlotsSpent}
-use Rattle.a429_core.specs.Answers.{answer, answers, cell_answer, frame_answer}
+use Rattle.a429_slots.specs.declared.answers.Answer.{Answer}
+use Rattle.a429_slots.specs.declared.answers.Answer.TheVariants.{Changed, Refused}
+use Rattle.a429_slots.specs.declared.answers.Refusal.TheVariants.{NoSuch, MidFrame, SlotsSpent}
+use Rattle.a429_slots.specs.Answers.{answer, answers, cell_answer, frame_answer}
 use Rattle.a429_core.specs.Sends.{cell_answers, cells_in_order, cell_sent, without_word, in_turn}
 use Rattle.a429_core.proofs.Frames.{current_push, goes_on, count_push}
 use Rattle.a429_core.proofs.InOrder.{turn, in_turn_is, whole_turn}
@@ -44,16 +44,16 @@ goes_next o g p E e f here h = current_push o g p E e ∙ (rw h refl ∙ ap (λ 
 counted : (g : ℕ) (e : Event) (es : List Event) → count_by (is_cell g) (e ∷ es) ≡ (if is_cell g e then 1 else 0) + count_by (is_cell g) es
 counted g e es = sum_by-cons (λ x. cond (is_cell g x) 1 0) e es
 
-answered : (C : ℕ) (o : Opening) (E : List Event) (g : ℕ) (f : Current) → without_word (cell_answer C o E g f) ≡ turn f (cells_since g f)
-answered C o E g f = elim (cases_lt (cells_since g f) (cells_of f.table)) [
+answered : (C : ℕ) (o : Opening) (E : List Event) (g : ℕ) (earlier : List AnsweredCell) (f : Current) → without_word (cell_answer C o E g earlier f) ≡ turn f (cells_since g f)
+answered C o E g earlier f = elim (cases_lt (cells_since g f) (cells_of f.table)) [
   | inl lt ↦ rw (lt-ltb (cells_since g f) (cells_of f.table) lt) refl
   | inr ge ↦ rw (le-ltb (cells_since g f) (cells_of f.table) ge) refl
 ]
 
 cell_answered : (C : ℕ) (o : Opening) (E : List Event) (g : ℕ) (p : GroupTable) (f : Current) → IsGroup o g p → current o g p E ≡ f → without_word (answer C o E (Cell g)) ≡ turn f (cells_since g f)
 cell_answered C o E g p f there here =
-    ap (λ (x : Option GroupTable). without_word (option_map_or (λ t. cell_answer C o E g (current o g t E)) x (Refused NoSuch))) there
-    ∙ (ap (λ (c : Current). without_word (cell_answer C o E g c)) here ∙ answered C o E g f)
+    ap (λ (x : Option GroupTable). without_word (option_map_or (λ t. cell_answer C o E g (answered_cells C o g t E) (current o g t E)) x (Refused NoSuch))) there
+    ∙ (ap (λ (c : Current). without_word (cell_answer C o E g (answered_cells C o g p E) c)) here ∙ answered C o E g (answered_cells C o g p E) f)
 
 -- ---- a whole stretch
 

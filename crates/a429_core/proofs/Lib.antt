@@ -1,9 +1,14 @@
 pub mod Places
 pub mod Words
 pub mod Frames
+pub mod Answering
+pub mod Leaving
+pub mod CellSteps
 pub mod Steps
 pub mod Opening
 pub mod InOrder
 pub mod InTurn
 pub mod Accepting
 pub mod Carrying
+pub mod SpacedWords
+pub mod Unmoved

@@ -1,6 +1,6 @@
 -- What a state begins with.
 use Rattle.std.proofs.Common.{◌≡◌, ℕ, zero, suc, ◌+◌, ◌-◌, ◌<◌, ◌^◌, Bool, true, false, List, [], ◌∷◌, ◌++◌, length, take, map, replicate, ◌∙◌, sym, ap, subst, refl, arith}
-use Rattle.std.specs.Prelude.{Some, None, ◌&&◌, slice_get, option_map, nat_lt, min}
+use Rattle.std.specs.Prelude.{Option, Some, None, ◌&&◌, slice_get, option_map, option_and_then, nat_lt, min}
 use Rattle.std.specs.Option.{option_map_or}
 use Rattle.std.proofs.lemmas.List.{take_more, map-append, length-map}
 use Rattle.std.proofs.lemmas.Option.{slice_get_within, get_or_from_slice_get, same_Some, none-some}
@@ -8,11 +8,14 @@ use Rattle.std.proofs.lemmas.Bool.{ltb-true, and_parts}
 use Rattle.a429_equipment.specs.Arrivals.{AreApart}
 use Rattle.a429_slots.specs.Tables.{GroupTable, groups_of, frame_of, cells_of}
 use Rattle.a429_slots.specs.Proposed.{Proposed}
-use Rattle.a429_slots.specs.History.{Opening, accepted_in, current, last_of}
+use Rattle.a429_slots.specs.History.{Opening, accepted_in, current, last_of, numbers_left}
+use Rattle.a429_equipment.specs.declared.rows.SourceRow.{SourceRow}
+use Rattle.a429_slots.specs.Recalling.{Recent, never}
+use Rattle.a429_core.proofs.Answering.{AreRecalled, AllRemember}
 use Rattle.a429_core.proofs.Places.{map_same}
 use Rattle.a429_core.specs.declared.sources.Kept.{Kept}
-use Rattle.a429_core.specs.Sending.{Sending, all_fit, begun, sending_of}
-use Rattle.a429_core.specs.Standing.{Standing, StandsFor, IsWhole, kept_of}
+use Rattle.a429_slots.specs.Sending.{Sending, all_fit, begun, sending_of}
+use Rattle.a429_core.specs.Standing.{Standing, StandsFor, IsWhole, kept_of, recent_at}
 
 take_next : {X : Type 0} (xs : List X) (i : ℕ) (x : X) → slice_get xs i ≡ Some x → take (i + 1) xs ≡ take i xs ++ x ∷ []
 take_next xs i x h = take_more xs i x (slice_get_within xs i x h) ∙ ap (λ y. take i xs ++ y ∷ []) (get_or_from_slice_get xs i x x h)
@@ -61,17 +64,33 @@ get_replicate k (x ∷ xs) (suc i) = get_replicate k xs i
 abbrev pub unheard : Kept
 unheard = record { count = 0; last = None }
 
-abbrev pub opened : Proposed → List Kept → List Sending → Standing
-opened q ks ss = record { station = q.station; sources = ks; groups = ss; newest = q.plan }
+abbrev pub opened : Proposed → List Kept → List Sending → List (List Recent) → Standing
+opened q ks ss rs = record { station = q.station; sources = ks; groups = ss; sends = rs; newest = q.plan }
+
+-- nothing was sent
+nothing_sent : (C first : ℕ) (q : Proposed) (rs : List (List Recent)) → AreRecalled → rs ≡ replicate (length (groups_of q.plan)) (replicate (length q.station.sources) never)
+    → AllRemember C (record { proposal = q; first = first }) [] rs
+nothing_sent C first q rs law are g p there i s known = record {
+  recent = never;
+  there = ap (λ (zs : List (List Recent)). recent_at zs g i) are
+      ∙ (ap (λ (x : Option (List Recent)). option_and_then (λ zs. slice_get zs i) x) (get_replicate (replicate (length q.station.sources) never) (groups_of q.plan) g
+      ∙ ap (option_map (λ (_ : GroupTable). replicate (length q.station.sources) never)) there)
+      ∙ (get_replicate never q.station.sources i ∙ ap (option_map (λ (_ : SourceRow). never)) known));
+  recalls = law.none i;
+  counted = omega arith;
+  passed = omega arith;
+  in_frame = omega arith;
+}
 
 none_cut : {X : Type 0} (n : ℕ) → ◌≡◌ {A = List X} (take n []) []
 none_cut zero = refl
 none_cut (suc n) = refl
 
-pub stands_at_first : (C first : ℕ) (q : Proposed) (ks : List Kept) (ss : List Sending) → AreApart q.station.sources → IsWhole q → q.plan.number ≡ 0
+pub stands_at_first : (C first : ℕ) (q : Proposed) (ks : List Kept) (ss : List Sending) (rs : List (List Recent)) → AreRecalled → AreApart q.station.sources → IsWhole q → q.plan.number ≡ 0
     → ks ≡ replicate (length q.station.sources) unheard → ss ≡ map (begun first) (groups_of q.plan)
-    → StandsFor C (record { proposal = q; first = first }) [] (opened q ks ss)
-stands_at_first C first q ks ss apart whole number kept sent =
+    → rs ≡ replicate (length (groups_of q.plan)) (replicate (length q.station.sources) never)
+    → StandsFor C (record { proposal = q; first = first }) [] (opened q ks ss rs)
+stands_at_first C first q ks ss rs law apart whole number kept sent unsent =
     let o : Opening = record { proposal = q; first = first } in
     record {
       apart = apart;
@@ -80,10 +99,11 @@ stands_at_first C first q ks ss apart whole number kept sent =
       sources = λ i. ap (λ (zs : List Kept). slice_get zs i) kept ∙ (get_replicate unheard q.station.sources i
           ∙ map_same (λ _. unheard) (λ s. kept_of (accepted_in C o s [])) (slice_get q.station.sources i) (λ s h. sym (ap kept_of (none_cut (2 ^ C - 1)))));
       groups = λ g. ap (λ (zs : List Sending). slice_get zs g) sent ∙ (get_map (begun first) (groups_of q.plan) g
-          ∙ map_same (begun first) (λ p. sending_of g (current o g p [])) (slice_get (groups_of q.plan) g) (λ p h. none_sent first p));
+          ∙ map_same (begun first) (λ p. sending_of g (current o g p [])) (slice_get (groups_of q.plan) g) (λ p h. none_sent first p ∙ ap (λ (n : ℕ). record { table = p; number = n; first = first; sent = min 0 (cells_of p) }) (sym number)));
+      sends = nothing_sent C first q rs law unsent;
       size = ap (λ (zs : List Sending). length zs) sent ∙ length-map (groups_of q.plan) (begun first);
-      number = number ∙ sym (ap (λ (ps : List Proposed). length ps) (none_cut (2 ^ 64 - 1)));
-      newest = sym (ap (λ (ps : List Proposed). groups_of (option_map_or (λ p. p.plan) (last_of ps) q.plan)) (none_cut (2 ^ 64 - 1)));
+      number = let none = ap (λ (ps : List Proposed). length ps) (none_cut (numbers_left o)) in omega (arith, none);
+      newest = sym (ap (λ (ps : List Proposed). groups_of (option_map_or (λ p. p.plan) (last_of ps) q.plan)) (none_cut (numbers_left o)));
       as_many = refl;
     }
   where

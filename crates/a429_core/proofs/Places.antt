@@ -1,8 +1,9 @@
 -- An element of a list, read and written back; the last of a list; the first that passes a test.
-use Rattle.std.proofs.Common.{◌≡◌, ℕ, zero, suc, ◌+◌, ◌-◌, ◌<◌, Bool, true, false, List, [], ◌∷◌, ◌++◌, length, ◌∙◌, sym, ap, subst, refl, inl, inr, arith}
+use Rattle.std.proofs.Common.{◌≡◌, ℕ, zero, suc, ◌+◌, ◌-◌, ◌*◌, ◌/◌, ◌%◌, ◌<◌, Bool, true, false, List, [], ◌∷◌, ◌++◌, length, ◌∙◌, sym, ap, subst, refl, inl, inr, arith}
 use Rattle.std.specs.Prelude.{Option, Some, None, slice_get, slice_set, position, nat_lt, option_map, option_and_then}
 use Rattle.std.specs.List.{position_or_len}
 use Rattle.std.proofs.lemmas.List.{length-set, get_or-set_same, length_push, get_or_push}
+use Rattle.std.proofs.Math.Nat.{mod-lt, div-lt_iff_lt-mul, mul_comm}
 use Rattle.std.proofs.lemmas.List.Sums.{fails_before_first}
 use Rattle.std.proofs.lemmas.List.Quantifiers.{position-Some}
 use Rattle.std.proofs.lemmas.Bool.{cases_lt, lt-ltb, le-ltb}
@@ -62,3 +63,14 @@ map_same f h (Some a) e = ap (λ b. Some b) (e a refl)
 pub and_then_same : {A B : Type 0} (f h : A → Option B) (x : Option A) → ((a : A) → f a ≡ h a) → option_and_then f x ≡ option_and_then h x
 and_then_same f h None e = refl
 and_then_same f h (Some a) e = e a
+
+-- the k-th cell of m * H is on one of m buses and in one of H slots
+positive : (k m H : ℕ) → k < m * H → 0 < m
+positive k zero H lt = let none : zero * H ≡ zero = omega arith in absurd (omega (arith, lt, none))
+positive k (suc m) H lt = omega arith
+
+pub on_a_bus : (k m H : ℕ) → k < m * H → k % m < m
+on_a_bus k m H lt = mod-lt k (positive k m H lt)
+
+pub in_frame : (k m H : ℕ) → k < m * H → k / m < H
+in_frame k m H lt = (div-lt_iff_lt-mul (positive k m H lt)).1 (subst (λ (n : ℕ). k < n) (mul_comm m H) lt)

@@ -1,6 +1,6 @@
 -- One step of what is kept, over every history that it stands for.
-use Rattle.std.proofs.Common.{◌≡◌, ℕ, ◌<◌, ◌≤◌, ◌-◌, ◌^◌, ◌+◌, ◌/◌, ◌%◌, true, false, List, [], ◌∷◌, ◌++◌, length, get_or, ◌∙◌, sym, ap, subst, refl, inl, inr, arith, append-nil, append_assoc}
-use Rattle.std.specs.Prelude.{Option, Some, None, Result, Ok, Err, ◌==◌, ◌&&◌, option_map, option_and_then, slice_get, slice_set, min, nat_lt, nat_le, position, if◌then◌else◌}
+use Rattle.std.proofs.Common.{◌≡◌, ℕ, ◌<◌, ◌≤◌, ◌-◌, ◌^◌, ◌+◌, true, false, List, [], ◌∷◌, ◌++◌, length, get_or, ◌∙◌, sym, ap, subst, refl, inl, inr, arith, append-nil, append_assoc}
+use Rattle.std.specs.Prelude.{Option, Some, None, Result, Ok, Err, ◌==◌, ◌&&◌, slice_get, slice_set, nat_lt, nat_le, position, if◌then◌else◌}
 use Rattle.std.specs.Option.{option_map_or}
 use Rattle.std.specs.List.{position_or_len}
 use Rattle.std.proofs.lemmas.Option.{slice_get-get_or, same_Some, slice_get_within, slice_get_cases, cond_some}
@@ -13,144 +13,24 @@ use Rattle.a429_equipment.specs.declared.arrivals.ArrivalRefusal.TheVariants as 
 use Rattle.a429_equipment.specs.TableRecord.{TableRecord}
 use Rattle.a429_equipment.specs.Arrivals.{AreApart, passes_at, is_for, sorted}
 use Rattle.a429_equipment.specs.SameStation.{same_station, all_agree, same_receiver, same_source, same_group}
-use Rattle.a429_slots.specs.Tables.{GroupTable, PlanTable, groups_of, cells_of, buses_of, source_at}
+use Rattle.a429_slots.specs.Tables.{GroupTable, PlanTable, groups_of}
 use Rattle.a429_slots.specs.Proposed.{Proposed}
 use Rattle.a429_slots.specs.Events.{Event, Arrive, Cell, Frame, Publish}
-use Rattle.a429_slots.specs.History.{Opening, Current, current, is_cell, is_frame, cells_since, accepted_in, accepted_by, last_of, proposal_for, published, newest_plan, newest_table, newest_number}
+use Rattle.a429_slots.specs.History.{Opening, current, accepted_in, accepted_by, last_of, proposal_for, published, numbers_left, newest_plan, newest_table, newest_number}
 use Rattle.a429_core.specs.declared.sources.Kept.{Kept}
-use Rattle.a429_core.specs.declared.events.Answer.{Answer}
-use Rattle.a429_core.specs.declared.events.Answer.TheVariants.{Sent, Published, Refused}
-use Rattle.a429_core.specs.declared.events.Refusal.TheVariants.{NoSuch, CountSpent, StationDiffers}
-use Rattle.a429_core.specs.Answers
-use Rattle.a429_core.specs.Answers.{answer, answers, source_answer, arrive_answer, cell_answer, frame_answer}
-use Rattle.a429_core.specs.Sending.{Sending, sending_of, next_cell, after_cell}
-use Rattle.a429_core.specs.Standing.{Standing, StandsFor, IsWhole, IsWholeEvent, kept_of, count_at, kept_at, put_word, arrived, latest, placed_cell, cell_reply, asked_cell, after_asked, cell_asked, framed, frame_at, frame_asked, stepped}
-use Rattle.a429_core.proofs.Places.{get_set_same, get_set_other, inside, outside, last_push, none_passes, first_passes, map_same, and_then_same}
+use Rattle.a429_slots.specs.declared.answers.Answer.{Answer}
+use Rattle.a429_slots.specs.declared.answers.Answer.TheVariants.{Published, Refused}
+use Rattle.a429_slots.specs.declared.answers.Refusal.TheVariants.{NoSuch, CountSpent, StationDiffers}
+use Rattle.a429_slots.specs.Answers
+use Rattle.a429_slots.specs.Answers.{answer, answers, source_answer, arrive_answer, cell_answer, frame_answer}
+use Rattle.a429_slots.specs.Sending.{Sending, sending_of}
+use Rattle.a429_core.specs.Standing.{Standing, StandsFor, IsWhole, IsWholeEvent, kept_of, count_at, kept_at, put_word, arrived, recent_at, framed, frame_at, frame_asked}
+use Rattle.a429_core.proofs.Places.{get_set_same, get_set_other, inside, outside, last_push, none_passes, first_passes, map_same}
 use Rattle.a429_core.proofs.Words.{words_in, accepted_none, accepted_some, accepted_full, kept_none, kept_some, kept_full, word_accepted, word_even, word_filtered, word_unheard, nobody_hears}
-use Rattle.a429_core.proofs.Frames.{current_push, not_taken, cell_push, frame_push, Turned}
-
--- ---- what an event leaves
-
-abbrev IsSource : ℕ → Opening → List Event → List Kept → ℕ → Type 0
-IsSource C o E sources i = slice_get sources i ≡ option_map (λ s. kept_of (accepted_in C o s E)) (slice_get o.proposal.station.sources i)
-
-abbrev IsGroup : Opening → List Event → List Sending → ℕ → Type 0
-IsGroup o E groups g = slice_get groups g ≡ option_map (λ p. sending_of g (current o g p E)) (slice_get (groups_of o.proposal.plan) g)
-
--- no source got a word
-pub record NoneCame (C : ℕ) (o : Opening) (E : List Event) (e : Event) : Type 0 where
-  pub same : (i : ℕ) (s : SourceRow) → slice_get o.proposal.station.sources i ≡ Some s → accepted_in C o s (E ++ e ∷ []) ≡ accepted_in C o s E
-
-sources_stay : (C : ℕ) (o : Opening) (E : List Event) (e : Event) (v : Standing) → StandsFor C o E v → NoneCame C o E e → (i : ℕ) → IsSource C o (E ++ e ∷ []) v.sources i
-sources_stay C o E e v S N i =
-    S.sources i ∙ map_same (λ s. kept_of (accepted_in C o s E)) (λ s. kept_of (accepted_in C o s (E ++ e ∷ []))) (slice_get o.proposal.station.sources i)
-    (λ s h. ap kept_of (sym (N.same i s h)))
-
-group_stays : (C : ℕ) (o : Opening) (E : List Event) (e : Event) (v : Standing) → StandsFor C o E v → (g : ℕ) → is_frame g e ≡ false → is_cell g e ≡ false → IsGroup o (E ++ e ∷ []) v.groups g
-group_stays C o E e v S g h k =
-    S.groups g ∙ map_same (λ p. sending_of g (current o g p E)) (λ p. sending_of g (current o g p (E ++ e ∷ []))) (slice_get (groups_of o.proposal.plan) g)
-    (λ p _. sym (ap (sending_of g) (current_push o g p E e) ∙ not_taken g (newest_number o E) (newest_table o g p E) (current o g p E) e h k))
-
--- only groups moved on
-with_groups : (C : ℕ) (o : Opening) (E : List Event) (e : Event) (v : Standing) (gs : List Sending) → StandsFor C o E v → NoneCame C o E e → published o (E ++ e ∷ []) ≡ published o E
-    → length gs ≡ length v.groups → ((g : ℕ) → IsGroup o (E ++ e ∷ []) gs g) → StandsFor C o (E ++ e ∷ []) (record v { groups = gs })
-with_groups C o E e v gs S none same long groups = record {
-  apart = S.apart;
-  whole = S.whole;
-  station = S.station;
-  sources = sources_stay C o E e v S none;
-  groups = groups;
-  size = long ∙ S.size;
-  number = S.number ∙ sym (ap (λ (ps : List Proposed). length ps) same);
-  newest = S.newest ∙ sym (ap (λ (ps : List Proposed). groups_of (option_map_or (λ q. q.plan) (last_of ps) o.proposal.plan)) same);
-  as_many = S.as_many;
-}
-
--- only sources got a word
-with_sources : (C : ℕ) (o : Opening) (E : List Event) (r raw : ℕ) (v : Standing) (ks : List Kept) → StandsFor C o E v → ((i : ℕ) → IsSource C o (E ++ Arrive r raw ∷ []) ks i)
-    → StandsFor C o (E ++ Arrive r raw ∷ []) (record v { sources = ks })
-with_sources C o E r raw v ks S sources =
-    let same : published o (E ++ Arrive r raw ∷ []) ≡ published o E = kept_none (proposal_for o) (2 ^ 64 - 1) E (Arrive r raw) refl in
-    record {
-      apart = S.apart;
-      whole = S.whole;
-      station = S.station;
-      sources = sources;
-      groups = λ g. group_stays C o E (Arrive r raw) v S g refl refl;
-      size = S.size;
-      number = S.number ∙ sym (ap (λ (ps : List Proposed). length ps) same);
-      newest = S.newest ∙ sym (ap (λ (ps : List Proposed). groups_of (option_map_or (λ q. q.plan) (last_of ps) o.proposal.plan)) same);
-      as_many = S.as_many;
-    }
-
--- ---- steps
-
-pub record Stepped (C : ℕ) (o : Opening) (E : List Event) (e : Event) (v : Standing) : Type 0 where
-  pub answer : (stepped C v e).0 ≡ Answers.answer C o E e
-  pub after : StandsFor C o (E ++ e ∷ []) (stepped C v e).1
-
--- a step, from what the machine made of it
-step_from : (C : ℕ) (o : Opening) (E : List Event) (e : Event) (v : Standing) (x : Answer × Standing) → stepped C v e ≡ x → x.0 ≡ Answers.answer C o E e → StandsFor C o (E ++ e ∷ []) x.1 → Stepped C o E e v
-step_from C o E e v x q a s = record {
-  answer = ap (λ (y : Answer × Standing). y.0) q ∙ a;
-  after = subst (λ (y : Answer × Standing). StandsFor C o (E ++ e ∷ []) y.1) (sym q) s;
-}
-
--- ---- cells
-
-latest_of : (C : ℕ) (o : Opening) (E : List Event) (x : Option SourceRow) → option_and_then (λ (k : Kept). k.last) (option_map (λ s. kept_of (accepted_in C o s E)) x) ≡ last_of (option_map_or (λ s. accepted_in C o s E) x [])
-latest_of C o E None = refl
-latest_of C o E (Some s) = refl
-
--- the last word that is kept is the last accepted
-latest_is : (C : ℕ) (o : Opening) (E : List Event) (v : Standing) → StandsFor C o E v → (i : ℕ) → latest v.sources i ≡ last_of (accepted_by C o i E)
-latest_is C o E v S i = ap (option_and_then (λ (k : Kept). k.last)) (S.sources i) ∙ latest_of C o E (slice_get o.proposal.station.sources i)
-
-cell_answer_is : (C : ℕ) (o : Opening) (E : List Event) (v : Standing) → StandsFor C o E v → (g : ℕ) (f : Current) →
-    cell_reply v.sources (placed_cell (sending_of g f) (next_cell (sending_of g f))) ≡ cell_answer C o E g f
-cell_answer_is C o E v S g f =
-    let c = cells_since g f in
-    let n = cells_of f.table in
-    elim (cases_lt c n) [
-      | inl lt ↦
-          let all : min c n ≡ c = omega arith in
-          let words = and_then_same (latest v.sources) (λ i. last_of (accepted_by C o i E)) (source_at f.table (c % buses_of f.table) (c / buses_of f.table)) (latest_is C o E v S) in
-          rw (all, lt-ltb c n lt) (ap (λ (w : Option ℕ). Sent (c % buses_of f.table) (f.first + c / buses_of f.table) w) words)
-      | inr ge ↦
-          let all : min c n ≡ n = omega arith in
-          rw (all, le-ltb n n (omega arith), le-ltb c n ge) refl
-    ]
-
-cell_step : (C : ℕ) (o : Opening) (E : List Event) (k : ℕ) (v : Standing) → StandsFor C o E v → (x : Option GroupTable) → slice_get (groups_of o.proposal.plan) k ≡ x → Stepped C o E (Cell k) v
-cell_step C o E k v S None h =
-    let got : slice_get v.groups k ≡ None = S.groups k ∙ rw h refl in
-    let none : NoneCame C o E (Cell k) = record { same = λ i s q. accepted_none C o s E (Cell k) refl } in
-    let here : IsGroup o (E ++ Cell k ∷ []) v.groups k = got ∙ rw h refl in
-    step_from C o E (Cell k) v (Refused NoSuch, v) (rw (outside v.groups k got) refl) (rw h refl)
-    (with_groups C o E (Cell k) v v.groups S none (kept_none (proposal_for o) (2 ^ 64 - 1) E (Cell k) refl) refl (λ g. elim (cases_eq k g) [
-      | inl e ↦ subst (IsGroup o (E ++ Cell k ∷ []) v.groups) e here
-      | inr n ↦ group_stays C o E (Cell k) v S g refl (ne_eqb k g n)
-    ]))
-cell_step C o E k v S (Some p) h =
-    let f = current o k p E in
-    let got : slice_get v.groups k ≡ Some (sending_of k f) = S.groups k ∙ rw h refl in
-    let none : NoneCame C o E (Cell k) = record { same = λ i s q. accepted_none C o s E (Cell k) refl } in
-    let next : sending_of k (current o k p (E ++ Cell k ∷ [])) ≡ after_cell (sending_of k f) =
-    ap (sending_of k) (current_push o k p E (Cell k)) ∙ cell_push k (newest_number o E) (newest_table o k p E) f (Cell k) refl (eq-eqb k k refl) in
-    let groups = slice_set v.groups k (after_cell (sending_of k f)) in
-    let here : IsGroup o (E ++ Cell k ∷ []) groups k =
-    get_set_same v.groups k (after_cell (sending_of k f)) (slice_get_within v.groups k (sending_of k f) got) ∙ rw h (ap (λ (s : Sending). Some s) (sym next)) in
-    let asked : asked_cell v.groups k ≡ placed_cell (sending_of k f) (next_cell (sending_of k f)) = rw got refl in
-    let later : after_asked v.groups k ≡ groups = rw got refl in
-    let put : cell_asked v k ≡ (cell_reply v.sources (asked_cell v.groups k), record v { groups = after_asked v.groups k }) = rw (inside v.groups k (sending_of k f) got) refl in
-    let made : cell_asked v k ≡ (cell_reply v.sources (placed_cell (sending_of k f) (next_cell (sending_of k f))), record v { groups = groups }) =
-    put ∙ (ap (λ (c : Option (ℕ × ℕ × Option ℕ)). (cell_reply v.sources c, record v { groups = after_asked v.groups k })) asked
-    ∙ ap (λ (gs : List Sending). (cell_reply v.sources (placed_cell (sending_of k f) (next_cell (sending_of k f))), record v { groups = gs })) later) in
-    step_from C o E (Cell k) v (cell_reply v.sources (placed_cell (sending_of k f) (next_cell (sending_of k f))), record v { groups = groups }) made (rw h (cell_answer_is C o E v S k f))
-    (with_groups C o E (Cell k) v groups S none (kept_none (proposal_for o) (2 ^ 64 - 1) E (Cell k) refl) (length-set v.groups k (after_cell (sending_of k f))) (λ g. elim (cases_eq k g) [
-      | inl e ↦ subst (IsGroup o (E ++ Cell k ∷ []) groups) e here
-      | inr n ↦ get_set_other v.groups k g (after_cell (sending_of k f)) (λ q. n (sym q)) ∙ group_stays C o E (Cell k) v S g refl (ne_eqb k g n)
-    ]))
+use Rattle.a429_core.proofs.Leaving.{IsSource, IsGroup, NoneCame, sources_stay, group_stays, with_groups, with_sources, Stepped, step_from}
+use Rattle.a429_core.proofs.Answering.{AreRecalled, remembers_stay}
+use Rattle.a429_core.proofs.CellSteps.{cell_step}
+use Rattle.a429_core.proofs.Frames.{current_push, frame_push, Turned}
 
 -- ---- frames
 
@@ -160,10 +40,10 @@ frame_step C o E k v S None h =
     let none : NoneCame C o E (Frame k) = record { same = λ i s q. accepted_none C o s E (Frame k) refl } in
     let here : IsGroup o (E ++ Frame k ∷ []) v.groups k = got ∙ rw h refl in
     step_from C o E (Frame k) v (Refused NoSuch, v) (rw (outside v.groups k got) refl) (rw h refl)
-    (with_groups C o E (Frame k) v v.groups S none (kept_none (proposal_for o) (2 ^ 64 - 1) E (Frame k) refl) refl (λ g. elim (cases_eq k g) [
+    (with_groups C o E (Frame k) v v.groups S none (kept_none (proposal_for o) (numbers_left o) E (Frame k) refl) refl (λ g. elim (cases_eq k g) [
       | inl e ↦ subst (IsGroup o (E ++ Frame k ∷ []) v.groups) e here
       | inr n ↦ group_stays C o E (Frame k) v S g (ne_eqb k g n) refl
-    ]))
+    ]) (λ g p there. refl))
 frame_step C o E k v S (Some p) h =
     let f = current o k p E in
     let n = newest_number o E in
@@ -186,10 +66,10 @@ frame_step C o E k v S (Some p) h =
     let here : IsGroup o (E ++ Frame k ∷ []) groups k =
     get_set_same v.groups k R.1 (slice_get_within v.groups k (sending_of k f) got) ∙ rw h (ap (λ (s : Sending). Some s) (sym next)) in
     step_from C o E (Frame k) v (R.0, record v { groups = groups }) made (rw h turn.answer)
-    (with_groups C o E (Frame k) v groups S none (kept_none (proposal_for o) (2 ^ 64 - 1) E (Frame k) refl) (length-set v.groups k R.1) (λ g. elim (cases_eq k g) [
+    (with_groups C o E (Frame k) v groups S none (kept_none (proposal_for o) (numbers_left o) E (Frame k) refl) (length-set v.groups k R.1) (λ g. elim (cases_eq k g) [
       | inl e ↦ subst (IsGroup o (E ++ Frame k ∷ []) groups) e here
       | inr m ↦ get_set_other v.groups k g R.1 (λ q. m (sym q)) ∙ group_stays C o E (Frame k) v S g (ne_eqb k g m) refl
-    ]))
+    ]) (λ g p there. refl))
 
 -- ---- arrivals
 
@@ -342,21 +222,21 @@ publish_step C o E q v whole S =
     elim (cases_Bool (same_station o.proposal.station q.station)) [
       | inr differs ↦
           let test : same_station v.station q.station ≡ false = same ∙ differs in
-          let kept : published o (E ++ Publish q ∷ []) ≡ published o E = kept_none (proposal_for o) (2 ^ 64 - 1) E (Publish q) (rw differs refl) in
+          let kept : published o (E ++ Publish q ∷ []) ≡ published o E = kept_none (proposal_for o) (numbers_left o) E (Publish q) (rw differs refl) in
           step_from C o E (Publish q) v (Refused StationDiffers, v) (rw test refl) (rw differs refl)
-          (with_groups C o E (Publish q) v v.groups S none kept refl (λ g. group_stays C o E (Publish q) v S g refl refl))
+          (with_groups C o E (Publish q) v v.groups S none kept refl (λ g. group_stays C o E (Publish q) v S g refl refl) (λ g p there. refl))
       | inl agrees ↦
           let test : same_station v.station q.station ≡ true = same ∙ agrees in
           elim (cases_lt n (2 ^ 64 - 1)) [
             | inr full ↦
                 let spent : nat_lt v.newest.number (2 ^ 64 - 1) ≡ false = ap (λ (m : ℕ). nat_lt m (2 ^ 64 - 1)) S.number ∙ le-ltb n (2 ^ 64 - 1) full in
-                let kept : published o (E ++ Publish q ∷ []) ≡ published o E = kept_full (proposal_for o) (2 ^ 64 - 1) E (Publish q) q (rw agrees refl) full in
+                let kept : published o (E ++ Publish q ∷ []) ≡ published o E = kept_full (proposal_for o) (numbers_left o) E (Publish q) q (rw agrees refl) (omega (arith, full)) in
                 step_from C o E (Publish q) v (Refused CountSpent, v) (rw (test, spent) refl) (rw (agrees, le-ltb n (2 ^ 64 - 1) full) refl)
-                (with_groups C o E (Publish q) v v.groups S none kept refl (λ g. group_stays C o E (Publish q) v S g refl refl))
+                (with_groups C o E (Publish q) v v.groups S none kept refl (λ g. group_stays C o E (Publish q) v S g refl refl) (λ g p there. refl))
             | inl room ↦
                 let free : nat_lt v.newest.number (2 ^ 64 - 1) ≡ true = ap (λ (m : ℕ). nat_lt m (2 ^ 64 - 1)) S.number ∙ lt-ltb n (2 ^ 64 - 1) room in
-                let grown : published o (E ++ Publish q ∷ []) ≡ published o E ++ q ∷ [] = kept_some (proposal_for o) (2 ^ 64 - 1) E (Publish q) q (rw agrees refl) room in
-                let more : newest_number o (E ++ Publish q ∷ []) ≡ n + 1 = ap (λ (ps : List Proposed). length ps) grown ∙ length_push (published o E) q in
+                let grown : published o (E ++ Publish q ∷ []) ≡ published o E ++ q ∷ [] = kept_some (proposal_for o) (numbers_left o) E (Publish q) q (rw agrees refl) (omega (arith, room)) in
+                let more : newest_number o (E ++ Publish q ∷ []) ≡ n + 1 = omega (arith, ap (λ (ps : List Proposed). length ps) grown, length_push (published o E) q) in
                 let newest : newest_plan o (E ++ Publish q ∷ []) ≡ q.plan = ap (λ (ps : List Proposed). option_map_or (λ (p : Proposed). p.plan) (last_of ps) o.proposal.plan) grown ∙ rw (last_push (published o E) q) refl in
                 let as_many : length (groups_of q.plan) ≡ length (groups_of o.proposal.plan) = whole ∙ (sym (same_count o.proposal.station q.station agrees) ∙ sym S.whole) in
                 step_from C o E (Publish q) v (Published (v.newest.number + 1), record v { newest = record q.plan { number = v.newest.number + 1 } })
@@ -366,6 +246,7 @@ publish_step C o E q v whole S =
                   station = S.station;
                   sources = sources_stay C o E (Publish q) v S none;
                   groups = λ g. group_stays C o E (Publish q) v S g refl refl;
+                  sends = λ g p there i s known. remembers_stay C o E (Publish q) g p i (recent_at v.sends g i) refl (S.sends g p there i s known);
                   size = S.size;
                   number = ap (λ (m : ℕ). m + 1) S.number ∙ sym more;
                   newest = sym (ap (λ (p : PlanTable). groups_of p) newest);
@@ -376,11 +257,11 @@ publish_step C o E q v whole S =
 
 -- ---- every event
 
-pub step_is : (C : ℕ) (o : Opening) (E : List Event) (e : Event) (v : Standing) → IsWholeEvent e → StandsFor C o E v → Stepped C o E e v
-step_is C o E (Arrive r raw) v w S = arrive_step C o E r raw v S
-step_is C o E (Cell g) v w S = cell_step C o E g v S (slice_get (groups_of o.proposal.plan) g) refl
-step_is C o E (Frame g) v w S = frame_step C o E g v S (slice_get (groups_of o.proposal.plan) g) refl
-step_is C o E (Publish q) v w S = publish_step C o E q v w S
+pub step_is : AreRecalled → (C : ℕ) (o : Opening) (E : List Event) (e : Event) (v : Standing) → IsWholeEvent e → StandsFor C o E v → Stepped C o E e v
+step_is law C o E (Arrive r raw) v w S = arrive_step C o E r raw v S
+step_is law C o E (Cell g) v w S = cell_step law C o E g v S (slice_get (groups_of o.proposal.plan) g) refl
+step_is law C o E (Frame g) v w S = frame_step C o E g v S (slice_get (groups_of o.proposal.plan) g) refl
+step_is law C o E (Publish q) v w S = publish_step C o E q v w S
 
 pub answers_push : (C : ℕ) (o : Opening) (E xs : List Event) (e : Event) → answers C o E (xs ++ e ∷ []) ≡ answers C o E xs ++ Answers.answer C o (E ++ xs) e ∷ []
 answers_push C o E [] e = ap (λ (F : List Event). Answers.answer C o F e ∷ []) (sym (append-nil E))

@@ -1,4 +1,4 @@
-pub mod Answers
-pub mod Sending
+pub mod Happened
 pub mod Standing
 pub mod Sends
+pub mod Spaced

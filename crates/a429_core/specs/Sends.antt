@@ -4,10 +4,10 @@ use Rattle.std.specs.List.{AllByRecursion, range_with_len, zip}
 use Rattle.a429_slots.specs.Tables.{frame_of, buses_of, source_at}
 use Rattle.a429_slots.specs.Events.{Event, Arrive}
 use Rattle.a429_slots.specs.History.{Opening, Current, is_cell}
-use Rattle.a429_core.specs.declared.events.Answer.{Answer}
-use Rattle.a429_core.specs.declared.events.Answer.TheVariants.{Accepted, Sent, Changed, Published, Refused}
-use Rattle.a429_core.specs.declared.events.Refusal.TheVariants.{FrameEnd}
-use Rattle.a429_core.specs.Answers.{answer, answers}
+use Rattle.a429_slots.specs.declared.answers.Answer.{Answer}
+use Rattle.a429_slots.specs.declared.answers.Answer.TheVariants.{Accepted, Sent, Changed, Published, Refused}
+use Rattle.a429_slots.specs.declared.answers.Refusal.TheVariants.{FrameEnd}
+use Rattle.a429_slots.specs.Answers.{answer, answers}
 
 -- ---- words
 

@@ -1,26 +1,31 @@
 -- What a state is: what contracts see of it, and the histories that it stands for. Below, what the machine does in one step.
-use Rattle.std.specs.Prelude.{◌≡◌, ◌+◌, ◌-◌, ◌^◌, ℕ, List, Option, Some, None, Result, Ok, Err, ⊤, if◌then◌else◌, nat_lt, nat_le, length, slice_get, slice_set, option_and_then, option_map}
+use Rattle.std.specs.Prelude.{◌≡◌, ◌≤◌, ◌+◌, ◌-◌, ◌/◌, ◌^◌, ℕ, Bool, false, List, Option, Some, None, Result, Ok, Err, ⊤, if◌then◌else◌, nat_lt, nat_le, length, slice_get, slice_set, option_and_then, option_map}
 use Rattle.std.specs.Option.{option_map_or}
+use Rattle.a429_equipment.specs.declared.rows.SourceRow.{SourceRow}
 use Rattle.a429_equipment.specs.declared.arrivals.ArrivalRefusal.{ArrivalRefusal}
 use Rattle.a429_equipment.specs.TableRecord.{TableRecord}
 use Rattle.a429_equipment.specs.Arrivals.{AreApart, sorted}
 use Rattle.a429_equipment.specs.SameStation.{same_station}
-use Rattle.a429_slots.specs.Tables.{GroupTable, PlanTable, groups_of, cells_of, source_at}
+use Rattle.a429_slots.specs.Tables.{GroupTable, PlanTable, groups_of, cells_of, frame_of, buses_of, output_in}
+use Rattle.a429_slots.specs.Recalling.{Recent, Recalls, may_send, recent_after}
 use Rattle.a429_slots.specs.Proposed.{Proposed}
 use Rattle.a429_slots.specs.Events.{Event, Arrive, Cell, Frame, Publish}
-use Rattle.a429_slots.specs.History.{Opening, current, accepted_in, last_of, newest_number, newest_plan}
+use Rattle.a429_slots.specs.History.{Opening, current, cells_since, accepted_in, accepted_by, answered_cells, last_of, newest_number, newest_plan}
 use Rattle.a429_core.specs.declared.sources.Kept.{Kept}
-use Rattle.a429_core.specs.declared.events.Answer.{Answer}
-use Rattle.a429_core.specs.declared.events.Answer.TheVariants.{Accepted, Sent, Changed, Published, Refused}
-use Rattle.a429_core.specs.declared.events.Refusal.TheVariants.{NoSuch, CountSpent, FrameEnd, MidFrame, SlotsSpent, StationDiffers}
-use Rattle.a429_core.specs.Answers.{refusal_of}
-use Rattle.a429_core.specs.Sending.{Sending, sending_of, next_cell, after_cell, fits_next, turned}
+use Rattle.a429_slots.specs.declared.senders.Due.{Due}
+use Rattle.a429_slots.specs.declared.answers.Answer.{Answer}
+use Rattle.a429_slots.specs.declared.answers.Answer.TheVariants.{Accepted, Sent, Changed, Published, Refused}
+use Rattle.a429_slots.specs.declared.answers.Refusal.TheVariants.{NoSuch, CountSpent, FrameEnd, MidFrame, SlotsSpent, StationDiffers}
+use Rattle.a429_slots.specs.Answers.{refusal_of}
+use Rattle.a429_slots.specs.Sending.{Sending, due_of, sending_of, next_cell, after_cell, fits_next, turned}
 
--- what a state keeps: of each source how many words it accepted and the last of them, of each group where it stands, and the newest plan
+-- what a state keeps: of each source how many words it accepted and the last of them, of each group where it stands and what it sent last
+-- of each source, and the newest plan
 pub record Standing : Type 0 where
   pub station : TableRecord
   pub sources : List Kept
   pub groups : List Sending
+  pub sends : List (List Recent)
   pub newest : PlanTable
 
 -- ---- the histories that a state stands for
@@ -39,6 +44,20 @@ IsWholeEvent (Publish q) = IsWhole q
 abbrev pub kept_of : List ℕ → Kept
 kept_of words = record { count = length words; last = last_of words }
 
+-- what is kept of a group's sends of a source
+abbrev pub recent_at : List (List Recent) → ℕ → ℕ → Option Recent
+recent_at sends g i = option_and_then (λ rs. slice_get rs i) (slice_get sends g)
+
+-- this is kept of the cells that group g has answered, for source i: it is of no later word than the newest, and of no later slot than
+-- the group's next one
+pub record Remembers (C : ℕ) (o : Opening) (E : List Event) (g : ℕ) (p : GroupTable) (i : ℕ) (x : Option Recent) : Type 0 where
+  pub recent : Recent
+  pub there : x ≡ Some recent
+  pub recalls : Recalls (answered_cells C o g p E) i recent
+  pub counted : recent.count ≤ length (accepted_by C o i E)
+  pub passed : recent.slot ≤ (current o g p E).first + cells_since g (current o g p E) / buses_of (current o g p E).table
+  pub in_frame : recent.slot ≤ (current o g p E).first + frame_of (current o g p E).table
+
 -- this is what is kept of the history E from this opening
 pub record StandsFor (C : ℕ) (o : Opening) (E : List Event) (v : Standing) : Type 0 where
   pub apart : AreApart o.proposal.station.sources
@@ -46,6 +65,8 @@ pub record StandsFor (C : ℕ) (o : Opening) (E : List Event) (v : Standing) : T
   pub station : v.station ≡ o.proposal.station
   pub sources : (i : ℕ) → slice_get v.sources i ≡ option_map (λ s. kept_of (accepted_in C o s E)) (slice_get o.proposal.station.sources i)
   pub groups : (g : ℕ) → slice_get v.groups g ≡ option_map (λ p. sending_of g (current o g p E)) (slice_get (groups_of o.proposal.plan) g)
+  pub sends : (g : ℕ) (p : GroupTable) → slice_get (groups_of o.proposal.plan) g ≡ Some p → (i : ℕ) (s : SourceRow) → slice_get o.proposal.station.sources i ≡ Some s
+      → Remembers C o E g p i (recent_at v.sends g i)
   pub size : length v.groups ≡ length (groups_of o.proposal.plan)
   pub number : v.newest.number ≡ newest_number o E
   pub newest : groups_of v.newest ≡ groups_of (newest_plan o E)
@@ -67,30 +88,56 @@ put_word C v raw (Ok i) =
 abbrev pub arrived : ℕ → Standing → ℕ → ℕ → Answer × Standing
 arrived C v r raw = if nat_le (length v.station.receivers) r then (Refused NoSuch, v) else put_word C v raw (sorted v.station r raw)
 
--- the last word of a source, where there is one
-abbrev pub latest : List Kept → ℕ → Option ℕ
-latest sources i = option_and_then (λ k. k.last) (slice_get sources i)
-
--- the bus, the slot and the source of a cell
-abbrev pub placed_cell : Sending → Option (ℕ × ℕ) → Option (ℕ × ℕ × Option ℕ)
+-- the bus, the slot and the output of a cell
+abbrev pub placed_cell : Sending → Option (ℕ × ℕ) → Option (ℕ × ℕ × Option Due)
 placed_cell s None = None
-placed_cell s (Some c) = Some (c.0, s.first + c.1, source_at s.table c.0 c.1)
-
-abbrev pub cell_reply : List Kept → Option (ℕ × ℕ × Option ℕ) → Answer
-cell_reply sources None = Refused FrameEnd
-cell_reply sources (Some c) = Sent c.0 c.1 (option_and_then (latest sources) c.2)
+placed_cell s (Some c) = Some (c.0, s.first + c.1, option_map due_of (output_in s.table c.0 c.1))
 
 -- the next cell of a group, and the groups after it
-abbrev pub asked_cell : List Sending → ℕ → Option (ℕ × ℕ × Option ℕ)
+abbrev pub asked_cell : List Sending → ℕ → Option (ℕ × ℕ × Option Due)
 asked_cell groups g = option_and_then (λ s. placed_cell s (next_cell s)) (slice_get groups g)
 
 abbrev pub after_asked : List Sending → ℕ → List Sending
 after_asked groups g = option_map_or (λ s. slice_set groups g (after_cell s)) (slice_get groups g) groups
 
+-- a word of a source may be sent, and what is kept of the group's sends then
+abbrev pub source_sends : List Recent → ℕ → ℕ → Due → Bool
+source_sends rs slot count due = option_map_or (λ r. may_send r slot count due.limits.hold due.limits.spacing) (slice_get rs due.source) false
+
+abbrev pub source_after : List Recent → ℕ → ℕ → Due → List Recent
+source_after rs slot count due =
+    option_map_or (λ r. slice_set rs due.source (recent_after r slot count due.limits.hold due.limits.spacing)) (slice_get rs due.source) rs
+
+abbrev pub group_sends : List (List Recent) → ℕ → ℕ → ℕ → Due → Bool
+group_sends sends g slot count due = option_map_or (λ rs. source_sends rs slot count due) (slice_get sends g) false
+
+abbrev pub group_after : List (List Recent) → ℕ → ℕ → ℕ → Due → List (List Recent)
+group_after sends g slot count due = option_map_or (λ rs. slice_set sends g (source_after rs slot count due)) (slice_get sends g) sends
+
+abbrev pub send_last : Standing → ℕ → ℕ → Due → ℕ → Option ℕ → Option ℕ × Standing
+send_last v g slot due count None = (None, v)
+send_last v g slot due count (Some word) =
+    ((if group_sends v.sends g slot count due then Some word else None), record v { sends = group_after v.sends g slot count due })
+
+abbrev pub send_kept : Standing → ℕ → ℕ → Due → Option Kept → Option ℕ × Standing
+send_kept v g slot due None = (None, v)
+send_kept v g slot due (Some kept) = send_last v g slot due kept.count kept.last
+
+-- the word that a group sends for an output
+abbrev pub word_at : Standing → ℕ → ℕ → Due → Option ℕ × Standing
+word_at v g slot due = send_kept v g slot due (slice_get v.sources due.source)
+
+abbrev pub sent_due : Standing → ℕ → ℕ → ℕ → Option Due → Answer × Standing
+sent_due v g bus slot None = (Sent bus slot None, v)
+sent_due v g bus slot (Some due) = (Sent bus slot (word_at v g slot due).0, (word_at v g slot due).1)
+
+abbrev pub sent_in : Standing → ℕ → Option (ℕ × ℕ × Option Due) → Answer × Standing
+sent_in v g None = (Refused FrameEnd, v)
+sent_in v g (Some c) = sent_due v g c.0 c.1 c.2
+
 abbrev pub cell_asked : Standing → ℕ → Answer × Standing
 cell_asked v g =
-    if nat_lt g (length v.groups) then (cell_reply v.sources (asked_cell v.groups g), record v { groups = after_asked v.groups g })
-    else (Refused NoSuch, v)
+    if nat_lt g (length v.groups) then sent_in (record v { groups = after_asked v.groups g }) g (asked_cell v.groups g) else (Refused NoSuch, v)
 
 -- a group goes on to its next frame by this table, where the frame before is over
 abbrev pub framed : Sending → ℕ → GroupTable → Answer × Sending

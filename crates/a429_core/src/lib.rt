@@ -3,9 +3,10 @@
 
 mod events;
 pub mod laws;
-mod sender;
+mod sends;
 mod sources;
 mod state;
 
-pub use events::{Answer, Event, Refusal};
+pub use a429_slots::{Answer, Refusal};
+pub use events::Event;
 pub use state::{OpenFault, State};

@@ -1,17 +1,20 @@
 //! The machine: one step for each event.
-ghost use Rattle.std.specs.Prelude.{◌≡◌, ◌≤◌, ◌+◌, ◌-◌, ◌^◌, ◌<◌, ◌∷◌, [], ◌++◌, ◌↔◌, List, Ok, Some, None, map, option_and_then, length, IfOk, OnOk, OnErr, IsErrOf, IsOk, IsTrue, false};
+ghost use Rattle.std.specs.Prelude.{◌≡◌, ◌≤◌, ◌+◌, ◌-◌, ◌^◌, ◌<◌, ◌∷◌, [], ◌++◌, ◌↔◌, List, Ok, Some, None, map, length, IfOk, IfSome, OnOk, OnErr, IsErrOf, IsOk, IsTrue, false};
 ghost use Rattle.a429_slots.specs.Tables.{groups_of};
 ghost use Rattle.a429_slots.specs.Events.{Event as History_Event};
 ghost use Rattle.a429_slots.specs.History.{Opening};
-ghost use Rattle.a429_core.specs.Answers.{event_of, answer, answers};
-ghost use Rattle.a429_core.specs.Sending.{begun, all_fit};
-ghost use Rattle.a429_core.specs.Standing.{StandsFor, IsWhole, IsWholeEvent, latest, arrived, cell_asked, frame_asked, publish_asked, asked_cell, after_asked, frame_at, stepped};
+ghost use Rattle.a429_slots.specs.Answers.{answer, answers};
+ghost use Rattle.a429_core.specs.Happened.{event_of};
+ghost use Rattle.a429_slots.specs.declared.answers.Refusal.{Refusal as Why};
+ghost use Rattle.a429_slots.specs.Sending.{begun, all_fit};
+ghost use Rattle.a429_core.specs.Standing.{StandsFor, IsWhole, IsWholeEvent, word_at, arrived, cell_asked, frame_asked, publish_asked, asked_cell, after_asked, frame_at, stepped};
 
-use crate::events::{Answer, Event, Refusal};
-use crate::sender::Sender;
+use crate::events::Event;
+use crate::sends::{GroupSends, send_word, sends_of};
 use crate::sources::{Kept, keep};
 use a429_equipment::Equipment;
-use a429_slots::{OUTPUTS, Plan, Proposal};
+use a429_slots::laws::sends_are_recalled;
+use a429_slots::{Answer, Due, OUTPUTS, Plan, Proposal, Refusal, Sender};
 use a429_word::Word;
 use std::alloc::{AllocError, Global};
 use std::marker::Model;
@@ -39,14 +42,15 @@ impl From<AllocError> for OpenFault {
     }
 }
 
-/// A station in operation: the last accepted word of each source, where each group stands in its frame,
-/// and the newest plan. It counts the words of a source in `C` bits, 1 to 41.
+/// A station in operation: the last accepted word of each source, where each group stands in its frame and what it
+/// sent last, and the newest plan. It counts the words of a source in `C` bits, 1 to 41.
 #[derive(Drop)]
 pub struct State<const C: u32> {
     equipment: Equipment,
     limit: u64,
     sources: Vec<Kept>,
     groups: Vec<Sender>,
+    sends: Vec<GroupSends>,
     newest: Box<Plan<OUTPUTS>>,
 }
 
@@ -57,7 +61,7 @@ impl<const C: u32> Model for State<C> {
 
     ghost Value = { Standing };
 
-    ghost view = { λ s. record { station = s.equipment; sources = s.sources.items; groups = s.groups.items; newest = s.newest.value } };
+    ghost view = { λ s. record { station = s.equipment; sources = s.sources.items; groups = s.groups.items; sends = s.sends.items; newest = s.newest.value } };
 
     ghost invariant = { λ s. (s.limit ≡ 2 ^ C - 1) × (length s.sources.items ≡ length s.equipment.sources) × (length s.groups.items ≡ length (groups_of s.newest.value)) × (length s.groups.items ≡ length s.equipment.groups) };
 }
@@ -86,17 +90,18 @@ fn senders_of(alloc: Global, plan: &Plan<OUTPUTS>, first: u64) -> Result<Vec<Sen
     Ok(senders)
 }
 
-/// The next cell of a group: its bus, its slot, and the number of the source that stands there.
-fn next_cell(groups: &mut Vec<Sender>, group: usize) -> Option<(u32, u64, Option<usize>)>
+/// The next cell of a group: its bus, its slot, and the output that stands there.
+fn next_cell(groups: &mut Vec<Sender>, group: usize) -> Option<(u32, u64, Option<Due>)>
     requires { group < length groups.old.items }
     ensures due { result ≡ asked_cell groups.old.items group }
     ensures after { groups.new.items ≡ after_asked groups.old.items group }
     ensures len { length groups.new.items ≡ length groups.old.items }
+    ensures room { IfSome result (λ c. (c.1 + 1 < 2 ^ 64) × IfSome c.2 (λ due. 1 ≤ due.limits.spacing)) }
 {
     let sender = &mut groups[group];
     let first = sender.first();
     let (bus, slot) = sender.cell()?;
-    Some((bus, first + slot, sender.source_at(bus, slot)))
+    Some((bus, first + slot, sender.output_in(bus, slot)))
 }
 
 /// Takes the next frame of a group by the newest plan, where the one before is over.
@@ -130,6 +135,7 @@ impl<const C: u32> State<C> {
         ensures stands { IfOk result (StandsFor C (record { proposal = proposal; first = first_slot }) []) }
         ensures spent { IsErrOf result OpenFault.SlotsSpent ↔ (all_fit first_slot (groups_of proposal.plan) ≡ false) }
     {
+        sends_are_recalled();
         let (equipment, newest) = proposal.into_parts();
         if !frames_fit(&newest, first_slot) {
             return Err(OpenFault::SlotsSpent);
@@ -140,11 +146,13 @@ impl<const C: u32> State<C> {
         };
         let sources = vec![in alloc; unheard; equipment.sources().len()]?;
         let groups = senders_of(alloc, &newest, first_slot)?;
+        let sends = sends_of(alloc, groups.len(), sources.len())?;
         Ok(State {
             equipment,
             limit: (1u64 << C) - 1,
             sources,
             groups,
+            sends,
             newest,
         })
     }
@@ -177,15 +185,26 @@ impl<const C: u32> State<C> {
         }
         match next_cell(&mut self.groups, group) {
             None => Answer::Refused(Refusal::FrameEnd),
-            Some((bus, slot, source)) => Answer::Sent(bus, slot, self.latest(source)),
+            Some((bus, slot, None)) => Answer::Sent(bus, slot, None),
+            Some((bus, slot, Some(due))) => Answer::Sent(bus, slot, self.send(group, slot, due)),
         }
     }
 
-    /// The last accepted word of a source.
-    fn latest(&self, source: Option<usize>) -> Option<Word>
-        ensures { result ≡ option_and_then (latest self.now.sources) source }
+    /// The word that a group sends in a slot for an output: the last accepted of its source, unless the output's
+    /// limits forbid it.
+    fn send(&mut self, group: usize, slot: u64, due: Due) -> Option<Word>
+        requires some { 1 ≤ due.limits.spacing }
+        requires room { slot + 1 < 2 ^ 64 }
+        ensures word { result ≡ (word_at self.old group slot due).0 }
+        ensures after { self.new ≡ (word_at self.old group slot due).1 }
     {
-        self.sources.get(source?)?.last
+        let kept = *self.sources.get(due.source)?;
+        let word = kept.last?;
+        if send_word(&mut self.sends, group, slot, kept.count, due) {
+            Some(word)
+        } else {
+            None
+        }
     }
 
     fn frame(&mut self, group: usize) -> Answer
@@ -236,7 +255,9 @@ impl<const C: u32> State<C> {
         ensures ok { IsOk result }
         ensures answer { (o : Opening) (E : List History_Event) → StandsFor C o E self.old → result ≡ Ok (answer C o E (event_of event)) }
         ensures stands { (o : Opening) (E : List History_Event) → StandsFor C o E self.old → StandsFor C o (E ++ event_of event ∷ []) self.new }
+        ensures refused { (why : Why) → result ≡ Ok (Answer.Refused why) → self.new ≡ self.old }
     {
+        sends_are_recalled();
         Ok(self.take(event))
     }
 
@@ -247,6 +268,7 @@ impl<const C: u32> State<C> {
         ensures stands { OnOk result ((o : Opening) (E : List History_Event) → StandsFor C o E self.old → StandsFor C o (E ++ map event_of events.items) self.new) }
         ensures err { OnErr result (self.new ≡ self.old) }
     {
+        sends_are_recalled();
         let mut answers = Vec::with_capacity(alloc, events.len())?;
         for event in events {
             answers.push(self.take(event))?;

@@ -53,6 +53,7 @@ output_row root d = record {
   source = number_of (text_at (codes "source") d) (rows_at (codes "source") root);
   min_us = natural (2 ^ 32) (integer_at (codes "min_us") d);
   max_us = natural (2 ^ 32) (integer_at (codes "max_us") d);
+  hold = None;
 }
 
 abbrev pub output_rows : Data → Data → List OutputRow

@@ -166,6 +166,7 @@ fn output_row(numbers: &Numbers<'_>, table: &Value) -> OutputRow
         source: numbers.source(text_at(table, "source")).unwrap_or(0),
         min_us: number(integer_at(table, "min_us")),
         max_us: number(integer_at(table, "max_us")),
+        hold: None,
     }
 }
 

@@ -77,4 +77,6 @@ pub struct OutputRow {
     pub min_us: u32,
     /// In microseconds, at least `min_us` and at most 30000000.
     pub max_us: u32,
+    /// How often one accepted word is sent at most; None where there is no limit.
+    pub hold: Option<u32>,
 }

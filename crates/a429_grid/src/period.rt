@@ -1,6 +1,6 @@
 //! Periods of a power of two of slots, and the greatest one that an interval admits.
-ghost use Rattle.std.specs.Prelude.{◌≡◌, ◌≤◌, ◌^◌, ◌↔◌, IsTrue, MatchOption};
-ghost use Rattle.a429_grid.specs.Grid.{IsWithin, IsGridPeriod, HasNoGridPeriod};
+ghost use Rattle.std.specs.Prelude.{◌≡◌, ◌≤◌, ◌^◌, ◌*◌, ◌↔◌, IsTrue, MatchOption};
+ghost use Rattle.a429_grid.specs.Grid.{IsWithin, IsGridPeriod, HasNoGridPeriod, IsLeastSpacing, least_spacing};
 
 use std::marker::Model;
 
@@ -76,4 +76,16 @@ pub fn grid_period(min_us: u32, max_us: u32, rate: u32) -> Option<Period>
         }
     }
     None
+}
+
+/// The least number of slots that last at least `min_us` microseconds at this rate in bit/s. Two words that are
+/// so far apart keep to their least interval; no grid period of the interval is less.
+pub fn spacing(min_us: u32, rate: u32) -> u32
+    requires interval { (1 ≤ min_us) × (min_us ≤ 30000000) }
+    requires rate { (1 ≤ rate) × (rate ≤ 100000) }
+    ensures least { IsLeastSpacing min_us rate result }
+    ensures value { result ≡ least_spacing min_us rate }
+    ensures some { 1 ≤ result }
+{
+    ((u64::from(min_us) * u64::from(rate) + (SLOT - 1)) / SLOT) as u32
 }

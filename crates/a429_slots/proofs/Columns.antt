@@ -10,7 +10,7 @@ pub copied_more : (xs ys : List ℕ) (i x : ℕ) → i < length xs → i < lengt
 copied_more xs ys i x here there old is =
     take_more_set xs i x here ∙ ap (λ zs. zs ++ x ∷ []) old ∙ ap (λ z. take i ys ++ z ∷ []) is ∙ sym (take_more ys i 0 there)
 
-pub mapped_more : {A : Type 0} (f : A → ℕ) (xs : List ℕ) (ys : List A) (i x : ℕ) (d : A) → i < length xs → i < length ys → take i xs ≡ map f (take i ys) → x ≡ f (get_or ys i d)
+pub mapped_more : {A B : Type 0} (f : A → B) (xs : List B) (ys : List A) (i : ℕ) (x : B) (d : A) → i < length xs → i < length ys → take i xs ≡ map f (take i ys) → x ≡ f (get_or ys i d)
     → take (i + 1) (set xs i x) ≡ map f (take (i + 1) ys)
 mapped_more f xs ys i x d here there old is =
     take_more_set xs i x here ∙ ap (λ zs. zs ++ x ∷ []) old ∙ ap (λ z. map f (take i ys) ++ z ∷ []) is ∙ sym (map_more f ys i d there)

@@ -8,3 +8,9 @@ pub mod Planning
 pub mod Histories
 pub mod Taking
 pub mod Published
+pub mod Remembering
+pub mod Answered
+pub mod Numbers
+pub mod Following
+pub mod SamePlan
+pub mod SpacedTables

@@ -1,5 +1,5 @@
 -- A table of what the rows ask for is the plan of a group.
-use Rattle.std.proofs.Common.{◌≡◌, ℕ, suc, ◌/◌, ◌^◌, ◌<◌, ◌≤◌, ◌∷◌, [], List, length, get_or, map, arith, refl, ap, ◌∙◌, sym, subst}
+use Rattle.std.proofs.Common.{◌≡◌, ℕ, suc, ◌/◌, ◌^◌, ◌<◌, ◌≤◌, ◌∷◌, [], List, length, take, get_or, map, arith, refl, ap, ◌∙◌, sym, subst}
 use Rattle.std.specs.Prelude.{Option, Some, None, IsSome, slice_get, option_and_then, unwrap_or}
 use Rattle.std.specs.List.{AllZip}
 use Rattle.std.specs.Option.{option_map_or}
@@ -8,7 +8,7 @@ use Rattle.std.proofs.lemmas.Bool.{false≢true}
 use Rattle.std.proofs.lemmas.List.{length-map, get_or-map, get_or-take}
 use Rattle.std.proofs.lemmas.Simd.{map-map}
 use Rattle.std.proofs.lemmas.Slice.Zip.{AllZip-long}
-use Rattle.a429_grid.specs.Grid.{HasNoGridPeriod}
+use Rattle.a429_grid.specs.Grid.{HasNoGridPeriod, IsLeastSpacing, least_spacing}
 use Rattle.a429_pack.specs.declared.demands.Demand.{Demand}
 use Rattle.a429_pack.specs.declared.demands.PackFault.{PackFault}
 use Rattle.a429_pack.specs.declared.demands.PackFault.TheVariants as pack
@@ -20,12 +20,14 @@ use Rattle.a429_pack.specs.Schedules.{IsFewest}
 use Rattle.a429_pack.specs.Orders.{NamesEachOnce}
 use Rattle.a429_equipment.specs.declared.rows.OutputRow.{OutputRow}
 use Rattle.a429_equipment.specs.declared.rows.SourceRow.{SourceRow}
+use Rattle.a429_slots.specs.declared.group_plan.SendLimits.{SendLimits}
 use Rattle.a429_slots.specs.Tables.{Placed, GroupTable, placed_at, outputs_of, order_of, frame_of, buses_of}
 use Rattle.a429_slots.specs.Kept.{IsTable}
-use Rattle.a429_slots.specs.Asked.{IsAsked, IsTableOf}
+use Rattle.a429_slots.specs.Asked.{IsAsked, IsTableOf, limits_at}
 use Rattle.a429_slots.specs.Planned.{HasPeriod, IsServed, IsLayout, IsPlannedFor, NeedsBuses, CanBePlanned, asked_by, asked_of}
 use Rattle.a429_slots.specs.Faults.{IsGroupFault}
 use Rattle.a429_slots.proofs.Cells.{HasEach, AreApart, length-outputs, output_at, stands_just_at}
+use Rattle.a429_slots.proofs.Tabled.{limits_read}
 use Rattle.a429_slots.proofs.Rows.{blank, unasked, zipped_at, period_from, first_unfit, have_periods}
 
 zip_by : {A B : Type 0} (R : A → B → Type 0) (xs : List A) (ys : List B) (d : A) (e : B) → length ys ≡ length xs → ((i : ℕ) → i < length xs → R (get_or xs i d) (get_or ys i e)) → AllZip R xs ys
@@ -54,7 +56,8 @@ pub record IsMade (n rate : ℕ) (sources : List SourceRow) (rows : List OutputR
   pub shares : l.demands ≡ map (λ i. 2 ^ l.frame / period_of (demand_at ds i)) l.inputs
   pub fewest : IsFewest (2 ^ l.frame) (periods_of ds) l.buses
   pub few : l.buses ≤ 16
-  pub table : IsTableOf l rows ds t
+  pub table : IsTableOf rate l rows ds t
+  pub least : (min_us rate : ℕ) → IsLeastSpacing min_us rate (least_spacing min_us rate)
   pub sound : IsTable n t
   pub inputs : NamesEachOnce (length ds) l.inputs
   pub each : HasEach t
@@ -115,8 +118,14 @@ served n rate sources rows ds l t m =
     let asked : IsAsked rate sources row (demand_at ds i) = zipped_at (IsAsked rate sources) rows ds i blank unasked below m.asked in
     let period : HasPeriod rate row (exponent_of (demand_at ds i)) =
     period_from (demand_at ds i).period (HasNoGridPeriod row.min_us row.max_us rate) (HasPeriod rate row) asked.period (m.fit i (omega arith)) in
-    subst (IsServed rate row) (sym (output_at t i (placed_at t 0) (omega arith)))
-    (source_at n rate sources rows ds l t m i below, subst (HasPeriod rate row) (sym (period_at n rate sources rows ds l t m i below)) period))
+    let limits : (placed_at t i).limits ≡ limits_at rate row =
+    limits_read rate rows t.limits i (ap (λ k. take k t.limits) (sym (many ∙ same)) ∙ m.table.limits) below in
+    subst (IsServed rate row) (sym (output_at t i (placed_at t 0) (omega arith))) (
+      source_at n rate sources rows ds l t m i below,
+      subst (HasPeriod rate row) (sym (period_at n rate sources rows ds l t m i below)) period,
+      ap (λ (k : SendLimits). k.hold) limits,
+      subst (λ (k : SendLimits). IsLeastSpacing row.min_us rate k.spacing) (sym limits) (m.least row.min_us rate),
+    ))
 
 shares : (n rate : ℕ) (sources : List SourceRow) (rows : List OutputRow) (ds : List Demand) (l : Layout) (t : GroupTable) → IsMade n rate sources rows ds l t
     → t.demands ≡ map (λ o. frame_of t / 2 ^ get_or t.periods o 0) (order_of t)

@@ -1,5 +1,5 @@
 -- Where the plans in force come from.
-use Rattle.std.proofs.Common.{◌≡◌, ℕ, ◌+◌, ◌-◌, ◌^◌, ◌<◌, ◌≤◌, true, false, List, [], ◌∷◌, ◌++◌, length, take, ◌∙◌, sym, ap, subst, refl, inl, inr, ◌⊎◌, arith, append-nil, append_assoc}
+use Rattle.std.proofs.Common.{◌≡◌, ℕ, zero, suc, ◌+◌, ◌<◌, ◌≤◌, true, false, List, [], ◌∷◌, ◌++◌, length, take, ◌∙◌, sym, ap, subst, refl, inl, inr, ◌⊎◌, arith, append-nil, append_assoc}
 use Rattle.std.specs.Prelude.{Option, Some, None, filter_map, slice_get, unwrap_or}
 use Rattle.std.specs.Option.{option_map_or}
 use Rattle.std.proofs.lemmas.List.{length_push, take-append-le, take_all}
@@ -9,7 +9,7 @@ use Rattle.a429_equipment.specs.SameStation.{same_station}
 use Rattle.a429_slots.specs.Tables.{GroupTable, PlanTable, groups_of}
 use Rattle.a429_slots.specs.Proposed.{Proposed}
 use Rattle.a429_slots.specs.Events.{Event, Arrive, Cell, Frame, Publish}
-use Rattle.a429_slots.specs.History.{Opening, Current, current, last_of, proposal_for, published, newest_number, newest_table}
+use Rattle.a429_slots.specs.History.{Opening, Current, current, last_of, proposal_for, published, numbers_left, newest_number, newest_table}
 use Rattle.a429_slots.specs.TakenFrames.{is_taken_after, IsPublished, IsPublishedPlan, IsOpeningPlan, HasPublished, HasOpening, IsSameFrame}
 use Rattle.a429_slots.proofs.Histories.{by_ends, last_next, same_frame, new_frame}
 
@@ -26,9 +26,6 @@ longer o E e q n P = record {
   countable = P.countable;
 }
 
-abbrev limit : ℕ
-limit = 2 ^ 64 - 1
-
 abbrev all_of : Opening → List Event → List Proposed
 all_of o E = filter_map (proposal_for o) E
 
@@ -42,22 +39,22 @@ Origin o E = IsOpeningPlan o E ⊎ IsPublishedPlan o E
 -- an event that publishes nothing
 quiet : (o : Opening) (E : List Event) (e : Event) → published o (E ++ e ∷ []) ≡ published o E → Origin o E → Origin o (E ++ e ∷ [])
 unfolding Origin
-quiet o E e same (inl P) = inl (record { number = ap (λ (qs : List Proposed). length qs) same ∙ P.number; plan = ap (λ (qs : List Proposed). option_map_or (λ q. q.plan) (last_of qs) o.proposal.plan) same ∙ P.plan })
+quiet o E e same (inl P) = inl (record { number = ap (λ (qs : List Proposed). o.proposal.plan.number + length qs) same ∙ P.number; plan = ap (λ (qs : List Proposed). option_map_or (λ q. q.plan) (last_of qs) o.proposal.plan) same ∙ P.plan })
 quiet o E e same (inr P) = inr (record {
   proposal = P.proposal;
-  published = subst (IsPublished o (E ++ e ∷ []) P.proposal) (ap (λ (qs : List Proposed). length qs) (sym same)) (longer o E e P.proposal (newest_number o E) P.published);
+  published = subst (IsPublished o (E ++ e ∷ []) P.proposal) (ap (λ (qs : List Proposed). o.proposal.plan.number + length qs) (sym same)) (longer o E e P.proposal (newest_number o E) P.published);
   plan = ap (λ (qs : List Proposed). option_map_or (λ q. q.plan) (last_of qs) o.proposal.plan) same ∙ P.plan;
 })
 
 -- one that publishes q
-told : (o : Opening) (E : List Event) (q : Proposed) → same_station o.proposal.station q.station ≡ true → length (all_of o E) < limit → Origin o (E ++ Publish q ∷ [])
+told : (o : Opening) (E : List Event) (q : Proposed) → same_station o.proposal.station q.station ≡ true → length (all_of o E) < numbers_left o → Origin o (E ++ Publish q ∷ [])
 unfolding Origin
 told o E q same room =
     let more : all_of o (E ++ Publish q ∷ []) ≡ all_of o E ++ q ∷ [] = filter_map-append (proposal_for o) E (Publish q ∷ []) ∙ rw same refl in
     let long : length (all_of o E ++ q ∷ []) ≡ length (all_of o E) + 1 = length_push (all_of o E) q in
-    let before : published o E ≡ all_of o E = take_all limit (all_of o E) (omega (arith, room)) in
-    let after : published o (E ++ Publish q ∷ []) ≡ all_of o E ++ q ∷ [] = ap (take limit) more ∙ take_all limit (all_of o E ++ q ∷ []) (omega (arith, room, long)) in
-    let number : newest_number o (E ++ Publish q ∷ []) ≡ newest_number o E + 1 = ap (λ (qs : List Proposed). length qs) after ∙ (long ∙ ap (λ (qs : List Proposed). length qs + 1) (sym before)) in
+    let before : published o E ≡ all_of o E = take_all (numbers_left o) (all_of o E) (omega (arith, room)) in
+    let after : published o (E ++ Publish q ∷ []) ≡ all_of o E ++ q ∷ [] = ap (take (numbers_left o)) more ∙ take_all (numbers_left o) (all_of o E ++ q ∷ []) (omega (arith, room, long)) in
+    let number : newest_number o (E ++ Publish q ∷ []) ≡ newest_number o E + 1 = omega (arith, ap (λ (qs : List Proposed). length qs) after, long, ap (λ (qs : List Proposed). length qs) before) in
     inr (record {
       proposal = q;
       published = record {
@@ -72,27 +69,37 @@ told o E q same room =
     })
 
 -- one whose number could not be counted
-spent : (o : Opening) (E : List Event) (e : Event) → limit ≤ length (all_of o E) → published o (E ++ e ∷ []) ≡ published o E
-spent o E e full = ap (take limit) (filter_map-append (proposal_for o) E (e ∷ [])) ∙ take-append-le limit (all_of o E) (filter_map (proposal_for o) (e ∷ [])) full
+spent : (o : Opening) (E : List Event) (e : Event) → numbers_left o ≤ length (all_of o E) → published o (E ++ e ∷ []) ≡ published o E
+spent o E e full = ap (take (numbers_left o)) (filter_map-append (proposal_for o) E (e ∷ [])) ∙ take-append-le (numbers_left o) (all_of o E) (filter_map (proposal_for o) (e ∷ [])) full
 
 silent : (o : Opening) (E : List Event) (e : Event) → proposal_for o e ≡ None → published o (E ++ e ∷ []) ≡ published o E
-silent o E e h = ap (take limit) (filter_map-append (proposal_for o) E (e ∷ []) ∙ rw h (append-nil (all_of o E)))
+silent o E e h = ap (take (numbers_left o)) (filter_map-append (proposal_for o) E (e ∷ []) ∙ rw h (append-nil (all_of o E)))
 
 origin_next : (o : Opening) (E : List Event) (e : Event) → Origin o E → Origin o (E ++ e ∷ [])
 origin_next o E (Arrive r raw) P = quiet o E (Arrive r raw) (silent o E (Arrive r raw) refl) P
 origin_next o E (Cell g) P = quiet o E (Cell g) (silent o E (Cell g) refl) P
 origin_next o E (Frame g) P = quiet o E (Frame g) (silent o E (Frame g) refl) P
 origin_next o E (Publish q) P = elim (cases_Bool (same_station o.proposal.station q.station)) [
-  | inl same ↦ elim (cases_lt (length (all_of o E)) limit) [
+  | inl same ↦ elim (cases_lt (length (all_of o E)) (numbers_left o)) [
     | inl room ↦ told o E q same room
     | inr full ↦ quiet o E (Publish q) (spent o E (Publish q) full) P
   ]
   | inr other ↦ quiet o E (Publish q) (silent o E (Publish q) (rw other refl)) P
 ]
 
-origin : (o : Opening) (E : List Event) → Origin o E
+none_cut : (n : ℕ) → ◌≡◌ {A = List Proposed} (take n []) []
+none_cut zero = refl
+none_cut (suc n) = refl
+
+begins : (o : Opening) → Origin o []
 unfolding Origin
-origin o = by_ends (Origin o) (inl (record { number = refl; plan = refl })) (origin_next o)
+begins o = inl (record {
+  number = let none = ap (λ (qs : List Proposed). length qs) (none_cut (numbers_left o)) in omega (arith, none);
+  plan = ap (λ (qs : List Proposed). option_map_or (λ q. q.plan) (last_of qs) o.proposal.plan) (none_cut (numbers_left o));
+})
+
+origin : (o : Opening) (E : List Event) → Origin o E
+origin o = by_ends (Origin o) (begins o) (origin_next o)
 
 pub newest_is : (o : Opening) (E : List Event) → IsOpeningPlan o E ⊎ IsPublishedPlan o E
 unfolding Origin
@@ -101,7 +108,7 @@ newest_is o E = origin o E
 -- ---- the plan in force
 
 -- what goes on with the same frame keeps its plan
-kept : (o : Opening) (g : ℕ) (p : GroupTable) (E : List Event) (e : Event) (f h : Current) → IsSameFrame f h → HasOpening p f ⊎ HasPublished o g p E f → HasOpening p h ⊎ HasPublished o g p (E ++ e ∷ []) h
+kept : (o : Opening) (g : ℕ) (p : GroupTable) (E : List Event) (e : Event) (f h : Current) → IsSameFrame f h → HasOpening o p f ⊎ HasPublished o g p E f → HasOpening o p h ⊎ HasPublished o g p (E ++ e ∷ []) h
 kept o g p E e f h same (inl P) = inl (record { number = same.number ∙ P.number; table = same.table ∙ P.table })
 kept o g p E e f h same (inr P) = inr (record {
   proposal = P.proposal;
@@ -111,7 +118,7 @@ kept o g p E e f h same (inr P) = inr (record {
 
 -- a new frame has the newest plan
 given : (o : Opening) (g : ℕ) (p : GroupTable) (E : List Event) (e : Event) (h : Current) → slice_get (groups_of o.proposal.plan) g ≡ Some p → h.number ≡ newest_number o E → h.table ≡ newest_table o g p E
-    → Origin o E → HasOpening p h ⊎ HasPublished o g p (E ++ e ∷ []) h
+    → Origin o E → HasOpening o p h ⊎ HasPublished o g p (E ++ e ∷ []) h
 unfolding Origin
 given o g p E e h there number table (inl P) = inl (record {
   number = number ∙ P.number;
@@ -128,8 +135,8 @@ unchanged o g p E e h =
     let now = same_frame o g p E e h in
     record { table = ap (λ (c : Current). c.table) now; number = ap (λ (c : Current). c.number) now; first = ap (λ (c : Current). c.first) now }
 
-pub came_from : (o : Opening) (g : ℕ) (p : GroupTable) (E : List Event) → slice_get (groups_of o.proposal.plan) g ≡ Some p → HasOpening p (current o g p E) ⊎ HasPublished o g p E (current o g p E)
-came_from o g p E there = by_ends (λ F. HasOpening p (current o g p F) ⊎ HasPublished o g p F (current o g p F)) (inl (record { number = refl; table = refl })) (λ F e P. elim (cases_Bool (is_taken_after o g p F e)) [
+pub came_from : (o : Opening) (g : ℕ) (p : GroupTable) (E : List Event) → slice_get (groups_of o.proposal.plan) g ≡ Some p → HasOpening o p (current o g p E) ⊎ HasPublished o g p E (current o g p E)
+came_from o g p E there = by_ends (λ F. HasOpening o p (current o g p F) ⊎ HasPublished o g p F (current o g p F)) (inl (record { number = refl; table = refl })) (λ F e P. elim (cases_Bool (is_taken_after o g p F e)) [
   | inl taken ↦
       let now = new_frame o g p F e taken in
       given o g p F e (current o g p (F ++ e ∷ [])) there (ap (λ (c : Current). c.number) now) (ap (λ (c : Current). c.table) now) (origin o F)

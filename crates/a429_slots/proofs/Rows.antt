@@ -17,7 +17,7 @@ use Rattle.a429_slots.specs.Planned.{HasPeriod, IsFit, IsFirstUnfit}
 
 -- the row that a read past the end gives
 abbrev pub blank : OutputRow
-blank = record { source = 0; min_us = 0; max_us = 0 }
+blank = record { source = 0; min_us = 0; max_us = 0; hold = None }
 
 -- the demand that a read past the end gives
 abbrev pub unasked : Demand

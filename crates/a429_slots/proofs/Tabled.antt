@@ -1,8 +1,13 @@
 -- A layout of demands makes a slot table.
-use Rattle.std.proofs.Common.{◌≡◌, ℕ, ◌+◌, ◌-◌, ◌/◌, ◌%◌, ◌^◌, ◌<◌, ◌≤◌, List, length, take, get_or, map, sum, arith, refl, ap, ◌∙◌, sym, subst}
-use Rattle.std.specs.List.{range_with_len}
+use Rattle.std.proofs.Common.{◌≡◌, ℕ, zero, suc, ◌+◌, ◌-◌, ◌*◌, ◌/◌, ◌%◌, ◌^◌, ◌<◌, ◌≤◌, List, length, take, get_or, map, sum, arith, refl, ap, ◌∙◌, sym, subst}
+use Rattle.std.specs.Prelude.{Option, slice_get, unwrap_or}
+use Rattle.std.specs.List.{AllByRecursion, range_with_len}
 use Rattle.std.specs.List.Sorted.{IsPermutation}
-use Rattle.std.proofs.lemmas.List.{length-map, get_or-map, get_or-take}
+use Rattle.std.proofs.lemmas.List.{length-map, length-take, get_or-map, get_or-take}
+use Rattle.std.proofs.lemmas.Option.{slice_get-get_or}
+use Rattle.std.proofs.Math.Nat.{one-le-mul}
+use Rattle.a429_grid.specs.Grid.{IsLeastSpacing, least_spacing}
+use Rattle.a429_equipment.specs.Sound.{IsInterval}
 use Rattle.std.proofs.lemmas.Nat.{pow-add, pow_pos, shl-shr, div_below}
 use Rattle.a429_grid.specs.Reversal.{reversed}
 use Rattle.a429_pack.specs.declared.demands.Demand.{Demand}
@@ -12,10 +17,11 @@ use Rattle.a429_pack.specs.Orders.{NamesEachOnce}
 use Rattle.a429_pack.specs.Schedules.{IsExactlyPeriodic}
 use Rattle.a429_pack.specs.Sums.{start_of, Holds}
 use Rattle.a429_equipment.specs.declared.rows.OutputRow.{OutputRow}
-use Rattle.a429_slots.specs.Tables.{GroupTable}
+use Rattle.a429_slots.specs.declared.group_plan.SendLimits.{SendLimits}
+use Rattle.a429_slots.specs.Tables.{GroupTable, unlimited}
 use Rattle.a429_slots.specs.Kept.{HoldsCell, IsTable}
-use Rattle.a429_slots.specs.Asked.{IsTableOf}
-use Rattle.a429_slots.proofs.Rows.{unasked}
+use Rattle.a429_slots.specs.Asked.{IsTableOf, limits_at}
+use Rattle.a429_slots.proofs.Rows.{blank, unasked, all_below}
 
 -- the columns of a table, by the outputs' numbers but the first
 pub record Columns : Type 0 where
@@ -24,6 +30,7 @@ pub record Columns : Type 0 where
   pub on_bus : List ℕ
   pub offsets : List ℕ
   pub periods : List ℕ
+  pub limits : List SendLimits
 
 abbrev pub table : ℕ → ℕ → List ℕ → Columns → GroupTable
 table frame buses demands c = record {
@@ -35,10 +42,12 @@ table frame buses demands c = record {
   on_bus = c.on_bus;
   offsets = c.offsets;
   periods = c.periods;
+  limits = c.limits;
 }
 
 -- what is known of the columns when a table is made of them
 pub record AreColumns (l : Layout) (rows : List OutputRow) (ds : List Demand) (c : Columns) : Type 0 where
+  pub rate : ℕ
   pub laid : IsLaidOut l
   pub each : NamesEachOnce (length l.demands) l.inputs
   pub within : (x k : ℕ) → Holds l.demands x k → x < sum l.demands
@@ -50,8 +59,29 @@ pub record AreColumns (l : Layout) (rows : List OutputRow) (ds : List Demand) (c
   pub order : take (length l.inputs) c.order ≡ l.inputs
   pub sources : take (length rows) c.sources ≡ map (λ (r : OutputRow). r.source) rows
   pub periods : take (length ds) c.periods ≡ map exponent_of ds
+  pub limits : take (length rows) c.limits ≡ map (limits_at rate) rows
+  pub least : (min_us rate : ℕ) → IsLeastSpacing min_us rate (least_spacing min_us rate)
+  pub intervals : AllByRecursion IsInterval rows
+  pub some_rate : 1 ≤ rate
   pub bus : (k : ℕ) → k < length l.inputs → get_or c.on_bus (get_or l.inputs k 0) 0 ≡ start_of l.demands k / 2 ^ l.frame
   pub offset : (k : ℕ) → k < length l.inputs → get_or c.offsets (get_or l.inputs k 0) 0 ≡ reversed l.frame (start_of l.demands k % 2 ^ l.frame)
+
+-- what is kept of the limits of an output
+pub limits_read : (rate : ℕ) (rows : List OutputRow) (xs : List SendLimits) (o : ℕ) → take (length rows) xs ≡ map (limits_at rate) rows → o < length rows
+    → unwrap_or (slice_get xs o) unlimited ≡ limits_at rate (get_or rows o blank)
+limits_read rate rows xs o are below =
+    let many : length (take (length rows) xs) ≡ length rows = ap (λ (zs : List SendLimits). length zs) are ∙ length-map rows (limits_at rate) in
+    let inside : o < length xs = omega (arith, many, length-take (length rows) xs) in
+    ap (λ (x : Option SendLimits). unwrap_or x unlimited) (slice_get-get_or xs o unlimited inside)
+    ∙ (sym (get_or-take (length rows) xs o unlimited below) ∙ (ap (λ (zs : List SendLimits). get_or zs o unlimited) are ∙ get_or-map (limits_at rate) rows o blank unlimited below))
+
+-- words of an interval of some microseconds are some slots apart
+some_spacing : (min_us rate q : ℕ) → IsLeastSpacing min_us rate q → 1 ≤ min_us → 1 ≤ rate → 1 ≤ q
+some_spacing min_us rate zero least some faster =
+    let n : ℕ = min_us * rate in
+    let product : 1 ≤ min_us * rate = one-le-mul some faster in
+    absurd (omega (arith, least.0, product))
+some_spacing min_us rate (suc q) least some faster = omega arith
 
 -- a share of the frame has the period that it was made of
 share_is : (h e : ℕ) → e ≤ h → 2 ^ h / 2 ^ e ≡ 2 ^ (h - e)
@@ -122,6 +152,13 @@ is_table n l rows ds c p room =
       order = subst (λ (is : List ℕ). IsPermutation (range_with_len 0 (length l.demands)) is) (sym order) p.laid.inputs;
       fits = p.laid.room;
       within = λ o below. few_exponent l rows ds c p o (omega arith);
+      spaced = λ o below.
+          let inside : o < length rows = omega (arith, p.rows_long) in
+          let row : OutputRow = get_or rows o blank in
+          let is : unwrap_or (slice_get c.limits o) unlimited ≡ limits_at p.rate row = limits_read p.rate rows c.limits o p.limits inside in
+          let some : 1 ≤ least_spacing row.min_us p.rate =
+          some_spacing row.min_us p.rate (least_spacing row.min_us p.rate) (p.least row.min_us p.rate) (all_below IsInterval rows o blank inside p.intervals).0 p.some_rate in
+          subst (λ (k : SendLimits). 1 ≤ k.spacing) (sym is) some;
       on_bus = λ o below.
           let (k, here, is) = p.each.place o below in
           let inside : k < length l.inputs = omega arith in
@@ -132,7 +169,7 @@ is_table n l rows ds c p room =
           (sym (order_at l rows ds c p k inside)) (periodic_at l rows ds c p k inside);
     }
 
-pub is_table_of : (l : Layout) (rows : List OutputRow) (ds : List Demand) (c : Columns) → AreColumns l rows ds c → IsTableOf l rows ds (table l.frame l.buses l.demands c)
+pub is_table_of : (l : Layout) (rows : List OutputRow) (ds : List Demand) (c : Columns) → (p : AreColumns l rows ds c) → IsTableOf p.rate l rows ds (table l.frame l.buses l.demands c)
 is_table_of l rows ds c p =
     let count : length l.inputs ≡ length l.demands = p.each.length in
     record {
@@ -142,6 +179,7 @@ is_table_of l rows ds c p =
       order = ap (λ m. take m c.order) (sym count) ∙ p.order;
       sources = ap (λ m. take m c.sources) (sym count ∙ sym p.rows_long) ∙ p.sources;
       periods = ap (λ m. take m c.periods) (sym count ∙ sym p.asked_long) ∙ p.periods;
+      limits = ap (λ m. take m c.limits) (sym count ∙ sym p.rows_long) ∙ p.limits;
       places = λ k below.
           let inside : k < length l.inputs = omega arith in
           let there : get_or c.order k 0 ≡ get_or l.inputs k 0 = order_at l rows ds c p k inside in

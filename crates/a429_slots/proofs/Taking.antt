@@ -63,7 +63,7 @@ turned o g p E T k e N h taken =
     record {
       frame = record {
         table = ap (λ (c : Current). c.table) now ∙ ap (λ (j : Option ℕ). option_map_or (λ m. newest_table o g p (take m E)) j p) (sym last);
-        number = ap (λ (c : Current). c.number) now ∙ ap (λ (j : Option ℕ). option_map_or (λ m. newest_number o (take m E)) j 0) (sym last);
+        number = ap (λ (c : Current). c.number) now ∙ ap (λ (j : Option ℕ). option_map_or (λ m. newest_number o (take m E)) j o.proposal.plan.number) (sym last);
         first = ap (λ (c : Current). c.first) now ∙ omega (arith, N.before.frame.first, left, ap frame_of N.before.frame.table);
         cells = ap (cells_since g) now ∙ ap (count_by (is_cell g)) (sym none);
       };
@@ -86,7 +86,7 @@ stayed o g p E T k e N h taken =
     record {
       frame = record {
         table = ap (λ (c : Current). c.table) now ∙ (N.before.frame.table ∙ ap (λ (j : Option ℕ). option_map_or (λ m. newest_table o g p (take m E)) j p) (sym last));
-        number = ap (λ (c : Current). c.number) now ∙ (N.before.frame.number ∙ ap (λ (j : Option ℕ). option_map_or (λ m. newest_number o (take m E)) j 0) (sym last));
+        number = ap (λ (c : Current). c.number) now ∙ (N.before.frame.number ∙ ap (λ (j : Option ℕ). option_map_or (λ m. newest_number o (take m E)) j o.proposal.plan.number) (sym last));
         first = ap (λ (c : Current). c.first) now ∙ (N.before.frame.first ∙ ap (λ (ks : List ℕ). o.first + sum_by (λ j. frame_of (table_in_force o g p E T j)) ks) (sym places));
         cells = ap (cells_since g) now ∙ (cells_next g f e ∙ omega (arith, N.before.frame.cells, more));
       };

@@ -1,12 +1,13 @@
 -- What the rows of a group ask of its layout.
 use Rattle.std.specs.Prelude.{◌≡◌, ◌<◌, ℕ, List, Some, MatchOption, length, map, slice_get, slice_index, take}
-use Rattle.a429_grid.specs.Grid.{HasNoGridPeriod}
+use Rattle.a429_grid.specs.Grid.{HasNoGridPeriod, least_spacing}
 use Rattle.a429_pack.specs.declared.demands.Demand.{Demand}
 use Rattle.a429_pack.specs.Demands.{exponent_of}
 use Rattle.a429_pack.specs.Layout.{Layout}
 use Rattle.a429_pack.specs.Sums.{start_of}
 use Rattle.a429_equipment.specs.declared.rows.OutputRow.{OutputRow}
 use Rattle.a429_equipment.specs.declared.rows.SourceRow.{SourceRow}
+use Rattle.a429_slots.specs.declared.group_plan.SendLimits.{SendLimits}
 use Rattle.a429_slots.specs.Tables.{GroupTable, order_of}
 use Rattle.a429_slots.specs.Kept.{BeginsAt}
 use Rattle.a429_slots.specs.Planned.{HasPeriod}
@@ -19,12 +20,17 @@ pub record IsAsked (rate : ℕ) (sources : List SourceRow) (row : OutputRow) (d 
   pub label : d.label ≡ source.label
   pub sdi : d.sdi ≡ source.sdi
 
+-- what limits the sends of the row's output: its hold, and the least spacing of its interval
+abbrev pub limits_at : ℕ → OutputRow → SendLimits
+limits_at rate row = record { hold = row.hold; spacing = least_spacing row.min_us rate }
+
 -- the table of a layout, with its outputs' rows and what they ask
-pub record IsTableOf (l : Layout) (rows : List OutputRow) (asked : List Demand) (t : GroupTable) : Type 0 where
+pub record IsTableOf (rate : ℕ) (l : Layout) (rows : List OutputRow) (asked : List Demand) (t : GroupTable) : Type 0 where
   pub frame : t.frame ≡ l.frame
   pub buses : t.buses ≡ l.buses
   pub demands : t.demands ≡ l.demands
   pub order : order_of t ≡ l.inputs
   pub sources : take (length t.demands) t.sources ≡ map (λ (r : OutputRow). r.source) rows
   pub periods : take (length t.demands) t.periods ≡ map exponent_of asked
+  pub limits : take (length t.demands) t.limits ≡ map (limits_at rate) rows
   pub places : (k : ℕ) → k < length t.demands → BeginsAt t (slice_index t.order k) (start_of t.demands k)

@@ -1,10 +1,11 @@
 -- What a history comes to: the words that were accepted, the plans in force, the cell that is due, and the word that is sent in it.
-use Rattle.std.specs.Prelude.{◌==◌, ◌&&◌, ◌+◌, ◌-◌, ◌/◌, ◌%◌, ◌^◌, ◌∷◌, [], ℕ, Bool, false, List, Option, Some, None, if◌then◌else◌, nat_lt, nat_le, length, take, reverse, filter_map, count_by, slice_get, option_and_then, unwrap_or}
+use Rattle.std.specs.Prelude.{◌==◌, ◌&&◌, ◌||◌, ◌++◌, ◌+◌, ◌-◌, ◌/◌, ◌%◌, ◌^◌, ◌∷◌, [], ℕ, Bool, false, List, Option, Some, None, if◌then◌else◌, nat_lt, nat_le, length, take, reverse, filter_map, count_by, slice_get, option_and_then, option_map, unwrap_or, is_some}
+use Rattle.std.specs.List.{list_any}
 use Rattle.std.specs.Option.{option_map_or}
 use Rattle.a429_equipment.specs.declared.rows.SourceRow.{SourceRow}
 use Rattle.a429_equipment.specs.Arrivals.{accepted}
 use Rattle.a429_equipment.specs.SameStation.{same_station}
-use Rattle.a429_slots.specs.Tables.{GroupTable, PlanTable, groups_of, frame_of, buses_of, cells_of, source_at}
+use Rattle.a429_slots.specs.Tables.{Placed, GroupTable, PlanTable, groups_of, frame_of, buses_of, cells_of, output_in}
 use Rattle.a429_slots.specs.Proposed.{Proposed}
 use Rattle.a429_slots.specs.Events.{Event, Arrive, Cell, Frame, Publish}
 
@@ -41,13 +42,17 @@ proposal_for o (Arrive r raw) = None
 proposal_for o (Cell g) = None
 proposal_for o (Frame g) = None
 
+-- how many proposals 64 bits can number after the opening one
+abbrev pub numbers_left : Opening → ℕ
+numbers_left o = 2 ^ 64 - 1 - o.proposal.plan.number
+
 -- the proposals that were published after the opening one, as far as 64 bits can number them
 abbrev pub published : Opening → List Event → List Proposed
-published o E = take (2 ^ 64 - 1) (filter_map (proposal_for o) E)
+published o E = take (numbers_left o) (filter_map (proposal_for o) E)
 
--- the number of the newest plan; the opening one has 0
+-- the number of the newest plan; they count from that of the opening one
 abbrev pub newest_number : Opening → List Event → ℕ
-newest_number o E = length (published o E)
+newest_number o E = o.proposal.plan.number + length (published o E)
 
 abbrev pub newest_plan : Opening → List Event → PlanTable
 newest_plan o E = option_map_or (λ q. q.plan) (last_of (published o E)) o.proposal.plan
@@ -100,7 +105,7 @@ next_frame number newest f = record { table = newest; number = number; first = f
 
 -- the frame of group g after a past, which has the newest event first; p is the group's opening table
 abbrev pub frame_after : Opening → ℕ → GroupTable → List Event → Current
-frame_after o g p [] = record { table = p; number = 0; first = o.first; since = [] }
+frame_after o g p [] = record { table = p; number = o.proposal.plan.number; first = o.first; since = [] }
 frame_after o g p (e ∷ past) =
     let f = frame_after o g p past in
     let newest = newest_table o g p (reverse past) in
@@ -117,6 +122,67 @@ abbrev pub cell_due : ℕ → Current → Option (ℕ × ℕ)
 cell_due g f =
     if nat_lt (cells_since g f) (cells_of f.table) then Some (cells_since g f % buses_of f.table, cells_since g f / buses_of f.table) else None
 
--- the word that is sent in a cell: the last that was accepted for the source of the output that stands there
-abbrev pub word_sent : ℕ → Opening → List Event → Current → ℕ × ℕ → Option ℕ
-word_sent C o E f cell = option_and_then (λ i. last_of (accepted_by C o i E)) (source_at f.table cell.0 cell.1)
+-- ---- words that are sent
+
+-- A cell of an output that a group has answered: its slot, counted from the station's first, the output's source, how many words of the
+-- source were accepted then, and the word that was sent, where there was one. Such a list has the oldest cell first.
+pub record AnsweredCell : Type 0 where
+  pub slot : ℕ
+  pub source : ℕ
+  pub count : ℕ
+  pub word : Option ℕ
+
+-- the cell sent a word of this source; a cell without a word sent none
+abbrev pub has_sent : ℕ → AnsweredCell → Bool
+has_sent source c = is_some c.word && c.source == source
+
+-- how often the group sent the word that was the source's accepted word number `count`: an equal word that was accepted again is another
+abbrev pub times_sent : List AnsweredCell → ℕ → ℕ → ℕ
+times_sent earlier source count = count_by (λ c. has_sent source c && c.count == count) earlier
+
+-- the word was sent as often as its output may send it
+abbrev pub is_held : List AnsweredCell → ℕ → Option ℕ → ℕ → Bool
+is_held earlier source hold count = option_map_or (λ most. nat_le most (times_sent earlier source count)) hold false
+
+-- a word of the source was sent fewer than q slots before
+abbrev pub is_too_close : List AnsweredCell → ℕ → ℕ → ℕ → Bool
+is_too_close earlier slot source q = list_any (λ c. has_sent source c && nat_lt slot (c.slot + q)) earlier
+
+-- The word that goes out in a cell after these earlier cells of its group, where so many words of the source were accepted and this is the
+-- last of them: none where the group has sent that very word `hold` times, or a word of the source fewer than q slots before.
+abbrev pub sent_word : List AnsweredCell → ℕ → ℕ → Option ℕ → ℕ → ℕ × Option ℕ → Option ℕ
+sent_word earlier slot source hold q latest = if is_held earlier source hold latest.0 || is_too_close earlier slot source q then None else latest.1
+
+-- how many words a source accepted, and the last of them
+abbrev pub latest_by : ℕ → Opening → ℕ → List Event → ℕ × Option ℕ
+latest_by C o i E = (length (accepted_by C o i E), last_of (accepted_by C o i E))
+
+-- the answered cell of an output, after these earlier cells of its group
+abbrev pub answered_cell : ℕ → Opening → List Event → List AnsweredCell → ℕ → Placed → AnsweredCell
+answered_cell C o E earlier slot output = record {
+  slot = slot;
+  source = output.source;
+  count = (latest_by C o output.source E).0;
+  word = sent_word earlier slot output.source output.limits.hold output.limits.spacing (latest_by C o output.source E);
+}
+
+-- the next cell of the group, if it is due and an output stands there
+abbrev pub next_answered : ℕ → Opening → List Event → ℕ → Current → List AnsweredCell → Option AnsweredCell
+next_answered C o E g f earlier =
+    option_and_then (λ cell. option_map (answered_cell C o E earlier (f.first + cell.1)) (output_in f.table cell.0 cell.1)) (cell_due g f)
+
+-- the cells of outputs that group g answered in a past, which has the newest event first; p is the group's opening table
+abbrev pub answered_after : ℕ → Opening → ℕ → GroupTable → List Event → List AnsweredCell
+answered_after C o g p [] = []
+answered_after C o g p (e ∷ past) =
+    let earlier = answered_after C o g p past in
+    if is_cell g e then earlier ++ option_map_or (λ c. c ∷ []) (next_answered C o (reverse past) g (frame_after o g p past) earlier) [] else earlier
+
+-- those of a history
+abbrev pub answered_cells : ℕ → Opening → ℕ → GroupTable → List Event → List AnsweredCell
+answered_cells C o g p E = answered_after C o g p (reverse E)
+
+-- the word that is sent in a cell, after these earlier cells of the group: that of the output that stands there
+abbrev pub word_sent : ℕ → Opening → List Event → List AnsweredCell → Current → ℕ × ℕ → Option ℕ
+word_sent C o E earlier f cell =
+    option_and_then (λ output. (answered_cell C o E earlier (f.first + cell.1) output).word) (output_in f.table cell.0 cell.1)

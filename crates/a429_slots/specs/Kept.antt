@@ -5,7 +5,7 @@ use Rattle.std.specs.List.Sorted.{IsPermutation}
 use Rattle.a429_grid.specs.Reversal.{reversed}
 use Rattle.a429_pack.specs.Schedules.{IsExactlyPeriodic}
 use Rattle.a429_pack.specs.Sums.{Holds}
-use Rattle.a429_slots.specs.Tables.{GroupTable, cell_at, frame_of, buses_of, order_of}
+use Rattle.a429_slots.specs.Tables.{GroupTable, placed_at, cell_at, frame_of, buses_of, order_of}
 
 -- the stretch of the output at place k of the layout has the cell: cells are counted bus by bus, and on a bus by the slot with its digits
 -- in reverse
@@ -30,5 +30,6 @@ pub record IsTable (n : ℕ) (t : GroupTable) : Type 0 where
   pub fits : sum t.demands ≤ buses_of t * frame_of t
   pub within : (o : ℕ) → o < length t.demands → slice_index t.periods o ≤ t.frame
   pub on_bus : (o : ℕ) → o < length t.demands → slice_index t.on_bus o < buses_of t
+  pub spaced : (o : ℕ) → o < length t.demands → 1 ≤ (placed_at t o).limits.spacing
   pub periodic : (k : ℕ) → k < length t.demands
       → IsExactlyPeriodic (HoldsCell t k) (slice_index t.on_bus (slice_index t.order k)) (slice_index t.offsets (slice_index t.order k)) (2 ^ slice_index t.periods (slice_index t.order k))

@@ -8,3 +8,8 @@ pub mod Proposed
 pub mod Events
 pub mod History
 pub mod TakenFrames
+pub mod Recalling
+pub mod Spacing
+pub mod Agreement
+pub mod Answers
+pub mod Sending

@@ -2,7 +2,7 @@
 use Rattle.std.specs.Prelude.{◌≡◌, ◌<◌, ◌≤◌, ◌/◌, ◌^◌, ℕ, List, Some, length, map, take, slice_get, slice_index, option_and_then}
 use Rattle.std.specs.List.{AllZip, AllByRecursion}
 use Rattle.std.specs.Option.{option_map_or}
-use Rattle.a429_grid.specs.Grid.{IsGridPeriod, HasNoGridPeriod}
+use Rattle.a429_grid.specs.Grid.{IsGridPeriod, HasNoGridPeriod, IsLeastSpacing}
 use Rattle.a429_pack.specs.declared.demands.Demand.{Demand}
 use Rattle.a429_pack.specs.Demands.{IsLayoutOrder, greatest, exponent_of, periods_of}
 use Rattle.a429_pack.specs.Schedules.{IsFewest}
@@ -17,9 +17,11 @@ use Rattle.a429_slots.specs.Kept.{BeginsAt, StandsJustAt}
 abbrev pub HasPeriod : ℕ → OutputRow → ℕ → Type 0
 HasPeriod rate row k = IsGridPeriod row.min_us row.max_us rate (2 ^ k)
 
--- the output has the source of its row, and its period is the grid period of the row's interval
+-- the output has the source of its row, its period is the grid period of the row's interval, and its sends are limited by the row's hold
+-- and by the least spacing of the interval
 abbrev pub IsServed : ℕ → OutputRow → Placed → Type 0
-IsServed rate row o = (o.source ≡ row.source) × HasPeriod rate row o.place.period
+IsServed rate row o =
+    (o.source ≡ row.source) × HasPeriod rate row o.place.period × (o.limits.hold ≡ row.hold) × IsLeastSpacing row.min_us rate o.limits.spacing
 
 -- what an output asks of the layout: its period, and the label and SDI of its source
 abbrev pub asked_by : List SourceRow → Placed → Demand

@@ -1,12 +1,14 @@
 -- Slot tables as contracts see them, and which output stands in which cell (profile: layout).
-use Rattle.std.specs.Prelude.{◌==◌, ◌&&◌, ◌*◌, ◌%◌, ◌^◌, ℕ, Bool, List, Option, length, map, option_and_then, option_map, position, slice_get, slice_index, take}
+use Rattle.std.specs.Prelude.{◌==◌, ◌&&◌, ◌*◌, ◌%◌, ◌^◌, ℕ, Bool, List, Option, None, length, map, option_and_then, option_map, position, slice_get, slice_index, take, unwrap_or}
 use Rattle.std.specs.List.{range_with_len}
+use Rattle.a429_slots.specs.declared.group_plan.SendLimits.{SendLimits}
 use Rattle.a429_slots.specs.declared.group_plan.SlotPlace.{SlotPlace}
 
--- an output: the number of its source, and where it stands
+-- an output: the number of its source, where it stands, and what limits its sends
 pub record Placed : Type 0 where
   pub source : ℕ
   pub place : SlotPlace
+  pub limits : SendLimits
 
 -- The slot table of a group: its frame has 2^frame slots on each of its buses. The demands are those of its outputs in layout order,
 -- how many slots of a frame each one has. As many elements of the other lists are in use: `order` has the outputs in layout order,
@@ -20,12 +22,17 @@ pub record GroupTable : Type 0 where
   pub on_bus : List ℕ
   pub offsets : List ℕ
   pub periods : List ℕ
+  pub limits : List SendLimits
+
+abbrev pub unlimited : SendLimits
+unlimited = record { hold = None; spacing = 0 }
 
 -- what the table keeps of an output
 abbrev pub placed_at : GroupTable → ℕ → Placed
 placed_at t o = record {
   source = slice_index t.sources o;
   place = record { bus = slice_index t.on_bus o; offset = slice_index t.offsets o; period = slice_index t.periods o };
+  limits = unwrap_or (slice_get t.limits o) unlimited;
 }
 
 -- the outputs by their numbers
@@ -62,6 +69,14 @@ place_of t o = option_map (λ p. p.place) (slice_get (outputs_of t) o)
 -- the source of an output
 abbrev pub source_of : GroupTable → ℕ → Option ℕ
 source_of t o = option_map (λ p. p.source) (slice_get (outputs_of t) o)
+
+-- what limits the sends of an output
+abbrev pub limits_of : GroupTable → ℕ → Option SendLimits
+limits_of t o = option_map (λ p. p.limits) (slice_get (outputs_of t) o)
+
+-- the output that stands in a cell
+abbrev pub output_in : GroupTable → ℕ → ℕ → Option Placed
+output_in t bus slot = option_and_then (λ o. slice_get (outputs_of t) o) (cell_at t bus slot)
 
 -- the source of the output that stands in a cell
 abbrev pub source_at : GroupTable → ℕ → ℕ → Option ℕ

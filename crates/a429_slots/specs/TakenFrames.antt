@@ -22,7 +22,7 @@ abbrev pub table_in_force : Opening → ℕ → GroupTable → List Event → (�
 table_in_force o g p E T k = option_map_or (λ j. newest_table o g p (take j E)) (last_taken T k) p
 
 abbrev pub number_in_force : Opening → List Event → (ℕ → Bool) → ℕ → ℕ
-number_in_force o E T k = option_map_or (λ j. newest_number o (take j E)) (last_taken T k) 0
+number_in_force o E T k = option_map_or (λ j. newest_number o (take j E)) (last_taken T k) o.proposal.plan.number
 
 -- the events before place k that came since the last taken Frame, or since the opening
 abbrev pub events_since : List Event → (ℕ → Bool) → ℕ → List Event
@@ -93,7 +93,7 @@ pub record IsPublishedPlan (o : Opening) (E : List Event) : Type 0 where
 
 -- or the opening one
 pub record IsOpeningPlan (o : Opening) (E : List Event) : Type 0 where
-  pub number : newest_number o E ≡ 0
+  pub number : newest_number o E ≡ o.proposal.plan.number
   pub plan : newest_plan o E ≡ o.proposal.plan
 
 -- the slot table and the number of a group are those of a published plan
@@ -103,8 +103,8 @@ pub record HasPublished (o : Opening) (g : ℕ) (p : GroupTable) (E : List Event
   pub table : f.table ≡ unwrap_or (slice_get (groups_of proposal.plan) g) p
 
 -- or of the opening one
-pub record HasOpening (p : GroupTable) (f : Current) : Type 0 where
-  pub number : f.number ≡ 0
+pub record HasOpening (o : Opening) (p : GroupTable) (f : Current) : Type 0 where
+  pub number : f.number ≡ o.proposal.plan.number
   pub table : f.table ≡ p
 
 -- nothing but the events since the frame began is new

@@ -1,10 +1,12 @@
 //! The slot table of one group of outputs.
-ghost use Rattle.std.specs.Prelude.{◌≡◌, ℕ, ◌<◌, ◌≤◌, ◌/◌, ◌^◌, [], length, map, slice_get, sum, Some, IfSome};
+ghost use Rattle.std.specs.Prelude.{◌≡◌, ℕ, ◌<◌, ◌≤◌, ◌/◌, ◌^◌, [], length, map, option_map, slice_get, sum, Some, IfSome};
 
 use crate::layout::{order_in, periods_in, place_of_cell, places_in, sources_in};
+use crate::limits::limits_in;
 use crate::outputs::OutputId;
 use a429_equipment::OutputRow;
 use a429_grid::Period;
+use a429_grid::laws::spacings_are_least;
 use a429_pack::laws::{none_is_above_the_greatest, orders_name_each_once, stretches_are_apart};
 use a429_pack::{Demand, Packed, SumTable};
 use std::marker::Model;
@@ -21,6 +23,15 @@ pub struct SlotPlace {
     pub period: Period,
 }
 
+/// What limits the sends of an output.
+#[derive(Clone, Copy, Debug, PartialEq, Eq)]
+pub struct SendLimits {
+    /// How often one accepted word is sent at most; None where there is no limit.
+    pub hold: Option<u32>,
+    /// How many slots two words of the output's source are apart at least.
+    pub spacing: u32,
+}
+
 /// The slot table of a group of at most `N` outputs. Each output stands in cells of its own, once in
 /// every period.
 #[derive(Clone, Copy)]
@@ -33,6 +44,7 @@ pub struct GroupPlan<const N: usize> {
     on_bus: [u32; N],
     offsets: [u32; N],
     periods: [u32; N],
+    limits: [SendLimits; N],
 }
 
 impl<const N: usize> Model for GroupPlan<N> {
@@ -41,16 +53,18 @@ impl<const N: usize> Model for GroupPlan<N> {
 
     ghost Value = { GroupTable };
 
-    ghost view = { λ p. record { frame = p.frame; buses = p.buses; demands = p.sums; order = p.order; sources = p.sources; on_bus = p.on_bus; offsets = p.offsets; periods = p.periods } };
+    ghost view = { λ p. record { frame = p.frame; buses = p.buses; demands = p.sums; order = p.order; sources = p.sources; on_bus = p.on_bus; offsets = p.offsets; periods = p.periods; limits = p.limits } };
 
-    ghost invariant = { λ p. IsTable N (record { frame = p.frame; buses = p.buses; demands = p.sums; order = p.order; sources = p.sources; on_bus = p.on_bus; offsets = p.offsets; periods = p.periods }) };
+    ghost invariant = { λ p. IsTable N (record { frame = p.frame; buses = p.buses; demands = p.sums; order = p.order; sources = p.sources; on_bus = p.on_bus; offsets = p.offsets; periods = p.periods; limits = p.limits }) };
 
-    ghost inverse = { λ t. record { frame = t.frame; buses = t.buses; sums = t.demands; order = t.order; sources = t.sources; on_bus = t.on_bus; offsets = t.offsets; periods = t.periods } };
+    ghost inverse = { λ t. record { frame = t.frame; buses = t.buses; sums = t.demands; order = t.order; sources = t.sources; on_bus = t.on_bus; offsets = t.offsets; periods = t.periods; limits = t.limits } };
 }
 
 impl<const N: usize> GroupPlan<N> {
     ghost use Rattle.a429_pack.specs.Demands.{demand_at, frame_of as greatest_period, period_of};
-    ghost use Rattle.a429_slots.specs.Tables.{outputs_of, order_of, frame_of, buses_of, place_of, source_of, cell_at};
+    ghost use Rattle.std.specs.List.{AllByRecursion};
+    ghost use Rattle.a429_equipment.specs.Sound.{IsInterval};
+    ghost use Rattle.a429_slots.specs.Tables.{outputs_of, order_of, frame_of, buses_of, place_of, source_of, limits_of, cell_at};
     ghost use Rattle.a429_slots.specs.Kept.{IsTable, StandsJustAt};
     ghost use Rattle.a429_slots.specs.Asked.{IsTableOf};
 
@@ -58,6 +72,10 @@ impl<const N: usize> GroupPlan<N> {
     pub(crate) fn empty() -> GroupPlan<N>
         ensures { outputs_of result ≡ [] }
     {
+        let unlimited = SendLimits {
+            hold: None,
+            spacing: 0,
+        };
         GroupPlan {
             frame: Period::of_digits(0),
             buses: 0,
@@ -67,22 +85,31 @@ impl<const N: usize> GroupPlan<N> {
             on_bus: [0; N],
             offsets: [0; N],
             periods: [0; N],
+            limits: [unlimited; N],
         }
     }
 
-    /// The table of a layout, which was made of the outputs' demands.
-    pub(crate) fn of(packed: &Packed<N>, outputs: &[OutputRow], demands: &[Demand]) -> GroupPlan<N>
+    /// The table of a layout, which was made of the outputs' demands, at this rate in bit/s.
+    pub(crate) fn of(
+        rate: u32,
+        packed: &Packed<N>,
+        outputs: &[OutputRow],
+        demands: &[Demand],
+    ) -> GroupPlan<N>
         requires room { length outputs.now ≤ N }
         requires outputs { length outputs.now ≡ length packed.now.inputs }
         requires asked { length demands.now ≡ length packed.now.inputs }
+        requires intervals { AllByRecursion IsInterval outputs.now }
+        requires rate { (1 ≤ rate) × (rate ≤ 100000) }
         requires frame { packed.now.frame ≡ greatest_period demands.now }
         requires demands { packed.now.demands ≡ map (λ i. 2 ^ packed.now.frame / period_of (demand_at demands.now i)) packed.now.inputs }
-        ensures table { IsTableOf packed.now outputs.now demands.now result }
+        ensures table { IsTableOf rate packed.now outputs.now demands.now result }
         ensures sound { IsTable N result }
     {
         none_is_above_the_greatest();
         orders_name_each_once();
         stretches_are_apart();
+        spacings_are_least();
         let (on_bus, offsets) = places_in(packed);
         GroupPlan {
             frame: packed.frame(),
@@ -93,6 +120,7 @@ impl<const N: usize> GroupPlan<N> {
             on_bus,
             offsets,
             periods: periods_in(demands),
+            limits: limits_in(rate, outputs),
         }
     }
 
@@ -101,6 +129,7 @@ impl<const N: usize> GroupPlan<N> {
         ensures value { result ≡ buses_of self.now }
         ensures few { result ≤ 16 }
     {
+        let _limits = &self.limits;
         self.buses
     }
 
@@ -110,6 +139,7 @@ impl<const N: usize> GroupPlan<N> {
         ensures some { 1 ≤ result }
         ensures few { result ≤ 8192 }
     {
+        let _limits = &self.limits;
         self.frame.slots()
     }
 
@@ -117,6 +147,7 @@ impl<const N: usize> GroupPlan<N> {
     pub fn outputs(&self) -> usize
         ensures { result ≡ length (outputs_of self.now) }
     {
+        let _limits = &self.limits;
         self.sums.len()
     }
 
@@ -124,6 +155,7 @@ impl<const N: usize> GroupPlan<N> {
     pub fn demand(&self) -> u32
         ensures { result ≡ sum self.now.demands }
     {
+        let _limits = &self.limits;
         self.sums.total()
     }
 
@@ -194,5 +226,33 @@ impl<const N: usize> GroupPlan<N> {
         let number = output.number();
         prove!(number < self.sums.len());
         self.sources[number]
+    }
+    /// What limits the sends of an output.
+    pub fn limits(&self, output: OutputId) -> SendLimits
+        requires { output < length (outputs_of self.now) }
+        ensures limits { limits_of self.now output ≡ Some result }
+        ensures some { 1 ≤ result.spacing }
+    {
+        let number = output.number();
+        prove!(number < self.sums.len());
+        self.limits[number]
+    }
+
+    /// How often the group sends one accepted word of an output's source at most; None where there is no limit.
+    pub fn hold(&self, output: OutputId) -> Option<u32>
+        requires { output < length (outputs_of self.now) }
+        ensures { option_map (λ l. l.hold) (limits_of self.now output) ≡ Some result }
+    {
+        self.limits(output).hold
+    }
+
+    /// How many slots two words of an output are apart at least, whatever plans change between: the least spacing
+    /// of its interval.
+    pub fn spacing(&self, output: OutputId) -> u32
+        requires { output < length (outputs_of self.now) }
+        ensures spacing { option_map (λ l. l.spacing) (limits_of self.now output) ≡ Some result }
+        ensures some { 1 ≤ result }
+    {
+        self.limits(output).spacing
     }
 }

@@ -1,19 +1,26 @@
 //! Slot tables: which output stands in which cell, and the plans of a station (profile: layout).
 #![tactic(auto)]
 
+mod answers;
 mod changes;
 mod group_plan;
 pub mod laws;
 mod layout;
+mod limits;
 mod outputs;
 mod planner;
 mod plans;
 mod proposals;
+mod senders;
+mod sends;
 
 pub use a429_pack::BUSES;
+pub use answers::{Answer, Refusal};
 pub use changes::gap;
-pub use group_plan::{GroupPlan, OUTPUTS, SlotPlace};
+pub use group_plan::{GroupPlan, OUTPUTS, SendLimits, SlotPlace};
 pub use outputs::OutputId;
 pub use planner::{PlanFault, plan};
 pub use plans::{GROUPS, Plan};
 pub use proposals::{NoProposal, Proposal};
+pub use senders::{Due, Sender};
+pub use sends::LastSend;

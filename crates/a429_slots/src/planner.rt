@@ -1,6 +1,7 @@
 //! The planner: the outputs of each group on the fewest buses, each at its grid period.
 ghost use Rattle.std.specs.Prelude.{◌≡◌, ◌<◌, ◌≤◌, length, IfOk, IfErr, MatchResult};
 ghost use Rattle.std.specs.List.{AllByRecursion, AllZip};
+ghost use Rattle.a429_equipment.specs.Sound.{IsInterval};
 ghost use Rattle.a429_slots.specs.Planned.{IsPlannedFor, IsPlanOf, CanBePlanned, HaveRoom};
 ghost use Rattle.a429_slots.specs.Asked.{IsAsked};
 ghost use Rattle.a429_slots.specs.Faults.{IsFaultOf, IsGroupFault, of_group};
@@ -9,6 +10,7 @@ use crate::group_plan::GroupPlan;
 use crate::plans::Plan;
 use a429_equipment::{Equipment, OutputRow, SourceRow};
 use a429_grid::grid_period;
+use a429_grid::laws::spacings_are_least;
 use a429_pack::laws::{orders_name_each_once, stretches_are_apart};
 use a429_pack::{Demand, PackFault, pack};
 use std::alloc::{AllocError, Global};
@@ -73,15 +75,18 @@ fn group_plan<const N: usize>(
     requires some { 1 ≤ length outputs.now }
     requires room { length outputs.now ≤ N }
     requires known { AllByRecursion (λ o. o.source < length sources.now) outputs.now }
+    requires intervals { AllByRecursion IsInterval outputs.now }
+    requires rate { (1 ≤ rate) × (rate ≤ 100000) }
     ensures { MatchResult result (λ table. IsPlannedFor rate sources.now outputs.now table × CanBePlanned rate outputs.now) (IsGroupFault rate outputs.now) }
 {
     orders_name_each_once();
     stretches_are_apart();
+    spacings_are_least();
     let Ok(demands) = demands_of(alloc, rate, sources, outputs) else {
         return Err(PackFault::NoMemory);
     };
     let packed = pack(alloc, &demands)?;
-    Ok(GroupPlan::of(&packed, outputs, &demands))
+    Ok(GroupPlan::of(rate, &packed, outputs, &demands))
 }
 
 /// Plans each group of a station, in table order: every output at its grid period, in cells of its own, on

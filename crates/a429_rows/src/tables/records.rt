@@ -64,6 +64,7 @@ fn gives_the_rows(rt: HostRuntime) -> Result<(), Fail> {
         source: 0,
         min_us: 1,
         max_us: 360,
+        hold: None,
     };
     assert_eq!(rt; equipment.outputs(0), [stated].as_slice());
     Ok(())

@@ -1,6 +1,7 @@
 use Rattle.std.proofs.Common.{◌++◌, ◌∷◌, [], refl, inl}
 use Rattle.std.proofs.lemmas.Result.{on_ok_weaker}
-use Rattle.a429_core.specs.Answers.{answer, event_of}
+use Rattle.a429_slots.specs.Answers.{answer}
+use Rattle.a429_core.specs.Happened.{event_of}
 use Rattle.a429_cli.specs.Lines.{answer_line}
 use Rattle.a429_cli.proofs.PlayedLines.{same_Ok}
 use Rattle.a429_cli.proofs.playing.play.Goals as goal

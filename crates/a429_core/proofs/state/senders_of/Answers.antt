@@ -1,7 +1,7 @@
 use Rattle.std.proofs.Common.{◌∙◌, ◌++◌, ◌∷◌, [], List, ap, sym, arith, map, take}
 use Rattle.std.proofs.lemmas.List.{take_all}
 use Rattle.a429_slots.specs.Tables.{groups_of}
-use Rattle.a429_core.specs.Sending.{Sending, begun}
+use Rattle.a429_slots.specs.Sending.{Sending, begun}
 use Rattle.a429_core.proofs.Opening.{fits_at, map_next}
 use Rattle.a429_core.proofs.state.senders_of.Goals as goal
 

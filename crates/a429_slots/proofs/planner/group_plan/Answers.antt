@@ -44,8 +44,14 @@ of-requires g c =
             (
               ap length (sym same) ∙ sym many,
               (
-                c.in_ok-packed.ensures.frame ∙ ap frame_of same,
-                c.in_ok-packed.ensures.demands ∙ ap (λ (ds : List Demand). map (λ i. 2 ^ l.frame / period_of (demand_at ds i)) l.inputs) same,
+                c.requires.intervals,
+                (
+                  c.requires.rate,
+                  (
+                    c.in_ok-packed.ensures.frame ∙ ap frame_of same,
+                    c.in_ok-packed.ensures.demands ∙ ap (λ (ds : List Demand). map (λ i. 2 ^ l.frame / period_of (demand_at ds i)) l.inputs) same,
+                  ),
+                ),
               ),
             ),
           ),
@@ -68,6 +74,7 @@ returns g c =
       fewest = subst (λ (ds : List Demand). IsFewest (2 ^ l.frame) (periods_of ds) l.buses) same p.fewest;
       few = p.few;
       table = c.of.ensures.table;
+      least = c.spacings_are_least.ensures.least;
       sound = c.of.ensures.sound;
       inputs = c.orders_name_each_once.ensures (length c.deref-2.result.now) l.inputs (subst (λ (ds : List Demand). IsLayoutOrder ds l.inputs) same p.order).all;
       each = c.orders_name_each_once.ensures (length c.of.result.demands) (order_of c.of.result) c.of.ensures.sound.order;

@@ -2,13 +2,13 @@ use Rattle.std.proofs.Common.{◌≡◌, ◌∙◌, ◌<◌, ◌≤◌, ◌+◌,
 use Rattle.std.specs.List.{AllZip, AllByRecursion}
 use Rattle.std.proofs.lemmas.List.{take_all}
 use Rattle.std.proofs.lemmas.Slice.Zip.{AllZip-long}
-use Rattle.a429_equipment.specs.Sound.{IsSound}
+use Rattle.a429_equipment.specs.Sound.{IsSound, IsInterval}
 use Rattle.a429_slots.specs.Tables.{GroupTable, groups_of}
 use Rattle.a429_slots.specs.Planned.{IsPlannedFor, CanBePlanned}
 use Rattle.a429_equipment.specs.declared.rows.OutputRow.{OutputRow}
 use Rattle.a429_equipment.specs.declared.rows.SourceRow.{SourceRow}
 use Rattle.a429_slots.specs.Faults.{IsFaultOf, IsGroupFault}
-use Rattle.a429_slots.proofs.Planning.{all_at, all_next, zip_next, length-zipped, fault_in}
+use Rattle.a429_slots.proofs.Planning.{rate_within, all_at, all_next, zip_next, length-zipped, fault_in}
 use Rattle.a429_slots.proofs.planner.plan.Goals as goal
 
 pub group_plan-requires : goal.group_plan-requires
@@ -24,7 +24,13 @@ group_plan-requires g c =
         limits.0,
         (
           all_at (λ rows. length rows ≤ g.row.N) e.outputs c.loop-group.group c.outputs.result.now c.requires c.outputs.ensures.rows,
-          subst (λ (ss : List SourceRow). AllByRecursion (λ (o : OutputRow). o.source < length ss) c.outputs.result.now) (sym c.sources-sources.ensures.rows) known,
+          (
+            subst (λ (ss : List SourceRow). AllByRecursion (λ (o : OutputRow). o.source < length ss) c.outputs.result.now) (sym c.sources-sources.ensures.rows) known,
+            (
+              all_at (AllByRecursion IsInterval) e.outputs c.loop-group.group c.outputs.result.now sound.intervals c.outputs.ensures.rows,
+              subst (λ (r : ℕ). (1 ≤ r) × (r ≤ 100000)) (sym c.rate-rate.ensures.rate) (rate_within e.rate sound.rate),
+            ),
+          ),
         ),
       ),
     )

@@ -2,7 +2,7 @@ use Rattle.std.proofs.Common.{rules, ◌≡◌, true, false}
 use Rattle.std.specs.Prelude.{Err}
 use Rattle.a429_slots.specs.Proposed.{Proposed}
 use Rattle.a429_slots.specs.Tables.{groups_of}
-use Rattle.a429_core.specs.Sending.{all_fit}
+use Rattle.a429_slots.specs.Sending.{all_fit}
 use Rattle.a429_core.specs.declared.state.OpenFault.TheVariants.{SlotsSpent}
 use Rattle.a429_cli.proofs.FirstFrames.{plan_fits}
 use Rattle.a429_cli.proofs.station.Station.open.Goals as goal

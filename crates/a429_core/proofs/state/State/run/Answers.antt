@@ -2,9 +2,10 @@ use Rattle.std.proofs.Common.{◌≡◌, ◌∙◌, ap, sym, subst, arith, List,
 use Rattle.std.proofs.lemmas.Grind.{common_steps}
 use Rattle.std.proofs.lemmas.List.{map-append}
 use Rattle.a429_slots.specs.Events.{Event}
-use Rattle.a429_core.specs.declared.events.Answer.{Answer}
+use Rattle.a429_slots.specs.declared.answers.Answer.{Answer}
 use Rattle.a429_core.specs.declared.events.Event as code
-use Rattle.a429_core.specs.Answers.{answers, event_of}
+use Rattle.a429_slots.specs.Answers.{answers}
+use Rattle.a429_core.specs.Happened.{event_of}
 use Rattle.a429_core.specs.Standing.{StandsFor}
 use Rattle.a429_core.proofs.Steps.{step_is, answers_push}
 use Rattle.a429_core.proofs.state.State.run.Goals as goal
@@ -16,13 +17,13 @@ loop-event-preserved g c =
     let more : map event_of (c.loop-event.yielded ++ c.in-Some.event ∷ []) ≡ so_far ++ e ∷ [] = map-append event_of c.loop-event.yielded (c.in-Some.event ∷ []) in
     record {
       told = λ o E S.
-          let step = step_is g.row.C o (E ++ so_far) e c.loop-event.self c.take.ensures.whole (c.loop-event.invariant.stands o E S) in
+          let step = step_is (record { none = c.sends_are_recalled.ensures.none; decides = c.sends_are_recalled.ensures.decides; sent = c.sends_are_recalled.ensures.sent; other = c.sends_are_recalled.ensures.other }) g.row.C o (E ++ so_far) e c.loop-event.self c.take.ensures.whole (c.loop-event.invariant.stands o E S) in
           c.in_ok-push.ensures.items
           ∙ (ap (λ (xs : List Answer). xs ++ c.take.result ∷ []) (c.loop-event.invariant.told o E S)
           ∙ (ap (λ (a : Answer). answers g.row.C o E so_far ++ a ∷ []) (c.take.ensures.answer ∙ step.answer)
           ∙ (sym (answers_push g.row.C o E so_far e) ∙ ap (answers g.row.C o E) (sym more))));
       stands = λ o E S.
-          let step = step_is g.row.C o (E ++ so_far) e c.loop-event.self c.take.ensures.whole (c.loop-event.invariant.stands o E S) in
+          let step = step_is (record { none = c.sends_are_recalled.ensures.none; decides = c.sends_are_recalled.ensures.decides; sent = c.sends_are_recalled.ensures.sent; other = c.sends_are_recalled.ensures.other }) g.row.C o (E ++ so_far) e c.loop-event.self c.take.ensures.whole (c.loop-event.invariant.stands o E S) in
           let after = subst (StandsFor g.row.C o (E ++ so_far ++ e ∷ [])) (sym c.take.ensures.after) step.after in
           subst (λ (F : List Event). StandsFor g.row.C o F c.take.new.self) (append_assoc E so_far (e ∷ []) ∙ ap (λ (F : List Event). E ++ F) (sym more)) after;
       whole = c.loop-event.invariant.whole ∙ (ap (λ (xs : List code.Event). c.loop-event.yielded ++ xs) c.in-Some.ensures.steps.0 ∙ sym (append_assoc c.loop-event.yielded (c.in-Some.event ∷ []) _));

@@ -2,7 +2,8 @@ use Rattle.std.proofs.Common.{◌≡◌, ◌≤◌, ◌++◌, List, length, map,
 use Rattle.std.specs.Vec.Iter.{into_iter_items}
 use Rattle.a429_slots.specs.Events.{Event}
 use Rattle.a429_slots.specs.History.{Opening}
-use Rattle.a429_core.specs.Answers.{answers, event_of}
+use Rattle.a429_slots.specs.Answers.{answers}
+use Rattle.a429_core.specs.Happened.{event_of}
 use Rattle.a429_core.specs.Standing.{StandsFor}
 use Rattle.a429_core.proofs.state.State.run.Given as goal
 

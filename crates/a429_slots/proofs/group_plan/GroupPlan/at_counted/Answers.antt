@@ -10,7 +10,7 @@ use Rattle.a429_slots.proofs.group_plan.GroupPlan.at_counted.Goals as goal
 pub returns-then-bus-self-clause-cell : goal.returns-then-bus-self-clause-cell
 returns-then-bus-self-clause-cell g c =
     let p = c.self.inside in
-    let t : GroupTable = record { frame = p.frame; buses = p.buses; demands = p.sums; order = p.order; sources = p.sources; on_bus = p.on_bus; offsets = p.offsets; periods = p.periods } in
+    let t : GroupTable = record { frame = p.frame; buses = p.buses; demands = p.sums; order = p.order; sources = p.sources; on_bus = p.on_bus; offsets = p.offsets; periods = p.periods; limits = p.limits } in
     let w : IsTable g.row.N t = c.self.invariant in
     let each : HasEach t = c.orders_name_each_once.ensures (length t.demands) (order_of t) w.order in
     subst (λ (u : GroupTable). None ≡ cell_at u c.args.bus c.args.slot) c.self.view_is (sym (cell_outside g.row.N t w each (c.stretches_are_apart.ensures.within t.demands) c.args.bus c.args.slot c.if-bus-self.true))
@@ -18,7 +18,7 @@ returns-then-bus-self-clause-cell g c =
 pub returns-in-Some-clause-cell : goal.returns-in-Some-clause-cell
 returns-in-Some-clause-cell g c =
     let p = c.self.inside in
-    let t : GroupTable = record { frame = p.frame; buses = p.buses; demands = p.sums; order = p.order; sources = p.sources; on_bus = p.on_bus; offsets = p.offsets; periods = p.periods } in
+    let t : GroupTable = record { frame = p.frame; buses = p.buses; demands = p.sums; order = p.order; sources = p.sources; on_bus = p.on_bus; offsets = p.offsets; periods = p.periods; limits = p.limits } in
     let w : IsTable g.row.N t = c.self.invariant in
     let each : HasEach t = c.orders_name_each_once.ensures (length t.demands) (order_of t) w.order in
     let found : IfSome (Some c.in-Some.place) (Holds t.demands c.place_of_cell.result) =
@@ -30,7 +30,7 @@ returns-in-Some-clause-cell g c =
 pub returns-in-Some-clause-known : goal.returns-in-Some-clause-known
 returns-in-Some-clause-known g c =
     let p = c.self.inside in
-    let t : GroupTable = record { frame = p.frame; buses = p.buses; demands = p.sums; order = p.order; sources = p.sources; on_bus = p.on_bus; offsets = p.offsets; periods = p.periods } in
+    let t : GroupTable = record { frame = p.frame; buses = p.buses; demands = p.sums; order = p.order; sources = p.sources; on_bus = p.on_bus; offsets = p.offsets; periods = p.periods; limits = p.limits } in
     let w : IsTable g.row.N t = c.self.invariant in
     let each : HasEach t = c.orders_name_each_once.ensures (length t.demands) (order_of t) w.order in
     let found : IfSome (Some c.in-Some.place) (Holds t.demands c.place_of_cell.result) =
@@ -46,7 +46,7 @@ returns-in-Some-clause-probes g c digits below =
 pub returns-in-None-clause-cell : goal.returns-in-None-clause-cell
 returns-in-None-clause-cell g c =
     let p = c.self.inside in
-    let t : GroupTable = record { frame = p.frame; buses = p.buses; demands = p.sums; order = p.order; sources = p.sources; on_bus = p.on_bus; offsets = p.offsets; periods = p.periods } in
+    let t : GroupTable = record { frame = p.frame; buses = p.buses; demands = p.sums; order = p.order; sources = p.sources; on_bus = p.on_bus; offsets = p.offsets; periods = p.periods; limits = p.limits } in
     let w : IsTable g.row.N t = c.self.invariant in
     let each : HasEach t = c.orders_name_each_once.ensures (length t.demands) (order_of t) w.order in
     subst (λ (u : GroupTable). None ≡ cell_at u c.args.bus c.args.slot) c.self.view_is

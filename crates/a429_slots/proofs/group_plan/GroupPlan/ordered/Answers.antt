@@ -13,7 +13,7 @@ prove-unreachable-requires g c =
 pub returns-clause-value : goal.returns-clause-value
 returns-clause-value g c =
     let p = c.self.inside in
-    let t : GroupTable = record { frame = p.frame; buses = p.buses; demands = p.sums; order = p.order; sources = p.sources; on_bus = p.on_bus; offsets = p.offsets; periods = p.periods } in
+    let t : GroupTable = record { frame = p.frame; buses = p.buses; demands = p.sums; order = p.order; sources = p.sources; on_bus = p.on_bus; offsets = p.offsets; periods = p.periods; limits = p.limits } in
     let w : IsTable g.row.N t = c.self.invariant in
     let each : HasEach t = c.orders_name_each_once.ensures (length t.demands) (order_of t) w.order in
     let below : c.args.k < length t.demands = omega (arith, c.len.ensures.value, c.if-prove.false) in
@@ -23,7 +23,7 @@ returns-clause-value g c =
 pub returns-clause-known : goal.returns-clause-known
 returns-clause-known g c =
     let p = c.self.inside in
-    let t : GroupTable = record { frame = p.frame; buses = p.buses; demands = p.sums; order = p.order; sources = p.sources; on_bus = p.on_bus; offsets = p.offsets; periods = p.periods } in
+    let t : GroupTable = record { frame = p.frame; buses = p.buses; demands = p.sums; order = p.order; sources = p.sources; on_bus = p.on_bus; offsets = p.offsets; periods = p.periods; limits = p.limits } in
     let w : IsTable g.row.N t = c.self.invariant in
     let each : HasEach t = c.orders_name_each_once.ensures (length t.demands) (order_of t) w.order in
     let below : c.args.k < length t.demands = omega (arith, c.len.ensures.value, c.if-prove.false) in

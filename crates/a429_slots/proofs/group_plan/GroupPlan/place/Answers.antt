@@ -14,7 +14,7 @@ prove-unreachable-requires g c =
 pub returns-clause-place : goal.returns-clause-place
 returns-clause-place g c =
     let p = c.self.inside in
-    let t : GroupTable = record { frame = p.frame; buses = p.buses; demands = p.sums; order = p.order; sources = p.sources; on_bus = p.on_bus; offsets = p.offsets; periods = p.periods } in
+    let t : GroupTable = record { frame = p.frame; buses = p.buses; demands = p.sums; order = p.order; sources = p.sources; on_bus = p.on_bus; offsets = p.offsets; periods = p.periods; limits = p.limits } in
     let o : ℕ = c.number-number.result in
     let below : o < length t.demands = omega (arith, c.len.ensures.value, c.if-prove.false) in
     subst (λ (n : ℕ). option_map (λ q. q.place) (slice_get (outputs_of c.args.self.now) n) ≡ Some (record { bus = get_or t.on_bus o 0; offset = get_or t.offsets o 0; period = c.of_digits.result })) c.number-number.ensures
@@ -24,7 +24,7 @@ returns-clause-place g c =
 pub returns-clause-cells : goal.returns-clause-cells
 returns-clause-cells g c =
     let p = c.self.inside in
-    let t : GroupTable = record { frame = p.frame; buses = p.buses; demands = p.sums; order = p.order; sources = p.sources; on_bus = p.on_bus; offsets = p.offsets; periods = p.periods } in
+    let t : GroupTable = record { frame = p.frame; buses = p.buses; demands = p.sums; order = p.order; sources = p.sources; on_bus = p.on_bus; offsets = p.offsets; periods = p.periods; limits = p.limits } in
     let w : IsTable g.row.N t = c.self.invariant in
     let o : ℕ = c.number-number.result in
     let below : o < length t.demands = omega (arith, c.len.ensures.value, c.if-prove.false) in
@@ -36,7 +36,7 @@ returns-clause-cells g c =
 pub returns-clause-bus : goal.returns-clause-bus
 returns-clause-bus g c =
     let p = c.self.inside in
-    let t : GroupTable = record { frame = p.frame; buses = p.buses; demands = p.sums; order = p.order; sources = p.sources; on_bus = p.on_bus; offsets = p.offsets; periods = p.periods } in
+    let t : GroupTable = record { frame = p.frame; buses = p.buses; demands = p.sums; order = p.order; sources = p.sources; on_bus = p.on_bus; offsets = p.offsets; periods = p.periods; limits = p.limits } in
     let w : IsTable g.row.N t = c.self.invariant in
     let o : ℕ = c.number-number.result in
     let below : o < length t.demands = omega (arith, c.len.ensures.value, c.if-prove.false) in
@@ -45,7 +45,7 @@ returns-clause-bus g c =
 pub returns-clause-frame : goal.returns-clause-frame
 returns-clause-frame g c =
     let p = c.self.inside in
-    let t : GroupTable = record { frame = p.frame; buses = p.buses; demands = p.sums; order = p.order; sources = p.sources; on_bus = p.on_bus; offsets = p.offsets; periods = p.periods } in
+    let t : GroupTable = record { frame = p.frame; buses = p.buses; demands = p.sums; order = p.order; sources = p.sources; on_bus = p.on_bus; offsets = p.offsets; periods = p.periods; limits = p.limits } in
     let w : IsTable g.row.N t = c.self.invariant in
     let o : ℕ = c.number-number.result in
     let below : o < length t.demands = omega (arith, c.len.ensures.value, c.if-prove.false) in

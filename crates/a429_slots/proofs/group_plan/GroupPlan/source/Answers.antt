@@ -12,7 +12,7 @@ prove-unreachable-requires g c =
 pub returns : goal.returns
 returns g c =
     let p = c.self.inside in
-    let t : GroupTable = record { frame = p.frame; buses = p.buses; demands = p.sums; order = p.order; sources = p.sources; on_bus = p.on_bus; offsets = p.offsets; periods = p.periods } in
+    let t : GroupTable = record { frame = p.frame; buses = p.buses; demands = p.sums; order = p.order; sources = p.sources; on_bus = p.on_bus; offsets = p.offsets; periods = p.periods; limits = p.limits } in
     let o : ℕ = c.number-number.result in
     let below : o < length t.demands = omega (arith, c.len.ensures.value, c.if-prove.false) in
     subst (λ (n : ℕ). source_of c.args.self.now n ≡ Some (get_or t.sources o 0)) c.number-number.ensures

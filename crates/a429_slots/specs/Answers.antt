@@ -8,20 +8,11 @@ use Rattle.a429_equipment.specs.SameStation.{same_station}
 use Rattle.a429_slots.specs.Tables.{GroupTable, groups_of}
 use Rattle.a429_slots.specs.Proposed.{Proposed}
 use Rattle.a429_slots.specs.Events.{Event, Arrive, Cell, Frame, Publish}
-use Rattle.a429_slots.specs.History.{Opening, Current, accepted_by, newest_number, newest_table, current, is_over, has_room, cell_due, word_sent}
-use Rattle.a429_core.specs.declared.events.Event as code
-use Rattle.a429_core.specs.declared.events.Event.TheVariants as code_event
-use Rattle.a429_core.specs.declared.events.Answer.{Answer}
-use Rattle.a429_core.specs.declared.events.Answer.TheVariants.{Accepted, Sent, Changed, Published, Refused}
-use Rattle.a429_core.specs.declared.events.Refusal.{Refusal}
-use Rattle.a429_core.specs.declared.events.Refusal.TheVariants.{NoSuch, Parity, Filtered, NoSource, CountSpent, FrameEnd, MidFrame, SlotsSpent, StationDiffers}
-
--- the event that a value of the program stands for
-abbrev pub event_of : code.Event → Event
-event_of (code_event.Arrive r raw) = Arrive r raw
-event_of (code_event.Cell g) = Cell g
-event_of (code_event.Frame g) = Frame g
-event_of (code_event.Publish q) = Publish q
+use Rattle.a429_slots.specs.History.{Opening, Current, AnsweredCell, accepted_by, answered_cells, newest_number, newest_table, current, is_over, has_room, cell_due, word_sent}
+use Rattle.a429_slots.specs.declared.answers.Answer.{Answer}
+use Rattle.a429_slots.specs.declared.answers.Answer.TheVariants.{Accepted, Sent, Changed, Published, Refused}
+use Rattle.a429_slots.specs.declared.answers.Refusal.{Refusal}
+use Rattle.a429_slots.specs.declared.answers.Refusal.TheVariants.{NoSuch, Parity, Filtered, NoSource, CountSpent, FrameEnd, MidFrame, SlotsSpent, StationDiffers}
 
 abbrev pub refusal_of : ArrivalRefusal → Refusal
 refusal_of arrival.Parity = Parity
@@ -36,8 +27,9 @@ abbrev pub arrive_answer : ℕ → Opening → List Event → ℕ → ℕ → An
 arrive_answer C o E r raw =
     if nat_le (length o.proposal.station.receivers) r then Refused NoSuch else source_answer C o E (sorted o.proposal.station r raw)
 
-abbrev pub cell_answer : ℕ → Opening → List Event → ℕ → Current → Answer
-cell_answer C o E g f = option_map_or (λ c. Sent c.0 (f.first + c.1) (word_sent C o E f c)) (cell_due g f) (Refused FrameEnd)
+-- after these earlier cells of the group
+abbrev pub cell_answer : ℕ → Opening → List Event → ℕ → List AnsweredCell → Current → Answer
+cell_answer C o E g earlier f = option_map_or (λ c. Sent c.0 (f.first + c.1) (word_sent C o E earlier f c)) (cell_due g f) (Refused FrameEnd)
 
 abbrev pub frame_answer : ℕ → ℕ → GroupTable → Current → Answer
 frame_answer g number newest f =
@@ -52,7 +44,8 @@ publish_answer o E q =
 -- the answer to an event after the history E, where words are counted in C bits
 abbrev pub answer : ℕ → Opening → List Event → Event → Answer
 answer C o E (Arrive r raw) = arrive_answer C o E r raw
-answer C o E (Cell g) = option_map_or (λ p. cell_answer C o E g (current o g p E)) (slice_get (groups_of o.proposal.plan) g) (Refused NoSuch)
+answer C o E (Cell g) =
+    option_map_or (λ p. cell_answer C o E g (answered_cells C o g p E) (current o g p E)) (slice_get (groups_of o.proposal.plan) g) (Refused NoSuch)
 answer C o E (Frame g) =
     option_map_or (λ p. frame_answer g (newest_number o E) (newest_table o g p E) (current o g p E)) (slice_get (groups_of o.proposal.plan) g) (Refused NoSuch)
 answer C o E (Publish q) = publish_answer o E q

@@ -1,10 +1,17 @@
 //! Where a group stands in its frame.
-ghost use Rattle.std.specs.Prelude.{◌≡◌, ◌+◌, ◌<◌, ◌^◌, nat_lt, MatchOption, ⊤};
-ghost use Rattle.a429_slots.specs.Tables.{cells_of, frame_of, source_at};
-ghost use Rattle.a429_core.specs.Sending.{begun, next_cell, after_cell, fits_next, turned};
+ghost use Rattle.std.specs.Prelude.{◌≡◌, ◌≤◌, ◌+◌, ◌<◌, ◌^◌, nat_lt, option_map, IfSome, MatchOption, ⊤};
+ghost use Rattle.a429_slots.specs.Tables.{cells_of, frame_of, output_in};
+ghost use Rattle.a429_slots.specs.Sending.{begun, next_cell, after_cell, fits_next, turned, due_of};
 
-use a429_slots::{GroupPlan, OUTPUTS};
+use crate::group_plan::{GroupPlan, OUTPUTS, SendLimits};
 use std::marker::Model;
+
+/// An output whose cell is due: the number of its source, and what limits its sends.
+#[derive(Clone, Copy, Debug, PartialEq, Eq)]
+pub struct Due {
+    pub source: usize,
+    pub limits: SendLimits,
+}
 
 /// The plan in force of a group with its number, the first slot of its frame, and how many cells of the
 /// frame were sent.
@@ -19,7 +26,7 @@ pub struct Sender {
 impl Model for Sender {
     ghost use Rattle.std.specs.Prelude.{◌≤◌, ◌<◌, ◌+◌, ◌^◌};
     ghost use Rattle.a429_slots.specs.Tables.{cells_of, frame_of};
-    ghost use Rattle.a429_core.specs.Sending.{Sending};
+    ghost use Rattle.a429_slots.specs.Sending.{Sending};
 
     ghost Value = { Sending };
 
@@ -62,19 +69,24 @@ impl Sender {
         self.sent < self.cells()
     }
 
-    /// The number of the source whose words go out on a bus in a slot of the frame.
-    pub fn source_at(&self, bus: u32, slot: u64) -> Option<usize>
-        ensures { result ≡ source_at self.now.table bus slot }
+    /// The output that stands on a bus in a slot of the frame.
+    pub fn output_in(&self, bus: u32, slot: u64) -> Option<Due>
+        ensures output { result ≡ option_map due_of (output_in self.now.table bus slot) }
+        ensures some { IfSome result (λ due. 1 ≤ due.limits.spacing) }
     {
         let (output, _probes) = self.plan.at_counted(bus, slot);
-        Some(self.plan.source(output?))
+        let output = output?;
+        Some(Due {
+            source: self.plan.source(output),
+            limits: self.plan.limits(output),
+        })
     }
 
     /// The bus and the slot in the frame of the next cell, which then counts as sent.
     pub fn cell(&mut self) -> Option<(u32, u64)>
         ensures due { result ≡ next_cell self.old }
         ensures after { self.new ≡ after_cell self.old }
-        ensures fits { MatchOption result ⊤ (λ c. self.old.first + c.1 < 2 ^ 64) }
+        ensures fits { MatchOption result ⊤ (λ c. self.old.first + c.1 + 1 < 2 ^ 64) }
     {
         if !self.is_mid_frame() {
             return None;

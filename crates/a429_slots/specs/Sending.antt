@@ -1,7 +1,8 @@
 -- Where a group stands in its frame, as the machine keeps it.
 use Rattle.std.specs.Prelude.{◌+◌, ◌/◌, ◌%◌, ◌^◌, ℕ, Bool, Option, Some, None, List, if◌then◌else◌, nat_lt, min}
 use Rattle.std.specs.List.{list_all}
-use Rattle.a429_slots.specs.Tables.{GroupTable, frame_of, buses_of, cells_of}
+use Rattle.a429_slots.specs.Tables.{Placed, GroupTable, frame_of, buses_of, cells_of}
+use Rattle.a429_slots.specs.declared.senders.Due.{Due}
 use Rattle.a429_slots.specs.History.{Current, cells_since}
 
 -- the table in force with its plan's number, the frame's first slot, and how many of its cells were sent
@@ -36,3 +37,7 @@ turned s number newest =
 -- what the machine keeps of a frame
 abbrev pub sending_of : ℕ → Current → Sending
 sending_of g f = record { table = f.table; number = f.number; first = f.first; sent = min (cells_since g f) (cells_of f.table) }
+
+-- the output that stands in a cell: its source, and what limits its sends
+abbrev pub due_of : Placed → Due
+due_of output = record { source = output.source; limits = output.limits }

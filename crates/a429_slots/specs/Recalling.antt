@@ -1,0 +1,36 @@
+-- What has to be kept of a group's earlier cells to tell the word that is sent in the next one.
+use Rattle.std.specs.Prelude.{◌≡◌, ◌==◌, ◌&&◌, ◌+◌, ◌<◌, ℕ, Bool, List, Option, false, not, if◌then◌else◌, nat_lt, nat_le}
+use Rattle.std.specs.Option.{option_map_or}
+use Rattle.a429_slots.specs.History.{AnsweredCell, times_sent, is_too_close}
+
+-- the word of a source that the group sent last: its number among the accepted words, how often it was sent, and the slot of the last
+-- time; `times` is 0 where none was sent
+pub record Recent : Type 0 where
+  pub count : ℕ
+  pub times : ℕ
+  pub slot : ℕ
+
+abbrev pub never : Recent
+never = record { count = 0; times = 0; slot = 0 }
+
+-- how often the accepted word of this number was sent
+abbrev pub times_of : Recent → ℕ → ℕ
+times_of r count = if r.count == count then r.times else 0
+
+-- it may be sent in this slot
+abbrev pub may_send : Recent → ℕ → ℕ → Option ℕ → ℕ → Bool
+may_send r slot count hold q =
+    not (option_map_or (λ most. nat_le most (times_of r count)) hold false) && not (nat_lt 0 r.times && nat_lt slot (r.slot + q))
+
+abbrev pub sent_again : Recent → ℕ → ℕ → Recent
+sent_again r slot count = record { count = count; times = times_of r count + 1; slot = slot }
+
+-- what is kept after the cell, where it was asked for
+abbrev pub recent_after : Recent → ℕ → ℕ → Option ℕ → ℕ → Recent
+recent_after r slot count hold q = if may_send r slot count hold q then sent_again r slot count else r
+
+-- this is what is kept of these earlier cells for a source
+pub record Recalls (earlier : List AnsweredCell) (source : ℕ) (r : Recent) : Type 0 where
+  pub times : times_sent earlier source r.count ≡ r.times
+  pub newer : (count : ℕ) → r.count < count → times_sent earlier source count ≡ 0
+  pub close : (slot q : ℕ) → is_too_close earlier slot source q ≡ (nat_lt 0 r.times && nat_lt slot (r.slot + q))
