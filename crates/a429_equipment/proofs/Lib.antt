@@ -12,3 +12,5 @@ pub mod SoundRows
 pub mod Soundness
 pub mod IndexPlaces
 pub mod Ranges
+pub mod Cutting
+pub mod Receiving

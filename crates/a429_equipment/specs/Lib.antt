@@ -17,3 +17,5 @@ pub mod Stated
 pub mod FilterTexts
 pub mod Reading
 pub mod Printed
+pub mod Agreement
+pub mod Receiving

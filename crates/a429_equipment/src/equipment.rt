@@ -4,6 +4,7 @@ ghost use Rattle.std.specs.Result.{result_map_both};
 
 use crate::arrivals::ArrivalRefusal;
 use crate::build::{group_outputs, group_rows, rate_of, receiver_rows, source_rows};
+use crate::copies::{copied_groups, copied_outputs, copied_receivers, copied_sources};
 use crate::document::document;
 use crate::fault::TableFault;
 use crate::index::Index;
@@ -80,6 +81,25 @@ impl Equipment {
         let index = Index::of(alloc, &receivers, &sources)?;
         Ok(Equipment {
             rate,
+            receivers,
+            sources,
+            groups,
+            outputs,
+            index,
+        })
+    }
+
+    /// The same equipment once more. The error is that memory was refused.
+    pub fn copied(&self, alloc: Global) -> Result<Equipment, AllocError>
+        ensures { IfOk result (λ e. e ≡ self.now) }
+    {
+        let receivers = copied_receivers(alloc, &self.receivers)?;
+        let sources = copied_sources(alloc, &self.sources)?;
+        let groups = copied_groups(alloc, &self.groups)?;
+        let outputs = copied_outputs(alloc, &self.outputs)?;
+        let index = self.index.copied(alloc)?;
+        Ok(Equipment {
+            rate: self.rate,
             receivers,
             sources,
             groups,

@@ -40,6 +40,14 @@ impl Index {
         Ok(Index { places })
     }
 
+    /// The same index once more.
+    pub fn copied(&self, alloc: Global) -> Result<Index, AllocError>
+        ensures { IfOk result (λ index. index.places.items ≡ self.now.places.items) }
+    {
+        let places = Vec::from_slice(alloc, self.places.as_slice())?;
+        Ok(Index { places })
+    }
+
     /// The number of the first source of a receiver with this label and SDI.
     pub fn source_of(&self, receiver: usize, label: Label, sdi: Sdi) -> Option<usize>
         requires few { receiver < 16 }

@@ -1,5 +1,5 @@
 //! Filters of labels.
-ghost use Rattle.std.specs.Prelude.{◌≡◌, ◌++◌, ◌∷◌, [], ◌↔◌, Some, None, length, IsErr, OnOk, OnErr, option_map, if◌then◌else◌};
+ghost use Rattle.std.specs.Prelude.{◌≡◌, ◌≤◌, ◌++◌, ◌∷◌, [], ◌↔◌, Some, None, length, IsErr, OnOk, OnErr, option_map, if◌then◌else◌};
 ghost use Rattle.a429_filter.specs.Filters.{passes, set_passes, filters_of};
 
 use a429_word::Label;
@@ -96,6 +96,17 @@ impl FilterSet {
         Ok(())
     }
 
+    /// The same set once more.
+    pub fn copied(&self) -> Self
+        ensures { result ≡ self.now }
+    {
+        if self.listed {
+            set_of(&self.filters[..self.len])
+        } else {
+            FilterSet::all()
+        }
+    }
+
     /// The filters as they were added, or none where there is no list.
     pub fn list(&self) -> Option<&[Filter]>
         ensures { option_map (λ filters. filters.now) result ≡ self.now }
@@ -113,6 +124,19 @@ impl FilterSet {
     {
         !self.listed || any_passes(&self.filters[..self.len], label)
     }
+}
+
+/// The set of this list.
+fn set_of(filters: &[Filter]) -> FilterSet
+    requires { length filters.now ≤ 32 }
+    ensures { result ≡ Some filters.now }
+{
+    let mut set = FilterSet::none();
+    for filter in filters {
+        // A set takes 32 filters, so none of these is refused.
+        let _ = set.add(*filter);
+    }
+    set
 }
 
 fn any_passes(filters: &[Filter], label: Label) -> bool

@@ -48,6 +48,15 @@ fn joined(low: u32, sdi: u32, value: u32, ssm: u32) -> u32
     low | sdi << 8 | value << 10 | ssm << 29
 }
 
+/// A label's bits below bits 9 to 31, with no parity.
+fn labelled(low: u32, bits: u32) -> u32
+    requires low { low < 256 }
+    requires bits { bits < 2 ^ 23 }
+    ensures { result ≡ low + 256 * bits }
+{
+    low | bits << 8
+}
+
 /// The bits with the parity bit above them.
 fn with_parity(bits: u32) -> u32
     requires { bits < 2 ^ 31 }
@@ -78,6 +87,18 @@ impl Word {
         Ok(Word {
             raw: with_parity(bits),
         })
+    }
+
+    /// The word of this label and these bits 9 to 31, which are its SDI, data and SSM.
+    pub fn of_label(label: Label, bits: u32) -> Word
+        requires { bits < 2 ^ 23 }
+        ensures label { label_of result ≡ label }
+        ensures bits { number_from 9 23 result ≡ bits }
+    {
+        let low = u32::from(label.value().reverse_bits());
+        Word {
+            raw: with_parity(labelled(low, bits)),
+        }
     }
 
     /// The word of this number.
@@ -116,6 +137,15 @@ impl Word {
         ensures { result ≡ sdi_of self }
     {
         Sdi::new(((self.raw >> 8) & 3) as u8)
+    }
+
+    /// Bits 9 to 31: its SDI, data and SSM.
+    #[tactic(auto, using(crate::proofs::Fields::above_label_is))]
+    pub fn above_label(self) -> u32
+        ensures bits { result ≡ number_from 9 23 self }
+        ensures small { result < 2 ^ 23 }
+    {
+        (self.raw >> 8) & 0x7fffff
     }
 
     /// Bits 11 to 29.

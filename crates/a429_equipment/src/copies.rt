@@ -1,0 +1,82 @@
+//! The same rows once more.
+ghost use Rattle.std.specs.Prelude.{◌≡◌, map, IfOk};
+
+use crate::rows::{GroupRow, OutputRow, ReceiverRow, SourceRow};
+use std::alloc::{AllocError, Global};
+
+impl ReceiverRow {
+    fn copied(&self, alloc: Global) -> Result<ReceiverRow, AllocError>
+        ensures { IfOk result (λ r. r ≡ self.now) }
+    {
+        let name = self.name.copied(alloc)?;
+        let filters = self.filters.copied();
+        Ok(ReceiverRow { name, filters })
+    }
+}
+
+impl SourceRow {
+    fn copied(&self, alloc: Global) -> Result<SourceRow, AllocError>
+        ensures { IfOk result (λ s. s ≡ self.now) }
+    {
+        let name = self.name.copied(alloc)?;
+        Ok(SourceRow {
+            name,
+            receiver: self.receiver,
+            label: self.label,
+            sdi: self.sdi,
+        })
+    }
+}
+
+impl GroupRow {
+    fn copied(&self, alloc: Global) -> Result<GroupRow, AllocError>
+        ensures { IfOk result (λ g. g ≡ self.now) }
+    {
+        let name = self.name.copied(alloc)?;
+        Ok(GroupRow { name })
+    }
+}
+
+pub fn copied_receivers(alloc: Global, rows: &[ReceiverRow]) -> Result<Vec<ReceiverRow>, AllocError>
+    ensures { IfOk result (λ v. v.items ≡ rows.now) }
+{
+    let mut copies = Vec::with_capacity(alloc, rows.len())?;
+    for row in rows {
+        copies.push(row.copied(alloc)?)?;
+    }
+    Ok(copies)
+}
+
+pub fn copied_sources(alloc: Global, rows: &[SourceRow]) -> Result<Vec<SourceRow>, AllocError>
+    ensures { IfOk result (λ v. v.items ≡ rows.now) }
+{
+    let mut copies = Vec::with_capacity(alloc, rows.len())?;
+    for row in rows {
+        copies.push(row.copied(alloc)?)?;
+    }
+    Ok(copies)
+}
+
+pub fn copied_groups(alloc: Global, rows: &[GroupRow]) -> Result<Vec<GroupRow>, AllocError>
+    ensures { IfOk result (λ v. v.items ≡ rows.now) }
+{
+    let mut copies = Vec::with_capacity(alloc, rows.len())?;
+    for row in rows {
+        copies.push(row.copied(alloc)?)?;
+    }
+    Ok(copies)
+}
+
+/// The outputs of each group.
+pub fn copied_outputs(
+    alloc: Global,
+    groups: &[Vec<OutputRow>],
+) -> Result<Vec<Vec<OutputRow>>, AllocError>
+    ensures { IfOk result (λ v. map (λ w. w.items) v.items ≡ map (λ w. w.items) groups.now) }
+{
+    let mut copies = Vec::with_capacity(alloc, groups.len())?;
+    for outputs in groups {
+        copies.push(Vec::from_slice(alloc, outputs.as_slice())?)?;
+    }
+    Ok(copies)
+}

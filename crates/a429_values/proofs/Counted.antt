@@ -1,0 +1,109 @@
+-- The words of one source, and the load of what was accepted.
+use Rattle.std.proofs.Common.{◌≡◌, ◌≢◌, ℕ, zero, suc, ◌+◌, ◌-◌, ◌<◌, ◌≤◌, eqb, List, [], ◌∷◌, ◌++◌, length, map, Some, Option, Bool, true, false, cond, refl, sym, ap, ◌∙◌, subst, arith, eq-eqb, ne_eqb, append-nil, inl, inr}
+use Rattle.std.specs.Prelude.{filter, slice_get, ◌&&◌}
+use Rattle.std.specs.List.{AllByRecursion}
+use Rattle.std.specs.Option.{option_map_or}
+use Rattle.std.proofs.lemmas.List.{map-append, length_push, get_or_push}
+use Rattle.std.proofs.lemmas.List.Elements.{filter-append}
+use Rattle.std.proofs.lemmas.Bool.{eqb-true, and_parts}
+use Rattle.std.proofs.lemmas.Option.{same_Some, none-some, slice_get_cases, slice_get_within, slice_get-get_or}
+use Rattle.a429_word.specs.Bits.{has_odd_parity, label_of, number_from}
+use Rattle.a429_equipment.specs.declared.rows.SourceRow.{SourceRow}
+use Rattle.a429_equipment.specs.TableRecord.{TableRecord}
+use Rattle.a429_equipment.specs.Arrivals.{passes_at, is_for, accepts}
+use Rattle.a429_equipment.specs.Agreement.{words_of, last_word, load_after, is_of}
+use Rattle.a429_equipment.specs.Receiving.{IsAccepted, AreAccepted}
+use Rattle.a429_values.specs.Words.{HasLabel, IsCounted}
+
+pub words_append : (s : ℕ) (A B : List (ℕ × ℕ)) → words_of s (A ++ B) ≡ words_of s A ++ words_of s B
+words_append s A B =
+    ap (map (λ (e : ℕ × ℕ). e.1)) (filter-append (λ (e : ℕ × ℕ). eqb e.0 s) A B)
+    ∙ map-append (λ (e : ℕ × ℕ). e.1) (filter (λ (e : ℕ × ℕ). eqb e.0 s) A) (filter (λ (e : ℕ × ℕ). eqb e.0 s) B)
+
+pub words_same : (s w : ℕ) (A : List (ℕ × ℕ)) → words_of s (A ++ (s, w) ∷ []) ≡ words_of s A ++ w ∷ []
+words_same s w A = words_append s A ((s, w) ∷ []) ∙ ap (λ (ws : List ℕ). words_of s A ++ ws) (rw (eq-eqb s s refl) refl)
+
+pub words_other : (s x w : ℕ) (A : List (ℕ × ℕ)) → x ≢ s → words_of s (A ++ (x, w) ∷ []) ≡ words_of s A
+words_other s x w A ne = words_append s A ((x, w) ∷ []) ∙ ap (λ (ws : List ℕ). words_of s A ++ ws) (rw (ne_eqb x s ne) refl) ∙ append-nil (words_of s A)
+
+pub last_push : (ws : List ℕ) (w : ℕ) → last_word (ws ++ w ∷ []) ≡ Some w
+last_push ws w =
+    let len : length (ws ++ w ∷ []) ≡ length ws + 1 = length_push ws w in
+    let within : length ws < length (ws ++ w ∷ []) = omega arith in
+    let here : length (ws ++ w ∷ []) - 1 ≡ length ws = omega arith in
+    ap (slice_get (ws ++ w ∷ [])) here ∙ (slice_get-get_or (ws ++ w ∷ []) (length ws) w within ∙ ap (λ y. Some y) (get_or_push ws w w (length ws) refl))
+
+-- the load after one more word of the source, and of another
+pub load_same : (s w : ℕ) (A : List (ℕ × ℕ)) → load_after s (A ++ (s, w) ∷ []) ≡ record { source = s; count = length (words_of s A) + 1; word = Some w }
+load_same s w A =
+    ap (λ (ws : List ℕ). record { source = s; count = length ws; word = last_word ws }) (words_same s w A)
+    ∙ (λ i. record { source = s; count = length_push (words_of s A) w i; word = last_push (words_of s A) w i })
+
+pub load_other : (s x w : ℕ) (A : List (ℕ × ℕ)) → x ≢ s → load_after s (A ++ (x, w) ∷ []) ≡ load_after s A
+load_other s x w A ne = ap (λ (ws : List ℕ). record { source = s; count = length ws; word = last_word ws }) (words_other s x w A ne)
+
+-- ---- accepted words
+
+-- what an accepted word says of its source's row
+pub record OfRow (row : SourceRow) (r raw : ℕ) : Type 0 where
+  pub receiver : row.receiver ≡ r
+  pub label : HasLabel row.label raw
+
+pub of_row : (t : TableRecord) (r s raw : ℕ) (row : SourceRow) → IsAccepted t r (s, raw) → slice_get t.sources s ≡ Some row → OfRow row r raw
+of_row t r s raw row h there =
+    let same : h.row ≡ row = same_Some h.row row (sym h.there ∙ there) in
+    let mine : accepts t row (r, raw) ≡ true = subst (λ (x : SourceRow). accepts t x (r, raw) ≡ true) same h.accepts in
+    let parts = and_parts (has_odd_parity raw) (passes_at t r raw && is_for r raw row) mine in
+    let rest = and_parts (passes_at t r raw) (is_for r raw row) parts.1 in
+    let own = and_parts (eqb row.receiver r) (eqb row.label (label_of raw) && option_map_or (λ k. eqb k (number_from 9 2 raw)) row.sdi true) rest.1 in
+    let label = and_parts (eqb row.label (label_of raw)) (option_map_or (λ k. eqb k (number_from 9 2 raw)) row.sdi true) own.1 in
+    record { receiver = eqb-true row.receiver r own.0; label = (h.range, parts.0, sym (eqb-true row.label (label_of raw) label.0)) }
+
+pub all_push : {X : Type 0} (P : X → Type 0) (xs : List X) (x : X) → AllByRecursion P xs → P x → AllByRecursion P (xs ++ x ∷ [])
+all_push P [] x all holds = (holds, tt)
+all_push P (y ∷ ys) x all holds = (all.0, all_push P ys x all.1 holds)
+
+labelled : (t : TableRecord) (r s : ℕ) (row : SourceRow) → slice_get t.sources s ≡ Some row → (A : List (ℕ × ℕ)) → AreAccepted t r A → AllByRecursion (HasLabel row.label) (words_of s A)
+labelled t r s row there [] h = tt
+labelled t r s row there (e ∷ A) h = go (eqb e.0 s) refl (labelled t r s row there A h.1)
+  where
+    go : (b : Bool) → eqb e.0 s ≡ b → AllByRecursion (HasLabel row.label) (words_of s A) → AllByRecursion (HasLabel row.label) (map (λ (x : ℕ × ℕ). x.1) (cond b (e ∷ filter (λ (x : ℕ × ℕ). eqb x.0 s) A) (filter (λ (x : ℕ × ℕ). eqb x.0 s) A)))
+    go true is rest = ((of_row t r e.0 e.1 row h.0 (ap (slice_get t.sources) (eqb-true e.0 s is) ∙ there)).label, rest)
+    go false is rest = rest
+
+all_at : {X : Type 0} (P : X → Type 0) (xs : List X) (i : ℕ) (x : X) → AllByRecursion P xs → slice_get xs i ≡ Some x → P x
+all_at P [] i x all e = absurd (none-some x e)
+all_at P (y ∷ ys) zero x all e = subst P (same_Some y x e) all.0
+all_at P (y ∷ ys) (suc i) x all e = all_at P ys i x all.1 e
+
+counted : (label : ℕ) (ws : List ℕ) → AllByRecursion (HasLabel label) ws → IsCounted label (length ws) (last_word ws)
+counted label [] all = refl
+counted label (w ∷ ws) all = elim (slice_get_cases (w ∷ ws) (length (w ∷ ws) - 1)).1 [
+  | inl hit ↦ subst (λ (o : Option ℕ). IsCounted label (length (w ∷ ws)) o) (sym hit.2) (omega arith, all_at (HasLabel label) (w ∷ ws) (length (w ∷ ws) - 1) hit.0 all hit.2)
+  | inr miss ↦ absurd (let past : length (w ∷ ws) ≤ length (w ∷ ws) - 1 = miss.0 in omega (arith, past))
+]
+
+pub load_counted : (t : TableRecord) (r s : ℕ) (row : SourceRow) (A : List (ℕ × ℕ)) → slice_get t.sources s ≡ Some row → AreAccepted t r A → IsCounted row.label (load_after s A).count (load_after s A).word
+load_counted t r s row A there all = counted row.label (words_of s A) (labelled t r s row there A all)
+
+-- the source is one of this receiver's
+pub is_of_row : (t : TableRecord) (r s : ℕ) (row : SourceRow) → slice_get t.sources s ≡ Some row → is_of t r s ≡ true → row.receiver ≡ r
+is_of_row t r s row there is = eqb-true row.receiver r (sym (ap (λ (o : Option SourceRow). option_map_or (λ x. eqb x.receiver r) o false) there) ∙ is)
+
+pub is_of_yes : (t : TableRecord) (r s : ℕ) (row : SourceRow) → slice_get t.sources s ≡ Some row → row.receiver ≡ r → is_of t r s ≡ true
+is_of_yes t r s row there is = ap (λ (o : Option SourceRow). option_map_or (λ x. eqb x.receiver r) o false) there ∙ eq-eqb row.receiver r is
+
+pub is_of_not : (t : TableRecord) (r s : ℕ) (row : SourceRow) → slice_get t.sources s ≡ Some row → row.receiver ≢ r → is_of t r s ≡ false
+is_of_not t r s row there ne = ap (λ (o : Option SourceRow). option_map_or (λ x. eqb x.receiver r) o false) there ∙ ne_eqb row.receiver r ne
+
+pub row_at : (t : TableRecord) (s : ℕ) → s < length t.sources → (row : SourceRow) × (slice_get t.sources s ≡ Some row)
+row_at t s inside = elim (slice_get_cases t.sources s).1 [
+  | inl hit ↦ (hit.0, hit.2)
+  | inr miss ↦ absurd (let past : length t.sources ≤ s = miss.0 in omega (arith, past, inside))
+]
+
+pub is_of_inside : (t : TableRecord) (r s : ℕ) → is_of t r s ≡ true → s < length t.sources
+is_of_inside t r s is = elim (slice_get_cases t.sources s).1 [
+  | inl hit ↦ slice_get_within t.sources s hit.0 hit.2
+  | inr miss ↦ absurd (let clash : false ≡ true = sym (ap (λ (o : Option SourceRow). option_map_or (λ x. eqb x.receiver r) o false) miss.1) ∙ is in cc)
+]

@@ -1,0 +1,7 @@
+pub mod Counted
+pub mod Cutting
+pub mod Keeps
+pub mod Meeting
+pub mod Accepting
+pub mod Staying
+pub mod Decoding

@@ -1,0 +1,72 @@
+-- What a seat of the table knows, by what it is.
+use Rattle.std.specs.Prelude.{◌≡◌, ℕ, [], ◌∷◌, ◌++◌, Some, length, slice_get, true, false}
+use Rattle.atomic_table.specs.Table.{Me, Step}
+use Rattle.a429_equipment.specs.declared.loads.Load.{Load}
+use Rattle.a429_equipment.specs.declared.rows.SourceRow.{SourceRow}
+use Rattle.a429_equipment.specs.TableRecord.{TableRecord}
+use Rattle.a429_equipment.specs.Agreement.{is_of, load_after, Agrees, AgreesTo}
+use Rattle.a429_values.specs.declared.view.View.{View}
+use Rattle.a429_values.specs.Words.{Tells}
+
+-- a seat of a station that is nothing yet
+abbrev pub idle : TableRecord → View
+idle t = record { station = t; deals = false; given = []; sent = []; receives = false; number = 0; accepted = []; transmits = false; group = 0; loads = [] }
+
+-- a spent seat, of which nothing is said
+abbrev pub spent : View
+spent = idle (record { rate = 0; receivers = []; sources = []; groups = []; outputs = [] })
+
+abbrev pub desk : TableRecord → View
+desk t = record (idle t) { deals = true }
+
+-- the desk gives a receiver out
+abbrev pub dealt : View → ℕ → View
+dealt v r = record v { given = v.given ++ r ∷ [] }
+
+abbrev pub receiver : TableRecord → ℕ → View
+receiver t r = record (idle t) { receives = true; number = r }
+
+-- the desk gives a transmitter out
+abbrev pub dealt_transmitter : View → ℕ → View
+dealt_transmitter v g = record v { sent = v.sent ++ g ∷ [] }
+
+abbrev pub transmitter : TableRecord → ℕ → View
+transmitter t g = record (idle t) { transmits = true; group = g }
+
+-- the first takes in the receiver's part of the second
+abbrev pub both_of : View → View → View
+both_of v w = record v { receives = w.receives; number = w.number; accepted = w.accepted }
+
+-- a view of both without its receiver's part, and that part
+abbrev pub transmitting : View → View
+transmitting v = record v { receives = false; number = 0; accepted = [] }
+
+abbrev pub receiving : View → View
+receiving v = record (idle v.station) { receives = v.receives; number = v.number; accepted = v.accepted }
+
+-- one more accepted word; one more load
+abbrev pub with_accepted : View → ℕ × ℕ → View
+with_accepted v e = record v { accepted = v.accepted ++ e ∷ [] }
+
+abbrev pub with_load : View → Load → View
+with_load v l = record v { loads = v.loads ++ l ∷ [] }
+
+-- ---- what the steps tell
+
+-- a load that found the number: its loads agree with the list of the receiver whose seat this is too, and it is the load after all of it
+-- where its source is one of that receiver's
+pub record Found (v : View) (s number : ℕ) (w : View) : Type 0 where
+  pub load : Load
+  pub view : w ≡ with_load v load
+  pub tells : (row : SourceRow) → slice_get v.station.sources s ≡ Some row → Tells s row.label number load
+  pub agrees : v.receives ≡ true → v.transmits ≡ true
+      → (last : ℕ) × AgreesTo v.station v.number v.accepted w.loads last × (is_of v.station v.number s ≡ true → (last ≡ length v.accepted) × (load ≡ load_after s v.accepted))
+
+module _ {S : Type 0} where
+  -- a store of a word changes the view as its play says
+  abbrev pub found_by : Step S → Me S View → ℕ → Me S View → Type 0
+  found_by s v number w = Found v.0 s.word number w.0 × (w.1 ≡ v.1)
+
+  -- nothing changes; who is receiver and transmitter learns that its lists agree
+  abbrev pub seen : Step S → Me S View → ℕ → Me S View → Type 0
+  seen s v number w = (w ≡ v) × (v.0.receives ≡ true → v.0.transmits ≡ true → Agrees v.0.station v.0.number v.0.accepted v.0.loads)

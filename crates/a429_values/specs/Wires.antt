@@ -1,0 +1,6 @@
+-- What all ends of a hub have in common.
+use Rattle.a429_values.specs.declared.wired.Wired.{Wired}
+use Rattle.a429_values.specs.Ends.{Place}
+
+abbrev pub place_of : Wired → Place
+place_of w = record { hub = w.board.shared.table_id; station = w.equipment }

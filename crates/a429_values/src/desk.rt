@@ -1,0 +1,183 @@
+//! The desk, which gives the ends of a hub out.
+ghost use Rattle.std.specs.Prelude.{◌≡◌, ◌==◌, ◌++◌, ◌∷◌, [], ◌<◌, ◌-◌, ◌^◌, ◌↔◌, length, true, false, IfOk, OnErr, IsErrOf, IsTrue};
+ghost use Rattle.std.specs.List.{list_any};
+ghost use Rattle.a429_values.specs.Seats.{IsAt, Stays};
+ghost use Rattle.a429_values.specs.Views.{dealt, dealt_transmitter, receiver, transmitter};
+
+use crate::board::{Board, Chosen, HubSeat};
+use crate::hub::Hub;
+use crate::receiver::Receiver;
+use crate::steps::{receiver_step, transmitter_step};
+use crate::transmitter::Transmitter;
+use crate::wired::zeros;
+use std::alloc::{AllocError, Global};
+use std::marker::{Brand, Model};
+use std::sync::Arc;
+use thiserror::Error;
+
+/// Gives out the receivers and transmitters of one hub, each number once.
+#[derive(Drop)]
+pub struct Desk {
+    seat: HubSeat,
+    receivers: Vec<usize>,
+    transmitters: Vec<usize>,
+}
+
+impl Model for Desk {
+    ghost use Rattle.std.specs.Prelude.{◌≡◌};
+    ghost use Rattle.a429_values.specs.Ends.{Dealing, IsDealing};
+    ghost use Rattle.a429_values.specs.Seats.{IsAt};
+
+    ghost Value = { Dealing };
+
+    ghost view = { λ d. record { at = record { hub = d.seat.table_id; station = d.seat.me.0.station }; receivers = d.receivers.items; transmitters = d.transmitters.items } };
+
+    ghost invariant = { λ d. IsAt d.seat.table_id d.seat × IsDealing d.seat.me.0 d.receivers.items d.transmitters.items };
+}
+
+/// Why a receiver or a transmitter is not given out.
+#[derive(Clone, Copy, Debug, PartialEq, Eq, Error)]
+pub enum HubFault {
+    /// Its number was given out before.
+    #[error("already taken")]
+    AlreadyTaken,
+    /// Memory was refused. The number was not given out.
+    #[error("out of memory")]
+    NoMemory,
+}
+
+impl From<AllocError> for HubFault {
+    ghost use Rattle.std.specs.Prelude.{◌≡◌};
+    ghost use Rattle.a429_values.specs.declared.desk.HubFault.TheVariants as fault;
+
+    ghost from_gives = { λ _ e. e ≡ fault.NoMemory };
+
+    fn from(_error: AllocError) -> HubFault {
+        HubFault::NoMemory
+    }
+}
+
+impl Desk {
+    /// The desk with this seat, which has given nothing out.
+    pub(crate) fn of_seat(alloc: Global, seat: HubSeat) -> Desk
+        requires seat { IsAt seat.table_id seat }
+        requires view { (seat.me.0.deals ≡ true) × (seat.me.0.given ≡ []) × (seat.me.0.sent ≡ []) }
+        ensures { result ≡ record { at = record { hub = seat.table_id; station = seat.me.0.station }; receivers = []; transmitters = [] } }
+    {
+        Desk {
+            seat,
+            receivers: Vec::new(alloc),
+            transmitters: Vec::new(alloc),
+        }
+    }
+
+    /// Gives out the receiver of this number, which has accepted nothing yet. `AlreadyTaken` just where it
+    /// was given out before. Where it is refused, nothing changes.
+    pub fn receiver<const S: usize, const C: u32>(
+        &mut self,
+        alloc: Global,
+        hub: &Hub<S, C>,
+        number: usize,
+    ) -> Result<Receiver, HubFault>
+        requires hub { self.old.at ≡ hub.now }
+        requires number { number < length hub.now.station.receivers }
+        ensures receiver { IfOk result (λ r. r ≡ record { at = hub.now; number = number; limit = 2 ^ C - 1; accepted = [] }) }
+        ensures given { IfOk result (λ _. self.new ≡ record self.old { receivers = self.old.receivers ++ number ∷ [] }) }
+        ensures taken { IsErrOf result HubFault.AlreadyTaken ↔ IsTrue (list_any (λ y. y == number) self.old.receivers) }
+        ensures refused { OnErr result (self.new ≡ self.old) }
+    {
+        let Desk {
+            seat,
+            receivers,
+            ..
+        } = self;
+        if receivers.as_slice().contains(&number) {
+            return Err(HubFault::AlreadyTaken);
+        }
+        let counts = zeros(alloc, hub.wired.equipment.sources().len())?;
+        let wired = Arc::try_clone(&hub.wired)?;
+        if receivers.push(number).is_err() {
+            return Err(HubFault::NoMemory);
+        }
+        let badge = cut_receiver(&wired.board, seat, number).into_badge();
+        Ok(Receiver {
+            wired,
+            badge,
+            number,
+            limit: (1u64 << C) - 1,
+            counts,
+        })
+    }
+
+    /// Gives out the transmitter of this group, which has loaded nothing yet. `AlreadyTaken` just where it
+    /// was given out before. Where it is refused, nothing changes.
+    pub fn transmitter<const S: usize, const C: u32>(
+        &mut self,
+        hub: &Hub<S, C>,
+        number: usize,
+    ) -> Result<Transmitter, HubFault>
+        requires hub { self.old.at ≡ hub.now }
+        requires number { number < length hub.now.station.groups }
+        ensures transmitter { IfOk result (λ t. t ≡ record { at = hub.now; number = number; loads = [] }) }
+        ensures given { IfOk result (λ _. self.new ≡ record self.old { transmitters = self.old.transmitters ++ number ∷ [] }) }
+        ensures taken { IsErrOf result HubFault.AlreadyTaken ↔ IsTrue (list_any (λ y. y == number) self.old.transmitters) }
+        ensures refused { OnErr result (self.new ≡ self.old) }
+    {
+        let Desk {
+            seat,
+            transmitters,
+            ..
+        } = self;
+        if transmitters.as_slice().contains(&number) {
+            return Err(HubFault::AlreadyTaken);
+        }
+        let wired = Arc::try_clone(&hub.wired)?;
+        if transmitters.push(number).is_err() {
+            return Err(HubFault::NoMemory);
+        }
+        let seat = cut_transmitter(&wired.board, seat, number);
+        Ok(Transmitter {
+            wired,
+            seat,
+            number,
+        })
+    }
+}
+
+fn cut_receiver_as<N: Chosen>(board: &Board, seat: &mut HubSeat, number: usize) -> HubSeat
+    requires number { number ≡ N.number }
+    requires seat { IsAt board.now.shared.table_id seat.old × (0 < board.now.shared.table_id.words) }
+    requires view { (seat.old.me.0.deals ≡ true) × (list_any (λ y. y == number) seat.old.me.0.given ≡ false) }
+    ensures seat { Stays seat.old seat.new × Stays seat.old result }
+    ensures view { (seat.new.me.0 ≡ dealt seat.old.me.0 number) × (result.me.0 ≡ receiver seat.old.me.0.station number) }
+{
+    receiver_step::<N>(board, seat)
+}
+
+fn cut_receiver(board: &Board, seat: &mut HubSeat, number: usize) -> HubSeat
+    requires seat { IsAt board.now.shared.table_id seat.old × (0 < board.now.shared.table_id.words) }
+    requires view { (seat.old.me.0.deals ≡ true) × (list_any (λ y. y == number) seat.old.me.0.given ≡ false) }
+    ensures seat { Stays seat.old seat.new × Stays seat.old result }
+    ensures view { (seat.new.me.0 ≡ dealt seat.old.me.0 number) × (result.me.0 ≡ receiver seat.old.me.0.station number) }
+{
+    cut_receiver_as::<Brand>(board, seat, number)
+}
+
+fn cut_transmitter_as<N: Chosen>(board: &Board, seat: &mut HubSeat, number: usize) -> HubSeat
+    requires number { number ≡ N.number }
+    requires seat { IsAt board.now.shared.table_id seat.old × (0 < board.now.shared.table_id.words) }
+    requires view { (seat.old.me.0.deals ≡ true) × (list_any (λ y. y == number) seat.old.me.0.sent ≡ false) }
+    ensures seat { Stays seat.old seat.new × Stays seat.old result }
+    ensures view { (seat.new.me.0 ≡ dealt_transmitter seat.old.me.0 number) × (result.me.0 ≡ transmitter seat.old.me.0.station number) }
+{
+    transmitter_step::<N>(board, seat)
+}
+
+fn cut_transmitter(board: &Board, seat: &mut HubSeat, number: usize) -> HubSeat
+    requires seat { IsAt board.now.shared.table_id seat.old × (0 < board.now.shared.table_id.words) }
+    requires view { (seat.old.me.0.deals ≡ true) × (list_any (λ y. y == number) seat.old.me.0.sent ≡ false) }
+    ensures seat { Stays seat.old seat.new × Stays seat.old result }
+    ensures view { (seat.new.me.0 ≡ dealt_transmitter seat.old.me.0 number) × (result.me.0 ≡ transmitter seat.old.me.0.station number) }
+{
+    cut_transmitter_as::<Brand>(board, seat, number)
+}
