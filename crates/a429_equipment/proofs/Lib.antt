@@ -14,3 +14,4 @@ pub mod IndexPlaces
 pub mod Ranges
 pub mod Cutting
 pub mod Receiving
+pub mod KeyPairs

@@ -12,6 +12,7 @@ pub mod Texts
 pub mod Names
 pub mod Numbers
 pub mod Faults
+pub mod SourceKeys
 pub mod Least
 pub mod Stated
 pub mod FilterTexts

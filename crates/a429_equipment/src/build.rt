@@ -6,8 +6,8 @@ ghost use Rattle.a429_equipment.specs.Tree.{integer_at, rows_at};
 ghost use Rattle.a429_equipment.specs.Stops.{table_of};
 ghost use Rattle.a429_equipment.specs.Stated.{natural, label_of, filter_of, filter_row, filters_of, receiver_row, source_row, group_row, output_row, output_rows};
 
+use crate::keys::sdi_at;
 use crate::numbers::Numbers;
-use crate::repeats::sdi_at;
 use crate::rows::{GroupRow, Name, OutputRow, ReceiverRow, SourceRow};
 use crate::tree::{integer_at, rows_at, text_at, text_of};
 use crate::values::label_value;

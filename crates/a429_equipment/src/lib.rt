@@ -10,6 +10,7 @@ mod equipment;
 mod fault;
 mod filter_texts;
 mod index;
+mod keys;
 pub mod laws;
 mod loads;
 mod names;

@@ -15,7 +15,8 @@ use crate::tree::{rows_at, text_at};
 use crate::walk::Stop;
 use toml::Value;
 
-fn first_rows(rows: &[Value], count: usize) -> &[Value]
+/// The rows before a number.
+pub fn first_rows<T>(rows: &[T], count: usize) -> &[T]
     ensures { result.now ≡ take count rows.now }
 {
     if count < rows.len() {
@@ -26,7 +27,7 @@ fn first_rows(rows: &[Value], count: usize) -> &[Value]
 }
 
 /// The row of a number.
-pub fn nth_row(rows: &[Value], row: usize) -> Option<&Value>
+pub fn nth_row<T>(rows: &[T], row: usize) -> Option<&T>
     ensures { option_copied result ≡ slice_get rows.now row }
 {
     rows.get(row)

@@ -2,7 +2,7 @@
 //!
 //! A table may have hundreds of names, and each is looked up for several faults: so they are gathered once.
 
-ghost use Rattle.std.specs.Prelude.{◌≡◌, ℕ, List, map, codes, IfOk, OnOk, Some, None, if◌then◌else◌};
+ghost use Rattle.std.specs.Prelude.{◌≡◌, ℕ, List, map, codes, IfOk, OnOk, Some, None, option_map, if◌then◌else◌};
 ghost use Rattle.std.specs.Option.{option_or};
 ghost use Rattle.std.specs.Str.{bytes_eq};
 ghost use Rattle.indexmap.specs.IndexMap.{get_by_text};
@@ -10,26 +10,36 @@ ghost use Rattle.toml.specs.View.{view};
 ghost use Rattle.a429_equipment.specs.Names.{number_named};
 ghost use Rattle.a429_equipment.specs.Numbers.{NumbersNames};
 ghost use Rattle.a429_equipment.specs.Tree.{rows_at};
+ghost use Rattle.a429_equipment.specs.SourceKeys.{key_view, key_of, sender_of, senders_of, senders_view};
 
+use crate::keys::{SourceKey, sender_key, sender_keys, source_keys};
+use crate::names::first_rows;
 use crate::tree::{rows_at, text_at};
 use indexmap::IndexMap;
 use std::alloc::{AllocError, Global};
 use toml::Value;
 
-/// A root table, with the numbers of its receivers, sources and groups by their names.
+/// A root table, with the numbers of its receivers, sources and groups by their names, the keys of its
+/// sources, and those of the sources of each group's outputs.
 #[derive(Drop)]
 pub struct Numbers<'a> {
     pub root: &'a Value,
     receivers: IndexMap<String, usize>,
     sources: IndexMap<String, usize>,
     groups: IndexMap<String, usize>,
+    keys: Vec<SourceKey<'a>>,
+    pub senders: Vec<Vec<Option<SourceKey<'a>>>>,
     ghost of_receivers: { NumbersNames receivers (rows_at (codes "receiver") (view root.now)) },
     ghost of_sources: { NumbersNames sources (rows_at (codes "source") (view root.now)) },
     ghost of_groups: { NumbersNames groups (rows_at (codes "group") (view root.now)) },
+    ghost of_keys: { map key_view keys.items ≡ map key_of (rows_at (codes "source") (view root.now)) },
+    ghost of_senders: { senders_view senders.items ≡ map (senders_of (view root.now)) (rows_at (codes "group") (view root.now)) },
 }
 
 impl<'a> Numbers<'a> {
     ghost use Rattle.a429_equipment.specs.Stops.{table_of};
+    ghost use Rattle.a429_equipment.specs.Walk.{earlier};
+    ghost use Rattle.a429_equipment.specs.declared.fault.TablePlace.TheVariants.{Source};
 
     /// Gathers the names of a root table.
     pub fn of(alloc: Global, root: &'a Value) -> Result<Numbers<'a>, AllocError>
@@ -38,11 +48,15 @@ impl<'a> Numbers<'a> {
         let receivers = number_names(alloc, rows_at(root, "receiver"))?;
         let sources = number_names(alloc, rows_at(root, "source"))?;
         let groups = number_names(alloc, rows_at(root, "group"))?;
+        let keys = source_keys(alloc, rows_at(root, "source"))?;
+        let senders = sender_keys(alloc, &sources, &keys, rows_at(root, "group"))?;
         Ok(Numbers {
             root,
             receivers,
             sources,
             groups,
+            keys,
+            senders,
         })
     }
 
@@ -65,6 +79,21 @@ impl<'a> Numbers<'a> {
         ensures { result ≡ number_named name.now (rows_at (codes "group") (table_of self.now)) }
     {
         self.groups.get(name).copied()
+    }
+
+    /// The keys of the sources before a row.
+    #[tactic(auto, unfolding(crate::specs::Walk::earlier), using(crate::proofs::Trees::map_take))]
+    pub fn earlier_sources(&self, row: usize) -> &[SourceKey<'a>]
+        ensures { map key_view result.now ≡ map key_of (earlier (table_of self.now) (Source row)) }
+    {
+        first_rows(&self.keys, row)
+    }
+
+    /// The key of the source of an output.
+    pub fn sender(&self, output: &Value) -> Option<SourceKey<'a>>
+        ensures { option_map key_view result ≡ sender_of (table_of self.now) (view output.now) }
+    {
+        sender_key(&self.sources, &self.keys, output)
     }
 }
 

@@ -54,7 +54,7 @@ fn stands(numbers: &Numbers<'_>, kind: FaultKind, stop: &Stop) -> bool
         FaultKind::Sdi => has_bad_sdi(stop),
         FaultKind::Interval => has_bad_interval(stop),
         FaultKind::UnknownName => names_nothing(numbers, stop),
-        FaultKind::DuplicateSource => repeats_source(numbers.root, stop),
+        FaultKind::DuplicateSource => repeats_source(numbers, stop),
         FaultKind::DuplicateOutput => repeats_output(numbers, stop),
         FaultKind::EmptyGroup => is_empty_group(stop),
     }

@@ -1,0 +1,149 @@
+//! What sources state of their words, gathered once: the tests for repeats compare it pair by pair.
+
+ghost use Rattle.std.specs.Prelude.{◌≡◌, map, slice_get, option_map, IfOk};
+ghost use Rattle.indexmap.specs.IndexMap.{get_by_text};
+ghost use Rattle.toml.specs.Data.{Data};
+ghost use Rattle.toml.specs.View.{view};
+ghost use Rattle.a429_equipment.specs.Faults.{sdi_at, sdis_meet, same_sdi};
+ghost use Rattle.a429_equipment.specs.SourceKeys.{key_view, key_of, keys_meet, same_keys, sender_of, senders_of, senders_view, AreOfSources};
+
+use crate::tree::{rows_at, text_at};
+use indexmap::IndexMap;
+use std::alloc::{AllocError, Global};
+use toml::Value;
+
+/// The receiver, the label and the SDI that a source states.
+#[derive(Clone, Copy)]
+pub struct SourceKey<'a> {
+    receiver: &'a str,
+    label: &'a str,
+    sdi: Option<i64>,
+}
+
+/// The number of a source's SDI; none is any.
+pub fn sdi_at(source: &Value) -> Option<i64>
+    ensures { result ≡ sdi_at (view source.now) }
+{
+    match source.get("sdi") {
+        Some(Value::Integer(number)) => Some(*number),
+        _ => None,
+    }
+}
+
+fn sdis_meet(a: Option<i64>, b: Option<i64>) -> bool
+    ensures { result ≡ sdis_meet a b }
+{
+    match (a, b) {
+        (Some(a), Some(b)) => a == b,
+        _ => true,
+    }
+}
+
+fn same_sdi(a: Option<i64>, b: Option<i64>) -> bool
+    ensures { result ≡ same_sdi a b }
+{
+    match (a, b) {
+        (Some(a), Some(b)) => a == b,
+        (None, None) => true,
+        _ => false,
+    }
+}
+
+/// One word can be for both sources.
+pub fn keys_meet(a: &SourceKey<'_>, b: &SourceKey<'_>) -> bool
+    ensures { result ≡ keys_meet (key_view a.now) (key_view b.now) }
+{
+    sdis_meet(a.sdi, b.sdi) && a.label == b.label && a.receiver == b.receiver
+}
+
+/// Both are sources, of the same label and SDI.
+pub fn same_keys(a: &Option<SourceKey<'_>>, b: &Option<SourceKey<'_>>) -> bool
+    ensures { result ≡ same_keys (option_map key_view a.now) (option_map key_view b.now) }
+{
+    match (a, b) {
+        (Some(a), Some(b)) => same_sdi(a.sdi, b.sdi) && a.label == b.label,
+        _ => false,
+    }
+}
+
+/// The key of a source.
+pub fn source_key(source: &Value) -> SourceKey<'_>
+    ensures { key_view result ≡ key_of (view source.now) }
+{
+    SourceKey {
+        receiver: text_at(source, "receiver"),
+        label: text_at(source, "label"),
+        sdi: sdi_at(source),
+    }
+}
+
+/// The key of each source.
+pub fn source_keys<'a>(
+    alloc: Global,
+    sources: &'a [Value],
+) -> Result<Vec<SourceKey<'a>>, AllocError>
+    ensures { IfOk result (λ keys. map key_view keys.items ≡ map key_of (map view sources.now)) }
+{
+    let mut keys = Vec::new(alloc);
+    for source in sources {
+        keys.push(source_key(source))?;
+    }
+    Ok(keys)
+}
+
+fn nth_key<'a>(keys: &[SourceKey<'a>], number: usize) -> Option<SourceKey<'a>>
+    ensures { result ≡ slice_get keys.now number }
+{
+    keys.get(number).copied()
+}
+
+fn number_of(numbers: &IndexMap<String, usize>, name: &str) -> Option<usize>
+    ensures { result ≡ get_by_text numbers.now name.now }
+{
+    numbers.get(name).copied()
+}
+
+/// The key of the source of an output, by the numbers and the keys of the sources.
+pub fn sender_key<'a>(
+    numbers: &IndexMap<String, usize>,
+    keys: &[SourceKey<'a>],
+    output: &Value,
+) -> Option<SourceKey<'a>>
+    ensures { (root : Data) → AreOfSources numbers.now keys.now root → option_map key_view result ≡ sender_of root (view output.now) }
+{
+    match number_of(numbers, text_at(output, "source")) {
+        Some(number) => nth_key(keys, number),
+        None => None,
+    }
+}
+
+fn group_keys<'a>(
+    alloc: Global,
+    numbers: &IndexMap<String, usize>,
+    keys: &[SourceKey<'a>],
+    outputs: &[Value],
+) -> Result<Vec<Option<SourceKey<'a>>>, AllocError>
+    ensures { IfOk result (λ senders. (root : Data) → AreOfSources numbers.now keys.now root → map (option_map key_view) senders.items ≡ map (sender_of root) (map view outputs.now)) }
+{
+    let mut senders = Vec::new(alloc);
+    for output in outputs {
+        senders.push(sender_key(numbers, keys, output))?;
+    }
+    Ok(senders)
+}
+
+/// The keys of the sources of the outputs of each group.
+pub fn sender_keys<'a>(
+    alloc: Global,
+    numbers: &IndexMap<String, usize>,
+    keys: &[SourceKey<'a>],
+    groups: &[Value],
+) -> Result<Vec<Vec<Option<SourceKey<'a>>>>, AllocError>
+    ensures { IfOk result (λ senders. (root : Data) → AreOfSources numbers.now keys.now root → senders_view senders.items ≡ map (senders_of root) (map view groups.now)) }
+{
+    let mut senders = Vec::new(alloc);
+    for group in groups {
+        senders.push(group_keys(alloc, numbers, keys, rows_at(group, "output"))?)?;
+    }
+    Ok(senders)
+}
