@@ -1,0 +1,35 @@
+//! The opening of a board.
+ghost use Rattle.std.specs.Prelude.{◌≡◌, ◌<◌, ◌∷◌, [], All, length, IfOk};
+
+use crate::planner::Planner;
+use crate::watcher::Watcher;
+use a429_slots::{OUTPUTS, Plan};
+use std::alloc::{AllocError, Global};
+use std::sync::Wait;
+
+/// Where one planner publishes plans, and watchers read the newest.
+pub struct Board;
+
+impl Board {
+    /// A board with so many watchers, which begins with this plan under the plan's own number. It is refused
+    /// where memory is, or one of the readers.
+    pub fn open<R: Wait>(
+        rt: &R,
+        alloc: Global,
+        plan: Plan<OUTPUTS>,
+        watchers: u32,
+    ) -> Result<(Planner, Vec<Watcher>), AllocError>
+        requires some { 0 < watchers }
+        ensures planner { IfOk result (λ r. (r.0.list ≡ plan ∷ []) × (r.0.last ≡ plan)) }
+        ensures watchers { IfOk result (λ r. (length r.1.items ≡ watchers) × All (λ w. w ≡ record { book = r.0.book; list = plan ∷ []; opened = plan }) r.1.items) }
+    {
+        let mut planner = Planner::begin(rt, alloc, plan, watchers)?;
+        match planner.watchers(alloc, watchers) {
+            Ok(all) => Ok((planner, all)),
+            Err(fault) => {
+                planner.close(rt);
+                Err(fault)
+            }
+        }
+    }
+}

@@ -1,0 +1,160 @@
+//! Boards of real plans, and a watcher in a thread of its own.
+ghost use Rattle.std.specs.Prelude.{◌≡◌, All, IfOk, IfSome};
+
+use crate::{Board, BoardFault, Planner, Watcher};
+use a429_equipment::Equipment;
+use a429_slots::{OUTPUTS, Plan, plan};
+use std::alloc::Global;
+use std::sync::Wait;
+use std::test::Fail;
+use std::thread::{Threads, join_mut};
+
+/// One group that sends its source in every slot.
+const TABLE: &str = r#"version = 1
+rate = 100000
+[[receiver]]
+name = "r"
+[[source]]
+name = "s"
+receiver = "r"
+label = "203"
+sdi = "any"
+[[group]]
+name = "g"
+[[group.output]]
+source = "s"
+min_us = 1
+max_us = 360
+"#;
+
+/// Its plan, of number 0.
+fn planned(alloc: Global) -> Result<Plan<OUTPUTS>, Fail> {
+    let equipment = Equipment::read(alloc, TABLE.as_bytes())?;
+    Ok(plan(alloc, &equipment)?)
+}
+
+/// The last of the watchers, which are of the planner's board.
+fn one_of(all: &mut Vec<Watcher>, planner: &Planner) -> Option<Watcher>
+    requires { All (λ w. w.book ≡ planner.now.book) all.old.items }
+    ensures one { IfSome result (λ w. w.book ≡ planner.now.book) }
+    ensures rest { All (λ w. w.book ≡ planner.now.book) all.new.items }
+{
+    all.pop()
+}
+
+/// A board with two watchers.
+fn two<R: Wait>(
+    rt: &R,
+    alloc: Global,
+    plan: Plan<OUTPUTS>,
+) -> Result<(Planner, Watcher, Watcher), Fail>
+    ensures { IfOk result (λ r. (r.1.book ≡ r.0.book) × (r.2.book ≡ r.0.book)) }
+{
+    let (planner, mut all) = Board::open(rt, alloc, plan, 2)?;
+    let second = one_of(&mut all, &planner);
+    let first = one_of(&mut all, &planner);
+    match (first, second) {
+        (Some(first), Some(second)) => Ok((planner, first, second)),
+        _ => {
+            planner.close(rt);
+            Err(Fail::from("two watchers"))
+        }
+    }
+}
+
+#[test]
+fn watchers_read_what_was_published(rt: HostRuntime) -> Result<(), Fail> {
+    let opening = planned(rt.alloc())?;
+    let (mut planner, mut first, mut second) = two(&rt, rt.alloc(), opening)?;
+    let before = (first.newest().0, second.newest().0);
+    let answer = planner.publish(&rt, opening.numbered(7));
+    planner.tell(&mut first);
+    // The second was never told.
+    let after = (first.newest(), second.newest());
+    let opened = (first.opened().number(), second.opened().number());
+    planner.close(&rt);
+    assert_eq!(rt; before, (0, 0));
+    assert!(rt; matches!(answer, Ok(1)));
+    let ((first, first_plan), (second, second_plan)) = after;
+    assert_eq!(rt; (first, second), (1, 1));
+    assert_eq!(rt; (first_plan.number(), second_plan.number()), (1, 1));
+    assert_eq!(rt; (first_plan.groups(), second_plan.groups()), (1, 1));
+    assert_eq!(rt; opened, (0, 0));
+    Ok(())
+}
+
+#[test]
+fn numbers_end(rt: HostRuntime) -> Result<(), Fail> {
+    let last_but_one = planned(rt.alloc())?.numbered(u64::MAX - 1);
+    let (mut planner, mut first, mut second) = two(&rt, rt.alloc(), last_but_one)?;
+    let opened = first.newest().0;
+    let answers = (
+        planner.publish(&rt, last_but_one),
+        planner.publish(&rt, last_but_one),
+    );
+    planner.tell(&mut first);
+    let after = (first.newest().0, second.newest().0);
+    planner.close(&rt);
+    assert_eq!(rt; opened, u64::MAX - 1);
+    assert!(rt; matches!(answers, (Ok(u64::MAX), Err(BoardFault::CountSpent))));
+    assert_eq!(rt; after, (u64::MAX, u64::MAX));
+    Ok(())
+}
+
+/// Reads so often, and says whether the numbers never fell.
+fn read_all(watcher: &mut Watcher, times: u64) -> bool
+    ensures { watcher.new.book ≡ watcher.old.book }
+{
+    let mut last = 0;
+    let mut rises = true;
+    for _ in 0..times {
+        let (number, _) = watcher.newest();
+        rises = rises && last <= number;
+        last = number;
+    }
+    rises
+}
+
+/// Publishes the plan so often, and counts the plans that were published.
+fn publish_all<R: Wait>(rt: &R, planner: &mut Planner, plan: Plan<OUTPUTS>, times: u64) -> u64
+    ensures { planner.new.book ≡ planner.old.book }
+{
+    let mut published = 0u64;
+    for _ in 0..times {
+        if planner.publish(rt, plan).is_ok() {
+            published = published.wrapping_add(1);
+        }
+    }
+    published
+}
+
+/// Both at once: so many plans were published, and whether the numbers that were read never fell.
+fn both<R: Threads + Wait + Sync>(
+    rt: &R,
+    planner: &mut Planner,
+    plan: Plan<OUTPUTS>,
+    watcher: &mut Watcher,
+) -> (u64, bool)
+    requires { watcher.old.book ≡ planner.old.book }
+    ensures { watcher.new.book ≡ planner.new.book }
+{
+    join_mut(
+        rt,
+        &mut || publish_all(rt, planner, plan, 20),
+        &mut || read_all(watcher, 200),
+    )
+}
+
+#[test]
+fn a_thread_reads_while_plans_are_published(rt: HostRuntime) -> Result<(), Fail> {
+    let opening = planned(rt.alloc())?;
+    let (mut planner, mut first, mut second) = two(&rt, rt.alloc(), opening)?;
+    let (published, rises) = both(&rt, &mut planner, opening, &mut first);
+    let untold = (first.newest().0, second.newest().0);
+    planner.tell(&mut first);
+    let told = first.newest().0;
+    planner.close(&rt);
+    assert!(rt; rises);
+    assert_eq!(rt; (published, untold, told), (20, (20, 20), 20));
+    Ok(())
+}
