@@ -1,10 +1,10 @@
--- What is printed of the reports of a line, piece by piece.
-use Rattle.std.proofs.Common.{◌≡◌, ◌∙◌, ◌+◌, ◌∷◌, [], ◌++◌, ℕ, List, Bool, true, false, ap, arith, refl, sym, length, take, append_assoc, append-nil, codes, inl, inr}
+-- What is printed of the reports of a line, one after another.
+use Rattle.std.proofs.Common.{◌≡◌, ◌∙◌, ◌+◌, ◌-◌, ◌≤◌, ◌∷◌, [], ◌++◌, ℕ, List, Bool, true, false, ap, arith, refl, sym, length, take, slice_range, append_assoc, append-nil, codes, inl, inr}
 use Rattle.std.specs.Prelude.{Option, Some, None, filter, filter_map}
 use Rattle.std.proofs.lemmas.Grind.{flat_map-append}
 use Rattle.std.proofs.lemmas.List.{length-map, map-append}
 use Rattle.std.proofs.lemmas.List.Elements.{filter-append, filter_map-append}
-use Rattle.std.proofs.Math.Seq.{take-append_seam, take-append-add, take-length}
+use Rattle.std.proofs.Math.Seq.{take-add, take-append_seam, take-length}
 use Rattle.std.specs.List.{flat_map}
 use Rattle.a429_line.specs.Reports.{first_piece, later_pieces, reports, runs, runs_from}
 use Rattle.a429_line.specs.declared.found.Found.{Found}
@@ -14,7 +14,7 @@ use Rattle.a429_filter.specs.Receiving.{accepts}
 use Rattle.a429_filter.specs.Sources.{raw_found}
 use Rattle.a429_filter.specs.declared.filters.Filter.{Filter}
 use Rattle.a429_equipment.specs.Stated.{filter_of}
-use Rattle.a429_cli.specs.LineFiles.{symbol_of, symbols_of}
+use Rattle.a429_line.specs.LineBytes.{symbol_of, symbols_of}
 use Rattle.a429_cli.specs.LineReports.{found_line, printed, received, word_line}
 use Rattle.a429_cli.specs.LineReplies.{IsPrinted, IsTold, IsToldInPart, filter_list}
 use Rattle.a429_cli.specs.Outputs.{ending, status_of}
@@ -36,29 +36,25 @@ pub no_reports : reports (symbols_of []) ≡ []
 unfolding reports runs runs_from first_piece later_pieces
 no_reports = refl
 
-pub nothing_left : (bytes : List ℕ) → length bytes ≡ 0 → bytes ≡ []
-nothing_left [] none = refl
-nothing_left (b ∷ bytes) none = absurd (omega (arith, none))
-
--- of a line of which a piece was taken
-pub pieces_whole : (bytes past left piece later : List ℕ) → bytes ≡ past ++ left → piece ++ later ≡ left → bytes ≡ (past ++ piece) ++ later
-pieces_whole bytes past left piece later is cut = is ∙ (ap (λ (rest : List ℕ). past ++ rest) (sym cut) ∙ sym (append_assoc past piece later))
-
 pub symbols-append : (xs ys : List ℕ) → symbols_of (xs ++ ys) ≡ symbols_of xs ++ symbols_of ys
 symbols-append xs ys = filter_map-append symbol_of xs ys
 
 pub symbols_cut : (bytes past left : List ℕ) → bytes ≡ past ++ left → symbols_of bytes ≡ symbols_of past ++ symbols_of left
 symbols_cut bytes past left is = ap symbols_of is ∙ symbols-append past left
 
+-- of a line of which some bytes more were taken
+pub symbols_taken : (bytes seen : List ℕ) (a b : ℕ) → seen ≡ bytes → a ≤ b → symbols_of (take a bytes) ++ symbols_of (slice_range seen a b) ≡ symbols_of (take b bytes)
+symbols_taken bytes seen a b same h =
+    let end : a + (b - a) ≡ b = omega arith in
+    ap (λ (xs : List ℕ). symbols_of (take a bytes) ++ symbols_of (slice_range xs a b)) same
+    ∙ (sym (symbols-append (take a bytes) (slice_range bytes a b)) ∙ ap symbols_of (sym (take-add a (b - a) bytes) ∙ ap (λ (n : ℕ). take n bytes) end))
+
+pub taken_whole : (bytes seen : List ℕ) (n : ℕ) → seen ≡ bytes → n ≡ length seen → symbols_of (take n bytes) ≡ symbols_of bytes
+taken_whole bytes seen n same all = ap symbols_of (ap (λ (k : ℕ). take k bytes) (all ∙ ap length same) ∙ take-length bytes)
+
 -- all reports of a first part
 pub told_before : (filters : Option (List Filter)) (line first later : List Symbol) → line ≡ first ++ later → IsToldInPart filters line (printed filters (reports first))
 told_before filters line first later is = (length first, length (reports first), rw (is, take-append_seam first later, take-length (reports first)) refl)
-
--- these and some of those that a further piece adds
-pub told_within : (filters : Option (List Filter)) (line first later : List Symbol) (earlier found : List Found) (n : ℕ) → line ≡ first ++ later → reports first ≡ earlier ++ found
-    → IsToldInPart filters line (printed filters earlier ++ printed filters (take n found))
-told_within filters line first later earlier found n is whole =
-    (length first, length earlier + n, rw (is, take-append_seam first later, whole, take-append-add earlier found n, printed-append filters earlier (take n found)) refl)
 
 -- with the end of the lines
 pub told_ended : (filters : Option (List Filter)) (line : List Symbol) (all : Bool) (lines : List ℕ) → IsPrinted filters line all lines → IsTold filters line (status_of all) (lines ++ ending all)

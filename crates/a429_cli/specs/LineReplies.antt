@@ -6,7 +6,8 @@ use Rattle.a429_filter.specs.declared.filters.Filter.{Filter}
 use Rattle.a429_equipment.specs.Stated.{filter_of}
 use Rattle.a429_equipment.specs.FilterTexts.{filter_read}
 use Rattle.a429_cli.specs.Files.{readable, IsFileRefusal}
-use Rattle.a429_cli.specs.LineFiles.{symbols_of, first_bad_byte}
+use Rattle.a429_line.specs.LineBytes.{symbols_of}
+use Rattle.a429_cli.specs.LineFiles.{first_bad_byte}
 use Rattle.a429_cli.specs.LineReports.{printed, rest_line}
 use Rattle.a429_cli.specs.RefusalText.{OrMemory, refusal_line}
 use Rattle.a429_cli.specs.declared.refusals.CommandRefusal.{CommandRefusal}

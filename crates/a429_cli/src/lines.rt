@@ -1,13 +1,11 @@
 //! The command `lines`.
-ghost use Rattle.std.specs.Prelude.{◌≡◌, ◌==◌, ◌||◌, ◌≤◌, ◌++◌, ◌∷◌, [], List, ℕ, Some, None, IfOk, OnOk, IsTrue, MatchResult, is_none, length, map, not};
+ghost use Rattle.std.specs.Prelude.{◌≡◌, ◌==◌, ◌||◌, ◌≤◌, ◌++◌, ◌∷◌, [], List, ℕ, Some, None, IfOk, IsTrue, MatchResult, is_none, length, map, not};
 ghost use Rattle.std.specs.Io.KnownBytes.{Appends, append_known};
-ghost use Rattle.a429_line.specs.Reports.{reports};
-ghost use Rattle.a429_line.specs.Standing.{StandsFor};
-ghost use Rattle.a429_line.specs.declared.found.Symbol.{Symbol};
+ghost use Rattle.a429_line.specs.LineBytes.{symbols_of};
 ghost use Rattle.a429_filter.specs.Filters.{filters_of};
 ghost use Rattle.a429_equipment.specs.Stated.{filter_of};
 ghost use Rattle.a429_equipment.specs.FilterTexts.{filter_read};
-ghost use Rattle.a429_cli.specs.LineFiles.{first_bad_byte, symbols_of};
+ghost use Rattle.a429_cli.specs.LineFiles.{first_bad_byte};
 ghost use Rattle.a429_cli.specs.LineReplies.{IsFilterRefusal, IsLinesRefusal, IsLinesReply, IsPrinted, IsRead, IsTold, filter_list, first_bad_filter};
 ghost use Rattle.a429_cli.specs.Outputs.{CountsFault};
 ghost use Rattle.a429_cli.specs.RefusalText.{OrMemory};
@@ -15,56 +13,21 @@ ghost use Rattle.a429_cli.specs.RefusalText.{OrMemory};
 use crate::buffer::Lines;
 use crate::endings::{finish, refuse};
 use crate::files::FileReader;
-use crate::line_files::{first_bad_byte, push_symbols};
+use crate::line_files::first_bad_byte;
 use crate::output::{Output, OutputFault};
 use crate::reading::read_file;
 use crate::refusals::CommandRefusal;
-use crate::reports::{print_reports, push_rest};
+use crate::reports::{print_report, push_rest};
 use a429_equipment::filter_of_text;
 use a429_filter::FilterSet;
-use a429_line::{Found, LineReader, Symbol};
-use std::alloc::{AllocError, Global};
-
-/// How many bytes of a line file are looked at together.
-const PIECE: usize = 4096;
+use a429_line::LineReader;
+use std::alloc::Global;
 
 /// The bytes of a line file, and the filters of its receiver.
 #[derive(Drop)]
 struct Line {
     bytes: Vec<u8>,
     filters: FilterSet,
-}
-
-/// A reader of a line, with the symbols of the piece that it took last, and the reports that were due in it.
-#[derive(Drop)]
-struct Pieces {
-    reader: LineReader,
-    symbols: Vec<Symbol>,
-    found: Vec<Found>,
-}
-
-impl Pieces {
-    /// A reader at the start of its line.
-    fn new(alloc: Global) -> Pieces
-        ensures { StandsFor [] result.reader }
-    {
-        Pieces {
-            reader: LineReader::new(),
-            symbols: Vec::new(alloc),
-            found: Vec::new(alloc),
-        }
-    }
-
-    /// Takes the next piece of the line.
-    fn take(&mut self, piece: &[u8]) -> Result<(), AllocError>
-        ensures { OnOk result ((x : List Symbol) → StandsFor x self.old.reader → StandsFor (x ++ symbols_of piece.now) self.new.reader
-            × (reports (x ++ symbols_of piece.now) ≡ reports x ++ self.new.found.items)) }
-    {
-        self.symbols.clear();
-        self.found.clear();
-        push_symbols(&mut self.symbols, piece)?;
-        self.reader.feed(&self.symbols, &mut self.found)
-    }
 }
 
 /// Adds the filter of a text at the end of the list. Whether the text has one, and the list room for it.
@@ -111,31 +74,22 @@ fn read_line<F: FileReader>(
     }
 }
 
-/// Appends what is printed of a line's reports, piece by piece, and of its rest. The lines are put out where
+/// Appends what is printed of a line's reports, one after another, and of its rest. The lines are put out where
 /// they have become many, and those that are left stand in `lines`. Whether memory sufficed for all.
-fn print_line<O: Output>(
-    alloc: Global,
-    line: &Line,
-    lines: &mut Lines,
-    out: &mut O,
-) -> Result<bool, OutputFault>
+fn print_line<O: Output>(line: &Line, lines: &mut Lines, out: &mut O) -> Result<bool, OutputFault>
     ensures printed { IfOk result (λ all. (told : List ℕ) × IsPrinted line.now.filters (symbols_of line.now.bytes.items) all told
         × Appends (append_known (O.contents out.old) lines.old.text.items) (append_known (O.contents out.new) lines.new.text.items) told) }
     ensures faults { CountsFault result (O.failures out.old) (O.failures out.new) }
 {
-    let mut pieces = Pieces::new(alloc);
-    let mut left = line.bytes.as_slice();
-    while !left.is_empty() {
-        let (piece, later) = left.split_at(left.len().min(PIECE));
-        let Ok(()) = pieces.take(piece) else {
-            return Ok(false);
-        };
-        if !print_reports(&line.filters, &pieces.found, lines, out)? {
+    let bytes = line.bytes.as_slice();
+    let mut reader = LineReader::new();
+    let mut at = 0;
+    while let Some(found) = reader.next(bytes, &mut at) {
+        if !print_report(&line.filters, found, lines, out)? {
             return Ok(false);
         }
-        left = later;
     }
-    let Ok(()) = push_rest(lines, &line.filters, pieces.reader.rest()) else {
+    let Ok(()) = push_rest(lines, &line.filters, reader.rest()) else {
         return Ok(false);
     };
     Ok(true)
@@ -149,7 +103,7 @@ fn tell_line<O: Output>(alloc: Global, line: &Line, out: &mut O) -> Result<u8, O
     ensures faults { CountsFault result (O.failures out.old) (O.failures out.new) }
 {
     let mut lines = Lines::new(alloc);
-    let sufficed = print_line(alloc, line, &mut lines, out)?;
+    let sufficed = print_line(line, &mut lines, out)?;
     finish(&lines.text, sufficed, out)
 }
 

@@ -62,26 +62,23 @@ fn push_report(lines: &mut Lines, filters: &FilterSet, found: Found) -> Result<(
     }
 }
 
-/// Appends what is printed of reports, one after another. The lines are put out where they have become
-/// many, and those that are left stand in `lines`. Whether memory sufficed for all.
-pub fn print_reports<O: Output>(
+/// Appends what is printed of a report. The lines are put out where they have become many, and those that are
+/// left stand in `lines`. Whether memory sufficed; where it did not, nothing is appended.
+pub fn print_report<O: Output>(
     filters: &FilterSet,
-    reports: &[Found],
+    found: Found,
     lines: &mut Lines,
     out: &mut O,
 ) -> Result<bool, OutputFault>
-    ensures printed { IfOk result (λ all. (n : ℕ)
-        × Appends (append_known (O.contents out.old) lines.old.text.items) (append_known (O.contents out.new) lines.new.text.items) (printed filters.now (take n reports.now))
-        × (IsTrue all → n ≡ length reports.now)) }
+    ensures printed { IfOk result (λ all. Appends (append_known (O.contents out.old) lines.old.text.items) (append_known (O.contents out.new) lines.new.text.items)
+        (if all then printed filters.now (found ∷ []) else [])) }
     ensures few { OnOk result (length lines.old.text.items < 65536 → length lines.new.text.items < 65536) }
     ensures faults { CountsFault result (O.failures out.old) (O.failures out.new) }
 {
-    for found in reports {
-        let Ok(()) = push_report(lines, filters, *found) else {
-            return Ok(false);
-        };
-        put_if_full(&mut lines.text, out)?;
-    }
+    let Ok(()) = push_report(lines, filters, found) else {
+        return Ok(false);
+    };
+    put_if_full(&mut lines.text, out)?;
     Ok(true)
 }
 

@@ -1,5 +1,7 @@
 pub mod Cuts
+pub mod LineBytes
 pub mod Reports
 pub mod Slots
 pub mod Stages
 pub mod Standing
+pub mod Stretches

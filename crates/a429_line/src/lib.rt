@@ -6,6 +6,7 @@ pub mod laws;
 mod reader;
 mod slot;
 mod stage;
+mod stretches;
 
 pub use found::{Found, Symbol};
 pub use reader::LineReader;

@@ -1,6 +1,7 @@
 //! A reader of one line, symbols in any pieces.
-ghost use Rattle.std.specs.Prelude.{◌≡◌, ◌++◌, List, [], OnOk, OnErr, IfOk, is_ok, if◌then◌else◌};
+ghost use Rattle.std.specs.Prelude.{◌≡◌, ◌++◌, ◌≤◌, ◌<◌, List, [], None, IfSome, OnOk, OnErr, IfOk, is_ok, length, slice_range, if◌then◌else◌};
 ghost use Rattle.std.specs.Option.{option_to_list};
+ghost use Rattle.a429_line.specs.LineBytes.{symbols_of};
 ghost use Rattle.a429_line.specs.Reports.{reports, rest};
 ghost use Rattle.a429_line.specs.Stages.{after_all, due_in};
 ghost use Rattle.a429_line.specs.Standing.{StandsFor};
@@ -9,6 +10,7 @@ ghost use Rattle.a429_line.specs.declared.found.Found.{Found};
 
 use crate::found::{Found, Symbol};
 use crate::stage::Stage;
+use crate::stretches::next_found;
 use std::alloc::AllocError;
 use std::marker::Model;
 
@@ -77,6 +79,26 @@ impl LineReader {
     {
         self.stage = take_all(self.stage, piece, out)?;
         Ok(())
+    }
+
+    /// Takes the symbols that bytes stand for, from a place on and up to the next report, and gives that report;
+    /// bytes that stand for no symbol are skipped. The place is then behind the bytes that were taken. With no
+    /// report all bytes were taken.
+    // For every line that the reader stands for, it then stands for that line with the symbols of the bytes
+    // taken behind it, and the report is the one that the longer line has beyond the shorter one's.
+    pub fn next(&mut self, bytes: &[u8], from: &mut usize) -> Option<Found>
+        requires { from.old ≤ length bytes.now }
+        ensures stands { (x : List Symbol) → StandsFor x self.old → StandsFor (x ++ symbols_of (slice_range bytes.now from.old from.new)) self.new }
+        ensures reports { (x : List Symbol) → StandsFor x self.old →
+            reports (x ++ symbols_of (slice_range bytes.now from.old from.new)) ≡ reports x ++ option_to_list result }
+        ensures forward { (from.old ≤ from.new) × (from.new ≤ length bytes.now) }
+        ensures goes_on { IfSome result (λ _. from.old < from.new) }
+        ensures end { result ≡ None → from.new ≡ length bytes.now }
+    {
+        let (found, reached, stage) = next_found(bytes, *from, self.stage);
+        self.stage = stage;
+        *from = reached;
+        found
     }
 
     /// The length in bits of a run that has not ended and has no report, 0 where there is none.

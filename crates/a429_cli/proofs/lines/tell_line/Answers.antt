@@ -1,5 +1,5 @@
 use Rattle.std.proofs.Common.{◌++◌, ℕ, subst, sym}
-use Rattle.a429_cli.specs.LineFiles.{symbols_of}
+use Rattle.a429_line.specs.LineBytes.{symbols_of}
 use Rattle.a429_cli.specs.LineReplies.{IsTold}
 use Rattle.a429_cli.specs.Outputs.{ending}
 use Rattle.a429_cli.proofs.PlayedLines.{Appends-ended}

@@ -2,7 +2,7 @@ use Rattle.std.proofs.Common.{◌++◌, ◌∷◌, [], inl, inr, map, refl, subs
 use Rattle.std.specs.Prelude.{Option}
 use Rattle.std.proofs.lemmas.Result.{IfOk-weaker}
 use Rattle.a429_filter.specs.declared.filters.Filter.{Filter}
-use Rattle.a429_cli.specs.LineFiles.{symbols_of}
+use Rattle.a429_line.specs.LineBytes.{symbols_of}
 use Rattle.a429_cli.specs.LineReplies.{IsLinesRefusal, IsTold}
 use Rattle.a429_cli.specs.RefusalText.{refusal_line}
 use Rattle.a429_cli.proofs.Refused.{both_ok, told_or_memory}

@@ -1,0 +1,10 @@
+use Rattle.std.proofs.Common.{length, ◌-◌, []}
+use Rattle.a429_line.specs.Stretches.{Takes}
+use Rattle.a429_line.specs.declared.stage.Stage.TheVariants.{Within}
+use Rattle.a429_line.proofs.stretches.take_run.Given as goal
+
+abbrev pub invariant-loop-at : goal.invariant-loop-at
+invariant-loop-at l = Takes l.bytes l.from (Within l.fn.len l.fn.raw) [] l.at (Within l.len l.raw)
+
+abbrev pub decreases-loop-at : goal.decreases-loop-at
+decreases-loop-at l = length l.bytes - l.at

@@ -1,0 +1,17 @@
+-- The symbols of a line as bytes (profile: line file).
+use Rattle.std.specs.Prelude.{◌==◌, ℕ, List, Option, Some, None, if◌then◌else◌}
+use Rattle.std.specs.List.{filter_map}
+use Rattle.a429_line.specs.declared.found.Symbol.{Symbol}
+use Rattle.a429_line.specs.declared.found.Symbol.TheVariants.{Hi, Null, Lo}
+
+-- the symbol that a byte stands for: `1`, `0` or `.`
+abbrev pub symbol_of : ℕ → Option Symbol
+symbol_of b = if b == 49 then Some Hi else (if b == 48 then Some Lo else (if b == 46 then Some Null else None))
+
+-- the symbols of bytes, in order; other bytes are skipped
+abbrev pub symbols_of : List ℕ → List Symbol
+symbols_of bytes = filter_map symbol_of bytes
+
+-- the bit that a byte stands for
+abbrev pub bit_of : ℕ → Option ℕ
+bit_of b = if b == 49 then Some 1 else (if b == 48 then Some 0 else None)
