@@ -7,7 +7,7 @@ use Rattle.a429_line.specs.declared.found.Found.TheVariants.{Word, Parity, Short
 use Rattle.a429_filter.specs.declared.filters.Filter.{Filter}
 use Rattle.a429_filter.specs.Receiving.{accepts}
 use Rattle.a429_filter.specs.Sources.{raw_found}
-use Rattle.a429_cli.specs.Lines.{hex}
+use Rattle.a429_word.specs.Hexadecimal.{hex}
 
 abbrev pub word_line : ℕ → List ℕ
 word_line raw = codes "word " ++ hex raw ++ 10 ∷ []

@@ -1,15 +1,12 @@
 -- The lines that the program writes, each without its line feed (profile: output).
-use Rattle.std.specs.Prelude.{◌++◌, ◌∷◌, [], ℕ, List, Option, Some, None, codes, ◌-◌, ◌^◌, false}
-use Rattle.std.specs.Fmt.{decimal, digits, padded_integral, format_spec}
+use Rattle.std.specs.Prelude.{◌++◌, ◌∷◌, [], ℕ, List, Option, Some, None, codes}
+use Rattle.std.specs.Fmt.{decimal}
+use Rattle.a429_word.specs.Hexadecimal.{hex}
 use Rattle.a429_slots.specs.declared.answers.Answer.{Answer}
 use Rattle.a429_slots.specs.declared.answers.Answer.TheVariants.{Accepted, Sent, Changed, Published, Refused}
 use Rattle.a429_slots.specs.declared.answers.Refusal.{Refusal}
 use Rattle.a429_slots.specs.declared.answers.Refusal.TheVariants as why
 use Rattle.a429_cli.specs.Names.{name_at}
-
--- eight hexadecimal digits in lower case
-unfoldable pub hex : ℕ → List ℕ
-hex raw = padded_integral (format_spec 32 0 4 8 (2 ^ 64 - 1)) false [] (digits 16 false raw)
 
 abbrev pub refusal_text : Refusal → List ℕ
 refusal_text why.NoSuch = codes "no-such"

@@ -1,7 +1,8 @@
 -- Scripts: one event a line (profile: replay script). A script is read with the names of its station and the number of further tables.
 use Rattle.std.specs.Prelude.{◌≡◌, ◌+◌, ◌∷◌, [], ◌++◌, ◌&&◌, ℕ, List, Option, Some, None, Result, Ok, Err, codes, if◌then◌else◌, nat_lt, nat_le, option_map, option_and_then}
 use Rattle.std.specs.Str.{bytes_eq}
-use Rattle.a429_cli.specs.ScriptText.{cut, decimal_number, raw_word, lines_of}
+use Rattle.a429_word.specs.Hexadecimal.{raw_word}
+use Rattle.a429_cli.specs.ScriptText.{cut, decimal_number, lines_of}
 use Rattle.a429_cli.specs.Names.{Naming, number_named}
 use Rattle.a429_cli.specs.declared.refusals.CommandRefusal.{CommandRefusal}
 use Rattle.a429_cli.specs.declared.refusals.CommandRefusal.TheVariants as refused

@@ -1,25 +1,9 @@
--- Texts of scripts: lines, words, and numbers of hexadecimal or decimal digits (profile: replay script).
+-- Texts of scripts: lines, words, and decimal numbers (profile: replay script).
 use Rattle.std.specs.Prelude.{◌==◌, ◌&&◌, ◌+◌, ◌-◌, ◌*◌, ◌∷◌, [], ℕ, Bool, false, not, List, Option, Some, None, if◌then◌else◌, nat_lt, nat_le, length, take, drop, position, option_map, option_and_then}
 
 -- the parts before and after the first byte b
 unfoldable pub cut : ℕ → List ℕ → Option (List ℕ × List ℕ)
 cut b text = option_map (λ k. (take k text, drop (k + 1) text)) (position (λ x. x == b) text)
-
--- in either case
-abbrev pub hex_digit : ℕ → Option ℕ
-hex_digit c =
-    if nat_le 48 c && nat_le c 57 then Some (c - 48)
-    else (if nat_le 97 c && nat_le c 102 then Some (c - 97 + 10)
-    else (if nat_le 65 c && nat_le c 70 then Some (c - 65 + 10) else None))
-
--- the number of hexadecimal digits that follow those of n
-abbrev pub hex_onto : ℕ → List ℕ → Option ℕ
-hex_onto n [] = Some n
-hex_onto n (c ∷ cs) = option_and_then (λ d. hex_onto (n * 16 + d) cs) (hex_digit c)
-
--- the number of just eight hexadecimal digits
-unfoldable pub raw_word : List ℕ → Option ℕ
-raw_word text = if length text == 8 then hex_onto 0 text else None
 
 abbrev pub decimal_digit : ℕ → Option ℕ
 decimal_digit c = if nat_le 48 c && nat_le c 57 then Some (c - 48) else None

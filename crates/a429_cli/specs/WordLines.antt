@@ -1,15 +1,11 @@
 -- The command `word`: what it writes of a word, and its status (profile: output).
-use Rattle.std.specs.Prelude.{◌≡◌, ◌++◌, ◌∷◌, [], ◌-◌, ◌^◌, ℕ, List, Option, Some, None, codes, false, if◌then◌else◌}
+use Rattle.std.specs.Prelude.{◌≡◌, ◌++◌, ◌∷◌, [], ℕ, List, Option, Some, None, codes, if◌then◌else◌}
 use Rattle.std.specs.List.{flat_map}
-use Rattle.std.specs.Fmt.{decimal, signed_decimal, digits, padded_integral, format_spec}
+use Rattle.std.specs.Fmt.{decimal, signed_decimal}
 use Rattle.a429_word.specs.Bits.{label_of, sdi_of, ssm_of, data_of, bnr_of, bcd_of, has_odd_parity}
 use Rattle.a429_word.specs.Texts.{octal}
 use Rattle.a429_word.specs.Meanings.{two_bits, bnr_meaning, bnr_text, bcd_meaning, bcd_text}
-use Rattle.a429_cli.specs.ScriptText.{raw_word}
-
--- five hexadecimal digits in lower case
-unfoldable pub data_digits : ℕ → List ℕ
-data_digits value = padded_integral (format_spec 32 0 4 5 (2 ^ 64 - 1)) false [] (digits 16 false value)
+use Rattle.a429_word.specs.Hexadecimal.{data_digits, raw_word}
 
 -- three octal digits and a decimal one
 abbrev pub name_text : ℕ → ℕ → List ℕ

@@ -25,19 +25,27 @@ fn refusal_text(refusal: Refusal) -> &'static str
 }
 
 /// Appends the line of an answer. The error is a want of memory, and may leave a part of the line.
-#[tactic(auto, unfolding(crate::specs::Lines::hex))]
+#[tactic(auto, unfolding(a429_word::specs::Hexadecimal::hex))]
 pub fn push_answer(text: &mut Vec<u8>, names: &Names, answer: Answer) -> io::Result<()>
     ensures { OnOk result (text.new.items ≡ text.old.items ++ answer_line names.now.sources answer) }
 {
     match answer {
-        Answer::Accepted(source) => writeln!(text, "accepted {}", names.source(source)),
-        Answer::Sent(bus, slot, Some(word)) => {
+        Answer::Accepted { source } => writeln!(text, "accepted {}", names.source(source)),
+        Answer::Sent {
+            bus,
+            slot,
+            word: Some(word),
+        } => {
             let raw = word.raw();
             writeln!(text, "sent {bus} {slot} {raw:08x}")
         }
-        Answer::Sent(bus, slot, None) => writeln!(text, "sent {bus} {slot} none"),
-        Answer::Changed(number) => writeln!(text, "changed {number}"),
-        Answer::Published(number) => writeln!(text, "published {number}"),
+        Answer::Sent {
+            bus,
+            slot,
+            word: None,
+        } => writeln!(text, "sent {bus} {slot} none"),
+        Answer::Changed { plan } => writeln!(text, "changed {plan}"),
+        Answer::Published { plan } => writeln!(text, "published {plan}"),
         Answer::Refused(refusal) => writeln!(text, "refused {}", refusal_text(refusal)),
     }
 }

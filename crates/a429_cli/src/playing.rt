@@ -17,8 +17,8 @@ use crate::names::Names;
 use crate::output::{Output, OutputFault};
 use crate::refusals::CommandRefusal;
 use crate::script::ScriptEvent;
-use crate::station::{COUNT_BITS, propose};
-use a429_core::{Event, State};
+use crate::station::propose;
+use a429_core::{Event, StationState};
 use std::alloc::{AllocError, Global};
 
 /// The event of the machine that a script's event stands for, where the bytes of the further tables are
@@ -32,12 +32,19 @@ fn machine_event(
     ensures { MatchResult result (λ e. IsEventOf (map (λ t. t.items) further.now) event (event_of e)) (OrMemory (IsUnread (map (λ t. t.items) further.now) event)) }
 {
     match event {
-        ScriptEvent::Arrive(receiver, raw) => Ok(Event::Arrive(usize::from(receiver), raw)),
-        ScriptEvent::Cell(group) => Ok(Event::Cell(usize::from(group))),
-        ScriptEvent::Frame(group) => Ok(Event::Frame(usize::from(group))),
+        ScriptEvent::Arrive(receiver, raw) => Ok(Event::Arrive {
+            receiver: usize::from(receiver),
+            raw,
+        }),
+        ScriptEvent::Cell(group) => Ok(Event::Cell {
+            group: usize::from(group),
+        }),
+        ScriptEvent::Frame(group) => Ok(Event::Frame {
+            group: usize::from(group),
+        }),
         ScriptEvent::Publish(number) => {
             let proposal = propose(alloc, &further[number - 1])?;
-            Ok(Event::Publish(proposal))
+            Ok(Event::Publish { proposal })
         }
     }
 }
@@ -45,7 +52,7 @@ fn machine_event(
 /// Appends the line that an event of a script comes to. Where memory is refused, nothing is appended.
 fn play(
     alloc: Global,
-    state: &mut State<COUNT_BITS>,
+    state: &mut StationState,
     names: &Names,
     further: &[Vec<u8>],
     event: ScriptEvent,
@@ -71,7 +78,7 @@ fn play(
 /// those that are left stand in `lines`. Whether memory sufficed for all.
 pub fn play_all<O: Output>(
     alloc: Global,
-    state: &mut State<COUNT_BITS>,
+    state: &mut StationState,
     names: &Names,
     further: &[Vec<u8>],
     events: &[ScriptEvent],

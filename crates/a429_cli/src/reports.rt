@@ -15,7 +15,7 @@ use std::io;
 use std::io::Write;
 
 /// Appends the line of a report. The error is a want of memory, and may leave a part of the line.
-#[tactic(auto, unfolding(crate::specs::Lines::hex))]
+#[tactic(auto, unfolding(a429_word::specs::Hexadecimal::hex))]
 pub fn push_found(text: &mut Vec<u8>, found: Found) -> io::Result<()>
     ensures { OnOk result (text.new.items ≡ text.old.items ++ found_line found) }
 {

@@ -1,13 +1,14 @@
 //! Scripts of events, one a line.
 ghost use Rattle.std.specs.List.{AllByRecursion};
 ghost use Rattle.std.specs.Prelude.{◌≡◌, ◌<◌, ℕ, length, Ok, IfOk, IfSome, MatchResult, option_map};
-ghost use Rattle.a429_cli.specs.ScriptText.{cut, decimal_digit, decimal_number, hex_digit, raw_word};
+ghost use Rattle.a429_cli.specs.ScriptText.{cut, decimal_digit, decimal_number};
 ghost use Rattle.a429_cli.specs.Script.{arrive_event, line_event, first_event, publish_event, script_events, IsScriptFault};
 ghost use Rattle.a429_cli.specs.Playing.{HasTable};
 ghost use Rattle.a429_cli.specs.RefusalText.{OrMemory};
 
 use crate::names::Names;
 use crate::refusals::CommandRefusal;
+use a429_word::raw_word;
 use std::alloc::Global;
 
 /// An event of a script. Receivers and groups are numbered from 0 in table order, the further tables of the
@@ -28,33 +29,6 @@ fn cut_at(text: &[u8], byte: u8) -> Option<(&[u8], &[u8])>
 {
     let at = text.iter().position(|b| *b == byte)?;
     Some((&text[..at], &text[at + 1..]))
-}
-
-fn hex_digit(digit: u8) -> Option<u32>
-    ensures value { result ≡ hex_digit digit }
-    ensures small { IfSome result (λ d. d < 16) }
-{
-    match digit {
-        b'0'..=b'9' => Some(u32::from(digit - b'0')),
-        b'a'..=b'f' => Some(u32::from(digit - b'a' + 10)),
-        b'A'..=b'F' => Some(u32::from(digit - b'A' + 10)),
-        _ => None,
-    }
-}
-
-/// The number of just eight hexadecimal digits, in either case.
-#[tactic(auto, unfolding(crate::specs::ScriptText::raw_word))]
-pub fn raw_word(text: &[u8]) -> Option<u32>
-    ensures { result ≡ raw_word text.now }
-{
-    if text.len() != 8 {
-        return None;
-    }
-    let mut raw = 0u32;
-    for digit in text {
-        raw = raw * 16 + hex_digit(*digit)?;
-    }
-    Some(raw)
 }
 
 fn decimal_digit(digit: u8) -> Option<u64>

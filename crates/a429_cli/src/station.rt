@@ -10,19 +10,16 @@ ghost use Rattle.a429_cli.specs.Stations.{IsProposedBy, IsTableFault, IsTableRef
 
 use crate::names::Names;
 use crate::refusals::CommandRefusal;
-use a429_core::{OpenFault, State};
+use a429_core::{OpenFault, StationState};
 use a429_equipment::{Equipment, TableFault};
 use a429_slots::{NoProposal, OUTPUTS, PlanFault, Proposal};
 use std::alloc::Global;
-
-/// In how many bits the words of a source are counted.
-pub const COUNT_BITS: u32 = 41;
 
 /// A station in operation, with its names.
 #[derive(Drop)]
 pub struct Station {
     pub names: Names,
-    pub state: State<COUNT_BITS>,
+    pub state: StationState,
 }
 
 impl Station {
@@ -33,7 +30,7 @@ impl Station {
     {
         let proposal = propose(alloc, table)?;
         let names = Names::of(alloc, proposal.equipment())?;
-        match State::open(alloc, proposal, 0) {
+        match StationState::open(alloc, proposal, 0) {
             Ok(state) => Ok(Station { names, state }),
             Err(OpenFault::NoMemory) => Err(CommandRefusal::Memory),
             // the frames of a plan are far too short for that

@@ -10,8 +10,7 @@ ghost use Rattle.a429_cli.specs.WordLines.{IsWordReply, bcd_digits, bcd_line, bn
 use crate::endings::{finish, refuse, refuse_memory};
 use crate::output::{Output, OutputFault};
 use crate::refusals::CommandRefusal;
-use crate::script::raw_word;
-use a429_word::{Label, Sdi, Ssm, Word};
+use a429_word::{Label, Sdi, Ssm, Word, raw_word};
 use std::alloc::Global;
 use std::io;
 use std::io::Write;
@@ -31,7 +30,7 @@ fn write_status<W: Write>(out: &mut W, ssm: Ssm) -> io::Result<()>
 }
 
 /// Writes data in hexadecimal, and the end of the line.
-#[tactic(auto, unfolding(crate::specs::WordLines::data_digits))]
+#[tactic(auto, unfolding(a429_word::specs::Hexadecimal::data_digits))]
 fn write_data<W: Write>(out: &mut W, value: u32) -> io::Result<()>
     ensures { OnOk result (Appends (W.contents out.old) (W.contents out.new) (data_text value)) }
 {

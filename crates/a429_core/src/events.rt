@@ -6,11 +6,11 @@ use a429_slots::{OUTPUTS, Proposal};
 #[derive(Drop)]
 pub enum Event {
     /// A raw word comes in at a receiver.
-    Arrive(usize, u32),
+    Arrive { receiver: usize, raw: u32 },
     /// A group sends its next cell.
-    Cell(usize),
+    Cell { group: usize },
     /// A group goes on to its next frame, by the newest plan.
-    Frame(usize),
+    Frame { group: usize },
     /// A newer plan is proposed, for all groups.
-    Publish(Proposal<OUTPUTS>),
+    Publish { proposal: Proposal<OUTPUTS> },
 }

@@ -9,4 +9,4 @@ mod state;
 
 pub use a429_slots::{Answer, Refusal};
 pub use events::Event;
-pub use state::{OpenFault, State};
+pub use state::{COUNT_BITS, OpenFault, State, StationState};

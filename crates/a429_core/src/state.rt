@@ -42,6 +42,13 @@ impl From<AllocError> for OpenFault {
     }
 }
 
+/// In how many bits the program counts the words of a source: with the 23 bits of a word that are kept beside
+/// the count they fill 64.
+pub const COUNT_BITS: u32 = 41;
+
+/// The state of a station as the program keeps it.
+pub type StationState = State<COUNT_BITS>;
+
 /// A station in operation: the last accepted word of each source, where each group stands in its frame and what it
 /// sent last, and the newest plan. It counts the words of a source in `C` bits, 1 to 41.
 #[derive(Drop)]
@@ -117,7 +124,9 @@ fn next_frame(groups: &mut Vec<Sender>, newest: &Plan<OUTPUTS>, group: usize) ->
         return Answer::Refused(Refusal::MidFrame);
     }
     if sender.turn(newest.number(), newest.group(group)) {
-        Answer::Changed(newest.number())
+        Answer::Changed {
+            plan: newest.number(),
+        }
     } else {
         Answer::Refused(Refusal::SlotsSpent)
     }
@@ -164,11 +173,11 @@ impl<const C: u32> State<C> {
         if receiver >= self.equipment.receivers().len() {
             return Answer::Refused(Refusal::NoSuch);
         }
-        match self.equipment.sort(receiver, raw) {
+        match self.equipment.source_for(receiver, raw) {
             Err(refusal) => Answer::Refused(Refusal::from(refusal)),
             Ok((source, word)) => {
                 if keep(&mut self.sources, self.limit, source, word) {
-                    Answer::Accepted(source)
+                    Answer::Accepted { source }
                 } else {
                     Answer::Refused(Refusal::CountSpent)
                 }
@@ -185,8 +194,16 @@ impl<const C: u32> State<C> {
         }
         match next_cell(&mut self.groups, group) {
             None => Answer::Refused(Refusal::FrameEnd),
-            Some((bus, slot, None)) => Answer::Sent(bus, slot, None),
-            Some((bus, slot, Some(due))) => Answer::Sent(bus, slot, self.send(group, slot, due)),
+            Some((bus, slot, None)) => Answer::Sent {
+                bus,
+                slot,
+                word: None,
+            },
+            Some((bus, slot, Some(due))) => Answer::Sent {
+                bus,
+                slot,
+                word: self.send(group, slot, due),
+            },
         }
     }
 
@@ -233,7 +250,7 @@ impl<const C: u32> State<C> {
         let (_, mut newest) = proposal.into_parts();
         *newest = newest.numbered(last + 1);
         self.newest = newest;
-        Answer::Published(last + 1)
+        Answer::Published { plan: last + 1 }
     }
 
     fn take(&mut self, event: Event) -> Answer
@@ -242,10 +259,10 @@ impl<const C: u32> State<C> {
         ensures whole { IsWholeEvent (event_of event) }
     {
         match event {
-            Event::Arrive(receiver, raw) => self.arrive(receiver, raw),
-            Event::Cell(group) => self.cell(group),
-            Event::Frame(group) => self.frame(group),
-            Event::Publish(proposal) => self.publish(proposal),
+            Event::Arrive { receiver, raw } => self.arrive(receiver, raw),
+            Event::Cell { group } => self.cell(group),
+            Event::Frame { group } => self.frame(group),
+            Event::Publish { proposal } => self.publish(proposal),
         }
     }
 

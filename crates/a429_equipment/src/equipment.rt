@@ -153,7 +153,7 @@ impl Equipment {
     /// (profile: sources). Refused are a word of even parity, then a label that passes no filter of the
     /// receiver, then a word whose label and SDI no source of the receiver has. The cost does not grow
     /// with the number of sources, and no memory is taken.
-    pub fn sort(&self, receiver: usize, raw: u32) -> Result<(usize, Word), ArrivalRefusal>
+    pub fn source_for(&self, receiver: usize, raw: u32) -> Result<(usize, Word), ArrivalRefusal>
         requires { receiver < length self.now.receivers }
         ensures sorted { sorted self.now receiver raw ≡ result_map_both (λ found. found.0) (λ refusal. refusal) result }
         ensures word { IfOk result (λ found. found.1 ≡ raw) }

@@ -55,14 +55,24 @@ impl From<ArrivalRefusal> for Refusal {
 #[derive(Clone, Copy, Debug, PartialEq, Eq)]
 pub enum Answer {
     /// The word was kept for the source of this number.
-    Accepted(usize),
+    Accepted {
+        source: usize,
+    },
     /// The cell on this bus, in this slot counted from the station's first, and the word that was sent
     /// in it, where there is one.
-    Sent(u32, u64, Option<Word>),
+    Sent {
+        bus: u32,
+        slot: u64,
+        word: Option<Word>,
+    },
     /// The plan of this number is in force for the group.
-    Changed(u64),
+    Changed {
+        plan: u64,
+    },
     /// The proposal has this number.
-    Published(u64),
+    Published {
+        plan: u64,
+    },
     /// Nothing changed.
     Refused(Refusal),
 }

@@ -74,8 +74,7 @@ impl Sender {
         ensures output { result ≡ option_map due_of (output_in self.now.table bus slot) }
         ensures some { IfSome result (λ due. 1 ≤ due.limits.spacing) }
     {
-        let (output, _probes) = self.plan.at_counted(bus, slot);
-        let output = output?;
+        let output = self.plan.at(bus, slot)?;
         Some(Due {
             source: self.plan.source(output),
             limits: self.plan.limits(output),

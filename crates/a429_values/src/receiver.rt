@@ -124,7 +124,7 @@ impl Receiver {
             limit,
             counts,
         } = self;
-        let (source, word) = match wired.equipment.sort(*number, raw) {
+        let (source, word) = match wired.equipment.source_for(*number, raw) {
             Ok(found) => found,
             Err(refusal) => return Accept::from(refusal),
         };

@@ -1,12 +1,14 @@
 //! Words of ARINC 429: labels, fields, parity (ARINC 429 Part 1).
 #![tactic(auto)]
 
+mod hexadecimal;
 mod identifiers;
 mod labels;
 pub mod laws;
 mod meanings;
 mod words;
 
+pub use hexadecimal::raw_word;
 pub use identifiers::{Sdi, Ssm};
 pub use labels::{Label, LabelText};
 pub use meanings::{BcdMeaning, BnrMeaning};

@@ -1,6 +1,6 @@
 use Rattle.std.proofs.Common.{◌+◌, ◌*◌, ◌^◌, ◌<◌, ◌≤◌, ℕ, arith, rules}
 use Rattle.std.proofs.Math.Nat.{pow-le-pow_right}
-use Rattle.a429_cli.proofs.script.raw_word.Goals as goal
+use Rattle.a429_word.proofs.hexadecimal.raw_word.Goals as goal
 
 -- one more digit after at most seven
 word_fits : (raw d i : ℕ) → i < 8 → raw < 16 ^ i → d < 16 → raw * 16 + d < 4294967296
