@@ -90,6 +90,10 @@ NeedsTooMany rate rows needed = NeedsBuses rate rows needed × (16 < needed)
 abbrev pub CanBePlanned : ℕ → List OutputRow → Type 0
 CanBePlanned rate rows = (needed : ℕ) × NeedsBuses rate rows needed × (needed ≤ 16)
 
+-- the group can be planned, and this is its slot table
+abbrev pub IsPlanOfGroup : ℕ → List SourceRow → List OutputRow → GroupTable → Type 0
+IsPlanOfGroup rate sources rows t = IsPlannedFor rate sources rows t × CanBePlanned rate rows
+
 -- group g is the first that cannot be planned, for this reason
 pub record IsFirstFaulty (e : TableRecord) (g : ℕ) (IsFault : List OutputRow → Type 0) : Type 0 where
   pub rows : List OutputRow
