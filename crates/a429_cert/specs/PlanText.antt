@@ -7,7 +7,7 @@ use Rattle.a429_equipment.specs.declared.rows.GroupRow.{GroupRow}
 use Rattle.a429_equipment.specs.declared.rows.SourceRow.{SourceRow}
 use Rattle.a429_slots.specs.declared.group_plan.SlotPlace.{SlotPlace}
 use Rattle.a429_slots.specs.Tables.{GroupTable, PlanTable, placed_at, order_of, frame_of, buses_of, groups_of}
-use Rattle.a429_cert.specs.Spelling.{Heading, Listing, Bounding, version_text, rate_text}
+use Rattle.a429_cert.specs.Spelling.{Heading, Listing, Bounding, version_text, rate_text, output_text}
 use Rattle.a429_cert.specs.Checked.{Stated, stated_text}
 
 -- the name of a source; behind the last source, nothing
@@ -40,6 +40,14 @@ stated_groups sources [] ts = []
 stated_groups sources (g ∷ gs) [] = []
 stated_groups sources (g ∷ gs) (t ∷ ts) = stated_of sources g t ∷ stated_groups sources gs ts
 
+-- the lines of a group's outputs, in layout order
+abbrev pub outputs_text : List SourceRow → GroupTable → List ℕ
+outputs_text sources t = flat_map output_text (map (listing_of sources t) (order_of t))
+
+-- the lines of all groups, in table order
+abbrev pub groups_text : TableRecord → PlanTable → List ℕ
+groups_text e p = flat_map stated_text (stated_groups e.sources e.groups (groups_of p))
+
 -- the version, the rate, then each group: its heading, a line for each output, its bound
 abbrev pub plan_text_of : TableRecord → PlanTable → List ℕ
-plan_text_of e p = version_text ++ (rate_text e.rate ++ flat_map stated_text (stated_groups e.sources e.groups (groups_of p)))
+plan_text_of e p = version_text ++ (rate_text e.rate ++ groups_text e p)
