@@ -1,21 +1,26 @@
 -- The groups of a station, one after another.
-use Rattle.std.proofs.Common.{◌≡◌, ℕ, zero, suc, ◌+◌, ◌≤◌, ◌∷◌, [], ◌++◌, List, length, take, arith, ap, ◌∙◌, sym, subst, inl, inr}
-use Rattle.std.specs.Prelude.{Some, slice_get}
-use Rattle.std.specs.List.{AllZip, AllByRecursion}
-use Rattle.std.proofs.lemmas.List.{length-take, take_more}
-use Rattle.std.proofs.lemmas.Slice.Zip.{all_zipped_more, AllZip-long}
-use Rattle.std.proofs.lemmas.Option.{get_or_from_slice_get, slice_get_within, same_Some, none-some}
+use Rattle.std.proofs.Common.{◌≡◌, ℕ, zero, suc, ◌+◌, ◌≤◌, ◌∷◌, [], ◌++◌, List, length, map, take, arith, ap, ap₂, ◌∙◌, sym, subst, inl, inr}
+use Rattle.std.specs.Prelude.{Some, slice_get, option_map}
+use Rattle.std.specs.List.{AllZip, AllByRecursion, zip}
+use Rattle.std.proofs.lemmas.List.{length-map, length-take, take_more}
+use Rattle.std.proofs.lemmas.Slice.Zip.{all_zipped_more, AllZip-long, length-zip}
+use Rattle.std.proofs.lemmas.Option.{get_or_from_slice_get, slice_get_within, slice_get-map, same_Some, none-some}
+use Rattle.a429_equipment.specs.declared.rows.GroupRow.{GroupRow}
 use Rattle.a429_equipment.specs.declared.rows.OutputRow.{OutputRow}
-use Rattle.a429_equipment.specs.Sound.{IsRate}
+use Rattle.a429_equipment.specs.Sound.{IsRate, IsGroupRow, IsSound}
 use Rattle.a429_equipment.specs.TableRecord.{TableRecord}
 use Rattle.a429_pack.specs.declared.demands.PackFault.{PackFault}
 use Rattle.a429_pack.specs.declared.demands.PackFault.TheVariants as group
-use Rattle.a429_slots.specs.Planned.{CanBePlanned}
+use Rattle.a429_slots.specs.Planned.{CanBePlannedAt, rated_outputs}
 use Rattle.a429_slots.specs.Faults.{IsFaultOf, IsGroupFault, of_group}
 
-pub rate_within : (rate : ℕ) → IsRate rate → (1 ≤ rate) × (rate ≤ 100000)
+rate_within : (rate : ℕ) → IsRate rate → (1 ≤ rate) × (rate ≤ 100000)
 rate_within rate (inl high) = (omega (arith, high), omega (arith, high))
 rate_within rate (inr low) = (omega (arith, low.0), omega (arith, low.1))
+
+rates_within : (rows : List GroupRow) → AllByRecursion IsGroupRow rows → AllByRecursion (λ r. (1 ≤ r) × (r ≤ 100000)) (map (λ row. row.rate) rows)
+rates_within [] all = all
+rates_within (row ∷ rows) all = (rate_within row.rate all.0.1, rates_within rows all.1)
 
 pub all_at : {X : Type 0} (P : X → Type 0) (xs : List X) (i : ℕ) (x : X) → AllByRecursion P xs → slice_get xs i ≡ Some x → P x
 all_at P [] i x all h = absurd (none-some x h)
@@ -40,8 +45,28 @@ pub length-zipped : {A B : Type 0} (R : A → B → Type 0) (xs : List A) (ys : 
 length-zipped R xs ys i h z = AllZip-long R (take i xs) ys z ∙ omega (arith, length-take i xs)
 
 -- the fault of a group, as that of the station
-pub fault_in : (e : TableRecord) (g : ℕ) (rows : List OutputRow) (fault : PackFault) → slice_get e.outputs g ≡ Some rows → AllByRecursion (CanBePlanned e.rate) (take g e.outputs)
-    → IsGroupFault e.rate rows fault → IsFaultOf e (of_group g fault)
-fault_in e g rows (group.Unfit o) there earlier fault = record { rows = rows; there = there; fault = fault; earlier = earlier }
-fault_in e g rows (group.TooManyBuses n) there earlier fault = record { rows = rows; there = there; fault = fault; earlier = earlier }
-fault_in e g rows group.NoMemory there earlier fault = tt
+pub fault_in : (e : TableRecord) (g rate : ℕ) (rows : List OutputRow) (fault : PackFault) → slice_get (rated_outputs e) g ≡ Some (rate, rows) → AllByRecursion CanBePlannedAt (take g (rated_outputs e))
+    → IsGroupFault rate rows fault → IsFaultOf e (of_group g fault)
+fault_in e g rate rows (group.Unfit o) there earlier fault = record { rate = rate; rows = rows; there = there; fault = fault; earlier = earlier }
+fault_in e g rate rows (group.TooManyBuses n) there earlier fault = record { rate = rate; rows = rows; there = there; fault = fault; earlier = earlier }
+fault_in e g rate rows group.NoMemory there earlier fault = tt
+
+-- ---- outputs beside their rates
+
+zip_at : {X Y : Type 0} (xs : List X) (ys : List Y) (i : ℕ) (x : X) (y : Y) → slice_get xs i ≡ Some x → slice_get ys i ≡ Some y → slice_get (zip xs ys) i ≡ Some (x, y)
+zip_at [] ys i x y here there = absurd (none-some x here)
+zip_at (a ∷ xs) [] i x y here there = absurd (none-some y there)
+zip_at (a ∷ xs) (b ∷ ys) zero x y here there = ap₂ (λ s t. Some (s, t)) (same_Some a x here) (same_Some b y there)
+zip_at (a ∷ xs) (b ∷ ys) (suc i) x y here there = zip_at xs ys i x y here there
+
+pub length-rated : (e : TableRecord) → length e.outputs ≡ length e.groups → length (rated_outputs e) ≡ length e.outputs
+length-rated e same = omega (arith, length-zip (map (λ (g : GroupRow). g.rate) e.groups) e.outputs, length-map e.groups (λ (g : GroupRow). g.rate), same)
+
+pub rated_at : (e : TableRecord) (g rate : ℕ) (rows : List OutputRow) → option_map (λ row. row.rate) (slice_get e.groups g) ≡ Some rate → slice_get e.outputs g ≡ Some rows
+    → slice_get (rated_outputs e) g ≡ Some (rate, rows)
+rated_at e g rate rows here there = zip_at (map (λ row. row.rate) e.groups) e.outputs g rate rows (slice_get-map (λ row. row.rate) e.groups g ∙ here) there
+
+-- the rate of a group, in bit/s
+pub rate_in_group : (e : TableRecord) (g rate : ℕ) → IsSound e → option_map (λ row. row.rate) (slice_get e.groups g) ≡ Some rate → (1 ≤ rate) × (rate ≤ 100000)
+rate_in_group e g rate sound here =
+    all_at (λ r. (1 ≤ r) × (r ≤ 100000)) (map (λ row. row.rate) e.groups) g rate (rates_within e.groups sound.group_rows) (slice_get-map (λ row. row.rate) e.groups g ∙ here)

@@ -1,6 +1,6 @@
 -- What holds of every plan, and when a station has none (profile: layout).
 use Rattle.std.specs.Prelude.{◌≡◌, ◌<◌, ◌≤◌, ◌/◌, ◌^◌, ℕ, List, Some, length, map, take, slice_get, slice_index, option_and_then}
-use Rattle.std.specs.List.{AllZip, AllByRecursion}
+use Rattle.std.specs.List.{AllZip, AllByRecursion, zip}
 use Rattle.std.specs.Option.{option_map_or}
 use Rattle.a429_grid.specs.Grid.{IsGridPeriod, HasNoGridPeriod, IsLeastSpacing}
 use Rattle.a429_pack.specs.declared.demands.Demand.{Demand}
@@ -53,11 +53,19 @@ pub record IsPlannedFor (rate : ℕ) (sources : List SourceRow) (rows : List Out
   pub few_buses : buses_of t ≤ 16
   pub few_slots : frame_of t ≤ 8192
 
+-- the outputs of each group, beside the rate of its buses
+abbrev pub rated_outputs : TableRecord → List (ℕ × List OutputRow)
+rated_outputs e = zip (map (λ g. g.rate) e.groups) e.outputs
+
+-- the table is one for these outputs, at the rate beside them
+abbrev pub IsPlannedAt : List SourceRow → ℕ × List OutputRow → GroupTable → Type 0
+IsPlannedAt sources rated t = IsPlannedFor rated.0 sources rated.1 t
+
 -- the plan of a station: a slot table for each group, in table order, under the number 0
 pub record IsPlanOf (e : TableRecord) (p : PlanTable) : Type 0 where
   pub number : p.number ≡ 0
   pub count : length (groups_of p) ≡ length e.groups
-  pub groups : AllZip (IsPlannedFor e.rate e.sources) e.outputs (groups_of p)
+  pub groups : AllZip (IsPlannedAt e.sources) (rated_outputs e) (groups_of p)
 
 -- no group has more than n outputs
 abbrev pub HaveRoom : ℕ → List (List OutputRow) → Type 0
@@ -94,9 +102,14 @@ CanBePlanned rate rows = (needed : ℕ) × NeedsBuses rate rows needed × (neede
 abbrev pub IsPlanOfGroup : ℕ → List SourceRow → List OutputRow → GroupTable → Type 0
 IsPlanOfGroup rate sources rows t = IsPlannedFor rate sources rows t × CanBePlanned rate rows
 
+-- the same of outputs with the rate beside them
+abbrev pub CanBePlannedAt : ℕ × List OutputRow → Type 0
+CanBePlannedAt rated = CanBePlanned rated.0 rated.1
+
 -- group g is the first that cannot be planned, for this reason
-pub record IsFirstFaulty (e : TableRecord) (g : ℕ) (IsFault : List OutputRow → Type 0) : Type 0 where
+pub record IsFirstFaulty (e : TableRecord) (g : ℕ) (IsFault : ℕ → List OutputRow → Type 0) : Type 0 where
+  pub rate : ℕ
   pub rows : List OutputRow
-  pub there : slice_get e.outputs g ≡ Some rows
-  pub fault : IsFault rows
-  pub earlier : AllByRecursion (CanBePlanned e.rate) (take g e.outputs)
+  pub there : slice_get (rated_outputs e) g ≡ Some (rate, rows)
+  pub fault : IsFault rate rows
+  pub earlier : AllByRecursion CanBePlannedAt (take g (rated_outputs e))

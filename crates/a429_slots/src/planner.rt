@@ -98,10 +98,10 @@ pub fn plan<const N: usize>(alloc: Global, equipment: &Equipment) -> Result<Plan
     ensures planned { IfOk result (λ plan. IsPlanOf equipment.now plan) }
     ensures fault { IfErr result (IsFaultOf equipment.now) }
 {
-    let rate = equipment.rate();
     let sources = equipment.sources();
     let mut plan = Plan::empty();
     for group in 0..equipment.groups().len() {
+        let rate = equipment.group_rate(group);
         match group_plan(alloc, rate, sources, equipment.outputs(group)) {
             Ok(table) => plan.push(table),
             Err(fault) => return Err(in_group(group, fault)),
