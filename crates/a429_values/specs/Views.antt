@@ -4,7 +4,7 @@ use Rattle.atomic_table.specs.Table.{Me, Step}
 use Rattle.a429_equipment.specs.declared.loads.Load.{Load}
 use Rattle.a429_equipment.specs.declared.rows.SourceRow.{SourceRow}
 use Rattle.a429_equipment.specs.TableRecord.{TableRecord}
-use Rattle.a429_equipment.specs.Agreement.{is_of, load_after, Agrees, AgreesTo}
+use Rattle.a429_equipment.specs.Agreement.{is_of, load_after, loads_of_all, Agrees, AgreesTo}
 use Rattle.a429_values.specs.declared.view.View.{View}
 use Rattle.a429_values.specs.Words.{Tells}
 
@@ -50,6 +50,10 @@ with_accepted v e = record v { accepted = v.accepted ++ e ∷ [] }
 
 abbrev pub with_load : View → Load → View
 with_load v l = record v { loads = v.loads ++ l ∷ [] }
+
+-- the loads of all sources of receiver r, after what was accepted
+abbrev pub with_loads_of : View → TableRecord → ℕ → View
+with_loads_of v t r = record v { loads = v.loads ++ loads_of_all t r v.accepted }
 
 -- ---- what the steps tell
 

@@ -30,7 +30,11 @@ impl Model for Desk {
 
     ghost Value = { Dealing };
 
-    ghost view = { λ d. record { at = record { hub = d.seat.table_id; station = d.seat.me.0.station }; receivers = d.receivers.items; transmitters = d.transmitters.items } };
+    ghost view = { λ d. record {
+      at = record { hub = d.seat.table_id; station = d.seat.me.0.station };
+      receivers = d.receivers.items;
+      transmitters = d.transmitters.items;
+    } };
 
     ghost invariant = { λ d. IsAt d.seat.table_id d.seat × IsDealing d.seat.me.0 d.receivers.items d.transmitters.items };
 }

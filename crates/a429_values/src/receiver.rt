@@ -67,7 +67,12 @@ impl Model for Receiver {
 
     ghost Value = { Receiving };
 
-    ghost view = { λ r. record { at = place_of (arc_value r.wired); number = r.number; limit = r.limit; accepted = (view_in r.badge.views).accepted } };
+    ghost view = { λ r. record {
+      at = place_of (arc_value r.wired);
+      number = r.number;
+      limit = r.limit;
+      accepted = (view_in r.badge.views).accepted;
+    } };
 
     ghost invariant = { λ r. IsReceiving (place_of (arc_value r.wired)) r.number r.limit r.counts.items r.badge.table_id r.badge.views };
 }
