@@ -3,7 +3,7 @@ use Rattle.std.proofs.Common.{◌≡◌, ℕ, zero, suc, ◌+◌, ◌<◌, false
 use Rattle.std.specs.List.{find, flat_map, enumerate_from, AllByRecursion, slice_get}
 use Rattle.toml.specs.Data.{Data}
 use Rattle.a429_equipment.specs.declared.fault.FaultKind.{FaultKind}
-use Rattle.a429_equipment.specs.declared.fault.FaultKind.TheVariants.{Rate, TooMany, Name, DuplicateName, Label, Sdi, Interval, UnknownName, DuplicateSource, DuplicateOutput, EmptyGroup}
+use Rattle.a429_equipment.specs.declared.fault.FaultKind.TheVariants.{Rate, TooMany, Name, DuplicateName, Label, Sdi, Interval, UnknownName, DuplicateSource, DuplicateOutput, EmptyGroup, Hold}
 use Rattle.a429_equipment.specs.declared.fault.TablePlace.TheVariants.{Root, Group}
 use Rattle.a429_equipment.specs.declared.walk.Rows.{Rows}
 use Rattle.a429_equipment.specs.declared.walk.Rows.TheVariants.{Receivers, Sources, Outputs}
@@ -38,6 +38,7 @@ pub record IsFaultless (root : Data) : Type 0 where
   pub duplicate_source : StandsAtNone root (walk root) DuplicateSource
   pub duplicate_output : StandsAtNone root (walk root) DuplicateOutput
   pub empty_group : StandsAtNone root (walk root) EmptyGroup
+  pub hold : StandsAtNone root (walk root) Hold
 
 pub is_faultless : (root : Data) → first (faults root) ≡ None → IsFaultless root
 unfolding faults kinds
@@ -55,6 +56,7 @@ is_faultless root h =
       duplicate_source = n.1.1.1.1.1.1.1.1.1.1.1.1.0;
       duplicate_output = n.1.1.1.1.1.1.1.1.1.1.1.1.1.0;
       empty_group = n.1.1.1.1.1.1.1.1.1.1.1.1.1.1.0;
+      hold = n.1.1.1.1.1.1.1.1.1.1.1.1.1.1.1.0;
     }
 
 pub all_append : {X : Type 0} (P : X → Type 0) (xs ys : List X) → AllByRecursion P (xs ++ ys) → AllByRecursion P xs × AllByRecursion P ys

@@ -5,6 +5,7 @@ pub mod NameNumbers
 pub mod Leastness
 pub mod Absence
 pub mod SoundValues
+pub mod Versions
 pub mod Places
 pub mod Apart
 pub mod Own

@@ -66,11 +66,11 @@ own_names root h =
     own_by (source_row root) (λ s. s.name) same_name ds (λ i j a b e f same. one_name_meets a b same)
     (λ j b at_b. names_before root (Source j) b refl (row_holds Sources (λ s. stands root DuplicateName s ≡ false) 0 j j ds b (omega arith) h.at_sources at_b))
 
-pub own_groups : (root : Data) → IsAbsent root DuplicateName → HaveOwn (λ g. g.name) (map group_row (rows_at (codes "group") root))
+pub own_groups : (root : Data) (rate : Option ℕ) → IsAbsent root DuplicateName → HaveOwn (λ g. g.name) (map (group_row rate) (rows_at (codes "group") root))
 unfolding group_row earlier
-own_groups root h =
+own_groups root rate h =
     let ds = rows_at (codes "group") root in
-    own_by group_row (λ g. g.name) same_name ds (λ i j a b e f same. one_name_meets a b same)
+    own_by (group_row rate) (λ g. g.name) same_name ds (λ i j a b e f same. one_name_meets a b same)
     (λ j b at_b. names_before root (Group j) b refl (group_holds (λ s. stands root DuplicateName s ≡ false) 0 j j ds b (omega arith) h.at_groups at_b).0)
 
 -- ---- outputs

@@ -6,7 +6,7 @@ use Rattle.std.specs.Prelude.{IsTrue}
 use Rattle.a429_equipment.specs.declared.rows.SourceRow.{SourceRow}
 use Rattle.a429_equipment.specs.TableRecord.{TableRecord}
 use Rattle.a429_equipment.specs.Arrivals.{accepts}
-use Rattle.a429_equipment.specs.Sound.{HaveOwnSources, IsSound, IsInterval, IsReceiverRow, IsSourceRow, IsGroupRow, OfEach}
+use Rattle.a429_equipment.specs.Sound.{HaveOwnSources, IsSound, IsInterval, IsHold, IsReceiverRow, IsSourceRow, IsGroupRow, OfEach}
 use Rattle.a429_equipment.proofs.Absence.{all_at}
 
 pub one_accepts : (t : TableRecord) → IsSound t → (a : ℕ × ℕ) (i j : ℕ) (s u : SourceRow) → slice_get t.sources i ≡ Some s → slice_get t.sources j ≡ Some u
@@ -32,6 +32,9 @@ of_outputs t sound g os e =
     let kept = all_at (AllByRecursion IsInterval) t.outputs g os sound.intervals e in
     let (some, few) = all_at (λ os. (1 ≤ length os) × (length os ≤ 128)) t.outputs g os sound.some_outputs e in
     (some, few, λ j o f. (all_at (λ o. o.source < length t.sources) os j o known f, all_at IsInterval os j o kept f))
+
+pub of_holds : (t : TableRecord) → IsSound t → OfEach (OfEach IsHold) t.outputs
+of_holds t sound g os e = λ j o f. all_at IsHold os j o (all_at (AllByRecursion IsHold) t.outputs g os sound.holds e) f
 
 pub of_own_sources : (t : TableRecord) → IsSound t → OfEach HaveOwnSources t.outputs
 of_own_sources t sound g os e = all_at HaveOwnSources t.outputs g os sound.own_sources e

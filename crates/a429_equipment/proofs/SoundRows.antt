@@ -13,8 +13,8 @@ use Rattle.a429_equipment.specs.Tree.{rows_at}
 use Rattle.a429_equipment.specs.Texts.{is_name, label_value}
 use Rattle.a429_equipment.specs.Names.{name_of}
 use Rattle.a429_equipment.specs.Faults.{stands, is_named, has_bad_name, sdi_at}
-use Rattle.a429_equipment.specs.Stated.{natural, label_of, filter_of, filter_row, receiver_row, source_row, group_row}
-use Rattle.a429_equipment.specs.Sound.{IsFilter, IsReceiverRow, IsSourceRow, IsGroupRow}
+use Rattle.a429_equipment.specs.Stated.{natural, label_of, filter_of, filter_row, receiver_row, source_row, rate_at, group_row}
+use Rattle.a429_equipment.specs.Sound.{IsRate, IsFilter, IsReceiverRow, IsSourceRow, IsGroupRow}
 use Rattle.a429_equipment.proofs.Absence.{IsAbsent, rows_hold, groups_hold, all_mapped}
 use Rattle.a429_equipment.proofs.Apart.{label_is}
 
@@ -79,9 +79,14 @@ source_is : (root : Data) (d : Data) → IsTrue (is_name (name_of d)) → IsSour
 unfolding source_row
 source_is root d named = (named, label_below _, sdi_below (sdi_at d))
 
-group_is : (d : Data) → IsTrue (is_name (name_of d)) → IsGroupRow (group_row d)
+group_is : (rate : Option ℕ) (d : Data) → IsTrue (is_name (name_of d)) → IsRate (unwrap_or rate (rate_at d)) → IsGroupRow (group_row rate d)
 unfolding group_row
-group_is d named = named
+group_is rate d named rated = (named, rated)
+
+groups_are : (rate : Option ℕ) (ds : List Data) → AllByRecursion (λ d. IsTrue (is_name (name_of d))) ds → AllByRecursion (λ d. IsRate (unwrap_or rate (rate_at d))) ds
+    → AllByRecursion IsGroupRow (map (group_row rate) ds)
+groups_are rate [] h i = tt
+groups_are rate (d ∷ ds) h i = (group_is rate d h.0 i.0, groups_are rate ds h.1 i.1)
 
 pub receiver_names : (root : Data) → IsAbsent root Name → AllByRecursion (λ d. IsTrue (is_name (name_of d))) (rows_at (codes "receiver") root)
 receiver_names root h = rows_hold Receivers _ _ (λ n d e. name_at root _ d refl e) 0 (rows_at (codes "receiver") root) h.at_receivers
@@ -91,7 +96,8 @@ source_rows_are root h =
     all_mapped (source_row root) IsSourceRow (rows_at (codes "source") root)
     (rows_hold Sources _ (λ d. IsSourceRow (source_row root d)) (λ n d e. source_is root d (name_at root _ d refl e)) 0 (rows_at (codes "source") root) h.at_sources)
 
-pub group_rows_are : (root : Data) → IsAbsent root Name → AllByRecursion IsGroupRow (map group_row (rows_at (codes "group") root))
-group_rows_are root h =
-    all_mapped group_row IsGroupRow (rows_at (codes "group") root)
-    (groups_hold _ (λ g. IsGroupRow (group_row g)) (λ n g e _. group_is g (name_at root _ g refl e)) 0 (rows_at (codes "group") root) h.at_groups)
+pub group_rows_are : (root : Data) (rate : Option ℕ) → IsAbsent root Name → AllByRecursion (λ d. IsRate (unwrap_or rate (rate_at d))) (rows_at (codes "group") root)
+    → AllByRecursion IsGroupRow (map (group_row rate) (rows_at (codes "group") root))
+group_rows_are root rate h rates =
+    groups_are rate (rows_at (codes "group") root)
+    (groups_hold _ (λ g. IsTrue (is_name (name_of g))) (λ n g e _. name_at root _ g refl e) 0 (rows_at (codes "group") root) h.at_groups) rates

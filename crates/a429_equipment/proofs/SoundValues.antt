@@ -1,9 +1,9 @@
 -- Values that have no fault lie in their ranges.
-use Rattle.std.proofs.Common.{◌≡◌, ℕ, ◌^◌, ◌<◌, ◌≤◌, ◌⊎◌, inl, inr, ⊎_elim, ℤ, pos, negsuc, not, ◌&&◌, ◌||◌, true, false, ◌∙◌, arith}
+use Rattle.std.proofs.Common.{◌≡◌, ℕ, ◌^◌, ◌<◌, ◌≤◌, ◌⊎◌, inl, inr, ⊎_elim, ℤ, pos, negsuc, not, ◌&&◌, true, false, Option, Some, None, option_map, ◌∙◌, arith}
 use Rattle.std.proofs.lemmas.Bool.{or_cases, and_parts, not-false, leb-true, lt-ltb}
-use Rattle.std.specs.Prelude.{int_le}
+use Rattle.std.specs.Prelude.{int_le, IfSome}
 use Rattle.a429_equipment.specs.Sound.{IsRate}
-use Rattle.a429_equipment.specs.Faults.{is_within, is_interval}
+use Rattle.a429_equipment.specs.Faults.{is_within, is_rate, is_interval, is_hold}
 use Rattle.a429_equipment.specs.Stated.{natural}
 
 pub natural-pos : (limit n : ℕ) → n < limit → natural limit (pos n) ≡ n
@@ -16,10 +16,17 @@ rate_from : (n : ℕ) → ((100000 ≤ n) × (n ≤ 100000)) ⊎ ((12000 ≤ n) 
 rate_from n (inl h) = inl (natural-pos (2 ^ 32) n (omega arith) ∙ omega arith)
 rate_from n (inr h) = rw (natural-pos (2 ^ 32) n (omega arith)) (inr h)
 
-pub is_rate : (z : ℤ) → not (is_within 100000 100000 z || is_within 12000 14500 z) ≡ false → IsRate (natural (2 ^ 32) z)
-is_rate (negsuc n) h = cc
-is_rate (pos n) h =
+pub rate_within : (z : ℤ) → not (is_rate z) ≡ false → IsRate (natural (2 ^ 32) z)
+rate_within (negsuc n) h = cc
+rate_within (pos n) h =
     rate_from n (⊎_elim (λ e. inl (within 100000 100000 n e)) (λ e. inr (within 12000 14500 n e)) (or_cases _ _ (not-false _ h)))
+
+pub hold_within : (o : Option ℤ) → not (is_hold o) ≡ false → IfSome (option_map (natural (2 ^ 32)) o) (λ hold. (1 ≤ hold) × (hold ≤ 1000000))
+hold_within None h = tt
+hold_within (Some (negsuc n)) h = cc
+hold_within (Some (pos n)) h =
+    let (low, high) = within 1 1000000 n (not-false _ h) in
+    rw (natural-pos (2 ^ 32) n (omega arith)) (low, high)
 
 abbrev microseconds : ℤ → ℕ
 microseconds z = natural (2 ^ 32) z

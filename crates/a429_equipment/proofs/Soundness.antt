@@ -1,25 +1,27 @@
 -- The record that a table without faults states is sound.
-use Rattle.std.proofs.Common.{◌≡◌, ℕ, ◌^◌, ◌<◌, ◌≤◌, true, false, is_none, List, [], ◌∷◌, length, map, codes, None, arith}
+use Rattle.std.proofs.Common.{◌≡◌, ℕ, ◌<◌, ◌≤◌, true, false, is_none, List, [], ◌∷◌, length, map, codes, None, arith}
 use Rattle.std.proofs.lemmas.Bool.{ltb-false, or_parts, not-false}
 use Rattle.std.proofs.lemmas.Bool.Decides.{nat_tests}
 use Rattle.std.proofs.Math.ListN.{length-map}
 use Rattle.std.specs.List.{flat_map, enumerate_from, AllByRecursion}
 use Rattle.toml.specs.Data.{Data, get}
 use Rattle.a429_equipment.specs.declared.fault.FaultKind.{FaultKind}
-use Rattle.a429_equipment.specs.declared.fault.FaultKind.TheVariants.{Rate, TooMany, Name, DuplicateName, Label, Sdi, Interval, UnknownName, DuplicateSource, DuplicateOutput, EmptyGroup}
+use Rattle.a429_equipment.specs.declared.fault.FaultKind.TheVariants.{Rate, TooMany, Name, DuplicateName, Label, Sdi, Interval, UnknownName, DuplicateSource, DuplicateOutput, EmptyGroup, Hold}
 use Rattle.a429_equipment.specs.declared.fault.TablePlace.TheVariants.{Root, Receiver, Source, Group, Output}
 use Rattle.a429_equipment.specs.declared.rows.OutputRow.{OutputRow}
 use Rattle.a429_equipment.specs.declared.walk.Rows.TheVariants.{Receivers, Sources, Outputs}
 use Rattle.a429_equipment.specs.Tree.{text_at, rows_at, integer_at}
 use Rattle.a429_equipment.specs.Texts.{label_value}
+use Rattle.a429_equipment.specs.Version.{version_of}
 use Rattle.a429_equipment.specs.Names.{number_named}
 use Rattle.a429_equipment.specs.Walk.{group_stops}
-use Rattle.a429_equipment.specs.Faults.{first, faults, stands, is_sdi, has_wrong_rate, has_too_many, has_bad_label, has_bad_sdi, has_bad_interval, names_nothing, is_empty_group}
+use Rattle.a429_equipment.specs.Faults.{first, faults, stands, is_sdi, has_too_many, has_bad_label, has_bad_sdi, has_bad_interval, names_nothing, is_empty_group}
 use Rattle.a429_equipment.specs.Least.{StandsAtNone}
-use Rattle.a429_equipment.specs.Stated.{stated, natural, source_row, output_row, output_rows}
-use Rattle.a429_equipment.specs.Sound.{IsRate, IsInterval, IsSound}
+use Rattle.a429_equipment.specs.Stated.{stated, source_row, rate_of, output_row, output_rows}
+use Rattle.a429_equipment.specs.Sound.{IsInterval, IsHold, IsSound}
 use Rattle.a429_equipment.proofs.Absence.{IsFaultless, is_faultless, is_absent, rows_hold, groups_hold, all_mapped}
-use Rattle.a429_equipment.proofs.SoundValues.{is_rate, is_interval_within}
+use Rattle.a429_equipment.proofs.SoundValues.{is_interval_within}
+use Rattle.a429_equipment.proofs.Versions.{one_or_two, root_rate, group_rates, one_rate, own_rates, hold_at, no_holds}
 use Rattle.a429_equipment.proofs.Places.{number-lt-length}
 use Rattle.a429_equipment.proofs.Apart.{IsSource, are_apart}
 use Rattle.a429_equipment.proofs.Own.{own_receivers, own_names, own_groups, own_sources}
@@ -37,10 +39,6 @@ few root h =
     let all = or_parts _ _ h in
     let two = or_parts _ _ all.0 in
     record { receivers = ltb-false 16 _ two.0; sources = ltb-false 256 _ two.1; groups = ltb-false 8 _ all.1 }
-
-rate_at : (root : Data) → stands root Rate (Root, root) ≡ false → IsRate (natural (2 ^ 32) (integer_at (codes "rate") root))
-unfolding stands has_wrong_rate
-rate_at root h = is_rate (integer_at (codes "rate") root) h
 
 few_filters_at : (root : Data) (n : ℕ) (d : Data) → stands root TooMany (Receiver n, d) ≡ false → length (rows_at (codes "filters") d) ≤ 32
 unfolding stands has_too_many
@@ -135,13 +133,19 @@ is_sound root none =
     let many = is_absent root TooMany h.too_many in
     let names = is_absent root UnknownName h.unknown_name in
     let intervals = is_absent root Interval h.interval in
+    let holds = is_absent root Hold h.hold in
+    let version = version_of root in
+    let rate = rate_of version root in
     let titles = is_absent root Name h.name in
     let duplicates = is_absent root DuplicateSource h.duplicate_source in
     let repeated = is_absent root DuplicateName h.duplicate_name in
     let limits = few root many.at_root in
     let good = good_sources root h in
     record {
-      rate = rate_at root rates.at_root;
+      version = one_or_two version;
+      rate = root_rate root rates;
+      one_rate = one_rate version root (rows_at (codes "group") root);
+      own_rates = own_rates version root;
       few_receivers = rw length-map limits.receivers;
       few_sources = rw length-map limits.sources;
       few_groups = rw length-map limits.groups;
@@ -151,11 +155,13 @@ is_sound root none =
       known_sources = rw length-map (outputs_hold root UnknownName (λ o. o.source < length (rows_at (codes "source") root)) (source_below root) names.at_groups);
       receiver_rows = receivers_are (rows_at (codes "receiver") root) (receiver_names root titles) (few_filters root none);
       source_rows = source_rows_are root titles;
-      group_rows = group_rows_are root titles;
+      group_rows = group_rows_are root rate titles (group_rates root rates);
       intervals = outputs_hold root Interval IsInterval (interval_at root) intervals.at_groups;
+      holds = outputs_hold root Hold IsHold (hold_at root) holds.at_groups;
+      no_holds = no_holds root;
       apart = are_apart root good duplicates.at_sources;
       own_receivers = own_receivers root repeated;
       own_names = own_names root repeated;
-      own_groups = own_groups root repeated;
+      own_groups = own_groups root rate repeated;
       own_sources = own_sources root names (is_absent root DuplicateOutput h.duplicate_output);
     }

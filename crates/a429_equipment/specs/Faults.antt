@@ -6,13 +6,16 @@ use Rattle.std.specs.List.{list_any, list_all, flat_map}
 use Rattle.std.specs.Str.{bytes_eq}
 use Rattle.toml.specs.Data.{Data, string, integer, array, get}
 use Rattle.a429_equipment.specs.declared.fault.FaultKind.{FaultKind}
-use Rattle.a429_equipment.specs.declared.fault.FaultKind.TheVariants.{NotToml, Version, UnknownKey, MissingKey, WrongKind, Rate, TooMany, Name, DuplicateName, Label, Sdi, Interval, UnknownName, DuplicateSource, DuplicateOutput, EmptyGroup}
+use Rattle.a429_equipment.specs.declared.fault.FaultKind.TheVariants.{NotToml, Version, UnknownKey, MissingKey, WrongKind, Rate, TooMany, Name, DuplicateName, Label, Sdi, Interval, UnknownName, DuplicateSource, DuplicateOutput, EmptyGroup, Hold}
 use Rattle.a429_equipment.specs.declared.fault.TablePlace.{TablePlace}
 use Rattle.a429_equipment.specs.declared.fault.TablePlace.TheVariants.{Root, Receiver, Source, Group, Output}
 use Rattle.a429_equipment.specs.declared.columns.Shape.{Shape}
 use Rattle.a429_equipment.specs.declared.columns.Shape.TheVariants.{Integer, Text, Texts, Tables, IntegerOrText}
-use Rattle.a429_equipment.specs.Columns.{columns}
-use Rattle.a429_equipment.specs.Tree.{elements, keys_of, is_table, text_of, text_at, integer_at, rows_at}
+use Rattle.a429_equipment.specs.declared.version.TableVersion.{TableVersion}
+use Rattle.a429_equipment.specs.declared.version.TableVersion.TheVariants.{One, Two}
+use Rattle.a429_equipment.specs.Columns.{Column, columns}
+use Rattle.a429_equipment.specs.Tree.{elements, keys_of, is_table, text_of, text_at, integer_at, get_integer, rows_at}
+use Rattle.a429_equipment.specs.Version.{version_of}
 use Rattle.a429_equipment.specs.Walk.{Stop, walk, earlier}
 use Rattle.a429_equipment.specs.Texts.{is_name, label_value, is_filter}
 use Rattle.a429_equipment.specs.Names.{name_of, number_named}
@@ -24,25 +27,21 @@ is_within low high (negsuc n) = false
 
 -- ## The shape of the tables
 
--- `version` is absent or isn't the integer 1
+-- `version` is absent, or is neither the integer 1 nor the integer 2
 unfoldable pub has_wrong_version : TablePlace → Data → Bool
-has_wrong_version Root d = not (int_eq (integer_at (codes "version") d) (pos 1))
+has_wrong_version Root d = let version = integer_at (codes "version") d in not (int_eq version (pos 1) || int_eq version (pos 2))
 has_wrong_version _ d = false
 
-abbrev pub is_column_key : TablePlace → List ℕ → Bool
-is_column_key place key = list_any (λ c. bytes_eq c.0 key) (columns place)
+abbrev pub is_column_key : TableVersion → TablePlace → List ℕ → Bool
+is_column_key version place key = list_any (λ c. bytes_eq c.key key) (columns version place)
 
 -- a key that the table doesn't have
-unfoldable pub has_unknown_key : TablePlace → Data → Bool
-has_unknown_key place d = list_any (λ key. not (is_column_key place key)) (keys_of d)
-
-abbrev pub is_required : Shape → Bool
-is_required Texts = false
-is_required _ = true
+unfoldable pub has_unknown_key : TableVersion → TablePlace → Data → Bool
+has_unknown_key version place d = list_any (λ key. not (is_column_key version place key)) (keys_of d)
 
 -- a required key is absent
-unfoldable pub lacks_key : TablePlace → Data → Bool
-lacks_key place d = is_table d && list_any (λ c. is_required c.1 && is_none (get c.0 d)) (columns place)
+unfoldable pub lacks_key : TableVersion → TablePlace → Data → Bool
+lacks_key version place d = is_table d && list_any (λ c. c.required && is_none (get c.key d)) (columns version place)
 
 abbrev pub is_text : Data → Bool
 is_text (string s) = true
@@ -58,19 +57,24 @@ has_shape IntegerOrText (string s) = true
 has_shape _ _ = false
 
 -- the value at a column, if there is one, has another shape
-abbrev pub misfits : Data → List ℕ × Shape → Bool
-misfits d c = option_map_or (λ v. not (has_shape c.1 v)) (get c.0 d) false
+abbrev pub misfits : Data → Column → Bool
+misfits d c = option_map_or (λ v. not (has_shape c.shape v)) (get c.key d) false
 
 -- no table, or a value of another kind
-unfoldable pub has_wrong_kind : TablePlace → Data → Bool
-has_wrong_kind place d = not (is_table d) || list_any (misfits d) (columns place)
+unfoldable pub has_wrong_kind : TableVersion → TablePlace → Data → Bool
+has_wrong_kind version place d = not (is_table d) || list_any (misfits d) (columns version place)
 
 -- ## The values
 
--- neither 100000 nor 12000 to 14500
-unfoldable pub has_wrong_rate : TablePlace → Data → Bool
-has_wrong_rate Root d = let rate = integer_at (codes "rate") d in not (is_within 100000 100000 rate || is_within 12000 14500 rate)
-has_wrong_rate _ d = false
+-- 100000, or 12000 to 14500
+abbrev pub is_rate : ℤ → Bool
+is_rate rate = is_within 100000 100000 rate || is_within 12000 14500 rate
+
+-- at the root in version 1, at each group in version 2 (profile: equipment table, version 2)
+unfoldable pub has_wrong_rate : TableVersion → TablePlace → Data → Bool
+has_wrong_rate One Root d = not (is_rate (integer_at (codes "rate") d))
+has_wrong_rate Two (Group i) d = not (is_rate (integer_at (codes "rate") d))
+has_wrong_rate _ _ d = false
 
 unfoldable pub has_too_many : TablePlace → Data → Bool
 has_too_many Root d =
@@ -112,6 +116,15 @@ is_interval least most = (is_within 1 30000000 least && is_within 1 30000000 mos
 unfoldable pub has_bad_interval : TablePlace → Data → Bool
 has_bad_interval (Output i j) d = not (is_interval (integer_at (codes "min_us") d) (integer_at (codes "max_us") d))
 has_bad_interval _ d = false
+
+-- none, or 1 to 1000000
+abbrev pub is_hold : Option ℤ → Bool
+is_hold hold = option_map_or (is_within 1 1000000) hold true
+
+-- an output's hold is out of range (profile: equipment table, version 2)
+unfoldable pub has_bad_hold : TablePlace → Data → Bool
+has_bad_hold (Output i j) d = not (is_hold (get_integer (codes "hold") d))
+has_bad_hold _ d = false
 
 -- ## Names that stand for other tables
 
@@ -178,10 +191,10 @@ is_empty_group _ d = false
 unfoldable pub stands : Data → FaultKind → Stop → Bool
 stands root NotToml s = false
 stands root Version s = has_wrong_version s.0 s.1
-stands root UnknownKey s = has_unknown_key s.0 s.1
-stands root MissingKey s = lacks_key s.0 s.1
-stands root WrongKind s = has_wrong_kind s.0 s.1
-stands root Rate s = has_wrong_rate s.0 s.1
+stands root UnknownKey s = has_unknown_key (version_of root) s.0 s.1
+stands root MissingKey s = lacks_key (version_of root) s.0 s.1
+stands root WrongKind s = has_wrong_kind (version_of root) s.0 s.1
+stands root Rate s = has_wrong_rate (version_of root) s.0 s.1
 stands root TooMany s = has_too_many s.0 s.1
 stands root Name s = has_bad_name s.0 s.1
 stands root DuplicateName s = repeats_name root s.0 s.1
@@ -192,12 +205,13 @@ stands root UnknownName s = names_nothing root s.0 s.1
 stands root DuplicateSource s = repeats_source root s.0 s.1
 stands root DuplicateOutput s = repeats_output root s.0 s.1
 stands root EmptyGroup s = is_empty_group s.0 s.1
+stands root Hold s = has_bad_hold s.0 s.1
 
 -- the kinds of a document, in order
 unfoldable pub kinds : List FaultKind
 kinds =
     Version ∷ UnknownKey ∷ MissingKey ∷ WrongKind ∷ Rate ∷ TooMany ∷ Name ∷ DuplicateName ∷ Label ∷ Sdi ∷ Interval ∷ UnknownName
-    ∷ DuplicateSource ∷ DuplicateOutput ∷ EmptyGroup ∷ []
+    ∷ DuplicateSource ∷ DuplicateOutput ∷ EmptyGroup ∷ Hold ∷ []
 
 -- the faults of one kind, in walk order
 abbrev pub faults_of : Data → FaultKind → List (FaultKind × TablePlace)

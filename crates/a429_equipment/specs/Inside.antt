@@ -4,9 +4,11 @@ use Rattle.a429_equipment.specs.declared.equipment.Equipment.TheInside.{Inside}
 use Rattle.a429_equipment.specs.TableRecord.{TableRecord}
 use Rattle.a429_equipment.specs.Sound.{IsSound}
 use Rattle.a429_equipment.specs.Index.{IsIndex}
+use Rattle.a429_equipment.specs.Version.{version_number}
 
 abbrev pub record_of : Inside → TableRecord
 record_of e = record {
+  version = version_number e.version;
   rate = e.rate;
   receivers = e.receivers.items;
   sources = e.sources.items;

@@ -5,6 +5,7 @@ pub mod Sound
 pub mod Index
 pub mod Inside
 pub mod Tree
+pub mod Version
 pub mod Columns
 pub mod Walk
 pub mod Stops

@@ -2,7 +2,7 @@
 use Rattle.std.specs.Prelude.{codes, ℕ, List, ◌++◌}
 use Rattle.std.specs.Fmt.{decimal}
 use Rattle.a429_equipment.specs.declared.fault.FaultKind.{FaultKind}
-use Rattle.a429_equipment.specs.declared.fault.FaultKind.TheVariants.{NotToml, Version, UnknownKey, MissingKey, WrongKind, Rate, TooMany, Name, DuplicateName, Label, Sdi, Interval, UnknownName, DuplicateSource, DuplicateOutput, EmptyGroup}
+use Rattle.a429_equipment.specs.declared.fault.FaultKind.TheVariants.{NotToml, Version, UnknownKey, MissingKey, WrongKind, Rate, TooMany, Name, DuplicateName, Label, Sdi, Interval, UnknownName, DuplicateSource, DuplicateOutput, EmptyGroup, Hold}
 use Rattle.a429_equipment.specs.declared.fault.TablePlace.{TablePlace}
 use Rattle.a429_equipment.specs.declared.fault.TablePlace.TheVariants.{Root, Receiver, Source, Group, Output}
 
@@ -23,6 +23,7 @@ kind_text UnknownName = codes "unknown-name"
 kind_text DuplicateSource = codes "duplicate-source"
 kind_text DuplicateOutput = codes "duplicate-output"
 kind_text EmptyGroup = codes "empty-group"
+kind_text Hold = codes "hold"
 
 -- an output by its group's number and its own
 unfoldable pub place_text : TablePlace → List ℕ

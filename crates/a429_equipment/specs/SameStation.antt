@@ -1,4 +1,5 @@
--- Two equipments of one station: equal rate, receivers with their filters as written, sources and group names, each in order (profile).
+-- Two equipments of one station: equal receivers with their filters as written, sources, and names and rates of groups, each in order (profile).
+-- Neither the versions nor the rates of the roots are compared: a table of version 1 and one of version 2 may be of one station.
 use Rattle.std.specs.Prelude.{◌==◌, ◌&&◌, ℕ, Bool, true, false, List, Option, Some, None, length}
 use Rattle.std.specs.List.{list_all, zip}
 use Rattle.std.specs.Str.{bytes_eq}
@@ -32,9 +33,8 @@ abbrev pub same_source : SourceRow → SourceRow → Bool
 same_source a b = bytes_eq a.name b.name && (a.receiver == b.receiver && (a.label == b.label && same_sdi a.sdi b.sdi))
 
 abbrev pub same_group : GroupRow → GroupRow → Bool
-same_group a b = bytes_eq a.name b.name
+same_group a b = bytes_eq a.name b.name && a.rate == b.rate
 
 unfoldable pub same_station : TableRecord → TableRecord → Bool
 same_station a b =
-    a.rate == b.rate
-    && (all_agree same_receiver a.receivers b.receivers && (all_agree same_source a.sources b.sources && all_agree same_group a.groups b.groups))
+    all_agree same_receiver a.receivers b.receivers && (all_agree same_source a.sources b.sources && all_agree same_group a.groups b.groups)

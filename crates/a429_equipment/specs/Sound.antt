@@ -1,5 +1,5 @@
 -- What holds of the record of every equipment: it keeps to the limits, each number and name is in range, its sources are apart, and names and outputs are their own.
-use Rattle.std.specs.Prelude.{◌≡◌, ℕ, ◌<◌, ◌≤◌, ◌⊎◌, List, length, Some, IfSome, IsTrue, slice_get}
+use Rattle.std.specs.Prelude.{◌≡◌, ℕ, ◌<◌, ◌≤◌, ◌⊎◌, List, length, Some, None, IfSome, IsTrue, slice_get}
 use Rattle.std.specs.List.{AllByRecursion}
 use Rattle.a429_filter.specs.declared.filters.Filter.{Filter}
 use Rattle.a429_filter.specs.Filters.{filters_of}
@@ -15,9 +15,21 @@ use Rattle.a429_equipment.specs.Texts.{is_name}
 abbrev pub IsRate : ℕ → Type 0
 IsRate rate = (rate ≡ 100000) ⊎ ((12000 ≤ rate) × (rate ≤ 14500))
 
+-- in version 1 the table has one rate, which is each group's (profile: equipment table)
+abbrev pub HasOneRate : TableRecord → Type 0
+HasOneRate t = (rate : ℕ) × (t.rate ≡ Some rate) × AllByRecursion (λ g. g.rate ≡ rate) t.groups
+
 -- in microseconds
 abbrev pub IsInterval : OutputRow → Type 0
 IsInterval o = (1 ≤ o.min_us) × (o.min_us ≤ o.max_us) × (o.max_us ≤ 30000000)
+
+-- 1 to 1000000, where there is a hold (profile: equipment table, version 2)
+abbrev pub IsHold : OutputRow → Type 0
+IsHold o = IfSome o.hold (λ hold. (1 ≤ hold) × (hold ≤ 1000000))
+
+-- no output has a hold
+abbrev pub HaveNoHolds : List (List OutputRow) → Type 0
+HaveNoHolds outputs = AllByRecursion (AllByRecursion (λ o. o.hold ≡ None)) outputs
 
 -- a label and a mask of 8 bits
 abbrev pub IsFilter : Filter → Type 0
@@ -31,9 +43,9 @@ IsReceiverRow r = IsTrue (is_name r.name) × (length (filters_of r.filters) ≤ 
 abbrev pub IsSourceRow : SourceRow → Type 0
 IsSourceRow s = IsTrue (is_name s.name) × (s.label < 256) × IfSome s.sdi (λ k. k < 4)
 
--- a name of its form
+-- a name of its form, and a rate in range
 abbrev pub IsGroupRow : GroupRow → Type 0
-IsGroupRow g = IsTrue (is_name g.name)
+IsGroupRow g = IsTrue (is_name g.name) × IsRate g.rate
 
 -- no two of them have one key
 abbrev pub HaveOwn : {X K : Type 0} → (X → K) → List X → Type 0
@@ -44,7 +56,10 @@ abbrev pub HaveOwnSources : List OutputRow → Type 0
 HaveOwnSources outputs = HaveOwn (λ o. o.source) outputs
 
 pub record IsSound (t : TableRecord) : Type 0 where
-  pub rate : IsRate t.rate
+  pub version : (t.version ≡ 1) ⊎ (t.version ≡ 2)
+  pub rate : IfSome t.rate IsRate
+  pub one_rate : t.version ≡ 1 → HasOneRate t
+  pub own_rates : t.version ≡ 2 → t.rate ≡ None
   pub few_receivers : length t.receivers ≤ 16
   pub few_sources : length t.sources ≤ 256
   pub few_groups : length t.groups ≤ 8
@@ -56,6 +71,8 @@ pub record IsSound (t : TableRecord) : Type 0 where
   pub source_rows : AllByRecursion IsSourceRow t.sources
   pub group_rows : AllByRecursion IsGroupRow t.groups
   pub intervals : AllByRecursion (AllByRecursion IsInterval) t.outputs
+  pub holds : AllByRecursion (AllByRecursion IsHold) t.outputs
+  pub no_holds : t.version ≡ 1 → HaveNoHolds t.outputs
   pub apart : AreApart t.sources
   pub own_receivers : HaveOwn (λ r. r.name) t.receivers
   pub own_names : HaveOwn (λ s. s.name) t.sources

@@ -6,8 +6,11 @@ use Rattle.a429_equipment.specs.declared.rows.ReceiverRow.{ReceiverRow}
 use Rattle.a429_equipment.specs.declared.rows.SourceRow.{SourceRow}
 use Rattle.a429_equipment.specs.declared.rows.GroupRow.{GroupRow}
 use Rattle.a429_equipment.specs.declared.rows.OutputRow.{OutputRow}
+use Rattle.a429_equipment.specs.declared.version.TableVersion.{TableVersion}
+use Rattle.a429_equipment.specs.declared.version.TableVersion.TheVariants.{One, Two}
 use Rattle.a429_equipment.specs.TableRecord.{TableRecord}
-use Rattle.a429_equipment.specs.Tree.{text_of, text_at, integer_at, rows_at}
+use Rattle.a429_equipment.specs.Tree.{text_of, text_at, integer_at, get_integer, rows_at}
+use Rattle.a429_equipment.specs.Version.{version_of, version_number}
 use Rattle.a429_equipment.specs.Texts.{label_value}
 use Rattle.a429_equipment.specs.Names.{name_of, number_named}
 use Rattle.a429_equipment.specs.Faults.{sdi_at}
@@ -45,15 +48,30 @@ source_row root d = record {
   sdi = option_map (natural 4) (sdi_at d);
 }
 
-unfoldable pub group_row : Data → GroupRow
-group_row d = record { name = name_of d }
+-- the rate that stands in a table, in bit/s
+abbrev pub rate_at : Data → ℕ
+rate_at d = natural (2 ^ 32) (integer_at (codes "rate") d)
+
+-- the root has a rate in version 1 (profile: equipment table, version 2)
+abbrev pub rate_of : TableVersion → Data → Option ℕ
+rate_of One root = Some (rate_at root)
+rate_of Two root = None
+
+-- the root's rate, where there is one, and else the group's own (profile: equipment table, version 2)
+unfoldable pub group_row : Option ℕ → Data → GroupRow
+group_row rate d = record { name = name_of d; rate = unwrap_or rate (rate_at d) }
+
+-- an output may have a hold in version 2 (profile: equipment table, version 2)
+abbrev pub hold_of : TableVersion → Data → Option ℕ
+hold_of One d = None
+hold_of Two d = option_map (natural (2 ^ 32)) (get_integer (codes "hold") d)
 
 unfoldable pub output_row : Data → Data → OutputRow
 output_row root d = record {
   source = number_of (text_at (codes "source") d) (rows_at (codes "source") root);
   min_us = natural (2 ^ 32) (integer_at (codes "min_us") d);
   max_us = natural (2 ^ 32) (integer_at (codes "max_us") d);
-  hold = None;
+  hold = hold_of (version_of root) d;
 }
 
 abbrev pub output_rows : Data → Data → List OutputRow
@@ -61,9 +79,10 @@ output_rows root group = map (output_row root) (rows_at (codes "output") group)
 
 unfoldable pub stated : Data → TableRecord
 stated root = record {
-  rate = natural (2 ^ 32) (integer_at (codes "rate") root);
+  version = version_number (version_of root);
+  rate = rate_of (version_of root) root;
   receivers = map receiver_row (rows_at (codes "receiver") root);
   sources = map (source_row root) (rows_at (codes "source") root);
-  groups = map group_row (rows_at (codes "group") root);
+  groups = map (group_row (rate_of (version_of root) root)) (rows_at (codes "group") root);
   outputs = map (output_rows root) (rows_at (codes "group") root);
 }

@@ -1,15 +1,21 @@
 -- The record that an equipment table states: receivers, sources, groups and outputs by their numbers in table order (profile: equipment table).
-use Rattle.std.specs.Prelude.{ℕ, List}
+use Rattle.std.specs.Prelude.{ℕ, List, [], Option, slice_index_or}
 use Rattle.a429_equipment.specs.declared.rows.ReceiverRow.{ReceiverRow}
 use Rattle.a429_equipment.specs.declared.rows.SourceRow.{SourceRow}
 use Rattle.a429_equipment.specs.declared.rows.GroupRow.{GroupRow}
 use Rattle.a429_equipment.specs.declared.rows.OutputRow.{OutputRow}
 
 pub record TableRecord : Type 0 where
-  -- in bit/s
-  pub rate : ℕ
+  -- 1 or 2
+  pub version : ℕ
+  -- in bit/s, of all groups in version 1; none in version 2, where each group has its own
+  pub rate : Option ℕ
   pub receivers : List ReceiverRow
   pub sources : List SourceRow
   pub groups : List GroupRow
   -- of each group, its outputs
   pub outputs : List (List OutputRow)
+
+-- those of a group, or none where there is no such group
+abbrev pub outputs_in : TableRecord → ℕ → List OutputRow
+outputs_in t group = slice_index_or t.outputs group []

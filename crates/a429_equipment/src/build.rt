@@ -2,15 +2,16 @@
 
 ghost use Rattle.std.specs.Prelude.{◌≡◌, ◌≤◌, ◌^◌, All, map, length, codes, Some, IfOk};
 ghost use Rattle.toml.specs.View.{view};
-ghost use Rattle.a429_equipment.specs.Tree.{integer_at, rows_at};
+ghost use Rattle.a429_equipment.specs.Tree.{rows_at};
 ghost use Rattle.a429_equipment.specs.Stops.{table_of};
-ghost use Rattle.a429_equipment.specs.Stated.{natural, label_of, filter_of, filter_row, filters_of, receiver_row, source_row, group_row, output_row, output_rows};
+ghost use Rattle.a429_equipment.specs.Stated.{natural, label_of, filter_of, filter_row, filters_of, receiver_row, source_row, rate_at, rate_of, group_row, hold_of, output_row, output_rows};
 
 use crate::keys::sdi_at;
 use crate::numbers::Numbers;
 use crate::rows::{GroupRow, Name, OutputRow, ReceiverRow, SourceRow};
-use crate::tree::{integer_at, rows_at, text_at, text_of};
+use crate::tree::{get_integer, integer_at, rows_at, text_at, text_of};
 use crate::values::label_value;
+use crate::version::{TableVersion, version_of};
 use a429_filter::{Filter, FilterSet};
 use a429_word::{Label, Sdi};
 use std::alloc::{AllocError, Global};
@@ -26,11 +27,20 @@ fn number(value: i64) -> u32
     }
 }
 
-/// The rate of the buses, in bit/s.
-pub fn rate_of(root: &Value) -> u32
-    ensures { result ≡ natural (2 ^ 32) (integer_at (codes "rate") (view root.now)) }
+fn rate_at(table: &Value) -> u32
+    ensures { result ≡ rate_at (view table.now) }
 {
-    number(integer_at(root, "rate"))
+    number(integer_at(table, "rate"))
+}
+
+/// The rate of all groups, in bit/s, which the root has in version 1.
+pub fn rate_of(version: TableVersion, root: &Value) -> Option<u32>
+    ensures { result ≡ rate_of version (view root.now) }
+{
+    match version {
+        TableVersion::One => Some(rate_at(root)),
+        TableVersion::Two => None,
+    }
 }
 
 fn sdi_number(value: i64) -> Sdi
@@ -141,21 +151,36 @@ pub fn source_rows(
 }
 
 #[tactic(auto, unfolding(crate::specs::Stated::group_row))]
-fn group_row(alloc: Global, table: &Value) -> Result<GroupRow, AllocError>
-    ensures { IfOk result (λ r. r ≡ group_row (view table.now)) }
+fn group_row(alloc: Global, rate: Option<u32>, table: &Value) -> Result<GroupRow, AllocError>
+    ensures { IfOk result (λ r. r ≡ group_row rate (view table.now)) }
 {
     let name = Name::copy_of(alloc, text_at(table, "name"))?;
-    Ok(GroupRow { name })
+    let rate = rate.unwrap_or(rate_at(table));
+    Ok(GroupRow { name, rate })
 }
 
-pub fn group_rows(alloc: Global, tables: &[Value]) -> Result<Vec<GroupRow>, AllocError>
-    ensures { IfOk result (λ v. v.items ≡ map group_row (map view tables.now)) }
+/// The groups: each has this rate, where there is one, and else its own.
+pub fn group_rows(
+    alloc: Global,
+    rate: Option<u32>,
+    tables: &[Value],
+) -> Result<Vec<GroupRow>, AllocError>
+    ensures { IfOk result (λ v. v.items ≡ map (group_row rate) (map view tables.now)) }
 {
     let mut rows = Vec::new(alloc);
     for table in tables {
-        rows.push(group_row(alloc, table)?)?;
+        rows.push(group_row(alloc, rate, table)?)?;
     }
     Ok(rows)
+}
+
+fn hold_of(version: TableVersion, output: &Value) -> Option<u32>
+    ensures { result ≡ hold_of version (view output.now) }
+{
+    match version {
+        TableVersion::One => None,
+        TableVersion::Two => get_integer(output, "hold").map(number),
+    }
 }
 
 #[tactic(auto, unfolding(crate::specs::Stated::output_row))]
@@ -166,7 +191,7 @@ fn output_row(numbers: &Numbers<'_>, table: &Value) -> OutputRow
         source: numbers.source(text_at(table, "source")).unwrap_or(0),
         min_us: number(integer_at(table, "min_us")),
         max_us: number(integer_at(table, "max_us")),
-        hold: None,
+        hold: hold_of(version_of(numbers.root), table),
     }
 }
 

@@ -33,7 +33,10 @@ impl GroupRow {
         ensures { IfOk result (λ g. g ≡ self.now) }
     {
         let name = self.name.copied(alloc)?;
-        Ok(GroupRow { name })
+        Ok(GroupRow {
+            name,
+            rate: self.rate,
+        })
     }
 }
 

@@ -1,5 +1,5 @@
 //! An equipment: the record of its table.
-ghost use Rattle.std.specs.Prelude.{◌≡◌, ◌<◌, slice_get, length, Some, IfOk, position};
+ghost use Rattle.std.specs.Prelude.{◌≡◌, ◌<◌, slice_get, length, Some, IfOk, position, option_map};
 ghost use Rattle.std.specs.Result.{result_map_both};
 
 use crate::arrivals::ArrivalRefusal;
@@ -13,6 +13,7 @@ use crate::rows::{GroupRow, OutputRow, ReceiverRow, SourceRow};
 use crate::same::{same_groups, same_receivers, same_sources};
 use crate::search::first_fault;
 use crate::tree::rows_at;
+use crate::version::{TableVersion, version_of};
 use crate::walk::walk;
 use a429_word::Word;
 use std::alloc::{AllocError, Global};
@@ -21,7 +22,8 @@ use std::marker::Model;
 /// The receivers, sources, groups and outputs of a station, numbered from 0 in table order (profile).
 #[derive(Debug, Drop)]
 pub struct Equipment {
-    rate: u32,
+    version: TableVersion,
+    rate: Option<u32>,
     receivers: Vec<ReceiverRow>,
     sources: Vec<SourceRow>,
     groups: Vec<GroupRow>,
@@ -42,6 +44,7 @@ impl Model for Equipment {
 }
 
 impl Equipment {
+    ghost use Rattle.a429_equipment.specs.TableRecord.{outputs_in};
     ghost use Rattle.a429_equipment.specs.Sound.{IsSound};
     ghost use Rattle.a429_equipment.specs.Arrivals.{sorted, is_for};
     ghost use Rattle.a429_equipment.specs.SameStation.{same_station};
@@ -51,9 +54,9 @@ impl Equipment {
     ghost use Rattle.a429_equipment.specs.Stated.{stated};
     ghost use Rattle.a429_equipment.specs.Reading.{GivesUnlessMemory, reading};
 
-    /// Reads an equipment table, as TOML (profile: equipment table, version 1). The fault is the first by
-    /// kind, and of its kind the first in walk order: root, receivers, sources, then each group followed
-    /// by its outputs. It is `NoMemory` only where memory ran out.
+    /// Reads an equipment table, as TOML (profile: equipment table, versions 1 and 2). The fault is the
+    /// first by kind, and of its kind the first in walk order: root, receivers, sources, then each group
+    /// followed by its outputs. It is `NoMemory` only where memory ran out.
     pub fn read(alloc: Global, bytes: &[u8]) -> Result<Equipment, TableFault>
         ensures { GivesUnlessMemory (λ e. e) result (reading bytes.now) }
     {
@@ -75,11 +78,13 @@ impl Equipment {
         let root = numbers.root;
         let receivers = receiver_rows(alloc, rows_at(root, "receiver"))?;
         let sources = source_rows(alloc, numbers, rows_at(root, "source"))?;
-        let groups = group_rows(alloc, rows_at(root, "group"))?;
+        let version = version_of(root);
+        let rate = rate_of(version, root);
+        let groups = group_rows(alloc, rate, rows_at(root, "group"))?;
         let outputs = group_outputs(alloc, numbers, rows_at(root, "group"))?;
-        let rate = rate_of(root);
         let index = Index::of(alloc, &receivers, &sources)?;
         Ok(Equipment {
+            version,
             rate,
             receivers,
             sources,
@@ -99,6 +104,7 @@ impl Equipment {
         let outputs = copied_outputs(alloc, &self.outputs)?;
         let index = self.index.copied(alloc)?;
         Ok(Equipment {
+            version: self.version,
             rate: self.rate,
             receivers,
             sources,
@@ -108,8 +114,17 @@ impl Equipment {
         })
     }
 
-    /// The rate of every bus, in bit/s: 100000, or 12000 to 14500 (ARINC 429 Part 1, bit rates).
-    pub fn rate(&self) -> u32
+    /// The version of its table: 1 or 2 (profile: equipment table).
+    pub fn version(&self) -> u32
+        ensures version { result ≡ self.now.version }
+        ensures sound { IsSound self.now }
+    {
+        self.version.number()
+    }
+
+    /// The rate of every bus, in bit/s: 100000, or 12000 to 14500 (ARINC 429 Part 1, bit rates). None in
+    /// version 2, where each group has its own.
+    pub fn rate(&self) -> Option<u32>
         ensures rate { result ≡ self.now.rate }
         ensures sound { IsSound self.now }
     {
@@ -140,6 +155,15 @@ impl Equipment {
         self.groups.as_slice()
     }
 
+    /// The rate of the buses of a group, in bit/s: 100000, or 12000 to 14500 (ARINC 429 Part 1, bit rates).
+    pub fn group_rate(&self, group: usize) -> u32
+        requires { group < length self.now.groups }
+        ensures rate { option_map (λ row. row.rate) (slice_get self.now.groups group) ≡ Some result }
+        ensures sound { IsSound self.now }
+    {
+        self.groups[group].rate
+    }
+
     /// The outputs of a group, 1 to 128.
     pub fn outputs(&self, group: usize) -> &[OutputRow]
         requires { group < length self.now.groups }
@@ -147,6 +171,17 @@ impl Equipment {
         ensures sound { IsSound self.now }
     {
         self.outputs[group].as_slice()
+    }
+
+    /// How often an output of a group sends one accepted word at most, 1 to 1000000; None where there is
+    /// no limit, as always in version 1.
+    pub fn hold(&self, group: usize, output: usize) -> Option<u32>
+        requires group { group < length self.now.groups }
+        requires output { output < length (outputs_in self.now group) }
+        ensures hold { option_map (λ row. row.hold) (slice_get (outputs_in self.now group) output) ≡ Some result }
+        ensures sound { IsSound self.now }
+    {
+        self.outputs[group][output].hold
     }
 
     /// The number of the source that a raw word is for, which came in at this receiver, with the word
@@ -179,15 +214,14 @@ impl Equipment {
         self.index.source_of(receiver, word.label(), word.sdi())
     }
 
-    /// Whether two equipments are of one station: equal rate, receivers with their filters as written,
-    /// sources and group names, each in order (profile). Outputs may differ.
+    /// Whether two equipments are of one station: equal receivers with their filters as written, sources,
+    /// and names and rates of groups, each in order (profile). Outputs may differ, and the versions of the
+    /// tables.
     #[tactic(auto, unfolding(crate::specs::SameStation::same_station))]
     pub fn same_station(&self, other: &Equipment) -> bool
         ensures { result ≡ same_station self.now other.now }
     {
-        let same_rate = self.rate == other.rate;
-        same_rate
-            && same_receivers(&self.receivers, &other.receivers)
+        same_receivers(&self.receivers, &other.receivers)
             && same_sources(&self.sources, &other.sources)
             && same_groups(&self.groups, &other.groups)
     }

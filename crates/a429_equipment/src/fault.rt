@@ -14,16 +14,17 @@ use thiserror::Error;
 pub enum FaultKind {
     /// The bytes are not UTF-8, or no TOML document. At the root.
     NotToml,
-    /// `version` is absent, or is not the integer 1. At the root.
+    /// `version` is absent, or is neither the integer 1 nor the integer 2. At the root.
     Version,
-    /// A table has a key that is none of its own. At that table.
+    /// A table has a key that is none of its own in this version. At that table.
     UnknownKey,
-    /// A table lacks a key that it must have: each but `filters`. At that table.
+    /// A table lacks a key that it must have: each but `filters` and `hold`. At that table.
     MissingKey,
     /// The value of a key, or a filter, has another kind: at the table with the key. An element of an
     /// array of tables is no table: at that element.
     WrongKind,
-    /// The rate is neither 100000 bit/s nor 12000 to 14500 bit/s. At the root.
+    /// A rate is neither 100000 bit/s nor 12000 to 14500 bit/s. In version 1 at the root, in version 2 at
+    /// that group.
     Rate,
     /// More than 16 receivers, 256 sources or 8 groups: at the root. More than 32 filters or 128 outputs:
     /// at that receiver or group.
@@ -49,6 +50,8 @@ pub enum FaultKind {
     DuplicateOutput,
     /// A group has no output. At that group.
     EmptyGroup,
+    /// There is a `hold`, and it is not 1 to 1000000. At that output.
+    Hold,
 }
 
 /// A table within the equipment table. Numbers count from 0, and an output has its group's first.
@@ -67,7 +70,7 @@ pub enum TablePlace {
 }
 
 impl FaultKind {
-    /// Its name in refusals: `not-toml` to `empty-group`.
+    /// Its name in refusals: `not-toml` to `hold`.
     #[tactic(auto, unfolding(crate::specs::Printed::kind_text))]
     fn text(self) -> &'static str
         ensures { result.now ≡ kind_text self }
@@ -89,6 +92,7 @@ impl FaultKind {
             FaultKind::DuplicateSource => "duplicate-source",
             FaultKind::DuplicateOutput => "duplicate-output",
             FaultKind::EmptyGroup => "empty-group",
+            FaultKind::Hold => "hold",
         }
     }
 }

@@ -22,6 +22,7 @@ mod search;
 mod shape;
 mod tree;
 mod values;
+mod version;
 mod walk;
 
 pub use arrivals::ArrivalRefusal;

@@ -61,10 +61,12 @@ pub struct SourceRow {
     pub sdi: Option<Sdi>,
 }
 
-/// A group of outputs, which is one set of destinations.
+/// A group of outputs, which is one set of destinations, and the rate of its buses.
 #[derive(Debug, Drop)]
 pub struct GroupRow {
     pub name: Name,
+    /// In bit/s: 100000, or 12000 to 14500 (ARINC 429 Part 1, bit rates). In version 1 the root's rate.
+    pub rate: u32,
 }
 
 /// An output of a group: the number of its source, and the least and the greatest time from one
@@ -77,6 +79,7 @@ pub struct OutputRow {
     pub min_us: u32,
     /// In microseconds, at least `min_us` and at most 30000000.
     pub max_us: u32,
-    /// How often one accepted word is sent at most; None where there is no limit.
+    /// How often one accepted word is sent at most, 1 to 1000000; None where there is no limit, as always
+    /// in version 1.
     pub hold: Option<u32>,
 }

@@ -64,12 +64,15 @@ pub fn same_sources(a: &[SourceRow], b: &[SourceRow]) -> bool
     a.len() == b.len() && a.iter().zip(b).all(|(a, b)| same_source(a, b))
 }
 
-/// Whether the groups have equal names, each in order.
+fn same_group(a: &GroupRow, b: &GroupRow) -> bool
+    ensures { result ≡ same_group a.now b.now }
+{
+    a.name.as_str() == b.name.as_str() && a.rate == b.rate
+}
+
+/// Whether the groups have equal names and rates, each in order.
 pub fn same_groups(a: &[GroupRow], b: &[GroupRow]) -> bool
     ensures { result ≡ all_agree same_group a.now b.now }
 {
-    a.len() == b.len()
-        && a.iter()
-            .zip(b)
-            .all(|(a, b)| a.name.as_str() == b.name.as_str())
+    a.len() == b.len() && a.iter().zip(b).all(|(a, b)| same_group(a, b))
 }

@@ -12,13 +12,14 @@ use crate::numbers::Numbers;
 use crate::repeats::{repeats_output, repeats_source};
 use crate::shape::{has_unknown_key, has_wrong_kind, has_wrong_version, lacks_key};
 use crate::values::{
-    has_bad_interval, has_bad_label, has_bad_name, has_bad_sdi, has_too_many, has_wrong_rate,
-    is_empty_group,
+    has_bad_hold, has_bad_interval, has_bad_label, has_bad_name, has_bad_sdi, has_too_many,
+    has_wrong_rate, is_empty_group,
 };
+use crate::version::version_of;
 use crate::walk::Stop;
 
 /// The kinds that a document can have, in the order in which they are asked.
-const KINDS: [FaultKind; 15] = [
+const KINDS: [FaultKind; 16] = [
     FaultKind::Version,
     FaultKind::UnknownKey,
     FaultKind::MissingKey,
@@ -34,6 +35,7 @@ const KINDS: [FaultKind; 15] = [
     FaultKind::DuplicateSource,
     FaultKind::DuplicateOutput,
     FaultKind::EmptyGroup,
+    FaultKind::Hold,
 ];
 
 #[tactic(auto, unfolding(crate::specs::Faults::stands))]
@@ -43,10 +45,10 @@ fn stands(numbers: &Numbers<'_>, kind: FaultKind, stop: &Stop) -> bool
     match kind {
         FaultKind::NotToml => false,
         FaultKind::Version => has_wrong_version(stop),
-        FaultKind::UnknownKey => has_unknown_key(stop),
-        FaultKind::MissingKey => lacks_key(stop),
-        FaultKind::WrongKind => has_wrong_kind(stop),
-        FaultKind::Rate => has_wrong_rate(stop),
+        FaultKind::UnknownKey => has_unknown_key(version_of(numbers.root), stop),
+        FaultKind::MissingKey => lacks_key(version_of(numbers.root), stop),
+        FaultKind::WrongKind => has_wrong_kind(version_of(numbers.root), stop),
+        FaultKind::Rate => has_wrong_rate(version_of(numbers.root), stop),
         FaultKind::TooMany => has_too_many(stop),
         FaultKind::Name => has_bad_name(stop),
         FaultKind::DuplicateName => repeats_name(numbers, stop),
@@ -57,6 +59,7 @@ fn stands(numbers: &Numbers<'_>, kind: FaultKind, stop: &Stop) -> bool
         FaultKind::DuplicateSource => repeats_source(numbers, stop),
         FaultKind::DuplicateOutput => repeats_output(numbers, stop),
         FaultKind::EmptyGroup => is_empty_group(stop),
+        FaultKind::Hold => has_bad_hold(stop),
     }
 }
 

@@ -1,4 +1,4 @@
-//! Faults in single values: the rate, counts, names, labels, SDIs and intervals.
+//! Faults in single values: rates, counts, names, labels, SDIs, intervals and holds.
 
 ghost use Rattle.std.specs.Prelude.{◌≡◌, map, not, Some, codes};
 ghost use Rattle.std.specs.List.{list_any};
@@ -6,10 +6,11 @@ ghost use Rattle.toml.specs.Data.{get};
 ghost use Rattle.toml.specs.View.{view};
 ghost use Rattle.a429_equipment.specs.Texts.{is_name_byte, is_name, is_octal, label_value, is_filter};
 ghost use Rattle.a429_equipment.specs.Tree.{text_of};
-ghost use Rattle.a429_equipment.specs.Faults.{is_sdi, is_within, is_interval, is_named, has_wrong_rate, has_too_many, has_bad_name, has_bad_label, has_bad_sdi, has_bad_interval, is_empty_group};
+ghost use Rattle.a429_equipment.specs.Faults.{is_sdi, is_within, is_rate, is_interval, is_hold, is_named, has_wrong_rate, has_too_many, has_bad_name, has_bad_label, has_bad_sdi, has_bad_interval, has_bad_hold, is_empty_group};
 
 use crate::fault::TablePlace;
-use crate::tree::{integer_at, rows_at, text_at, text_of};
+use crate::tree::{get_integer, integer_at, rows_at, text_at, text_of};
+use crate::version::TableVersion;
 use crate::walk::Stop;
 use toml::Value;
 
@@ -20,15 +21,20 @@ pub fn is_within(low: u32, high: u32, number: i64) -> bool
     i64::from(low) <= number && number <= i64::from(high)
 }
 
-/// The rate is neither 100000 nor 12000 to 14500.
-#[tactic(auto, unfolding(crate::specs::Faults::has_wrong_rate))]
-pub fn has_wrong_rate(stop: &Stop) -> bool
-    ensures { result ≡ has_wrong_rate stop.now.place (view stop.now.value.now) }
+fn is_rate(rate: i64) -> bool
+    ensures { result ≡ is_rate rate }
 {
-    match stop.place {
-        TablePlace::Root => {
-            let rate = integer_at(stop.value, "rate");
-            !(is_within(100000, 100000, rate) || is_within(12000, 14500, rate))
+    is_within(100000, 100000, rate) || is_within(12000, 14500, rate)
+}
+
+/// The rate of the root of version 1, or of a group of version 2, is neither 100000 nor 12000 to 14500.
+#[tactic(auto, unfolding(crate::specs::Faults::has_wrong_rate))]
+pub fn has_wrong_rate(version: TableVersion, stop: &Stop) -> bool
+    ensures { result ≡ has_wrong_rate version stop.now.place (view stop.now.value.now) }
+{
+    match (version, stop.place) {
+        (TableVersion::One, TablePlace::Root) | (TableVersion::Two, TablePlace::Group(_)) => {
+            !is_rate(integer_at(stop.value, "rate"))
         }
         _ => false,
     }
@@ -164,6 +170,23 @@ pub fn has_bad_interval(stop: &Stop) -> bool
                 integer_at(stop.value, "max_us"),
             )
         }
+        _ => false,
+    }
+}
+
+fn is_hold(hold: Option<i64>) -> bool
+    ensures { result ≡ is_hold hold }
+{
+    hold.is_none_or(|hold| is_within(1, 1000000, hold))
+}
+
+/// There is a hold, and it is out of range.
+#[tactic(auto, unfolding(crate::specs::Faults::has_bad_hold))]
+pub fn has_bad_hold(stop: &Stop) -> bool
+    ensures { result ≡ has_bad_hold stop.now.place (view stop.now.value.now) }
+{
+    match stop.place {
+        TablePlace::Output(_, _) => !is_hold(get_integer(stop.value, "hold")),
         _ => false,
     }
 }

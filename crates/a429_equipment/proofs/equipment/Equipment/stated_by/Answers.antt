@@ -35,7 +35,7 @@ pub invariant_of-result : goal.invariant_of-result
 unfolding stated
 invariant_of-result c = record {
   sound =
-      rw (c.in_ok-receivers.ensures, c.in_ok-sources.ensures, c.in_ok-groups.ensures, c.in_ok-outputs.ensures, c.rate_of-rate.ensures, c.rows_at.ensures, c.rows_at-2.ensures, c.rows_at-3.ensures, c.rows_at-4.ensures)
+      rw (c.in_ok-receivers.ensures, c.in_ok-sources.ensures, c.in_ok-groups.ensures, c.in_ok-outputs.ensures, c.rate_of-rate.ensures, c.version_of-version.ensures, c.rows_at.ensures, c.rows_at-2.ensures, c.rows_at-3.ensures, c.rows_at-4.ensures)
       (is_sound (table_of c.args.numbers.now) c.requires);
   index = rw (c.deref.ensures.value, c.deref-2.ensures.value) at c.in_ok-index.ensures;
 }
