@@ -10,6 +10,5 @@ pub mod History
 pub mod TakenFrames
 pub mod Recalling
 pub mod Spacing
-pub mod Agreement
 pub mod Answers
 pub mod Sending
