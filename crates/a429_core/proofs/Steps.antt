@@ -208,8 +208,7 @@ arrive_step C o E r raw v S =
 pub same_count : (a b : TableRecord) → same_station a b ≡ true → length a.groups ≡ length b.groups
 unfolding same_station
 same_count a b h =
-    let rest = (and_parts (a.rate == b.rate) (all_agree same_receiver a.receivers b.receivers && (all_agree same_source a.sources b.sources && all_agree same_group a.groups b.groups)) h).1 in
-    let more = (and_parts (all_agree same_receiver a.receivers b.receivers) (all_agree same_source a.sources b.sources && all_agree same_group a.groups b.groups) rest).1 in
+    let more = (and_parts (all_agree same_receiver a.receivers b.receivers) (all_agree same_source a.sources b.sources && all_agree same_group a.groups b.groups) h).1 in
     let groups = (and_parts (all_agree same_source a.sources b.sources) (all_agree same_group a.groups b.groups) more).1 in
     eqb-true (length a.groups) (length b.groups) (and_parts (length a.groups == length b.groups) _ groups).0
 
