@@ -12,3 +12,4 @@ pub mod Recalling
 pub mod Spacing
 pub mod Answers
 pub mod Sending
+pub mod Holding

@@ -1,6 +1,7 @@
 //! What follows from the definitions of histories.
 ghost use Rattle.std.specs.Prelude.{◌≡◌, [], ◌⊎◌, ℕ, List, false};
 ghost use Rattle.a429_slots.specs.Tables.{GroupTable};
+ghost use Rattle.a429_slots.specs.Holding.{HoldsAreKept};
 ghost use Rattle.a429_slots.specs.Spacing.{CellsOfOnePlanAreApart, EmptyCellsAreFirst, EmptyCellsFollowWords, OpeningPlanEmptiesNone, PlannedTablesAreSpaced, WordsAreApart};
 ghost use Rattle.a429_slots.specs.Events.{Event};
 ghost use Rattle.a429_slots.specs.History.{Opening, OpensWith};
@@ -52,6 +53,12 @@ pub fn sends_are_recalled()
 pub fn words_are_spaced()
     ensures apart { WordsAreApart }
     ensures only { EmptyCellsFollowWords }
+{}
+
+/// A group sends one accepted word at most as often as the output's hold says, under whatever plans: each time it is
+/// sent, it was sent fewer times before. Where an output has no hold, no word is held back.
+pub fn holds_are_kept()
+    ensures { HoldsAreKept }
 {}
 
 /// Where no plan comes between, two cells of an output are far enough apart: so a cell can be empty for the sake of
