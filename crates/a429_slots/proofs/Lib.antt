@@ -14,3 +14,4 @@ pub mod Numbers
 pub mod Following
 pub mod SamePlan
 pub mod SpacedTables
+pub mod SpacedPlans

@@ -16,12 +16,12 @@ use Rattle.a429_slots.proofs.Cells.{length-outputs, output_is}
 use Rattle.a429_slots.proofs.Rows.{unasked}
 
 -- the row of an output
-record HasRow {A B : Type 0} (R : A → B → Type 0) (xs : List A) (n : ℕ) (y : B) : Type 0 where
+pub record HasRow {A B : Type 0} (R : A → B → Type 0) (xs : List A) (n : ℕ) (y : B) : Type 0 where
   pub row : A
   pub there : slice_get xs n ≡ Some row
   pub related : R row y
 
-row_of : {A B : Type 0} (R : A → B → Type 0) (xs : List A) (ys : List B) (n : ℕ) (y : B) → AllZip R xs ys → slice_get ys n ≡ Some y → HasRow R xs n y
+pub row_of : {A B : Type 0} (R : A → B → Type 0) (xs : List A) (ys : List B) (n : ℕ) (y : B) → AllZip R xs ys → slice_get ys n ≡ Some y → HasRow R xs n y
 row_of R [] [] n y all h = absurd (none-some y h)
 row_of R [] (z ∷ ys) n y all h = absurd all
 row_of R (x ∷ xs) [] n y all h = absurd all

@@ -1,13 +1,15 @@
 -- The cells of outputs by their places in a history, and how far apart a group sends words of one source. A place is how many events come
 -- before it.
-use Rattle.std.specs.Prelude.{◌≡◌, ◌+◌, ◌<◌, ◌≤◌, ◌^◌, ℕ, IsTrue, List, Some, length, take, slice_get}
+use Rattle.std.specs.Prelude.{◌≡◌, ◌+◌, ◌<◌, ◌≤◌, ◌^◌, ◌++◌, ◌∷◌, ℕ, IsTrue, List, Some, length, take, slice_get}
+use Rattle.std.specs.List.{AllByRecursion}
 use Rattle.a429_equipment.specs.Sound.{HaveOwnSources}
 use Rattle.a429_equipment.specs.declared.rows.OutputRow.{OutputRow}
 use Rattle.a429_equipment.specs.declared.rows.SourceRow.{SourceRow}
 use Rattle.a429_slots.specs.Tables.{Placed, GroupTable, outputs_of, output_in}
 use Rattle.a429_slots.specs.Kept.{StandsJustAt}
-use Rattle.a429_slots.specs.Planned.{IsPlannedFor}
-use Rattle.a429_slots.specs.Events.{Event, Cell}
+use Rattle.a429_slots.specs.Planned.{IsPlannedFor, IsPlanOf}
+use Rattle.a429_slots.specs.Proposed.{Proposed}
+use Rattle.a429_slots.specs.Events.{Event, Cell, Publish}
 use Rattle.a429_slots.specs.History.{Opening, OpensWith, AnsweredCell, current, cell_due, answered_cell, answered_cells, is_too_close}
 
 -- at this place the group answers a cell of this output, in this slot counted from the station's first
@@ -57,6 +59,16 @@ pub record IsSpacedTable (t : GroupTable) : Type 0 where
 abbrev pub HasSpacedTable : Opening → ℕ → GroupTable → List Event → ℕ → Type 0
 HasSpacedTable o g p E k = IsSpacedTable (current o g p (take k E)).table
 
+-- a proposal with the plan of its own table, whose outputs have sources of their own
+pub record IsOwnPlan (q : Proposed) : Type 0 where
+  pub plan : IsPlanOf q.station q.plan
+  pub own : AllByRecursion HaveOwnSources q.station.outputs
+
+-- the opening proposal is one, and each that is published
+pub record HaveOwnPlans (o : Opening) (E : List Event) : Type 0 where
+  pub opening : IsOwnPlan o.proposal
+  pub published : (before after : List Event) (q : Proposed) → E ≡ before ++ Publish q ∷ after → IsOwnPlan q
+
 -- ---- laws
 
 -- two words of one source that a group sends are as far apart as the plan in force at the second asks
@@ -96,3 +108,8 @@ abbrev pub PlannedTablesAreSpaced : Type 0
 PlannedTablesAreSpaced =
     (rate : ℕ) (sources : List SourceRow) (rows : List OutputRow) (t : GroupTable)
     → IsPlannedFor rate sources rows t → HaveOwnSources rows → IsSpacedTable t
+
+-- where each plan is that of its own table, the slot table in force keeps to the least spacings at every place
+abbrev pub PlansInForceAreSpaced : Type 0
+PlansInForceAreSpaced =
+    (o : Opening) (g : ℕ) (p : GroupTable) (E : List Event) (k : ℕ) → OpensWith o g p → HaveOwnPlans o E → HasSpacedTable o g p E k

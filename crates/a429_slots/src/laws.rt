@@ -2,7 +2,7 @@
 ghost use Rattle.std.specs.Prelude.{◌≡◌, [], ◌⊎◌, ℕ, List, false};
 ghost use Rattle.a429_slots.specs.Tables.{GroupTable};
 ghost use Rattle.a429_slots.specs.Holding.{HoldsAreKept};
-ghost use Rattle.a429_slots.specs.Spacing.{CellsOfOnePlanAreApart, EmptyCellsAreFirst, EmptyCellsFollowWords, OpeningPlanEmptiesNone, PlannedTablesAreSpaced, WordsAreApart};
+ghost use Rattle.a429_slots.specs.Spacing.{CellsOfOnePlanAreApart, EmptyCellsAreFirst, EmptyCellsFollowWords, OpeningPlanEmptiesNone, PlannedTablesAreSpaced, PlansInForceAreSpaced, WordsAreApart};
 ghost use Rattle.a429_slots.specs.Events.{Event};
 ghost use Rattle.a429_slots.specs.History.{Opening, OpensWith};
 ghost use Rattle.a429_slots.specs.Recalling.{Recalls, RecentCountsSends, RecentDecides, RecentPassesOtherCells, never};
@@ -72,6 +72,15 @@ pub fn spacing_empties_first_cells_only()
 /// The slot tables of a plan keep to the least spacing of each output.
 pub fn planned_tables_are_spaced()
     ensures { PlannedTablesAreSpaced }
+{
+    none_is_above_the_greatest();
+}
+
+/// Where each proposal, the opening one and those that are published, has the plan of its own table, the slot
+/// table in force of a group keeps to the least spacings at every place of a history: it is what the laws of
+/// spacing ask for.
+pub fn plans_in_force_are_spaced()
+    ensures { PlansInForceAreSpaced }
 {
     none_is_above_the_greatest();
 }
