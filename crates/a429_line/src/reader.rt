@@ -2,11 +2,10 @@
 ghost use Rattle.std.specs.Prelude.{◌≡◌, ◌++◌, ◌≤◌, ◌<◌, List, [], None, IfSome, OnOk, OnErr, IfOk, is_ok, length, slice_range, if◌then◌else◌};
 ghost use Rattle.std.specs.Option.{option_to_list};
 ghost use Rattle.a429_line.specs.LineBytes.{symbols_of};
-ghost use Rattle.a429_line.specs.Reports.{reports, rest};
+ghost use Rattle.a429_line.specs.Reports.{rest};
 ghost use Rattle.a429_line.specs.Stages.{after_all, due_in};
 ghost use Rattle.a429_line.specs.Standing.{AddsReports, BringReports, StandsFor};
 ghost use Rattle.a429_line.specs.declared.found.Symbol.{Symbol};
-ghost use Rattle.a429_line.specs.declared.found.Found.{Found};
 
 use crate::found::{Found, Symbol};
 use crate::stage::Stage;
