@@ -1,12 +1,12 @@
 -- The text of a plan: what its lines state (profile: plan text, version 1).
-use Rattle.std.specs.Prelude.{ℕ, ◌-◌, ◌^◌, List, [], ◌∷◌, ◌++◌, map, slice_get, sum}
-use Rattle.std.specs.List.{flat_map}
+use Rattle.std.specs.Prelude.{ℕ, ◌-◌, ◌^◌, ◌<◌, List, [], ◌∷◌, ◌++◌, length, map, slice_get, sum}
+use Rattle.std.specs.List.{AllByRecursion, flat_map}
 use Rattle.std.specs.Option.{option_map_or}
 use Rattle.a429_equipment.specs.TableRecord.{TableRecord}
 use Rattle.a429_equipment.specs.declared.rows.GroupRow.{GroupRow}
 use Rattle.a429_equipment.specs.declared.rows.SourceRow.{SourceRow}
 use Rattle.a429_slots.specs.declared.group_plan.SlotPlace.{SlotPlace}
-use Rattle.a429_slots.specs.Tables.{GroupTable, PlanTable, placed_at, order_of, frame_of, buses_of, groups_of}
+use Rattle.a429_slots.specs.Tables.{GroupTable, PlanTable, placed_at, outputs_of, order_of, frame_of, buses_of, groups_of}
 use Rattle.a429_cert.specs.Spelling.{Heading, Listing, Bounding, version_text, rate_text, output_text}
 use Rattle.a429_cert.specs.Checked.{Stated, stated_text}
 
@@ -21,6 +21,10 @@ heading_of name t = record { name = name; frame = frame_of t; buses = buses_of t
 -- an output that stands at a place: its period in slots, its bus and its offset
 abbrev pub placed_listing : List ℕ → SlotPlace → Listing
 placed_listing name place = record { source = name; period = 2 ^ place.period; bus = place.bus; offset = place.offset }
+
+-- the source of each output is one of these
+abbrev pub HasSources : List SourceRow → GroupTable → Type 0
+HasSources sources t = AllByRecursion (λ o. o.source < length sources) (outputs_of t)
 
 -- the output of this number
 abbrev pub listing_of : List SourceRow → GroupTable → ℕ → Listing

@@ -1,6 +1,6 @@
 //! What an equipment table asks of the text of its plan.
 
-ghost use Rattle.std.specs.Prelude.{◌<◌, Some, length, IfOk, IfErr};
+ghost use Rattle.std.specs.Prelude.{◌<◌, length, IfOk, IfErr};
 ghost use Rattle.a429_equipment.specs.Sound.{IsSound};
 ghost use Rattle.a429_cert.specs.Due.{AreDueOfGroup, IsDue, IsDueOfRow};
 ghost use Rattle.a429_cert.specs.Judged.{IsNoVerdict, IsGroupUnfit};

@@ -1,10 +1,9 @@
 //! The text of a plan.
 ghost use Rattle.std.specs.Prelude.{◌≡◌, ◌++◌, ◌<◌, length, string_bytes, OnOk, IfOk, IfSome};
-ghost use Rattle.std.specs.List.{AllByRecursion};
 ghost use Rattle.a429_slots.specs.Tables.{outputs_of, source_of};
 ghost use Rattle.a429_cert.specs.Spelling.{group_text, output_text, bound_text};
 ghost use Rattle.a429_cert.specs.Checked.{stated_text};
-ghost use Rattle.a429_cert.specs.PlanText.{heading_of, placed_listing, listing_of, bound_of, stated_of, outputs_text, groups_text, plan_text_of};
+ghost use Rattle.a429_cert.specs.PlanText.{HasSources, heading_of, placed_listing, listing_of, bound_of, stated_of, outputs_text, groups_text, plan_text_of};
 
 use a429_equipment::{Equipment, GroupRow, SourceRow};
 use a429_slots::{GroupPlan, OUTPUTS, OutputId, Proposal, SlotPlace};
@@ -68,7 +67,7 @@ fn write_outputs(
     sources: &[SourceRow],
     table: &GroupPlan<OUTPUTS>,
 ) -> Result<(), AllocError>
-    requires known { AllByRecursion (λ o. o.source < length sources.now) (outputs_of table.now) }
+    requires known { HasSources sources.now table.now }
     ensures { OnOk result (string_bytes text.new ≡ string_bytes text.old ++ outputs_text sources.now table.now) }
 {
     for place in 0..table.outputs() {
@@ -84,7 +83,7 @@ fn write_group(
     group: &GroupRow,
     table: &GroupPlan<OUTPUTS>,
 ) -> Result<(), AllocError>
-    requires known { AllByRecursion (λ o. o.source < length sources.now) (outputs_of table.now) }
+    requires known { HasSources sources.now table.now }
     ensures { OnOk result (string_bytes text.new ≡ string_bytes text.old ++ stated_text (stated_of sources.now group.now table.now)) }
 {
     write_heading(text, group.name.as_str(), table)?;

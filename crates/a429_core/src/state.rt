@@ -1,9 +1,9 @@
 //! The machine: one step for each event.
-ghost use Rattle.std.specs.Prelude.{◌≡◌, ◌≤◌, ◌+◌, ◌-◌, ◌^◌, ◌<◌, ◌∷◌, [], ◌↔◌, List, Ok, Some, None, map, length, IfOk, IfSome, OnOk, OnErr, IsErrOf, IsOk, IsTrue, false};
+ghost use Rattle.std.specs.Prelude.{◌≡◌, ◌≤◌, ◌+◌, ◌^◌, ◌<◌, ◌∷◌, [], ◌↔◌, List, Ok, map, length, IfOk, IfSome, OnOk, OnErr, IsErrOf, IsOk, IsTrue, false};
 ghost use Rattle.a429_slots.specs.Tables.{groups_of};
 ghost use Rattle.a429_slots.specs.Events.{Event as History_Event};
 ghost use Rattle.a429_slots.specs.History.{Opening};
-ghost use Rattle.a429_slots.specs.Answers.{answer, answers};
+ghost use Rattle.a429_slots.specs.Answers.{answer};
 ghost use Rattle.a429_core.specs.Happened.{event_of};
 ghost use Rattle.a429_slots.specs.declared.answers.Refusal.{Refusal as Why};
 ghost use Rattle.a429_slots.specs.Sending.{begun, all_fit};

@@ -26,7 +26,7 @@ pub record Received (filters : Option (List Filter)) (taken : List ℕ) (answer 
   pub looks : length refused ≤ 65536
   pub skipped : is_skipped answer ≡ (length refused == 65536)
 
--- the answer stands on the words that the source gave in the call, and what the source has still to give is what it had behind them
+-- the answer is by the words that the source gave in the call, and what was behind them the source has still to give
 abbrev pub ReceivesFrom : {L : Type 0} → (L → List ℕ) → (L → Option (List ℕ)) → L → L → Option (List Filter) → Result (Option ℕ) SourceFault → Type 0
 ReceivesFrom given left before after filters answer =
     (taken : List ℕ) × (given after ≡ given before ++ taken) × (left before ≡ option_map (λ more. taken ++ more) (left after))

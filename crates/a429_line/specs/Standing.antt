@@ -33,6 +33,10 @@ left Reported = 0
 unfoldable pub StandsFor : List Symbol → Stage → Type 0
 StandsFor x stage = stage ≡ kept_of x
 
+-- for every line that the reader stood for, it stands now for that line with these symbols behind it
+abbrev pub GoesOnBy : Stage → List Symbol → Stage → Type 0
+GoesOnBy before piece after = (x : List Symbol) → StandsFor x before → StandsFor (x ++ piece) after
+
 -- behind every line that a reader at this stage stands for, these symbols bring just these reports
 abbrev pub BringReports : Stage → List Symbol → List Found → Type 0
 BringReports stage piece found = (x : List Symbol) → StandsFor x stage → reports (x ++ piece) ≡ reports x ++ found

@@ -1,5 +1,5 @@
 //! An output across a change of plans.
-ghost use Rattle.std.specs.Prelude.{◌+◌, ◌-◌, ◌<◌, ◌≤◌, length};
+ghost use Rattle.std.specs.Prelude.{◌<◌, ◌≤◌, length};
 ghost use Rattle.a429_slots.specs.Tables.{outputs_of};
 ghost use Rattle.a429_slots.specs.Changes.{IsGap, IsGapOfPlaces};
 

@@ -1,5 +1,5 @@
 //! The columns of a slot table.
-ghost use Rattle.std.specs.Prelude.{◌≡◌, ◌+◌, ◌<◌, ◌≤◌, ◌*◌, ◌/◌, ◌%◌, ◌^◌, length, map, take};
+ghost use Rattle.std.specs.Prelude.{◌≡◌, ◌+◌, ◌<◌, ◌≤◌, ◌*◌, ◌%◌, ◌^◌, length, map, take};
 ghost use Rattle.a429_grid.specs.Reversal.{reversed};
 ghost use Rattle.a429_pack.specs.Demands.{exponent_of};
 ghost use Rattle.a429_slots.specs.Asked.{AreBusesOf, AreOffsetsOf};
