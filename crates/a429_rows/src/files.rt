@@ -1,46 +1,11 @@
-//! Files that cannot be read, and writers that fail.
+//! Readers that refuse a file, and writers that fail.
 
-use crate::support::{ONE, ran, repeated, replayed_bytes};
-use a429_cli::{CountedWriter, FileFault, FileReader, LARGEST_FILE, MemoryFiles, command};
+use crate::support::{ONE, repeated};
+use a429_cli::{CountedWriter, FileFault, FileReader, MemoryFiles, command};
 use std::alloc::Global;
 use std::io;
 use std::io::{ErrorKind, Write};
 use std::test::Fail;
-
-#[test]
-fn files_are_read_before_any_is_looked_at(rt: HostRuntime) -> Result<(), Fail> {
-    let words = ["replay", "t", "s", "u"];
-    let (t, s, u) = (
-        ("t", b"x".as_slice()),
-        ("s", b"x".as_slice()),
-        ("u", b"x".as_slice()),
-    );
-    let cases: [(&[(&str, &[u8])], &str); 6] = [
-        (&[], "refused file t\n"),
-        (&[s, u], "refused file t\n"),
-        (&[t], "refused file s\n"),
-        (&[t, u], "refused file s\n"),
-        (&[t, s], "refused file u\n"),
-        (&[t, s, u], "refused table not-toml root\n"),
-    ];
-    for (files, line) in cases {
-        assert!(rt; ran(&rt, &words, files)?.is(line, 1), "for {line:?}");
-    }
-    Ok(())
-}
-
-#[test]
-fn files_have_at_most_16_mib(rt: HostRuntime) -> Result<(), Fail> {
-    let most = vec![in rt.alloc(); b'#'; LARGEST_FILE]?;
-    let more = vec![in rt.alloc(); b'#'; LARGEST_FILE + 1]?;
-    let played = replayed_bytes(&rt, ONE.as_bytes(), &most)?;
-    assert!(rt; played.is("refused script line 1\n", 1));
-    let played = replayed_bytes(&rt, ONE.as_bytes(), &more)?;
-    assert!(rt; played.is("refused file s\n", 1));
-    let played = replayed_bytes(&rt, &more, b"")?;
-    assert!(rt; played.is("refused file t\n", 1));
-    Ok(())
-}
 
 /// Gives empty files, and refuses the one that it is asked for after so many.
 #[derive(Drop)]

@@ -1,12 +1,7 @@
-//! Worked examples that cross crates, each with its expected output written by hand.
+//! Tests across crates of what no command reaches: last slots and counts, writers and readers that fail, and
+//! public functions called by themselves. What commands write is stated by the cases of `a429_cases`.
 #![tactic(auto)]
 
-#[cfg(test)]
-mod air_data;
-#[cfg(test)]
-mod certificates;
-#[cfg(test)]
-mod changes;
 #[cfg(test)]
 mod fields;
 #[cfg(test)]
@@ -14,22 +9,10 @@ mod files;
 #[cfg(test)]
 mod grid;
 #[cfg(test)]
-mod line_rows;
-#[cfg(test)]
 mod machine;
 #[cfg(test)]
 mod plans;
 #[cfg(test)]
-mod publishes;
-#[cfg(test)]
-mod replays;
-#[cfg(test)]
-mod scripts;
+mod records;
 #[cfg(test)]
 mod support;
-#[cfg(test)]
-mod tables;
-#[cfg(test)]
-mod word_rows;
-#[cfg(test)]
-mod words;

@@ -17,13 +17,20 @@ pub fn proposal(rt: &HostRuntime, table: &str) -> Result<Proposal<OUTPUTS>, Fail
 fn slots_end_with_their_numbers(rt: HostRuntime) -> Result<(), Fail> {
     let last = 18446744073709551614;
     let mut state = State::<41>::open(rt.alloc(), proposal(&rt, ONE)?, last)?;
-    assert_eq!(rt; state.step(Event::Cell(0))?, Answer::Sent(0, last, None));
     assert_eq!(rt;
-        state.step(Event::Frame(0))?,
+        state.step(Event::Cell { group: 0 })?,
+        Answer::Sent {
+            bus: 0,
+            slot: last,
+            word: None
+        }
+    );
+    assert_eq!(rt;
+        state.step(Event::Frame { group: 0 })?,
         Answer::Refused(Refusal::SlotsSpent)
     );
     assert_eq!(rt;
-        state.step(Event::Cell(0))?,
+        state.step(Event::Cell { group: 0 })?,
         Answer::Refused(Refusal::FrameEnd)
     );
     let opened = State::<41>::open(rt.alloc(), proposal(&rt, ONE)?, 18446744073709551615);
@@ -37,14 +44,21 @@ fn slots_of_longer_frames_end_sooner(rt: HostRuntime) -> Result<(), Fail> {
     let first = 18446744073709551611;
     let mut state = State::<41>::open(rt.alloc(), proposal(&rt, &table)?, first)?;
     for slot in first..=18446744073709551614 {
-        assert_eq!(rt; state.step(Event::Cell(0))?, Answer::Sent(0, slot, None));
+        assert_eq!(rt;
+            state.step(Event::Cell { group: 0 })?,
+            Answer::Sent {
+                bus: 0,
+                slot,
+                word: None
+            }
+        );
     }
     assert_eq!(rt;
-        state.step(Event::Frame(0))?,
+        state.step(Event::Frame { group: 0 })?,
         Answer::Refused(Refusal::SlotsSpent)
     );
     assert_eq!(rt;
-        state.step(Event::Cell(0))?,
+        state.step(Event::Cell { group: 0 })?,
         Answer::Refused(Refusal::FrameEnd)
     );
     let opened = State::<41>::open(rt.alloc(), proposal(&rt, &table)?, 18446744073709551612);
@@ -56,12 +70,25 @@ fn slots_of_longer_frames_end_sooner(rt: HostRuntime) -> Result<(), Fail> {
 fn words_are_counted_to_the_last(rt: HostRuntime) -> Result<(), Fail> {
     let mut state = State::<2>::open(rt.alloc(), proposal(&rt, ONE)?, 0)?;
     for raw in [0x600000c1, 0x000000c1, 0x600000c1] {
-        assert_eq!(rt; state.step(Event::Arrive(0, raw))?, Answer::Accepted(0));
+        assert_eq!(rt;
+            state.step(Event::Arrive { receiver: 0, raw })?,
+            Answer::Accepted { source: 0 }
+        );
     }
-    let fourth = state.step(Event::Arrive(0, 0x000000c1))?;
+    let fourth = state.step(Event::Arrive {
+        receiver: 0,
+        raw: 0x000000c1,
+    })?;
     assert_eq!(rt; fourth, Answer::Refused(Refusal::CountSpent));
     let word = Word::from_raw(0x600000c1)?;
-    assert_eq!(rt; state.step(Event::Cell(0))?, Answer::Sent(0, 0, Some(word)));
+    assert_eq!(rt;
+        state.step(Event::Cell { group: 0 })?,
+        Answer::Sent {
+            bus: 0,
+            slot: 0,
+            word: Some(word)
+        }
+    );
     Ok(())
 }
 
@@ -69,11 +96,24 @@ fn words_are_counted_to_the_last(rt: HostRuntime) -> Result<(), Fail> {
 fn numbers_that_stand_for_nothing_are_refused(rt: HostRuntime) -> Result<(), Fail> {
     let mut state = State::<41>::open(rt.alloc(), proposal(&rt, ONE)?, 0)?;
     let no_such = Answer::Refused(Refusal::NoSuch);
-    assert_eq!(rt; state.step(Event::Arrive(1, 0x800000c1))?, no_such);
-    assert_eq!(rt; state.step(Event::Cell(1))?, no_such);
-    assert_eq!(rt; state.step(Event::Frame(1))?, no_such);
+    assert_eq!(rt;
+        state.step(Event::Arrive {
+            receiver: 1,
+            raw: 0x800000c1
+        })?,
+        no_such
+    );
+    assert_eq!(rt; state.step(Event::Cell { group: 1 })?, no_such);
+    assert_eq!(rt; state.step(Event::Frame { group: 1 })?, no_such);
     // The cell of the one group is still to be sent.
-    assert_eq!(rt; state.step(Event::Cell(0))?, Answer::Sent(0, 0, None));
+    assert_eq!(rt;
+        state.step(Event::Cell { group: 0 })?,
+        Answer::Sent {
+            bus: 0,
+            slot: 0,
+            word: None
+        }
+    );
     Ok(())
 }
 
@@ -101,12 +141,14 @@ const SCRIPT: [Happening; 9] = [
 
 fn event(rt: &HostRuntime, happening: Happening) -> Result<Event, Fail> {
     match happening {
-        Happening::Word(raw) => Ok(Event::Arrive(0, raw)),
-        Happening::Cell => Ok(Event::Cell(0)),
-        Happening::Frame => Ok(Event::Frame(0)),
+        Happening::Word(raw) => Ok(Event::Arrive { receiver: 0, raw }),
+        Happening::Cell => Ok(Event::Cell { group: 0 }),
+        Happening::Frame => Ok(Event::Frame { group: 0 }),
         Happening::Slower => {
             let slower = edited(rt, ONE, "max_us = 360", "max_us = 720")?;
-            Ok(Event::Publish(proposal(rt, &slower)?))
+            Ok(Event::Publish {
+                proposal: proposal(rt, &slower)?,
+            })
         }
     }
 }
@@ -128,14 +170,26 @@ fn take(
 /// What the script is answered, where this is its word.
 fn expected(word: Word) -> [Answer; 9] {
     [
-        Answer::Sent(0, 0, None),
-        Answer::Accepted(0),
-        Answer::Published(1),
-        Answer::Changed(1),
-        Answer::Sent(0, 1, Some(word)),
+        Answer::Sent {
+            bus: 0,
+            slot: 0,
+            word: None,
+        },
+        Answer::Accepted { source: 0 },
+        Answer::Published { plan: 1 },
+        Answer::Changed { plan: 1 },
+        Answer::Sent {
+            bus: 0,
+            slot: 1,
+            word: Some(word),
+        },
         Answer::Refused(Refusal::Parity),
         Answer::Refused(Refusal::MidFrame),
-        Answer::Sent(0, 2, None),
+        Answer::Sent {
+            bus: 0,
+            slot: 2,
+            word: None,
+        },
         Answer::Refused(Refusal::FrameEnd),
     ]
 }

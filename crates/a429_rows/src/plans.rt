@@ -1,12 +1,10 @@
-//! Plans and proposals, and the machine under several plans.
+//! Plans and proposals.
 
 use crate::machine::proposal;
-use crate::support::{ONE, edited, standard};
-use a429_core::{Answer, Event, Refusal, State};
+use crate::support::{edited, standard};
 use a429_equipment::Equipment;
 use a429_grid::Period;
 use a429_slots::{GroupPlan, OUTPUTS, OutputId, Plan, PlanFault, Proposal, SlotPlace, gap, plan};
-use a429_word::Word;
 use std::test::Fail;
 
 /// The plan of a table's first group.
@@ -27,19 +25,6 @@ fn places(rt: &HostRuntime, group: &GroupPlan<OUTPUTS>) -> Result<Vec<(u32, u32,
         places.push((place.bus, place.offset, place.period.slots()))?;
     }
     Ok(places)
-}
-
-/// Whether the group of these intervals has a frame of so many slots, so many buses, and these places.
-fn is_planned(
-    rt: &HostRuntime,
-    intervals: &[(u32, u32)],
-    frame: u32,
-    buses: u32,
-    expected: &[(u32, u32, u32)],
-) -> Result<bool, Fail> {
-    let group = first_group(rt, &standard(rt, 100000, intervals)?)?;
-    let all = places(rt, &group)?;
-    Ok(group.frame() == frame && group.buses() == buses && all.as_slice() == expected)
 }
 
 #[test]
@@ -81,46 +66,6 @@ fn outputs_stand_in_their_cells(rt: HostRuntime) -> Result<(), Fail> {
 }
 
 #[test]
-fn outputs_are_laid_out_by_period(rt: HostRuntime) -> Result<(), Fail> {
-    let (two, four, eight) = ((1, 720), (1, 1440), (1, 2880));
-    assert!(rt; is_planned(&rt, &[(46080, 46080)], 128, 1, &[(0, 0, 128)])?);
-    assert!(rt;
-        is_planned(
-            &rt,
-            &[two, four, four],
-            4,
-            1,
-            &[(0, 0, 2), (0, 1, 4), (0, 3, 4)]
-        )?
-    );
-    assert!(rt;
-        is_planned(
-            &rt,
-            &[four, four, two],
-            4,
-            1,
-            &[(0, 1, 4), (0, 3, 4), (0, 0, 2)]
-        )?
-    );
-    assert!(rt;
-        is_planned(
-            &rt,
-            &[two, two, four],
-            4,
-            2,
-            &[(0, 0, 2), (0, 1, 2), (1, 0, 4)]
-        )?
-    );
-    assert!(rt; is_planned(&rt, &[(1, 360), (1, 360)], 1, 2, &[(0, 0, 1), (1, 0, 1)])?);
-    assert!(rt; is_planned(&rt, &[(2949120, 6000000)], 8192, 1, &[(0, 0, 8192)])?);
-    let all = [(0, 0, 2), (0, 1, 4), (0, 3, 8), (0, 7, 8)];
-    assert!(rt; is_planned(&rt, &[two, four, eight, eight], 8, 1, &all)?);
-    let last = [(0, 0, 1), (1, 0, 1), (2, 0, 1), (3, 0, 8)];
-    assert!(rt; is_planned(&rt, &[(1, 360), (1, 360), (1, 360), eight], 8, 4, &last)?);
-    Ok(())
-}
-
-#[test]
 fn places_do_not_follow_the_order_of_the_outputs(rt: HostRuntime) -> Result<(), Fail> {
     let table = standard(&rt, 100000, &[(1, 720), (1, 1440), (1, 1440)])?;
     let first = "[[group.output]]\nsource = \"a\"\nmin_us = 1\nmax_us = 720\n";
@@ -144,64 +89,6 @@ fn places_do_not_follow_the_order_of_the_outputs(rt: HostRuntime) -> Result<(), 
     for (slot, output) in [(0, a), (1, b), (2, a), (3, c)] {
         assert_eq!(rt; group.at(0, slot), Some(output), "{slot}");
     }
-    Ok(())
-}
-
-#[test]
-fn frames_are_the_greatest_period(rt: HostRuntime) -> Result<(), Fail> {
-    let group = first_group(&rt, &standard(&rt, 100000, &[(1, 360); 16])?)?;
-    assert_eq!(rt; (group.frame(), group.buses()), (1, 16));
-    for (rate, interval, frame) in [
-        (12000, (24576000, 30000000), 8192),
-        (14500, (1, 9931), 2),
-        (14500, (1, 9932), 4),
-    ] {
-        let group = first_group(&rt, &standard(&rt, rate, &[interval])?)?;
-        assert_eq!(rt; group.frame(), frame);
-    }
-    Ok(())
-}
-
-#[test]
-fn any_sdi_comes_before_the_others(rt: HostRuntime) -> Result<(), Fail> {
-    let table =
-        "version = 1\nrate = 100000\n[[receiver]]\nname = \"r\"\n[[receiver]]\nname = \"q\"\n\
-        [[source]]\nname = \"x\"\nreceiver = \"r\"\nlabel = \"001\"\nsdi = 0\n\
-        [[source]]\nname = \"y\"\nreceiver = \"q\"\nlabel = \"001\"\nsdi = \"any\"\n\
-        [[group]]\nname = \"g\"\n\
-        [[group.output]]\nsource = \"x\"\nmin_us = 1\nmax_us = 720\n\
-        [[group.output]]\nsource = \"y\"\nmin_us = 1\nmax_us = 720\n";
-    let group = first_group(&rt, table)?;
-    assert_eq!(rt; (group.frame(), group.buses()), (2, 1));
-    assert_eq!(rt;
-        places(&rt, &group)?.as_slice(),
-        [(0, 1, 2), (0, 0, 2)].as_slice()
-    );
-    Ok(())
-}
-
-#[test]
-fn groups_that_cannot_be_planned_are_told(rt: HostRuntime) -> Result<(), Fail> {
-    let unfit = |output| PlanFault::Unfit { group: 0, output };
-    for (rate, interval) in [
-        (100000, (46081, 90000)),
-        (100000, (1, 359)),
-        (100000, (2949121, 6000000)),
-        (12000, (24576001, 30000000)),
-    ] {
-        let table = standard(&rt, rate, &[(1, 30000000), interval])?;
-        let equipment = Equipment::read(rt.alloc(), table.as_bytes())?;
-        let planned: Result<Plan<OUTPUTS>, PlanFault> = plan(rt.alloc(), &equipment);
-        assert!(rt; planned.is_err_and(|fault| fault == unfit(1)));
-    }
-    let table = standard(&rt, 100000, &[(1, 360); 17])?;
-    let equipment = Equipment::read(rt.alloc(), table.as_bytes())?;
-    let planned: Result<Plan<OUTPUTS>, PlanFault> = plan(rt.alloc(), &equipment);
-    let many = PlanFault::TooManyBuses {
-        group: 0,
-        needed: 17,
-    };
-    assert!(rt; planned.is_err_and(|fault| fault == many));
     Ok(())
 }
 
@@ -348,42 +235,5 @@ fn equipment_without_a_plan_comes_back(rt: HostRuntime) -> Result<(), Fail> {
             assert_eq!(rt; none.equipment.sources().len(), 2);
         }
     }
-    Ok(())
-}
-
-#[test]
-fn newer_plans_come_with_the_next_frame(rt: HostRuntime) -> Result<(), Fail> {
-    let slower = edited(&rt, ONE, "max_us = 360", "max_us = 720")?;
-    let other = edited(&rt, ONE, "203", "204")?;
-    let mut state = State::<41>::open(rt.alloc(), proposal(&rt, ONE)?, 0)?;
-    let events = vec![in rt.alloc();
-        Event::Arrive(0, 0x600000c1),
-        Event::Cell(0),
-        Event::Publish(proposal(&rt, &slower)?),
-        Event::Cell(0),
-        Event::Publish(proposal(&rt, &other)?),
-        Event::Frame(0),
-        Event::Cell(0),
-        Event::Frame(0),
-        Event::Cell(0),
-        Event::Publish(proposal(&rt, ONE)?),
-        Event::Frame(0),
-    ]?;
-    let word = Some(Word::from_raw(0x600000c1)?);
-    let answers = state.run(rt.alloc(), events)?;
-    let expected = [
-        Answer::Accepted(0),
-        Answer::Sent(0, 0, word),
-        Answer::Published(1),
-        Answer::Refused(Refusal::FrameEnd),
-        Answer::Refused(Refusal::StationDiffers),
-        Answer::Changed(1),
-        Answer::Sent(0, 1, word),
-        Answer::Refused(Refusal::MidFrame),
-        Answer::Sent(0, 2, None),
-        Answer::Published(2),
-        Answer::Changed(2),
-    ];
-    assert_eq!(rt; answers.as_slice(), expected.as_slice());
     Ok(())
 }

@@ -1,6 +1,5 @@
-//! Tables, and commands over files in memory.
+//! Tables, and texts made of them.
 
-use a429_cli::{CountedWriter, MemoryFiles, command};
 use std::test::Fail;
 
 /// One receiver, one source of label 203 and any SDI, and one group that sends it in every slot.
@@ -20,48 +19,6 @@ source = "s"
 min_us = 1
 max_us = 360
 "#;
-
-/// What a command wrote, and its status.
-#[derive(Drop)]
-pub struct Outcome {
-    pub out: Vec<u8>,
-    pub err: Vec<u8>,
-    pub status: u8,
-}
-
-impl Outcome {
-    pub fn is(&self, out: &str, status: u8) -> bool {
-        self.out.as_slice() == out.as_bytes() && self.err.is_empty() && self.status == status
-    }
-}
-
-/// Runs a command over these files.
-pub fn ran(rt: &HostRuntime, words: &[&str], files: &[(&str, &[u8])]) -> Result<Outcome, Fail> {
-    let alloc = rt.alloc();
-    let mut named = Vec::new(alloc);
-    for (name, bytes) in files {
-        named.push((
-            String::from_str(alloc, name)?,
-            Vec::from_slice(alloc, bytes)?,
-        ))?;
-    }
-    let mut files = MemoryFiles { files: named };
-    let mut out = CountedWriter::new(Vec::new(alloc));
-    let mut err = Vec::new(alloc);
-    let status = command(alloc, words, &mut files, &mut out, &mut err);
-    let CountedWriter { writer: out, .. } = out;
-    Ok(Outcome { out, err, status })
-}
-
-/// Plays a script on the station of a table, both given as bytes.
-pub fn replayed_bytes(rt: &HostRuntime, table: &[u8], script: &[u8]) -> Result<Outcome, Fail> {
-    ran(rt, &["replay", "t", "s"], &[("t", table), ("s", script)])
-}
-
-/// Plays a script on the station of a table.
-pub fn replayed(rt: &HostRuntime, table: &str, script: &str) -> Result<Outcome, Fail> {
-    replayed_bytes(rt, table.as_bytes(), script.as_bytes())
-}
 
 /// A text with one piece of it replaced, where it first stands.
 pub fn edited(rt: &HostRuntime, text: &str, old: &str, new: &str) -> Result<String, Fail> {

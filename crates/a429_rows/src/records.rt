@@ -1,0 +1,102 @@
+//! The rows that tables without faults state.
+
+use crate::support::{ONE, edited};
+use a429_cli::{CountedWriter, MemoryFiles, command};
+use a429_equipment::{Equipment, OutputRow};
+use std::test::Fail;
+
+#[test]
+fn gives_the_rows(rt: HostRuntime) -> Result<(), Fail> {
+    let filters = "name = \"r\"\nfilters = [\"200/370\"]";
+    let table = edited(&rt, ONE, "name = \"r\"", filters)?;
+    let equipment = Equipment::read(rt.alloc(), table.as_bytes())?;
+    assert_eq!(rt; equipment.rate(), 100000);
+    let [receiver] = equipment.receivers() else {
+        return Err(Fail::new("not one receiver"));
+    };
+    assert_eq!(rt; receiver.name.as_str(), "r");
+    let filters = receiver.filters.list().ok_or("no list")?;
+    assert_eq!(rt; filters.len(), 1);
+    assert_eq!(rt; filters[0].label.value(), 0o200);
+    assert_eq!(rt; filters[0].mask, 0o370);
+    let [source] = equipment.sources() else {
+        return Err(Fail::new("not one source"));
+    };
+    assert_eq!(rt; source.name.as_str(), "s");
+    assert_eq!(rt; source.receiver, 0);
+    assert_eq!(rt; source.label.value(), 0o203);
+    assert!(rt; source.sdi.is_none());
+    assert!(rt; equipment.groups().len() == 1);
+    assert_eq!(rt; equipment.groups()[0].name.as_str(), "g");
+    let stated = OutputRow {
+        source: 0,
+        min_us: 1,
+        max_us: 360,
+        hold: None,
+    };
+    assert_eq!(rt; equipment.outputs(0), [stated].as_slice());
+    Ok(())
+}
+
+/// The largest table, with outputs of this interval alone. Source k is at receiver k / 16 and has label k.
+fn largest(rt: &HostRuntime, interval: u32) -> Result<String, Fail> {
+    let alloc = rt.alloc();
+    let mut table = String::from_str(alloc, "version = 1\nrate = 100000\n")?;
+    let filters = "\"000/000\",".repeat(alloc, 32)?;
+    for i in 0..16u32 {
+        table.push_str(&format!(in alloc;
+            "[[receiver]]\nname = \"receiver-{i}\"\nfilters = [{filters}]\n"
+        )?)?;
+    }
+    for k in 0..256u32 {
+        table.push_str(&format!(in alloc;
+            "[[source]]\nname = \"source-num-{k}\"\nreceiver = \"receiver-{}\"\nlabel = \"{k:03o}\"\nsdi = \"any\"\n",
+            k / 16
+        )?)?;
+    }
+    for i in 0..8u32 {
+        table.push_str(&format!(in alloc; "[[group]]\nname = \"group-{i}\"\n")?)?;
+        for j in 0..128u32 {
+            table.push_str(&format!(in alloc;
+                "[[group.output]]\nsource = \"source-num-{}\"\nmin_us = {interval}\nmax_us = {interval}\n",
+                255 - j
+            )?)?;
+        }
+    }
+    Ok(table)
+}
+
+#[test]
+fn takes_the_largest_table(rt: HostRuntime) -> Result<(), Fail> {
+    let equipment = Equipment::read(rt.alloc(), largest(&rt, 30000000)?.as_bytes())?;
+    assert_eq!(rt; equipment.receivers().len(), 16);
+    assert_eq!(rt; equipment.sources().len(), 256);
+    assert_eq!(rt; equipment.sources()[255].receiver, 15);
+    assert_eq!(rt; equipment.sources()[255].label.value(), 255);
+    assert!(rt; equipment.groups().len() == 8);
+    let last = equipment.outputs(7);
+    assert!(rt; last.len() == 128);
+    assert_eq!(rt; last[127].source, 128);
+    assert_eq!(rt; last[127].max_us, 30000000);
+    Ok(())
+}
+
+/// 128 outputs that are due in every slot fill 128 buses.
+#[test]
+fn refuses_the_largest_want_of_buses(rt: HostRuntime) -> Result<(), Fail> {
+    let alloc = rt.alloc();
+    let table = Vec::from_slice(alloc, largest(&rt, 360)?.as_bytes())?;
+    let table = (String::from_str(alloc, "t")?, table);
+    let script = (String::from_str(alloc, "s")?, Vec::new(alloc));
+    let mut files = MemoryFiles {
+        files: vec![in alloc; table, script]?,
+    };
+    let mut out = CountedWriter::new(Vec::new(alloc));
+    let mut err = Vec::new(alloc);
+    let words = ["replay", "t", "s"];
+    let status = command(alloc, &words, &mut files, &mut out, &mut err);
+    assert!(rt; status == 1 && err.is_empty());
+    let line = b"refused too-many-buses group-0 128\n".as_slice();
+    assert!(rt; out.writer.as_slice() == line);
+    Ok(())
+}
