@@ -11,8 +11,8 @@ use Rattle.clap.specs.declared.builder.command.Command.{Command}
 use Rattle.clap.specs.declared.builder.command.Command.TheViews.{out-Command}
 use Rattle.clap.specs.declared.parser.matches.ArgMatches.{ArgMatches}
 use Rattle.clap.specs.declared.parser.matches.ArgMatches.TheViews.{out-ArgMatches, out-SubCommand}
-use Rattle.a429_cli.specs.Requests.{Request, Word, Lines, Plan, Check, Replay}
-use Rattle.a429_cli.specs.AskedRows.{request_by, word_request, lines_request, plan_request, check_request, replay_request}
+use Rattle.a429_cli.specs.Requests.{RequestBytes, Word, Lines, Plan, Check, Replay}
+use Rattle.a429_cli.specs.RequestRows.{request_by, word_request, lines_request, plan_request, check_request, replay_request}
 
 was_not : (b : Bool) → not b ≡ true → b ≡ false
 was_not true e = cc
@@ -29,7 +29,7 @@ name_of_rows m = go (out-ArgMatches m).subcommand
     go None = refl
     go (Some b) = refl
 
-pub found_asked : (met : Option (Text × List Row)) (name : Text) (rows : List Row) (r : Request) → option_map (λ (p : Text × List Row). p.0) met ≡ Some name
+pub found_asked : (met : Option (Text × List Row)) (name : Text) (rows : List Row) (r : RequestBytes) → option_map (λ (p : Text × List Row). p.0) met ≡ Some name
     → option_map (λ (p : Text × List Row). p.1) met ≡ Some rows → option_and_then (λ (p : Text × List Row). request_by p.0 p.1) met ≡ Some r → request_by name rows ≡ Some r
 found_asked None name rows r n rs all = cc
 found_asked (Some p) name rows r n rs all =
@@ -39,21 +39,21 @@ pub matched_weaker : {X E : Type 0} (result : Result X E) (P Q : X → Type 0) (
 matched_weaker (Ok x) P Q F more p = more x p
 matched_weaker (Err e) P Q F more p = p
 
-pub word_is : (rows : List Row) (t : Text) (r : Request) → Some t ≡ first_of (codes "HEX") rows → word_request rows ≡ Some r → Word t ≡ r
+pub word_is : (rows : List Row) (t : Text) (r : RequestBytes) → Some t ≡ first_of (codes "HEX") rows → word_request rows ≡ Some r → Word t ≡ r
 word_is rows t r at asked = same_Some (Word t) r (ap (option_map Word) at ∙ asked)
 
-pub lines_is : (rows : List Row) (file : Text) (many : Option (List Text)) (filters : List Text) (r : Request) → Some file ≡ first_of (codes "FILE") rows
+pub lines_is : (rows : List Row) (file : Text) (many : Option (List Text)) (filters : List Text) (r : RequestBytes) → Some file ≡ first_of (codes "FILE") rows
     → many ≡ all_of (codes "FILTER") rows → unwrap_or many [] ≡ filters → lines_request rows ≡ Some r → Lines file filters ≡ r
 lines_is rows file many filters r at all is asked =
     same_Some (Lines file filters) r (ap (λ (fs : List Text). Some (Lines file fs)) (sym is) ∙ (rw (← at, ← all) at asked))
 
-pub plan_is : (rows : List Row) (t : Text) (r : Request) → Some t ≡ first_of (codes "TABLE") rows → plan_request rows ≡ Some r → Plan t ≡ r
+pub plan_is : (rows : List Row) (t : Text) (r : RequestBytes) → Some t ≡ first_of (codes "TABLE") rows → plan_request rows ≡ Some r → Plan t ≡ r
 plan_is rows t r at asked = same_Some (Plan t) r (ap (option_map Plan) at ∙ asked)
 
-pub check_is : (rows : List Row) (t s : Text) (r : Request) → Some t ≡ first_of (codes "TABLE") rows → Some s ≡ first_of (codes "PLAN") rows → check_request rows ≡ Some r → Check t s ≡ r
+pub check_is : (rows : List Row) (t s : Text) (r : RequestBytes) → Some t ≡ first_of (codes "TABLE") rows → Some s ≡ first_of (codes "PLAN") rows → check_request rows ≡ Some r → Check t s ≡ r
 check_is rows t s r table text asked = same_Some (Check t s) r (rw (← table, ← text) at asked)
 
-pub replay_is : (rows : List Row) (t s : Text) (many : Option (List Text)) (further : List Text) (r : Request) → Some t ≡ first_of (codes "TABLE") rows → Some s ≡ first_of (codes "SCRIPT") rows
+pub replay_is : (rows : List Row) (t s : Text) (many : Option (List Text)) (further : List Text) (r : RequestBytes) → Some t ≡ first_of (codes "TABLE") rows → Some s ≡ first_of (codes "SCRIPT") rows
     → many ≡ all_of (codes "FURTHER") rows → unwrap_or many [] ≡ further → replay_request rows ≡ Some r → Replay t s further ≡ r
 replay_is rows t s many further r table script all is asked =
     same_Some (Replay t s further) r (ap (λ (fs : List Text). Some (Replay t s fs)) (sym is) ∙ (rw (← table, ← script, ← all) at asked))

@@ -1,7 +1,7 @@
 pub mod PlainWords
 pub mod StoppedWords
 pub mod ManyWords
-pub mod AskedWords
+pub mod RequestWords
 pub mod Found
 pub mod Refused
 pub mod Numbered

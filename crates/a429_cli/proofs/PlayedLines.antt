@@ -9,7 +9,7 @@ use Rattle.a429_slots.specs.Proposed.{Proposed}
 use Rattle.a429_cli.specs.Outputs.{ending, status_of}
 use Rattle.a429_cli.specs.Playing.{Happens, Played}
 use Rattle.a429_cli.specs.Replaying.{IsOutcome, IsPlayed, ReplayInput}
-use Rattle.a429_cli.specs.declared.script.ScriptEvent.{ScriptEvent}
+use Rattle.a429_cli.specs.declared.replay.script.ScriptEvent.{ScriptEvent}
 
 -- one more event
 pub played_push : (o : Opening) (names further : List (List ℕ)) (E : List Event) (events : List ScriptEvent) (event : ScriptEvent) (M N : List Event) (bytes line : List ℕ)

@@ -8,10 +8,10 @@ use Rattle.a429_cli.specs.Files.{IsFileRefusal, IsFirstUnread}
 use Rattle.a429_cert.specs.declared.verdicts.Verdict.{Verdict}
 use Rattle.a429_cli.specs.Outputs.{IsMemoryReply}
 use Rattle.a429_cli.specs.PlanReplies.{IsUnjudged, IsVerdictOf, IsVerdictReply, IsCheckReply}
-use Rattle.a429_cli.specs.Stations.{IsTableFault, IsTableRefusal, IsUnfitNamed}
+use Rattle.a429_cli.specs.Tables.{IsTableFault, IsTableRefusal, IsUnfitNamed}
 use Rattle.a429_cli.specs.RefusalText.{IsToldOf, OrMemory}
-use Rattle.a429_cli.specs.declared.refusals.CommandRefusal.{CommandRefusal}
-use Rattle.a429_cli.specs.declared.refusals.CommandRefusal.TheVariants as refused
+use Rattle.a429_cli.specs.declared.output.refusals.CommandRefusal.{CommandRefusal}
+use Rattle.a429_cli.specs.declared.output.refusals.CommandRefusal.TheVariants as refused
 
 pub or_memory_weaker : (P Q : CommandRefusal → Type 0) (r : CommandRefusal) → (P r → Q r) → OrMemory P r → OrMemory Q r
 or_memory_weaker P Q (refused.File name) more p = more p

@@ -6,7 +6,7 @@ use Rattle.std.proofs.lemmas.Bool.Decides.{nat_tests}
 use Rattle.a429_cli.specs.ScriptText.{cut, joined_on, lines_of}
 use Rattle.a429_cli.specs.Script.{events_before, event_then, events_from, events_after, first_event, line_event}
 use Rattle.a429_cli.specs.Names.{Naming}
-use Rattle.a429_cli.specs.declared.script.ScriptEvent.{ScriptEvent}
+use Rattle.a429_cli.specs.declared.replay.script.ScriptEvent.{ScriptEvent}
 
 -- a byte before a cut
 abbrev after_byte : ℕ → ℕ → List ℕ → Option (List ℕ × List ℕ) → Option (List ℕ × List ℕ)

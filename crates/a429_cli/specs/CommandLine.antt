@@ -1,6 +1,7 @@
 -- The command line of the program.
-use Rattle.std.specs.Prelude.{◌≢◌, ◌∷◌, [], true, Some, codes, ⊤}
-use Rattle.clap.specs.Words.{App, Rule, Shape, Text, new_app, new_rule, with_rule, with_subcommand}
+use Rattle.std.specs.Prelude.{◌≡◌, ◌≢◌, ◌∷◌, [], true, false, Some, codes, ⊤}
+use Rattle.clap.specs.Words.{App, Rule, Shape, Text, new_app, new_rule, rule_of, with_rule, with_subcommand}
+use Rattle.clap.specs.declared.builder.arg.Arg.{Arg}
 use Rattle.clap.specs.declared.builder.action.ArgAction.TheVariants.{Append}
 
 abbrev pub required_rule : Text → Rule
@@ -9,6 +10,10 @@ required_rule id = record (new_rule id) { required = true }
 -- as many values as are given
 abbrev pub many_rule : Text → Rule
 many_rule id = record (new_rule id) { action = Some Append }
+
+-- an argument of this rule, for one command alone
+abbrev pub HasRule : Arg → Rule → Type 0
+HasRule a rule = (rule_of a ≡ rule) × (a.global ≡ false)
 
 abbrev pub word_app : App
 word_app = with_rule (new_app (codes "word")) (required_rule (codes "HEX"))
@@ -28,9 +33,13 @@ replay_app = with_rule (with_rule (with_rule (new_app (codes "replay")) (require
 abbrev pub top_shape : Shape
 top_shape = record ((new_app (codes "a429")).top) { no_binary_name = true; subcommand_required = true }
 
+-- the command line without its commands
+abbrev pub bare_line : App
+bare_line = record { top = top_shape; subs = [] }
+
 unfoldable pub command_line : App
 command_line =
-    with_subcommand (with_subcommand (with_subcommand (with_subcommand (with_subcommand (record { top = top_shape; subs = [] }) word_app.top) lines_app.top) plan_app.top) check_app.top) replay_app.top
+    with_subcommand (with_subcommand (with_subcommand (with_subcommand (with_subcommand bare_line word_app.top) lines_app.top) plan_app.top) check_app.top) replay_app.top
 
 -- a name of a file, which no option can be
 abbrev pub IsName : Text → Type 0

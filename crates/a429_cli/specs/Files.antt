@@ -1,8 +1,20 @@
 -- Files as a command reads them, by their names.
-use Rattle.std.specs.Prelude.{◌≡◌, ◌∷◌, [], ◌⊎◌, ℕ, List, Option, Some, None, if◌then◌else◌, nat_le, length, string_bytes}
+use Rattle.std.specs.Prelude.{◌≡◌, ◌∷◌, [], ◌⊎◌, ℕ, List, Option, Some, None, Result, MatchResult, if◌then◌else◌, nat_le, length, map, string_bytes}
 use Rattle.std.specs.List.{AllZip}
-use Rattle.a429_cli.specs.declared.refusals.CommandRefusal.{CommandRefusal}
-use Rattle.a429_cli.specs.declared.refusals.CommandRefusal.TheVariants as refused
+use Rattle.std.specs.Borrow.{Bor}
+use Rattle.std.specs.declared.vec.Vec.{Vec}
+use Rattle.std.specs.declared.alloc.Global.{Global}
+use Rattle.a429_cli.specs.RefusalText.{OrMemory}
+use Rattle.a429_cli.specs.declared.output.refusals.CommandRefusal.{CommandRefusal}
+use Rattle.a429_cli.specs.declared.output.refusals.CommandRefusal.TheVariants as refused
+
+-- the bytes of texts behind references
+abbrev pub texts_of : List (Bor (List ℕ)) → List (List ℕ)
+texts_of words = map (λ w. w.now) words
+
+-- the bytes of several files
+abbrev pub bytes_of : List (Vec ℕ Global) → List (List ℕ)
+bytes_of files = map (λ f. f.items) files
 
 -- the bytes of a file that can be read: it has at most 16 MiB
 abbrev pub readable : Option (List ℕ) → Option (List ℕ)
@@ -23,3 +35,11 @@ abbrev pub IsFirstUnread : (List ℕ → Option (List ℕ)) → List (List ℕ) 
 IsFirstUnread file [] refusal = ⊥
 IsFirstUnread file (name ∷ names) refusal =
     IsFileRefusal file name refusal ⊎ ((bytes : List ℕ) × (readable (file name) ≡ Some bytes) × IsFirstUnread file names refusal)
+
+-- what reading a file gives: its bytes, or that it cannot be read
+abbrev pub IsReading : (List ℕ → Option (List ℕ)) → List ℕ → Result (Vec ℕ Global) CommandRefusal → Type 0
+IsReading file name result = MatchResult result (λ bytes. readable (file name) ≡ Some bytes.items) (OrMemory (IsFileRefusal file name))
+
+-- what reading several files gives: their bytes, or the first that cannot be read
+abbrev pub AreReadings : (List ℕ → Option (List ℕ)) → List (List ℕ) → Result (Vec (Vec ℕ Global) Global) CommandRefusal → Type 0
+AreReadings file names result = MatchResult result (λ all. AreRead file names (bytes_of all.items)) (OrMemory (IsFirstUnread file names))

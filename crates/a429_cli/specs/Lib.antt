@@ -2,13 +2,13 @@ pub mod CommandLine
 pub mod MemoryFile
 pub mod Files
 pub mod Names
-pub mod Lines
+pub mod AnswerLines
 pub mod WordLines
 pub mod RefusalText
 pub mod Outputs
 pub mod ScriptText
 pub mod Script
-pub mod Stations
+pub mod Tables
 pub mod Playing
 pub mod Replaying
 pub mod Opened
@@ -17,4 +17,4 @@ pub mod LineReports
 pub mod LineReplies
 pub mod PlanReplies
 pub mod Requests
-pub mod AskedRows
+pub mod RequestRows

@@ -1,5 +1,5 @@
 -- The command `lines`: what it writes, and its status.
-use Rattle.std.specs.Prelude.{◌≡◌, ◌==◌, ◌||◌, ◌+◌, ◌∷◌, [], ◌++◌, ◌⊎◌, ℕ, List, Bool, true, false, Option, Some, None, codes, map, take, is_none, if◌then◌else◌}
+use Rattle.std.specs.Prelude.{◌≡◌, ◌==◌, ◌||◌, ◌+◌, ◌∷◌, [], ◌++◌, ◌⊎◌, ℕ, List, Bool, true, false, Option, Some, None, Result, MatchResult, codes, map, take, is_none, if◌then◌else◌}
 use Rattle.a429_line.specs.declared.found.Symbol.{Symbol}
 use Rattle.a429_line.specs.Reports.{reports, rest}
 use Rattle.a429_filter.specs.declared.filters.Filter.{Filter}
@@ -10,8 +10,9 @@ use Rattle.a429_line.specs.LineBytes.{symbols_of}
 use Rattle.a429_cli.specs.LineFiles.{first_bad_byte}
 use Rattle.a429_cli.specs.LineReports.{printed, rest_line}
 use Rattle.a429_cli.specs.RefusalText.{OrMemory, refusal_line}
-use Rattle.a429_cli.specs.declared.refusals.CommandRefusal.{CommandRefusal}
-use Rattle.a429_cli.specs.declared.refusals.CommandRefusal.TheVariants as refused
+use Rattle.a429_cli.specs.declared.lines.Line.{Line}
+use Rattle.a429_cli.specs.declared.output.refusals.CommandRefusal.{CommandRefusal}
+use Rattle.a429_cli.specs.declared.output.refusals.CommandRefusal.TheVariants as refused
 
 -- the number from 1 of the first filter that is refused, behind n that are not: it is not of its form, or 32 stand before it
 abbrev pub first_bad_filter : ℕ → List (List ℕ) → Option ℕ
@@ -22,6 +23,10 @@ first_bad_filter n (text ∷ texts) = if n == 32 || is_none (filter_read text) t
 abbrev pub filter_list : List (List ℕ) → Option (List Filter)
 filter_list [] = None
 filter_list (text ∷ texts) = Some (map filter_of (text ∷ texts))
+
+-- the list of the filters of texts, of which none is refused
+abbrev pub AreFiltersOf : List (List ℕ) → Option (List Filter) → Type 0
+AreFiltersOf texts filters = (filters ≡ filter_list texts) × (first_bad_filter 0 texts ≡ None)
 
 -- the number is that of the first filter that is refused
 abbrev pub IsFilterRefusal : List (List ℕ) → CommandRefusal → Type 0
@@ -44,6 +49,14 @@ IsLinesRefusal file name filters refusal =
     ⊎ ((bytes : List ℕ) × (readable (file name) ≡ Some bytes) × IsFilterRefusal filters refusal)
     ⊎ ((bytes : List ℕ) × IsRead file name filters bytes × IsByteRefusal bytes refusal)
 
+-- a line that was read: it has the bytes of the file, each a symbol or skipped, and the list of the filters
+abbrev pub IsLineOf : (List ℕ → Option (List ℕ)) → List ℕ → List (List ℕ) → Line → Type 0
+IsLineOf file name filters l = IsRead file name filters l.bytes.items × (first_bad_byte l.bytes.items ≡ None) × (l.filters ≡ filter_list filters)
+
+-- what reading a line file gives: the line, or why nothing is told of it
+abbrev pub IsLineReading : (List ℕ → Option (List ℕ)) → List ℕ → List (List ℕ) → Result Line CommandRefusal → Type 0
+IsLineReading file name filters result = MatchResult result (IsLineOf file name filters) (OrMemory (IsLinesRefusal file name filters))
+
 -- these lines are what is printed of some reports of a first part of a line
 abbrev pub IsToldInPart : Option (List Filter) → List Symbol → List ℕ → Type 0
 IsToldInPart filters line lines = (k : ℕ) × (n : ℕ) × (lines ≡ printed filters (take n (reports (take k line))))
@@ -58,6 +71,14 @@ abbrev pub IsTold : Option (List Filter) → List Symbol → ℕ → List ℕ �
 IsTold filters line status bytes =
     ((bytes ≡ printed filters (reports line) ++ rest_line filters (rest line)) × (status ≡ 0))
     ⊎ ((lines : List ℕ) × IsToldInPart filters line lines × (status ≡ 1) × (bytes ≡ lines ++ codes "refused memory" ++ 10 ∷ []))
+
+-- what is printed of a line that was read, and whether memory sufficed for all
+abbrev pub IsLinePrinted : Line → Bool → List ℕ → Type 0
+IsLinePrinted l sufficed lines = IsPrinted l.filters (symbols_of l.bytes.items) sufficed lines
+
+-- what is told of a line that was read, and the status
+abbrev pub IsLineTold : Line → ℕ → List ℕ → Type 0
+IsLineTold l status bytes = IsTold l.filters (symbols_of l.bytes.items) status bytes
 
 -- what is written of a line file with filters of these texts, and the status: the line of a refusal, or what is told of the line
 abbrev pub IsLinesReply : (List ℕ → Option (List ℕ)) → List ℕ → List (List ℕ) → ℕ → List ℕ → Type 0

@@ -1,5 +1,5 @@
 -- What the program prints of the reports of a line (profile: output).
-use Rattle.std.specs.Prelude.{◌++◌, ◌∷◌, [], ℕ, List, Option, Some, None, codes, filter, filter_map, if◌then◌else◌, nat_lt}
+use Rattle.std.specs.Prelude.{◌++◌, ◌∷◌, [], ℕ, List, Bool, Option, Some, None, codes, filter, filter_map, if◌then◌else◌, nat_lt}
 use Rattle.std.specs.List.{flat_map}
 use Rattle.std.specs.Fmt.{decimal}
 use Rattle.a429_line.specs.declared.found.Found.{Found}
@@ -27,6 +27,10 @@ received filters found = filter (accepts filters) (filter_map raw_found found)
 abbrev pub printed : Option (List Filter) → List Found → List ℕ
 printed None found = flat_map found_line found
 printed (Some filters) found = flat_map word_line (received (Some filters) found)
+
+-- what is printed of one report, where memory sufficed for it
+abbrev pub printed_if : Bool → Option (List Filter) → Found → List ℕ
+printed_if sufficed filters found = if sufficed then printed filters (found ∷ []) else []
 
 -- the bits at the end of a line that have no report, where there are any and no list of filters
 abbrev pub rest_line : Option (List Filter) → ℕ → List ℕ

@@ -1,5 +1,6 @@
 -- Names of a station, and the numbers that they stand for.
 use Rattle.std.specs.Prelude.{ℕ, List, [], Option, map, position, slice_get, unwrap_or}
+use Rattle.std.specs.Option.{option_map_or}
 use Rattle.std.specs.Str.{bytes_eq}
 use Rattle.a429_equipment.specs.TableRecord.{TableRecord}
 
@@ -20,3 +21,11 @@ number_named names name = position (λ own. bytes_eq own name) names
 -- the name of a number; nothing where there is none
 abbrev pub name_at : List (List ℕ) → ℕ → List ℕ
 name_at names number = unwrap_or (slice_get names number) []
+
+-- the name of a group of a table
+abbrev pub group_name : TableRecord → ℕ → List ℕ
+group_name t g = name_at (naming_of t).groups g
+
+-- the name of the source of output o of group g
+abbrev pub output_name : TableRecord → ℕ → ℕ → List ℕ
+output_name t g o = option_map_or (λ rows. option_map_or (λ row. name_at (naming_of t).sources row.source) (slice_get rows o) []) (slice_get t.outputs g) []

@@ -1,15 +1,39 @@
--- A station that is open for a script, and the bytes that a replay was given.
-use Rattle.std.specs.Prelude.{◌≡◌, [], map}
+-- A station that is open for a script, and what a replay makes of the bytes that it was given.
+use Rattle.std.specs.Prelude.{◌≡◌, ◌∷◌, [], ℕ, List, Option, Result, MatchResult}
 use Rattle.a429_slots.specs.Proposed.{Proposed}
 use Rattle.a429_core.specs.Standing.{StandsFor}
+use Rattle.a429_cli.specs.Files.{IsFirstUnread, bytes_of}
 use Rattle.a429_cli.specs.Names.{naming_of}
-use Rattle.a429_cli.specs.Replaying.{ReplayInput}
+use Rattle.a429_cli.specs.Outputs.{IsPut}
+use Rattle.a429_cli.specs.RefusalText.{OrMemory}
+use Rattle.a429_cli.specs.Replaying.{IsInput, IsOutcome, IsStart, ReplayInput}
+use Rattle.a429_cli.specs.Tables.{IsProposedBy}
+use Rattle.a429_cli.specs.declared.output.refusals.CommandRefusal.{CommandRefusal}
 use Rattle.a429_cli.specs.declared.replay.Input.{Input}
-use Rattle.a429_cli.specs.declared.station.Station.{Station}
+use Rattle.a429_cli.specs.declared.replay.Prepared.{Prepared}
+use Rattle.a429_cli.specs.declared.replay.station.Station.{Station}
 
 -- it has the names of the proposed station, and nothing happened to it since it was opened at slot 0
 abbrev pub IsOpened : Proposed → Station → Type 0
 IsOpened q s = (s.names ≡ naming_of q.station) × StandsFor 41 (record { proposal = q; first = 0 }) [] s.state
 
+-- the station of a table's bytes, just opened
+abbrev pub IsOpenedFrom : List ℕ → Station → Type 0
+IsOpenedFrom table s = (q : Proposed) × IsProposedBy table q × IsOpened q s
+
 abbrev pub input_of : Input → ReplayInput
-input_of i = record { table = i.table.items; script = i.script.items; further = map (λ t. t.items) i.further.items }
+input_of i = record { table = i.table.items; script = i.script.items; further = bytes_of i.further.items }
+
+-- what reading the files of these names gives: their bytes, or the first that cannot be read
+abbrev pub IsInputReading : (List ℕ → Option (List ℕ)) → List ℕ → List ℕ → List (List ℕ) → Result Input CommandRefusal → Type 0
+IsInputReading file table script further result =
+    MatchResult result (λ i. IsInput file table script further (input_of i)) (OrMemory (IsFirstUnread file (table ∷ script ∷ further)))
+
+-- the station, just opened, and the events from which a replay of these bytes starts
+abbrev pub IsPreparedFor : ReplayInput → Prepared → Type 0
+IsPreparedFor i p = (q : Proposed) × IsStart i q p.events.items × IsOpened q p.station
+
+-- of a station just opened, and of further tables of these bytes: what its events come to was put
+abbrev pub IsOutcomePut : List (List ℕ) → Prepared → Option (List ℕ) → Option (List ℕ) → ℕ → Type 0
+IsOutcomePut further p old new status =
+    (i : ReplayInput) (q : Proposed) → i.further ≡ further → IsOpened q p.station → IsPut (IsOutcome i q p.events.items) old new status

@@ -1,5 +1,7 @@
 -- The commands `plan` and `check`: what they write, and their status (profile: output).
-use Rattle.std.specs.Prelude.{◌≡◌, ◌∷◌, [], ◌++◌, ◌⊎◌, ℕ, List, Option, Ok, Err, Some, string_bytes}
+use Rattle.std.specs.Prelude.{◌≡◌, ◌∷◌, [], ◌++◌, ◌⊎◌, ℕ, List, Option, Result, MatchResult, Ok, Err, Some, string_bytes}
+use Rattle.std.specs.declared.vec.Vec.{Vec}
+use Rattle.std.specs.declared.alloc.Global.{Global}
 use Rattle.a429_equipment.specs.TableRecord.{TableRecord}
 use Rattle.a429_equipment.specs.Reading.{reading}
 use Rattle.a429_slots.specs.Proposed.{Proposed}
@@ -11,10 +13,11 @@ use Rattle.a429_cert.specs.declared.due.DueTable.{DueTable}
 use Rattle.a429_cert.specs.declared.verdicts.Verdict.{Verdict}
 use Rattle.a429_cert.specs.declared.verdicts.Verdict.TheVariants as verdicts
 use Rattle.a429_cli.specs.Files.{AreRead, IsFirstUnread, IsFileRefusal, readable}
-use Rattle.a429_cli.specs.Stations.{IsProposedBy, IsTableRefusal, group_name, output_name}
+use Rattle.a429_cli.specs.Names.{group_name, output_name}
+use Rattle.a429_cli.specs.Tables.{IsProposedBy, IsTableRefusal}
 use Rattle.a429_cli.specs.RefusalText.{OrMemory, refusal_line}
-use Rattle.a429_cli.specs.declared.refusals.CommandRefusal.{CommandRefusal}
-use Rattle.a429_cli.specs.declared.refusals.CommandRefusal.TheVariants as refused
+use Rattle.a429_cli.specs.declared.output.refusals.CommandRefusal.{CommandRefusal}
+use Rattle.a429_cli.specs.declared.output.refusals.CommandRefusal.TheVariants as refused
 
 -- ---- plan
 
@@ -25,6 +28,10 @@ IsPlanTextOf file name text = (table : List ℕ) × (q : Proposed) × (readable 
 -- why there is none: the file, or its table, or the plan of that
 abbrev pub IsNoPlan : (List ℕ → Option (List ℕ)) → List ℕ → CommandRefusal → Type 0
 IsNoPlan file name refusal = IsFileRefusal file name refusal ⊎ ((table : List ℕ) × (readable (file name) ≡ Some table) × IsTableRefusal table refusal)
+
+-- what planning the table in a file gives: the text of its plan, or why there is none
+abbrev pub IsPlanning : (List ℕ → Option (List ℕ)) → List ℕ → Result (Vec ℕ Global) CommandRefusal → Type 0
+IsPlanning file name result = MatchResult result (λ text. IsPlanTextOf file name text.items) (OrMemory (IsNoPlan file name))
 
 -- what is written of the table in a file, and the status: the line of a refusal, or the text of its plan
 abbrev pub IsPlanReply : (List ℕ → Option (List ℕ)) → List ℕ → ℕ → List ℕ → Type 0
@@ -53,6 +60,10 @@ IsVerdictOf file name plan v = (table : List ℕ) × (text : List ℕ) × AreRea
 abbrev pub IsNoVerdict : (List ℕ → Option (List ℕ)) → List ℕ → List ℕ → CommandRefusal → Type 0
 IsNoVerdict file name plan refusal =
     IsFirstUnread file (name ∷ plan ∷ []) refusal ⊎ ((table : List ℕ) × (text : List ℕ) × AreRead file (name ∷ plan ∷ []) (table ∷ text ∷ []) × IsUnjudged table refusal)
+
+-- what judging the text in a file by the table in another gives: the verdict, or why there is none
+abbrev pub IsJudging : (List ℕ → Option (List ℕ)) → List ℕ → List ℕ → Result Verdict CommandRefusal → Type 0
+IsJudging file name plan result = MatchResult result (IsVerdictOf file name plan) (OrMemory (IsNoVerdict file name plan))
 
 -- 0 where the text shows the fewest buses
 abbrev pub verdict_status : Verdict → ℕ

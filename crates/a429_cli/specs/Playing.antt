@@ -1,16 +1,17 @@
 -- What the program writes of a script: a line for each event, of the machine's answer, or of the fault of a table that was to be published.
-use Rattle.std.specs.Prelude.{◌≡◌, ◌-◌, ◌≤◌, ◌++◌, ◌∷◌, [], ◌⊎◌, ℕ, List, Some, ⊤, slice_get}
+use Rattle.std.specs.Prelude.{◌≡◌, ◌-◌, ◌≤◌, ◌++◌, ◌∷◌, [], ◌⊎◌, ℕ, List, Bool, Some, IsTrue, ⊤, length, slice_get, take}
 use Rattle.a429_slots.specs.Events.{Event}
 use Rattle.a429_slots.specs.Events as machine
 use Rattle.a429_slots.specs.Proposed.{Proposed}
 use Rattle.a429_slots.specs.History.{Opening}
 use Rattle.a429_slots.specs.Answers.{answer}
-use Rattle.a429_cli.specs.Lines.{answer_line}
+use Rattle.a429_core.specs.Standing.{Standing, StandsFor}
+use Rattle.a429_cli.specs.AnswerLines.{answer_line}
 use Rattle.a429_cli.specs.RefusalText.{refusal_line}
-use Rattle.a429_cli.specs.Stations.{IsProposedBy, IsTableRefusal}
-use Rattle.a429_cli.specs.declared.refusals.CommandRefusal.{CommandRefusal}
-use Rattle.a429_cli.specs.declared.script.ScriptEvent.{ScriptEvent}
-use Rattle.a429_cli.specs.declared.script.ScriptEvent.TheVariants.{Arrive, Cell, Frame, Publish}
+use Rattle.a429_cli.specs.Tables.{IsProposedBy, IsTableRefusal}
+use Rattle.a429_cli.specs.declared.output.refusals.CommandRefusal.{CommandRefusal}
+use Rattle.a429_cli.specs.declared.replay.script.ScriptEvent.{ScriptEvent}
+use Rattle.a429_cli.specs.declared.replay.script.ScriptEvent.TheVariants.{Arrive, Cell, Frame, Publish}
 
 -- a table that is published is one of so many
 abbrev pub HasTable : ℕ → ScriptEvent → Type 0
@@ -40,3 +41,16 @@ abbrev pub Played : Opening → List (List ℕ) → List (List ℕ) → List Eve
 Played o names further E [] E' bytes = (E' ≡ E) × (bytes ≡ [])
 Played o names further E (event ∷ events) E' bytes =
     (M : List Event) × (line : List ℕ) × (rest : List ℕ) × Happens o names further E event M line × Played o names further M events E' rest × (bytes ≡ line ++ rest)
+
+-- an event of a script happens to a state, whatever history the state stands for, and the line that is printed is appended to a text
+abbrev pub PlaysOne : List (List ℕ) → List (List ℕ) → ScriptEvent → Standing → Standing → List ℕ → List ℕ → Type 0
+PlaysOne names further event old new before after =
+    (o : Opening) (E : List Event) → StandsFor 41 o E old
+    → (E' : List Event) × (line : List ℕ) × Happens o names further E event E' line × StandsFor 41 o E' new × (after ≡ before ++ line)
+
+-- the first of these events happen to a state, whatever history the state stands for, and the bytes that are printed are put as Puts says;
+-- where memory sufficed, all of them happen
+abbrev pub PlaysFirst : List (List ℕ) → List (List ℕ) → List ScriptEvent → Standing → (List ℕ → Type 0) → Bool → Type 0
+PlaysFirst names further events old Puts sufficed =
+    (o : Opening) (E : List Event) → StandsFor 41 o E old
+    → (n : ℕ) × (E' : List Event) × (bytes : List ℕ) × Played o names further E (take n events) E' bytes × Puts bytes × (IsTrue sufficed → n ≡ length events)

@@ -1,9 +1,10 @@
 -- The line of a refusal, without its line feed (profile: output).
-use Rattle.std.specs.Prelude.{◌≡◌, ◌⊎◌, ◌++◌, ℕ, List, ⊤, codes, string_bytes}
+use Rattle.std.specs.Prelude.{◌≡◌, ◌⊎◌, ◌++◌, ◌∷◌, [], ℕ, List, Option, ⊤, codes, string_bytes}
 use Rattle.std.specs.Fmt.{decimal}
+use Rattle.std.specs.Io.KnownBytes.{Appends}
 use Rattle.a429_equipment.specs.Printed.{kind_text, place_text}
-use Rattle.a429_cli.specs.declared.refusals.CommandRefusal.{CommandRefusal}
-use Rattle.a429_cli.specs.declared.refusals.CommandRefusal.TheVariants as refused
+use Rattle.a429_cli.specs.declared.output.refusals.CommandRefusal.{CommandRefusal}
+use Rattle.a429_cli.specs.declared.output.refusals.CommandRefusal.TheVariants as refused
 
 abbrev pub refusal_line : CommandRefusal → List ℕ
 refusal_line (refused.File name) = codes "refused file " ++ string_bytes name
@@ -25,3 +26,7 @@ OrMemory Stands refusal = Stands refusal
 -- what is told of a refusal: it, or in its place that memory was refused
 abbrev pub IsToldOf : CommandRefusal → CommandRefusal → Type 0
 IsToldOf refusal told = (told ≡ refusal) ⊎ (told ≡ refused.Memory)
+
+-- the line of this refusal was put, or in its place the one that says that memory was refused
+abbrev pub IsRefusalPut : CommandRefusal → Option (List ℕ) → Option (List ℕ) → Type 0
+IsRefusalPut refusal old new = (told : CommandRefusal) × IsToldOf refusal told × Appends old new (refusal_line told ++ 10 ∷ [])

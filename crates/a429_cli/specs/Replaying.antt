@@ -4,12 +4,12 @@ use Rattle.a429_slots.specs.Events.{Event}
 use Rattle.a429_slots.specs.Proposed.{Proposed}
 use Rattle.a429_cli.specs.Names.{naming_of}
 use Rattle.a429_cli.specs.Files.{AreRead, IsFirstUnread}
-use Rattle.a429_cli.specs.Stations.{IsProposedBy, IsTableRefusal}
+use Rattle.a429_cli.specs.Tables.{IsProposedBy, IsTableRefusal}
 use Rattle.a429_cli.specs.Script.{script_events, IsScriptFault}
 use Rattle.a429_cli.specs.Playing.{Played}
 use Rattle.a429_cli.specs.RefusalText.{OrMemory, refusal_line}
-use Rattle.a429_cli.specs.declared.refusals.CommandRefusal.{CommandRefusal}
-use Rattle.a429_cli.specs.declared.script.ScriptEvent.{ScriptEvent}
+use Rattle.a429_cli.specs.declared.output.refusals.CommandRefusal.{CommandRefusal}
+use Rattle.a429_cli.specs.declared.replay.script.ScriptEvent.{ScriptEvent}
 
 -- the bytes of the files that a replay reads
 pub record ReplayInput : Type 0 where
@@ -30,11 +30,15 @@ pub record IsStart (i : ReplayInput) (q : Proposed) (events : List ScriptEvent) 
 abbrev pub IsScriptRefusal : ReplayInput → CommandRefusal → Type 0
 IsScriptRefusal i refusal = (q : Proposed) × IsProposedBy i.table q × IsScriptFault (naming_of q.station) (length i.further) i.script refusal
 
--- why a replay does not begin: a file, the table or its plan, or the script
+-- why a replay of these bytes does not begin: the table or its plan, or the script
+abbrev pub IsNoStart : ReplayInput → CommandRefusal → Type 0
+IsNoStart i refusal = IsTableRefusal i.table refusal ⊎ IsScriptRefusal i refusal
+
+-- why a replay does not begin: a file, or the bytes
 abbrev pub IsReplayRefusal : (List ℕ → Option (List ℕ)) → List ℕ → List ℕ → List (List ℕ) → CommandRefusal → Type 0
 IsReplayRefusal file table script further refusal =
     IsFirstUnread file (table ∷ script ∷ further) refusal
-    ⊎ ((i : ReplayInput) × IsInput file table script further i × (IsTableRefusal i.table refusal ⊎ IsScriptRefusal i refusal))
+    ⊎ ((i : ReplayInput) × IsInput file table script further i × IsNoStart i refusal)
 
 -- from the opening these of the script's events happened, and these bytes were printed
 abbrev pub IsPlayed : ReplayInput → Proposed → List ScriptEvent → List ℕ → Type 0

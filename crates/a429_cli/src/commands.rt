@@ -1,17 +1,17 @@
 //! Commands, from words and files to bytes.
-ghost use Rattle.std.specs.Prelude.{◌≡◌, ◌<◌, ◌≤◌, ◌+◌, ◌-◌, ◌^◌, ◌⊎◌, List, ℕ, IfOk, IsTrue, map};
-ghost use Rattle.std.specs.Io.KnownBytes.{Appends};
-ghost use Rattle.a429_cli.specs.Outputs.{CountsFault};
-ghost use Rattle.a429_cli.specs.Requests.{Request, HasNames, IsReplyOrMemory, request_words};
+ghost use Rattle.std.specs.Prelude.{◌≡◌, ◌≤◌, ◌+◌, ◌⊎◌, IfOk, IsTrue};
+ghost use Rattle.a429_cli.specs.Files.{texts_of};
+ghost use Rattle.a429_cli.specs.Outputs.{CountsFault, IsPut, NoneFailed};
+ghost use Rattle.a429_cli.specs.Requests.{AsksFor, IsReplyOrMemory, RequestBytes, request_of};
 
-use crate::endings::refuse_memory;
+use crate::arguments::requests::{Request, parse};
 use crate::files::FileReader;
 use crate::lines::tell_lines;
+use crate::output::endings::refuse_memory;
 use crate::output::{Output, OutputFault};
 use crate::plan_texts::{print_plan, print_verdict};
 use crate::replay::replay;
 use crate::word::tell_word;
-use crate::words::{Asked, parse};
 use clap::Error;
 use clap::error::ErrorKind;
 use std::alloc::Global;
@@ -30,17 +30,17 @@ pub fn command<'a, F: FileReader, O: Output, V: Write>(
     err: &mut V,
 ) -> u8
     // Where the words ask for something and no call of the output failed, the bytes put are those of the answer, and so is the status.
-    ensures replied { (r : Request) → map (λ w. w.now) words.entry.now ≡ request_words r → HasNames r → IsTrue (F.tells files.old)
-        → O.failures out.old < 2 ^ 64 - 1 → O.failures out.new ≡ O.failures out.old
-        → (bytes : List ℕ) × IsReplyOrMemory (F.file files.old) r result bytes × Appends (O.contents out.old) (O.contents out.new) bytes }
+    ensures replied { (r : RequestBytes) → AsksFor (texts_of words.entry.now) r → IsTrue (F.tells files.old)
+        → NoneFailed (O.failures out.old) (O.failures out.new)
+        → IsPut (IsReplyOrMemory (F.file files.old) r) (O.contents out.old) (O.contents out.new) result }
     // Where a call of the output failed, the status is 1.
     ensures failed { (result ≡ 1) ⊎ (O.failures out.new ≡ O.failures out.old) }
     // After a call that failed there is no further one that fails.
     ensures once { O.failures out.new ≤ O.failures out.old + 1 }
-    ensures asked { (r : Request) → map (λ w. w.now) words.entry.now ≡ request_words r → HasNames r → result ≤ 1 }
+    ensures asked { (r : RequestBytes) → AsksFor (texts_of words.entry.now) r → result ≤ 1 }
     ensures status { result ≤ 2 }
     // Words that ask for something leave `err` alone.
-    ensures quiet { (r : Request) → map (λ w. w.now) words.entry.now ≡ request_words r → HasNames r → V.contents err.new ≡ V.contents err.old }
+    ensures quiet { (r : RequestBytes) → AsksFor (texts_of words.entry.now) r → V.contents err.new ≡ V.contents err.old }
     // Where the words ask for nothing, nothing is put.
     ensures silent { result ≡ 2 → O.contents out.new ≡ O.contents out.old }
 {
@@ -58,30 +58,45 @@ fn run<'a, F: FileReader, O: Output, V: Write>(
     out: &mut O,
     err: &mut V,
 ) -> Result<u8, OutputFault>
-    ensures replied { (r : Request) → map (λ w. w.now) words.entry.now ≡ request_words r → HasNames r → IsTrue (F.tells files.old)
-        → IfOk result (λ status. (bytes : List ℕ) × IsReplyOrMemory (F.file files.old) r status bytes × Appends (O.contents out.old) (O.contents out.new) bytes) }
-    ensures asked { (r : Request) → map (λ w. w.now) words.entry.now ≡ request_words r → HasNames r → IfOk result (λ status. status ≤ 1) }
+    ensures replied { (r : RequestBytes) → AsksFor (texts_of words.entry.now) r → IsTrue (F.tells files.old)
+        → IfOk result (IsPut (IsReplyOrMemory (F.file files.old) r) (O.contents out.old) (O.contents out.new)) }
+    ensures asked { (r : RequestBytes) → AsksFor (texts_of words.entry.now) r → IfOk result (λ status. status ≤ 1) }
     ensures status { IfOk result (λ status. status ≤ 2) }
     ensures faults { CountsFault result (O.failures out.old) (O.failures out.new) }
-    ensures quiet { (r : Request) → map (λ w. w.now) words.entry.now ≡ request_words r → HasNames r → V.contents err.new ≡ V.contents err.old }
+    ensures quiet { (r : RequestBytes) → AsksFor (texts_of words.entry.now) r → V.contents err.new ≡ V.contents err.old }
     ensures silent { IfOk result (λ status. status ≡ 2 → O.contents out.new ≡ O.contents out.old) }
 {
     match parse(alloc, words) {
-        Ok(Asked::Word { text }) => tell_word(alloc, text, out),
-        Ok(Asked::Lines { file, filters }) => tell_lines(alloc, files, file, &filters, out),
-        Ok(Asked::Plan { table }) => print_plan(alloc, files, table, out),
-        Ok(Asked::Check { table, plan }) => print_verdict(alloc, files, table, plan, out),
-        Ok(
-            Asked::Replay {
-                table,
-                script,
-                further,
-            },
-        ) => replay(alloc, files, table, script, &further, out),
+        Ok(request) => answer(alloc, &request, files, out),
         Err(error) => match error.kind() {
             ErrorKind::OutOfMemory => refuse_memory(out),
             _ => Ok(explain(&error, err)),
         },
+    }
+}
+
+/// Answers a request. The status is 0 where it was done, and 1 where it was refused.
+fn answer<F: FileReader, O: Output>(
+    alloc: Global,
+    request: &Request,
+    files: &mut F,
+    out: &mut O,
+) -> Result<u8, OutputFault>
+    ensures replied { IsTrue (F.tells files.old) → IfOk result
+        (IsPut (IsReplyOrMemory (F.file files.old) (request_of request.now)) (O.contents out.old) (O.contents out.new)) }
+    ensures status { IfOk result (λ status. status ≤ 1) }
+    ensures faults { CountsFault result (O.failures out.old) (O.failures out.new) }
+{
+    match request {
+        Request::Word { text } => tell_word(alloc, text, out),
+        Request::Lines { file, filters } => tell_lines(alloc, files, file, filters, out),
+        Request::Plan { table } => print_plan(alloc, files, table, out),
+        Request::Check { table, plan } => print_verdict(alloc, files, table, plan, out),
+        Request::Replay {
+            table,
+            script,
+            further,
+        } => replay(alloc, files, table, script, further, out),
     }
 }
 

@@ -1,6 +1,10 @@
 //! Files by name.
 ghost use Rattle.std.specs.Prelude.{◌≡◌, Bool, List, ℕ, Option, Some, None, IsTrue, IfOk, Err};
 
+pub mod disk;
+pub mod memory;
+pub mod reading;
+
 use thiserror::Error;
 
 /// How many bytes a file may have: 16 MiB (profile).

@@ -1,23 +1,24 @@
 //! The command `lines`.
-ghost use Rattle.std.specs.Prelude.{◌≡◌, ◌==◌, ◌||◌, ◌≤◌, ◌++◌, ◌∷◌, [], List, ℕ, Some, None, IfOk, IsTrue, MatchResult, is_none, length, map, not};
-ghost use Rattle.std.specs.Io.KnownBytes.{Appends, append_known};
-ghost use Rattle.a429_line.specs.LineBytes.{symbols_of};
+ghost use Rattle.std.specs.Prelude.{◌≡◌, ◌==◌, ◌||◌, ◌≤◌, ◌++◌, ◌∷◌, [], Some, IfOk, IsTrue, MatchResult, is_none, length, not};
+ghost use Rattle.std.specs.Io.KnownBytes.{append_known};
 ghost use Rattle.a429_filter.specs.Filters.{filters_of};
 ghost use Rattle.a429_equipment.specs.Stated.{filter_of};
 ghost use Rattle.a429_equipment.specs.FilterTexts.{filter_read};
-ghost use Rattle.a429_cli.specs.LineFiles.{first_bad_byte};
-ghost use Rattle.a429_cli.specs.LineReplies.{IsFilterRefusal, IsLinesRefusal, IsLinesReply, IsPrinted, IsRead, IsTold, filter_list, first_bad_filter};
-ghost use Rattle.a429_cli.specs.Outputs.{CountsFault};
-ghost use Rattle.a429_cli.specs.RefusalText.{OrMemory};
+ghost use Rattle.a429_cli.specs.Files.{texts_of};
+ghost use Rattle.a429_cli.specs.LineReplies.{AreFiltersOf, IsFilterRefusal, IsLinePrinted, IsLineReading, IsLineTold, IsLinesReply};
+ghost use Rattle.a429_cli.specs.Outputs.{CountsFault, IsPut};
 
-use crate::buffer::Lines;
-use crate::endings::{finish, refuse};
+pub mod line_bytes;
+pub mod reports;
+
 use crate::files::FileReader;
-use crate::line_files::first_bad_byte;
+use crate::files::reading::read_file;
+use crate::lines::line_bytes::first_bad_byte;
+use crate::lines::reports::{print_report, push_rest};
+use crate::output::endings::{finish, refuse};
+use crate::output::pending::Pending;
+use crate::output::refusals::CommandRefusal;
 use crate::output::{Output, OutputFault};
-use crate::reading::read_file;
-use crate::refusals::CommandRefusal;
-use crate::reports::{print_report, push_rest};
 use a429_equipment::filter_of_text;
 use a429_filter::FilterSet;
 use a429_line::LineReader;
@@ -43,8 +44,7 @@ fn add_filter(filters: &mut FilterSet, text: &str) -> bool
 
 /// The filters of texts, no list where there are none. Refused is the first that is no filter, or the 33rd.
 fn read_filters(texts: &[&str]) -> Result<FilterSet, CommandRefusal>
-    ensures { MatchResult result (λ filters. (filters ≡ filter_list (map (λ t. t.now) texts.now)) × (first_bad_filter 0 (map (λ t. t.now) texts.now) ≡ None))
-        (IsFilterRefusal (map (λ t. t.now) texts.now)) }
+    ensures { MatchResult result (AreFiltersOf (texts_of texts.now)) (IsFilterRefusal (texts_of texts.now)) }
 {
     let mut filters = FilterSet::all();
     for (place, text) in texts.iter().enumerate() {
@@ -62,9 +62,7 @@ fn read_line<F: FileReader>(
     name: &str,
     filters: &[&str],
 ) -> Result<Line, CommandRefusal>
-    ensures { IsTrue (F.tells files.old) → MatchResult result (λ l. IsRead (F.file files.old) name.now (map (λ f. f.now) filters.now) l.bytes.items
-        × (first_bad_byte l.bytes.items ≡ None) × (l.filters ≡ filter_list (map (λ f. f.now) filters.now)))
-        (OrMemory (IsLinesRefusal (F.file files.old) name.now (map (λ f. f.now) filters.now))) }
+    ensures { IsTrue (F.tells files.old) → IsLineReading (F.file files.old) name.now (texts_of filters.now) result }
 {
     let bytes = read_file(alloc, files, name)?;
     let filters = read_filters(filters)?;
@@ -76,9 +74,9 @@ fn read_line<F: FileReader>(
 
 /// Appends what is printed of a line's reports, one after another, and of its rest. The lines are put out where
 /// they have become many, and those that are left stand in `lines`. Whether memory sufficed for all.
-fn print_line<O: Output>(line: &Line, lines: &mut Lines, out: &mut O) -> Result<bool, OutputFault>
-    ensures printed { IfOk result (λ all. (told : List ℕ) × IsPrinted line.now.filters (symbols_of line.now.bytes.items) all told
-        × Appends (append_known (O.contents out.old) lines.old.text.items) (append_known (O.contents out.new) lines.new.text.items) told) }
+fn print_line<O: Output>(line: &Line, lines: &mut Pending, out: &mut O) -> Result<bool, OutputFault>
+    ensures printed { IfOk result (IsPut (IsLinePrinted line.now)
+        (append_known (O.contents out.old) lines.old.text.items) (append_known (O.contents out.new) lines.new.text.items)) }
     ensures faults { CountsFault result (O.failures out.old) (O.failures out.new) }
 {
     let bytes = line.bytes.as_slice();
@@ -98,11 +96,11 @@ fn print_line<O: Output>(line: &Line, lines: &mut Lines, out: &mut O) -> Result<
 /// Puts what is printed of a line. Where memory is refused in the midst, the lines so far end with the one
 /// that says so.
 fn tell_line<O: Output>(alloc: Global, line: &Line, out: &mut O) -> Result<u8, OutputFault>
-    ensures told { IfOk result (λ status. (bytes : List ℕ) × IsTold line.now.filters (symbols_of line.now.bytes.items) status bytes × Appends (O.contents out.old) (O.contents out.new) bytes) }
+    ensures told { IfOk result (IsPut (IsLineTold line.now) (O.contents out.old) (O.contents out.new)) }
     ensures status { IfOk result (λ status. status ≤ 1) }
     ensures faults { CountsFault result (O.failures out.old) (O.failures out.new) }
 {
-    let mut lines = Lines::new(alloc);
+    let mut lines = Pending::new(alloc);
     let sufficed = print_line(line, &mut lines, out)?;
     finish(&lines.text, sufficed, out)
 }
@@ -119,8 +117,8 @@ pub fn tell_lines<F: FileReader, O: Output>(
     filters: &[&str],
     out: &mut O,
 ) -> Result<u8, OutputFault>
-    ensures told { IsTrue (F.tells files.old) → IfOk result (λ status. (bytes : List ℕ)
-        × IsLinesReply (F.file files.old) name.now (map (λ f. f.now) filters.now) status bytes × Appends (O.contents out.old) (O.contents out.new) bytes) }
+    ensures told { IsTrue (F.tells files.old) → IfOk result
+        (IsPut (IsLinesReply (F.file files.old) name.now (texts_of filters.now)) (O.contents out.old) (O.contents out.new)) }
     ensures status { IfOk result (λ status. status ≤ 1) }
     ensures faults { CountsFault result (O.failures out.old) (O.failures out.new) }
 {

@@ -3,6 +3,10 @@ ghost use Rattle.std.specs.Prelude.{◌≡◌, List, ℕ, Option, OnOk};
 ghost use Rattle.std.specs.Io.KnownBytes.{Appends, Keeps};
 ghost use Rattle.a429_cli.specs.Outputs.{CountsFault};
 
+pub mod endings;
+pub mod pending;
+pub mod refusals;
+
 use std::io::Write;
 use thiserror::Error;
 

@@ -1,17 +1,17 @@
 //! The commands `plan` and `check`.
-ghost use Rattle.std.specs.Prelude.{◌≡◌, ◌≤◌, ◌++◌, ◌∷◌, ◌⊎◌, [], List, ℕ, IfOk, IsTrue, MatchResult, OnOk};
+ghost use Rattle.std.specs.Prelude.{◌≡◌, ◌≤◌, ◌++◌, ◌∷◌, [], IfOk, IsTrue, MatchResult, OnOk};
 ghost use Rattle.std.specs.Io.KnownBytes.{Appends};
 ghost use Rattle.a429_cert.specs.Printed.{verdict_text};
-ghost use Rattle.a429_cli.specs.Outputs.{CountsFault, IsMemoryReply};
-ghost use Rattle.a429_cli.specs.PlanReplies.{IsCheckReply, IsJudged, IsNoPlan, IsNoVerdict, IsPlanReply, IsPlanTextOf, IsUnjudged, IsVerdictOf, IsVerdictReply, verdict_status};
+ghost use Rattle.a429_cli.specs.Outputs.{CountsFault, IsPut, OrNoMemory};
+ghost use Rattle.a429_cli.specs.PlanReplies.{IsCheckReply, IsJudged, IsJudging, IsPlanReply, IsPlanning, IsUnjudged, IsVerdictReply, verdict_status};
 ghost use Rattle.a429_cli.specs.RefusalText.{OrMemory};
 
-use crate::endings::{finish, refuse, refuse_memory};
 use crate::files::FileReader;
+use crate::files::reading::read_file;
+use crate::output::endings::{finish, refuse, refuse_memory};
+use crate::output::refusals::CommandRefusal;
 use crate::output::{Output, OutputFault};
-use crate::reading::read_file;
-use crate::refusals::CommandRefusal;
-use crate::station::{propose, read_table, unfit};
+use crate::tables::{propose, read_table, unfit};
 use a429_cert::{NoVerdict, Verdict, judge, plan_text};
 use std::alloc::Global;
 use std::io;
@@ -23,7 +23,7 @@ fn planned<F: FileReader>(
     files: &mut F,
     name: &str,
 ) -> Result<Vec<u8>, CommandRefusal>
-    ensures { IsTrue (F.tells files.old) → MatchResult result (λ text. IsPlanTextOf (F.file files.old) name.now text.items) (OrMemory (IsNoPlan (F.file files.old) name.now)) }
+    ensures { IsTrue (F.tells files.old) → IsPlanning (F.file files.old) name.now result }
 {
     let table = read_file(alloc, files, name)?;
     let proposal = propose(alloc, &table)?;
@@ -38,8 +38,8 @@ pub fn print_plan<F: FileReader, O: Output>(
     name: &str,
     out: &mut O,
 ) -> Result<u8, OutputFault>
-    ensures planned { IsTrue (F.tells files.old) → IfOk result (λ status. (bytes : List ℕ)
-        × IsPlanReply (F.file files.old) name.now status bytes × Appends (O.contents out.old) (O.contents out.new) bytes) }
+    ensures planned { IsTrue (F.tells files.old) → IfOk result
+        (IsPut (IsPlanReply (F.file files.old) name.now) (O.contents out.old) (O.contents out.new)) }
     ensures status { IfOk result (λ status. status ≤ 1) }
     ensures faults { CountsFault result (O.failures out.old) (O.failures out.new) }
 {
@@ -70,7 +70,7 @@ fn judged_files<F: FileReader>(
     table: &str,
     plan: &str,
 ) -> Result<Verdict, CommandRefusal>
-    ensures { IsTrue (F.tells files.old) → MatchResult result (IsVerdictOf (F.file files.old) table.now plan.now) (OrMemory (IsNoVerdict (F.file files.old) table.now plan.now)) }
+    ensures { IsTrue (F.tells files.old) → IsJudging (F.file files.old) table.now plan.now result }
 {
     let table = read_file(alloc, files, table)?;
     let text = read_file(alloc, files, plan)?;
@@ -96,7 +96,7 @@ fn status_of(verdict: Verdict) -> u8
 
 /// Puts the line of a verdict, or where memory for it is refused the one that says so.
 fn tell_verdict<O: Output>(alloc: Global, verdict: Verdict, out: &mut O) -> Result<u8, OutputFault>
-    ensures told { IfOk result (λ status. (bytes : List ℕ) × (IsVerdictReply verdict status bytes ⊎ IsMemoryReply status bytes) × Appends (O.contents out.old) (O.contents out.new) bytes) }
+    ensures told { IfOk result (IsPut (OrNoMemory (IsVerdictReply verdict)) (O.contents out.old) (O.contents out.new)) }
     ensures status { IfOk result (λ status. status ≤ 1) }
     ensures faults { CountsFault result (O.failures out.old) (O.failures out.new) }
 {
@@ -118,8 +118,8 @@ pub fn print_verdict<F: FileReader, O: Output>(
     plan: &str,
     out: &mut O,
 ) -> Result<u8, OutputFault>
-    ensures judged { IsTrue (F.tells files.old) → IfOk result (λ status. (bytes : List ℕ)
-        × IsCheckReply (F.file files.old) table.now plan.now status bytes × Appends (O.contents out.old) (O.contents out.new) bytes) }
+    ensures judged { IsTrue (F.tells files.old) → IfOk result
+        (IsPut (IsCheckReply (F.file files.old) table.now plan.now) (O.contents out.old) (O.contents out.new)) }
     ensures status { IfOk result (λ status. status ≤ 1) }
     ensures faults { CountsFault result (O.failures out.old) (O.failures out.new) }
 {

@@ -1,25 +1,27 @@
 //! The command `replay`.
-ghost use Rattle.std.specs.Prelude.{◌≡◌, ◌≤◌, ◌++◌, ◌∷◌, [], ◌⊎◌, List, ℕ, IfOk, IsTrue, MatchResult, OnOk, map, length};
+ghost use Rattle.std.specs.Prelude.{◌≤◌, IfOk, IsTrue, MatchResult, length};
 ghost use Rattle.std.specs.List.{AllByRecursion};
-ghost use Rattle.std.specs.Io.KnownBytes.{Appends};
-ghost use Rattle.a429_slots.specs.Proposed.{Proposed};
-ghost use Rattle.a429_cli.specs.Files.{IsFirstUnread};
-ghost use Rattle.a429_cli.specs.Outputs.{CountsFault};
+ghost use Rattle.a429_cli.specs.Files.{bytes_of, texts_of};
+ghost use Rattle.a429_cli.specs.Outputs.{CountsFault, IsPut};
 ghost use Rattle.a429_cli.specs.Playing.{HasTable};
 ghost use Rattle.a429_cli.specs.RefusalText.{OrMemory};
-ghost use Rattle.a429_cli.specs.Stations.{IsTableRefusal};
-ghost use Rattle.a429_cli.specs.Replaying.{ReplayInput, IsInput, IsStart, IsScriptRefusal, IsOutcome, IsReplay};
-ghost use Rattle.a429_cli.specs.Opened.{IsOpened, input_of};
+ghost use Rattle.a429_cli.specs.Replaying.{IsNoStart, IsReplay};
+ghost use Rattle.a429_cli.specs.Opened.{IsInputReading, IsOutcomePut, IsPreparedFor, input_of};
 
-use crate::buffer::Lines;
-use crate::endings::{finish, refuse};
+pub mod answers;
+pub mod playing;
+pub mod script;
+pub mod station;
+
 use crate::files::FileReader;
+use crate::files::reading::{read_file, read_files};
+use crate::output::endings::{finish, refuse};
+use crate::output::pending::Pending;
+use crate::output::refusals::CommandRefusal;
 use crate::output::{Output, OutputFault};
-use crate::playing::play_all;
-use crate::reading::{read_file, read_files};
-use crate::refusals::CommandRefusal;
-use crate::script::{ScriptEvent, read_script};
-use crate::station::Station;
+use crate::replay::playing::play_all;
+use crate::replay::script::{ScriptEvent, read_script};
+use crate::replay::station::Station;
 use std::alloc::Global;
 
 /// The bytes of the files that a replay reads.
@@ -45,8 +47,7 @@ fn read_input<F: FileReader>(
     script: &str,
     further: &[&str],
 ) -> Result<Input, CommandRefusal>
-    ensures { IsTrue (F.tells files.old) → MatchResult result (λ i. IsInput (F.file files.old) table.now script.now (map (λ n. n.now) further.now) (input_of i))
-        (OrMemory (IsFirstUnread (F.file files.old) (table.now ∷ script.now ∷ map (λ n. n.now) further.now))) }
+    ensures { IsTrue (F.tells files.old) → IsInputReading (F.file files.old) table.now script.now (texts_of further.now) result }
 {
     let table = read_file(alloc, files, table)?;
     let script = read_file(alloc, files, script)?;
@@ -61,8 +62,7 @@ fn read_input<F: FileReader>(
 /// The station and the events that are given. Refused is the table, its plan, or the script.
 fn prepare(alloc: Global, input: &Input) -> Result<Prepared, CommandRefusal>
     ensures tables { IfOk result (λ p. AllByRecursion (HasTable (length input.now.further.items)) p.events.items) }
-    ensures prepared { MatchResult result (λ p. (q : Proposed) × IsStart (input_of input.now) q p.events.items × IsOpened q p.station)
-        (OrMemory (λ r. IsTableRefusal input.now.table.items r ⊎ IsScriptRefusal (input_of input.now) r)) }
+    ensures prepared { MatchResult result (IsPreparedFor (input_of input.now)) (OrMemory (IsNoStart (input_of input.now))) }
 {
     let station = Station::open(alloc, &input.table)?;
     let further = input.further.len();
@@ -79,14 +79,13 @@ fn play_prepared<O: Output>(
     out: &mut O,
 ) -> Result<u8, OutputFault>
     requires { AllByRecursion (HasTable (length further.now)) prepared.events.items }
-    ensures played { IfOk result (λ status. (i : ReplayInput) (q : Proposed) → i.further ≡ map (λ t. t.items) further.now → IsOpened q prepared.station
-        → (bytes : List ℕ) × IsOutcome i q prepared.events.items status bytes × Appends (O.contents out.old) (O.contents out.new) bytes) }
+    ensures played { IfOk result (IsOutcomePut (bytes_of further.now) prepared (O.contents out.old) (O.contents out.new)) }
     ensures status { IfOk result (λ status. status ≤ 1) }
     ensures faults { CountsFault result (O.failures out.old) (O.failures out.new) }
 {
     let Prepared { station, events } = prepared;
     let Station { names, mut state } = station;
-    let mut lines = Lines::new(alloc);
+    let mut lines = Pending::new(alloc);
     let sufficed = play_all(alloc, &mut state, &names, further, &events, &mut lines, out)?;
     finish(&lines.text, sufficed, out)
 }
@@ -101,8 +100,8 @@ pub fn replay<F: FileReader, O: Output>(
     further: &[&str],
     out: &mut O,
 ) -> Result<u8, OutputFault>
-    ensures replayed { IsTrue (F.tells files.old) → IfOk result (λ status. (bytes : List ℕ)
-        × IsReplay (F.file files.old) table.now script.now (map (λ n. n.now) further.now) status bytes × Appends (O.contents out.old) (O.contents out.new) bytes) }
+    ensures replayed { IsTrue (F.tells files.old) → IfOk result
+        (IsPut (IsReplay (F.file files.old) table.now script.now (texts_of further.now)) (O.contents out.old) (O.contents out.new)) }
     ensures status { IfOk result (λ status. status ≤ 1) }
     ensures faults { CountsFault result (O.failures out.old) (O.failures out.new) }
 {

@@ -1,15 +1,15 @@
 //! The command `word`.
-ghost use Rattle.std.specs.Prelude.{◌≡◌, ◌≤◌, ◌⊎◌, List, ℕ, IfOk, OnOk};
+ghost use Rattle.std.specs.Prelude.{◌≤◌, IfOk, OnOk};
 ghost use Rattle.std.specs.List.{flat_map};
 ghost use Rattle.a429_word.specs.Bits.{bcd_of};
 ghost use Rattle.std.specs.Fmt.{decimal};
 ghost use Rattle.std.specs.Io.KnownBytes.{Appends};
-ghost use Rattle.a429_cli.specs.Outputs.{CountsFault, IsMemoryReply};
+ghost use Rattle.a429_cli.specs.Outputs.{CountsFault, IsPut, OrNoMemory};
 ghost use Rattle.a429_cli.specs.WordLines.{IsWordReply, bcd_digits, bcd_line, bnr_line, data_text, fields_line, name_text, status_text, word_lines};
 
-use crate::endings::{finish, refuse, refuse_memory};
+use crate::output::endings::{finish, refuse, refuse_memory};
+use crate::output::refusals::CommandRefusal;
 use crate::output::{Output, OutputFault};
-use crate::refusals::CommandRefusal;
 use a429_word::{Label, Sdi, Ssm, Word, raw_word};
 use std::alloc::Global;
 use std::io;
@@ -97,8 +97,7 @@ fn write_word<W: Write>(out: &mut W, word: Word) -> io::Result<()>
 /// Tells what the word of eight hexadecimal digits says, in either case. Another text is refused
 /// (`word-text`), and one of even parity (`parity`). The status is 0, or 1 where it was refused.
 pub fn tell_word<O: Output>(alloc: Global, text: &str, out: &mut O) -> Result<u8, OutputFault>
-    ensures replied { IfOk result (λ status. (bytes : List ℕ) × (IsWordReply text.now status bytes ⊎ IsMemoryReply status bytes)
-        × Appends (O.contents out.old) (O.contents out.new) bytes) }
+    ensures replied { IfOk result (IsPut (OrNoMemory (IsWordReply text.now)) (O.contents out.old) (O.contents out.new)) }
     ensures status { IfOk result (λ status. status ≤ 1) }
     ensures faults { CountsFault result (O.failures out.old) (O.failures out.new) }
 {

@@ -6,7 +6,7 @@ use Rattle.std.proofs.lemmas.Result.{err_from_is_err_and}
 use Rattle.a429_cli.specs.RefusalText.{OrMemory}
 use Rattle.a429_cli.specs.Names.{Naming, naming_of}
 use Rattle.a429_cli.specs.Playing.{HasTable}
-use Rattle.a429_cli.specs.Stations.{IsProposedBy, IsTableRefusal}
+use Rattle.a429_cli.specs.Tables.{IsProposedBy, IsTableRefusal}
 use Rattle.a429_cli.specs.Script.{IsScriptFault}
 use Rattle.a429_cli.specs.Replaying.{IsScriptRefusal}
 use Rattle.a429_cli.specs.Opened.{input_of}

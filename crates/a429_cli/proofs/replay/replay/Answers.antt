@@ -2,7 +2,7 @@ use Rattle.std.proofs.Common.{◌⊎◌, ◌++◌, ◌∷◌, [], map, refl, inl
 use Rattle.std.proofs.lemmas.Result.{IfOk-weaker}
 use Rattle.a429_cli.specs.Files.{IsFirstUnread}
 use Rattle.a429_cli.specs.RefusalText.{refusal_line}
-use Rattle.a429_cli.specs.Stations.{IsTableRefusal}
+use Rattle.a429_cli.specs.Tables.{IsTableRefusal}
 use Rattle.a429_cli.specs.Replaying.{IsReplayRefusal, IsScriptRefusal}
 use Rattle.a429_cli.specs.Opened.{input_of}
 use Rattle.a429_cli.proofs.Refused.{both_ok, or_memory_weaker, told_or_memory}

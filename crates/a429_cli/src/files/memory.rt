@@ -1,0 +1,37 @@
+//! Files in memory.
+ghost use Rattle.std.specs.Prelude.{◌≡◌, option_map};
+ghost use Rattle.a429_cli.specs.MemoryFile.{file_of};
+
+use crate::files::{FileFault, FileReader};
+
+/// Files by name, of which the first of a name is the one that is read.
+#[derive(Drop)]
+pub struct MemoryFiles {
+    pub files: Vec<(String, Vec<u8>)>,
+}
+
+impl FileReader for MemoryFiles {
+    ghost use Rattle.std.specs.Prelude.{true};
+    ghost use Rattle.a429_cli.specs.MemoryFile.{file_of};
+
+    ghost tells = { λ _. true };
+
+    ghost file = { λ m name. file_of m.files.items name };
+
+    fn read(&mut self, name: &str) -> Result<Vec<u8>, FileFault> {
+        match found(&self.files, name) {
+            None => Err(FileFault::Refused),
+            Some(bytes) => match bytes.clone() {
+                Ok(bytes) => Ok(bytes),
+                Err(_) => Err(FileFault::NoMemory),
+            },
+        }
+    }
+}
+
+fn found<'a>(files: &'a [(String, Vec<u8>)], name: &str) -> Option<&'a Vec<u8>>
+    ensures { option_map (λ v. v.now.items) result ≡ file_of files.entry.now name.now }
+{
+    let (_, bytes) = files.iter().find(|file| file.0.as_str() == name)?;
+    Some(bytes)
+}

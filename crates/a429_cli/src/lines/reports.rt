@@ -1,0 +1,94 @@
+//! Lines of what is reported of a line.
+ghost use Rattle.std.specs.Prelude.{◌≡◌, ◌<◌, ◌++◌, ◌∷◌, [], IfOk, OnOk, OnErr, length};
+ghost use Rattle.std.specs.Option.{option_to_list};
+ghost use Rattle.a429_cli.specs.LineReports.{found_line, printed, printed_if, received, rest_line};
+ghost use Rattle.a429_cli.specs.Outputs.{AppendsPending, CountsFault};
+
+use crate::output::pending::{Pending, put_if_full};
+use crate::output::{Output, OutputFault};
+use a429_filter::FilterSet;
+use a429_line::Found;
+use a429_word::Word;
+use std::alloc::AllocError;
+use std::io;
+use std::io::Write;
+
+/// Appends the line of a report. The error is a want of memory, and may leave a part of the line.
+#[tactic(auto, unfolding(a429_word::specs::Hexadecimal::hex))]
+pub fn push_found(text: &mut Vec<u8>, found: Found) -> io::Result<()>
+    ensures { OnOk result (text.new.items ≡ text.old.items ++ found_line found) }
+{
+    match found {
+        Found::Word(word) => {
+            let raw = word.raw();
+            writeln!(text, "word {raw:08x}")
+        }
+        Found::Parity(raw) => writeln!(text, "parity {raw:08x}"),
+        Found::Short(bits) => writeln!(text, "short {bits}"),
+        Found::Long => writeln!(text, "long"),
+        Found::Gap(nulls) => writeln!(text, "gap {nulls}"),
+    }
+}
+
+/// The word of a report, where it has odd parity and its label passes.
+fn received(filters: &FilterSet, found: Found) -> Option<Word>
+    ensures { option_to_list result ≡ received filters.now (found ∷ []) }
+{
+    let word = match found {
+        Found::Word(word) => word,
+        Found::Parity(raw) => Word::from_raw(raw).ok()?,
+        Found::Short(_) | Found::Long | Found::Gap(_) => return None,
+    };
+    if filters.passes(word.label()) {
+        Some(word)
+    } else {
+        None
+    }
+}
+
+/// Appends what is printed of a report: its line, or with a list of filters the line of a word that passes.
+/// Where memory is refused, nothing is appended.
+fn push_report(lines: &mut Pending, filters: &FilterSet, found: Found) -> Result<(), AllocError>
+    ensures line { OnOk result (lines.new.text.items ≡ lines.old.text.items ++ printed filters.now (found ∷ [])) }
+    ensures kept { OnErr result (lines.new.text.items ≡ lines.old.text.items) }
+{
+    if filters.list().is_none() {
+        return lines.push_found(found);
+    }
+    match received(filters, found) {
+        Some(word) => lines.push_found(Found::Word(word)),
+        None => Ok(()),
+    }
+}
+
+/// Appends what is printed of a report. The lines are put out where they have become many, and those that are
+/// left stand in `lines`. Whether memory sufficed; where it did not, nothing is appended.
+pub fn print_report<O: Output>(
+    filters: &FilterSet,
+    found: Found,
+    lines: &mut Pending,
+    out: &mut O,
+) -> Result<bool, OutputFault>
+    ensures printed { IfOk result (λ all. AppendsPending (O.contents out.old) lines.old.text.items
+        (O.contents out.new) lines.new.text.items (printed_if all filters.now found)) }
+    ensures few { OnOk result (length lines.old.text.items < 65536 → length lines.new.text.items < 65536) }
+    ensures faults { CountsFault result (O.failures out.old) (O.failures out.new) }
+{
+    let Ok(()) = push_report(lines, filters, found) else {
+        return Ok(false);
+    };
+    put_if_full(&mut lines.text, out)?;
+    Ok(true)
+}
+
+/// Appends the line of a rest of so many bits; nothing where there is no rest, or a list of filters. Where
+/// memory is refused, nothing is appended.
+pub fn push_rest(lines: &mut Pending, filters: &FilterSet, rest: u32) -> Result<(), AllocError>
+    ensures line { OnOk result (lines.new.text.items ≡ lines.old.text.items ++ rest_line filters.now rest) }
+    ensures kept { OnErr result (lines.new.text.items ≡ lines.old.text.items) }
+{
+    if rest > 0 && filters.list().is_none() {
+        return lines.push_rest(rest);
+    }
+    Ok(())
+}

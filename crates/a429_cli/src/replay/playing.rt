@@ -1,0 +1,96 @@
+//! Scripts played on a station.
+ghost use Rattle.std.specs.Prelude.{◌≡◌, ◌<◌, OnOk, OnErr, IfOk, MatchResult, length};
+ghost use Rattle.std.specs.List.{AllByRecursion};
+ghost use Rattle.a429_core.specs.Happened.{event_of};
+ghost use Rattle.a429_cli.specs.Files.{bytes_of};
+ghost use Rattle.a429_cli.specs.Outputs.{AppendsPending, CountsFault};
+ghost use Rattle.a429_cli.specs.Playing.{HasTable, IsEventOf, IsUnread, PlaysFirst, PlaysOne};
+ghost use Rattle.a429_cli.specs.RefusalText.{OrMemory};
+
+use crate::output::pending::{Pending, put_if_full};
+use crate::output::refusals::CommandRefusal;
+use crate::output::{Output, OutputFault};
+use crate::replay::script::ScriptEvent;
+use crate::tables::names::Names;
+use crate::tables::propose;
+use a429_core::{Event, StationState};
+use std::alloc::{AllocError, Global};
+
+/// The event of the machine that a script's event stands for, where the bytes of the further tables are
+/// these. A table that is published is read and planned; refused is its fault, or else that of its plan.
+fn machine_event(
+    alloc: Global,
+    further: &[Vec<u8>],
+    event: ScriptEvent,
+) -> Result<Event, CommandRefusal>
+    requires { HasTable (length further.now) event }
+    ensures { MatchResult result (λ e. IsEventOf (bytes_of further.now) event (event_of e))
+        (OrMemory (IsUnread (bytes_of further.now) event)) }
+{
+    match event {
+        ScriptEvent::Arrive(receiver, raw) => Ok(Event::Arrive {
+            receiver: usize::from(receiver),
+            raw,
+        }),
+        ScriptEvent::Cell(group) => Ok(Event::Cell {
+            group: usize::from(group),
+        }),
+        ScriptEvent::Frame(group) => Ok(Event::Frame {
+            group: usize::from(group),
+        }),
+        ScriptEvent::Publish(number) => {
+            let proposal = propose(alloc, &further[number - 1])?;
+            Ok(Event::Publish { proposal })
+        }
+    }
+}
+
+/// Appends the line that an event of a script comes to. Where memory is refused, nothing is appended.
+fn play(
+    alloc: Global,
+    state: &mut StationState,
+    names: &Names,
+    further: &[Vec<u8>],
+    event: ScriptEvent,
+    lines: &mut Pending,
+) -> Result<(), AllocError>
+    requires { HasTable (length further.now) event }
+    ensures played { OnOk result (PlaysOne names.now.sources (bytes_of further.now) event
+        state.old state.new lines.old.text.items lines.new.text.items) }
+    ensures kept { OnErr result (lines.new.text.items ≡ lines.old.text.items) }
+{
+    match machine_event(alloc, further, event) {
+        Ok(event) => match state.step(event) {
+            Ok(answer) => lines.push_answer(names, answer),
+            Err(error) => Err(error),
+        },
+        Err(CommandRefusal::Memory) => Err(AllocError),
+        Err(refusal) => lines.push_refusal(&refusal),
+    }
+}
+
+/// Plays events of a script one after another. Their lines are put out where they have become many, and
+/// those that are left stand in `lines`. Whether memory sufficed for all.
+pub fn play_all<O: Output>(
+    alloc: Global,
+    state: &mut StationState,
+    names: &Names,
+    further: &[Vec<u8>],
+    events: &[ScriptEvent],
+    lines: &mut Pending,
+    out: &mut O,
+) -> Result<bool, OutputFault>
+    requires { AllByRecursion (HasTable (length further.now)) events.now }
+    ensures played { IfOk result (PlaysFirst names.now.sources (bytes_of further.now) events.now state.old
+        (AppendsPending (O.contents out.old) lines.old.text.items (O.contents out.new) lines.new.text.items)) }
+    ensures few { OnOk result (length lines.old.text.items < 65536 → length lines.new.text.items < 65536) }
+    ensures faults { CountsFault result (O.failures out.old) (O.failures out.new) }
+{
+    for event in events {
+        let Ok(()) = play(alloc, state, names, further, *event, lines) else {
+            return Ok(false);
+        };
+        put_if_full(&mut lines.text, out)?;
+    }
+    Ok(true)
+}
