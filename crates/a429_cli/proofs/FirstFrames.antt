@@ -6,19 +6,19 @@ use Rattle.std.proofs.lemmas.Bool.{lt-ltb}
 use Rattle.a429_equipment.specs.TableRecord.{TableRecord}
 use Rattle.a429_equipment.specs.declared.rows.OutputRow.{OutputRow}
 use Rattle.a429_equipment.specs.declared.rows.SourceRow.{SourceRow}
-use Rattle.a429_slots.specs.Planned.{IsPlanOf, IsPlannedFor}
+use Rattle.a429_slots.specs.Planned.{IsPlanOf, IsPlannedAt, rated_outputs}
 use Rattle.a429_slots.specs.Tables.{GroupTable, PlanTable, frame_of, groups_of}
 use Rattle.a429_slots.specs.Sending.{all_fit}
 
 fits_from_0 : (slots : ℕ) → slots ≤ 8192 → nat_lt (0 + slots) (2 ^ 64) ≡ true
 fits_from_0 slots few = lt-ltb (0 + slots) (2 ^ 64) (omega (arith, few))
 
-groups_fit : (rate : ℕ) (sources : List SourceRow) (outputs : List (List OutputRow)) (groups : List GroupTable) → AllZip (IsPlannedFor rate sources) outputs groups → all_fit 0 groups ≡ true
-groups_fit rate sources [] [] planned = refl
-groups_fit rate sources [] (t ∷ ts) planned = absurd planned
-groups_fit rate sources (rows ∷ outputs) [] planned = absurd planned
-groups_fit rate sources (rows ∷ outputs) (t ∷ ts) (one, later) = rw (fits_from_0 (frame_of t) one.few_slots) (groups_fit rate sources outputs ts later)
+groups_fit : (sources : List SourceRow) (rated : List (ℕ × List OutputRow)) (groups : List GroupTable) → AllZip (IsPlannedAt sources) rated groups → all_fit 0 groups ≡ true
+groups_fit sources [] [] planned = refl
+groups_fit sources [] (t ∷ ts) planned = absurd planned
+groups_fit sources (rows ∷ rated) [] planned = absurd planned
+groups_fit sources (rows ∷ rated) (t ∷ ts) (one, later) = rw (fits_from_0 (frame_of t) one.few_slots) (groups_fit sources rated ts later)
 
 -- they have few slots
 pub plan_fits : (e : TableRecord) (p : PlanTable) → IsPlanOf e p → all_fit 0 (groups_of p) ≡ true
-plan_fits e p planned = groups_fit e.rate e.sources e.outputs (groups_of p) planned.groups
+plan_fits e p planned = groups_fit e.sources (rated_outputs e) (groups_of p) planned.groups
