@@ -1,5 +1,5 @@
 -- What a seat of the table knows, by what it is.
-use Rattle.std.specs.Prelude.{◌≡◌, ℕ, [], ◌∷◌, ◌++◌, Some, length, slice_get, true, false}
+use Rattle.std.specs.Prelude.{None, ◌≡◌, ℕ, [], ◌∷◌, ◌++◌, Some, length, slice_get, true, false}
 use Rattle.atomic_table.specs.Table.{Me, Step}
 use Rattle.a429_equipment.specs.declared.loads.Load.{Load}
 use Rattle.a429_equipment.specs.declared.rows.SourceRow.{SourceRow}
@@ -14,7 +14,7 @@ idle t = record { station = t; deals = false; given = []; sent = []; receives = 
 
 -- a spent seat, of which nothing is said
 abbrev pub spent : View
-spent = idle (record { rate = 0; receivers = []; sources = []; groups = []; outputs = [] })
+spent = idle (record { version = 1; rate = None; receivers = []; sources = []; groups = []; outputs = [] })
 
 abbrev pub desk : TableRecord → View
 desk t = record (idle t) { deals = true }
