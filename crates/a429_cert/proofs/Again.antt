@@ -1,5 +1,5 @@
 -- Lines that state a checked plan have no fault.
-use Rattle.std.proofs.Common.{◌≡◌, ◌≢◌, ℕ, ◌+◌, ◌-◌, ◌*◌, ◌<◌, ◌≤◌, Bool, true, false, cond, eqb, ltb, ◌&&◌, ◌||◌, List, [], ◌∷◌, ◌++◌, length, None, refl, sym, ◌∙◌, arith, rules, eq-eqb, ◌%◌, min, inl, inr, map, take, append_assoc, add-one}
+use Rattle.std.proofs.Common.{◌≡◌, ◌≢◌, ℕ, ◌+◌, ◌-◌, ◌*◌, ◌<◌, ◌≤◌, Bool, true, false, cond, eqb, ltb, ◌&&◌, ◌||◌, List, [], ◌∷◌, ◌++◌, length, Option, Some, None, refl, sym, ◌∙◌, arith, rules, eq-eqb, ◌%◌, min, inl, inr, map, take, append_assoc, add-one}
 use Rattle.std.specs.List.{AllByRecursion, list_any, onto_first, filter_map}
 use Rattle.std.specs.Str.{bytes_eq}
 use Rattle.std.proofs.lemmas.Bool.{and_parts, eqb-true, cases_lt, lt-ltb, le-leb}
@@ -8,10 +8,10 @@ use Rattle.std.proofs.Math.Nat.{mod-eq_of_lt}
 use Rattle.std.proofs.lemmas.Bool.Decides.{nat_tests}
 use Rattle.std.proofs.lemmas.Slice.Eq.{bytes_eq-Decides}
 use Rattle.a429_cert.specs.declared.due.DueGroup.{DueGroup}
-use Rattle.a429_cert.specs.Spelling.{Heading, Listing, Bounding, group_text, output_text, bound_text, FitsHeading, FitsListing, FitsBounding}
+use Rattle.a429_cert.specs.Spelling.{Heading, Listing, Bounding, when, says_more, group_text, output_text, bound_text, FitsHeading, FitsListing, FitsBounding}
 use Rattle.a429_cert.specs.Reading.{output_line}
 use Rattle.a429_cert.specs.Lines.{lines_of, line_at}
-use Rattle.a429_cert.specs.Faults.{group_fault, output_fault, frame, is_listed, shares, has_bad_place, output_faults, first_no, group_faults, bound_fault, bound_holds, demand, buses_of}
+use Rattle.a429_cert.specs.Faults.{group_fault, output_fault, hold_of, says_other_rate, same_limit, says_other_hold, frame, is_listed, shares, has_bad_place, output_faults, first_no, group_faults, bound_fault, bound_holds, demand, buses_of}
 use Rattle.a429_cert.specs.Checked.{Stated, IsChecked, IsPlaced, AreApart, EachPair}
 use Rattle.a429_cert.proofs.LineLaws.{group_again, output_again, bound_again}
 use Rattle.a429_cert.proofs.CheckedPlans.{HeadingHolds, ListingHolds, same_bytes, buses_said}
@@ -29,20 +29,34 @@ lines_front (b ∷ bs) rest h = line_more (eqb b 10) b bs rest (lines_of (bs ++ 
 pub same_again : (xs ys : List ℕ) → xs ≡ ys → bytes_eq xs ys ≡ true
 same_again xs ys e = search (rules, bytes_eq-Decides)
 
-pub heading_passes : (g : DueGroup) (h : Heading) → FitsHeading h → HeadingHolds g h → group_fault g (group_text h) ≡ None
+passes_rate : (t : Bool) (rate : ℕ) → says_other_rate (when t rate) rate ≡ false
+passes_rate true rate = rw (eq-eqb rate rate refl) refl
+passes_rate false rate = refl
+
+same_limits : (l : Option ℕ) → same_limit l l ≡ true
+same_limits None = refl
+same_limits (Some n) = eq-eqb n n refl
+
+passes_hold : (t : Bool) (hold : Option ℕ) → says_other_hold (when t hold) hold ≡ false
+passes_hold true hold = rw (same_limits hold) refl
+passes_hold false hold = refl
+
+pub heading_passes : (version : ℕ) (g : DueGroup) (h : Heading) → FitsHeading version h → HeadingHolds version g h → group_fault version g (group_text h) ≡ None
 unfolding group_fault
-heading_passes g h fits holds =
+heading_passes version g h fits holds =
+    let rate : says_other_rate h.rate g.rate ≡ false = rw holds.rate (passes_rate (says_more version) g.rate) in
     let name = same_again h.name g.name holds.name in
     let greatest : eqb h.frame (frame g) ≡ true = eq-eqb h.frame (frame g) holds.greatest in
     let few : (eqb h.buses 0 || ltb 16 h.buses) ≡ false = let a = holds.some_bus in let b = holds.few_buses in grind (arith, nat_tests) in
-    rw (group_again h fits, name, greatest, few) refl
+    rw (group_again version h fits, rate, name, greatest, few) refl
 
-pub listing_passes : (g : DueGroup) (buses : ℕ) (earlier : List Listing) (l : Listing) → FitsListing l → ListingHolds g buses earlier l → output_fault g buses earlier (output_text l) ≡ None
+pub listing_passes : (version : ℕ) (g : DueGroup) (buses : ℕ) (earlier : List Listing) (l : Listing) → FitsListing version l → ListingHolds version g buses earlier l → output_fault version g buses earlier (output_text l) ≡ None
 unfolding output_fault
-listing_passes g buses earlier l fits holds =
+listing_passes version g buses earlier l fits holds =
     let place : has_bad_place buses l ≡ false = let a = holds.placed.bus in let b = holds.placed.offset in grind (arith, nat_tests) in
     let same : eqb l.period l.period ≡ true = eq-eqb l.period l.period refl in
-    rw (output_again l fits, holds.placed.listed, holds.new, same, place, holds.alone) refl
+    let hold : says_other_hold l.hold (hold_of g l.source) ≡ false = rw holds.placed.hold (passes_hold (says_more version) (hold_of g l.source)) in
+    rw (output_again version l fits, hold, holds.placed.listed, holds.new, same, place, holds.alone) refl
 
 either_false : (a b : Bool) → a ≡ false → b ≡ false → (a || b) ≡ false
 either_false a b e f = rw (e, f) refl
@@ -78,35 +92,35 @@ apart_passes k l small-k small-l apart =
 
 -- ---- the lines of a group's outputs
 
-texts_listed : (ls : List Listing) → AllByRecursion FitsListing ls → filter_map output_line (map output_text ls) ≡ ls
-texts_listed [] h = refl
-texts_listed (l ∷ ls) h = rw (output_again l h.0, texts_listed ls h.1) refl
+texts_listed : (version : ℕ) (ls : List Listing) → AllByRecursion (FitsListing version) ls → filter_map (output_line version) (map output_text ls) ≡ ls
+texts_listed version [] h = refl
+texts_listed version (l ∷ ls) h = rw (output_again version l h.0, texts_listed version ls h.1) refl
 
 -- each listing holds beside the ones before it
-abbrev pub EachHolds : DueGroup → ℕ → List Listing → List Listing → Type 0
-EachHolds g buses earlier [] = Unit {0}
-EachHolds g buses earlier (l ∷ ls) = ListingHolds g buses earlier l × EachHolds g buses (earlier ++ l ∷ []) ls
+abbrev pub EachHolds : ℕ → DueGroup → ℕ → List Listing → List Listing → Type 0
+EachHolds version g buses earlier [] = Unit {0}
+EachHolds version g buses earlier (l ∷ ls) = ListingHolds version g buses earlier l × EachHolds version g buses (earlier ++ l ∷ []) ls
 
 get_or_at : (xs : List (List ℕ)) (y : List ℕ) (ys : List (List ℕ)) (n : ℕ) → length xs ≡ n → line_at (xs ++ y ∷ ys) n ≡ y
 get_or_at [] y ys n e = rw (← e) refl
 get_or_at (x ∷ xs) y ys n e = rw (← e) (get_or_at xs y ys (length xs) refl)
 
-all_push : (xs : List Listing) (y : Listing) → AllByRecursion FitsListing xs → FitsListing y → AllByRecursion FitsListing (xs ++ y ∷ [])
-all_push [] y h p = (p, tt)
-all_push (x ∷ xs) y h p = (h.0, all_push xs y h.1 p)
+all_push : (version : ℕ) (xs : List Listing) (y : Listing) → AllByRecursion (FitsListing version) xs → FitsListing version y → AllByRecursion (FitsListing version) (xs ++ y ∷ [])
+all_push version [] y h p = (p, tt)
+all_push version (x ∷ xs) y h p = (h.0, all_push version xs y h.1 p)
 
-pub outputs_pass : (g : DueGroup) (buses number : ℕ) (lines rest : List (List ℕ)) (earlier todo : List Listing) → AllByRecursion FitsListing earlier → AllByRecursion FitsListing todo → EachHolds g buses earlier todo
+pub outputs_pass : (version : ℕ) (g : DueGroup) (buses number : ℕ) (lines rest : List (List ℕ)) (earlier todo : List Listing) → AllByRecursion (FitsListing version) earlier → AllByRecursion (FitsListing version) todo → EachHolds version g buses earlier todo
     → lines ≡ map output_text earlier ++ (map output_text todo ++ rest)
-    → first_no number (output_faults g buses lines (length earlier) (length todo)) ≡ None
-outputs_pass g buses number lines rest earlier [] fits-e fits-t h e = refl
-outputs_pass g buses number lines rest earlier (l ∷ ls) fits-e fits-t h e =
+    → first_no number (output_faults version g buses lines (length earlier) (length todo)) ≡ None
+outputs_pass version g buses number lines rest earlier [] fits-e fits-t h e = refl
+outputs_pass version g buses number lines rest earlier (l ∷ ls) fits-e fits-t h e =
     let mapped : length (map output_text earlier) ≡ length earlier = length-map earlier output_text in
-    let listed : filter_map output_line (take (length earlier) lines) ≡ earlier = rw (e, take_at (map output_text earlier) (map output_text (l ∷ ls) ++ rest) (length earlier) mapped) (texts_listed earlier fits-e) in
+    let listed : filter_map (output_line version) (take (length earlier) lines) ≡ earlier = rw (e, take_at (map output_text earlier) (map output_text (l ∷ ls) ++ rest) (length earlier) mapped) (texts_listed version earlier fits-e) in
     let at-line : line_at lines (length earlier) ≡ output_text l = rw e (get_or_at (map output_text earlier) (output_text l) (map output_text ls ++ rest) (length earlier) mapped) in
-    let none : output_fault g buses (filter_map output_line (take (length earlier) lines)) (line_at lines (length earlier)) ≡ None = rw (listed, at-line) (listing_passes g buses earlier l fits-t.0 h.0) in
+    let none : output_fault version g buses (filter_map (output_line version) (take (length earlier) lines)) (line_at lines (length earlier)) ≡ None = rw (listed, at-line) (listing_passes version g buses earlier l fits-t.0 h.0) in
     let next : length (earlier ++ l ∷ []) ≡ length earlier + 1 = length-append earlier (l ∷ []) in
     let regrouped : lines ≡ map output_text (earlier ++ l ∷ []) ++ (map output_text ls ++ rest) = e ∙ rw (map-append, append_assoc) refl in
-    rw (none, ← next) (outputs_pass g buses (number + 1) lines rest (earlier ++ l ∷ []) ls (all_push earlier l fits-e fits-t.0) fits-t.1 h.1 regrouped)
+    rw (none, ← next) (outputs_pass version g buses (number + 1) lines rest (earlier ++ l ∷ []) ls (all_push version earlier l fits-e fits-t.0) fits-t.1 h.1 regrouped)
 
 -- ---- from pairs to each listing beside the ones before it
 
@@ -125,25 +139,25 @@ new_again : (earlier : List Listing) (l : Listing) → AllByRecursion (λ k. k.s
 new_again [] l h = refl
 new_again (k ∷ ks) l h = rw (differ_again k.source l.source h.0, new_again ks l h.1) refl
 
-alone_again : (g : DueGroup) (buses : ℕ) (earlier : List Listing) (l : Listing) → AllByRecursion (IsPlaced g buses) earlier → IsPlaced g buses l → AllByRecursion (λ k. AreApart k l) earlier → list_any (shares l) earlier ≡ false
-alone_again g buses [] l placed pl h = refl
-alone_again g buses (k ∷ ks) l placed pl h = either_false (shares l k) (list_any (shares l) ks) (apart_passes k l placed.0.offset pl.offset h.0) (alone_again g buses ks l placed.1 pl h.1)
+alone_again : (version : ℕ) (g : DueGroup) (buses : ℕ) (earlier : List Listing) (l : Listing) → AllByRecursion (IsPlaced version g buses) earlier → IsPlaced version g buses l → AllByRecursion (λ k. AreApart k l) earlier → list_any (shares l) earlier ≡ false
+alone_again version g buses [] l placed pl h = refl
+alone_again version g buses (k ∷ ks) l placed pl h = either_false (shares l k) (list_any (shares l) ks) (apart_passes k l placed.0.offset pl.offset h.0) (alone_again version g buses ks l placed.1 pl h.1)
 
-placed_push : (g : DueGroup) (buses : ℕ) (xs : List Listing) (y : Listing) → AllByRecursion (IsPlaced g buses) xs → IsPlaced g buses y → AllByRecursion (IsPlaced g buses) (xs ++ y ∷ [])
-placed_push g buses [] y h p = (p, tt)
-placed_push g buses (x ∷ xs) y h p = (h.0, placed_push g buses xs y h.1 p)
+placed_push : (version : ℕ) (g : DueGroup) (buses : ℕ) (xs : List Listing) (y : Listing) → AllByRecursion (IsPlaced version g buses) xs → IsPlaced version g buses y → AllByRecursion (IsPlaced version g buses) (xs ++ y ∷ [])
+placed_push version g buses [] y h p = (p, tt)
+placed_push version g buses (x ∷ xs) y h p = (h.0, placed_push version g buses xs y h.1 p)
 
-pub each_holds : (g : DueGroup) (buses : ℕ) (earlier todo : List Listing) → AllByRecursion (IsPlaced g buses) earlier → AllByRecursion (IsPlaced g buses) todo
-    → EachPair (λ k l. k.source ≢ l.source) (earlier ++ todo) → EachPair AreApart (earlier ++ todo) → EachHolds g buses earlier todo
-each_holds g buses earlier [] pe pt once apart = tt
-each_holds g buses earlier (l ∷ ls) pe pt once apart =
+pub each_holds : (version : ℕ) (g : DueGroup) (buses : ℕ) (earlier todo : List Listing) → AllByRecursion (IsPlaced version g buses) earlier → AllByRecursion (IsPlaced version g buses) todo
+    → EachPair (λ k l. k.source ≢ l.source) (earlier ++ todo) → EachPair AreApart (earlier ++ todo) → EachHolds version g buses earlier todo
+each_holds version g buses earlier [] pe pt once apart = tt
+each_holds version g buses earlier (l ∷ ls) pe pt once apart =
     let regrouped : (earlier ++ l ∷ []) ++ ls ≡ earlier ++ l ∷ ls = append_assoc earlier (l ∷ []) ls in (
       record {
         placed = pt.0;
         new = new_again earlier l (pair_before (λ k l. k.source ≢ l.source) earlier l ls once);
-        alone = alone_again g buses earlier l pe pt.0 (pair_before AreApart earlier l ls apart);
+        alone = alone_again version g buses earlier l pe pt.0 (pair_before AreApart earlier l ls apart);
       },
-      each_holds g buses (earlier ++ l ∷ []) ls (placed_push g buses earlier l pe pt.0) pt.1 (rw regrouped once) (rw regrouped apart),
+      each_holds version g buses (earlier ++ l ∷ []) ls (placed_push version g buses earlier l pe pt.0) pt.1 (rw regrouped once) (rw regrouped apart),
     )
 
 -- ---- a group
@@ -166,21 +180,21 @@ bound_passes g buses b fits h =
     rw (bound_again b fits, holds) refl
 
 -- what is spelled
-pub record FitsStated (s : Stated) : Type 0 where
-  pub heading : FitsHeading s.heading
-  pub outputs : AllByRecursion FitsListing s.outputs
+pub record FitsStated (version : ℕ) (s : Stated) : Type 0 where
+  pub heading : FitsHeading version s.heading
+  pub outputs : AllByRecursion (FitsListing version) s.outputs
   pub bound : FitsBounding s.bound
 
-pub group_passes_again : (g : DueGroup) (number : ℕ) (s : Stated) (more : List (List ℕ)) → FitsStated s → IsChecked g s → StatesBound g s.heading.buses s.bound
-    → first_no number (group_faults g (group_text s.heading ∷ (map output_text s.outputs ++ bound_text s.bound ∷ more))) ≡ None
-group_passes_again g number s more fits checked bound =
-    let holds : HeadingHolds g s.heading = record { name = checked.name; greatest = checked.greatest; some_bus = checked.some_bus; few_buses = checked.few_buses } in
-    let none = heading_passes g s.heading fits.heading holds in
-    let buses-are : buses_of (group_text s.heading) ≡ s.heading.buses = buses_said (group_text s.heading) s.heading (group_again s.heading fits.heading) in
-    let each = each_holds g s.heading.buses [] s.outputs tt checked.placed checked.once checked.apart in
-    let outs = outputs_pass g s.heading.buses (number + 1) (map output_text s.outputs ++ bound_text s.bound ∷ more) (bound_text s.bound ∷ more) [] s.outputs tt fits.outputs each refl in
-    let outputs-none : first_no (number + 1) (output_faults g s.heading.buses (map output_text s.outputs ++ bound_text s.bound ∷ more) 0 (length g.outputs.items)) ≡ None = rw checked.count at outs in
+pub group_passes_again : (version : ℕ) (g : DueGroup) (number : ℕ) (s : Stated) (more : List (List ℕ)) → FitsStated version s → IsChecked version g s → StatesBound g s.heading.buses s.bound
+    → first_no number (group_faults version g (group_text s.heading ∷ (map output_text s.outputs ++ bound_text s.bound ∷ more))) ≡ None
+group_passes_again version g number s more fits checked bound =
+    let holds : HeadingHolds version g s.heading = record { name = checked.name; rate = checked.rate; greatest = checked.greatest; some_bus = checked.some_bus; few_buses = checked.few_buses } in
+    let none = heading_passes version g s.heading fits.heading holds in
+    let buses-are : buses_of version (group_text s.heading) ≡ s.heading.buses = buses_said version (group_text s.heading) s.heading (group_again version s.heading fits.heading) in
+    let each = each_holds version g s.heading.buses [] s.outputs tt checked.placed checked.once checked.apart in
+    let outs = outputs_pass version g s.heading.buses (number + 1) (map output_text s.outputs ++ bound_text s.bound ∷ more) (bound_text s.bound ∷ more) [] s.outputs tt fits.outputs each refl in
+    let outputs-none : first_no (number + 1) (output_faults version g s.heading.buses (map output_text s.outputs ++ bound_text s.bound ∷ more) 0 (length g.outputs.items)) ≡ None = rw checked.count at outs in
     let mapped : length (map output_text s.outputs) ≡ length g.outputs.items = length-map s.outputs output_text ∙ checked.count in
     let last : line_at (group_text s.heading ∷ (map output_text s.outputs ++ bound_text s.bound ∷ more)) (length g.outputs.items + 1) ≡ bound_text s.bound = rw add-one (get_or_at (map output_text s.outputs) (bound_text s.bound) more (length g.outputs.items) mapped) in
     let bound-none = bound_passes g s.heading.buses s.bound fits.bound bound in
-    rw (none, buses-are, last, pass_front (number + 1) (output_faults g s.heading.buses (map output_text s.outputs ++ bound_text s.bound ∷ more) 0 (length g.outputs.items)) (bound_fault g s.heading.buses (bound_text s.bound) ∷ []) outputs-none, bound-none) refl
+    rw (none, buses-are, last, pass_front (number + 1) (output_faults version g s.heading.buses (map output_text s.outputs ++ bound_text s.bound ∷ more) 0 (length g.outputs.items)) (bound_fault g s.heading.buses (bound_text s.bound) ∷ []) outputs-none, bound-none) refl

@@ -13,16 +13,16 @@ use Rattle.a429_cert.proofs.Again.{FitsStated, StatesBound, group_passes_again}
 use Rattle.a429_cert.proofs.LinesOfText.{group_lines}
 
 -- each group has its checked plan
-pub record Matches (g : DueGroup) (s : Stated) : Type 0 where
-  pub fits : FitsStated s
-  pub checked : IsChecked g s
+pub record Matches (version : ℕ) (g : DueGroup) (s : Stated) : Type 0 where
+  pub fits : FitsStated version s
+  pub checked : IsChecked version g s
   pub bound : StatesBound g s.heading.buses s.bound
 
-abbrev pub EachMatches : List DueGroup → List Stated → Type 0
-EachMatches [] [] = Unit {0}
-EachMatches [] (s ∷ ss) = ⊥
-EachMatches (g ∷ gs) [] = ⊥
-EachMatches (g ∷ gs) (s ∷ ss) = Matches g s × EachMatches gs ss
+abbrev pub EachMatches : ℕ → List DueGroup → List Stated → Type 0
+EachMatches version [] [] = Unit {0}
+EachMatches version [] (s ∷ ss) = ⊥
+EachMatches version (g ∷ gs) [] = ⊥
+EachMatches version (g ∷ gs) (s ∷ ss) = Matches version g s × EachMatches version gs ss
 
 left : (g : DueGroup) (s : Stated) (more : List (List ℕ)) → length s.outputs ≡ length g.outputs.items
     → drop (length g.outputs.items + 2) (group_text s.heading ∷ (map output_text s.outputs ++ bound_text s.bound ∷ more)) ≡ more
@@ -33,12 +33,12 @@ left g s more count =
     = omega (arith, length-append (map output_text s.outputs) (bound_text s.bound ∷ []), length-map s.outputs output_text, count) in
     ap (λ (x : List (List ℕ)). drop (length g.outputs.items + 2) x) (sym regrouped) ∙ drop_at (group_text s.heading ∷ (map output_text s.outputs ++ bound_text s.bound ∷ [])) more (length g.outputs.items + 2) size
 
-pub groups_pass : (gs : List DueGroup) (ss : List Stated) (number : ℕ) (lines : List (List ℕ)) → EachMatches gs ss → lines ≡ lines_of (flat_map stated_text ss) → first_no number (groups_faults gs lines) ≡ None
-groups_pass [] [] number lines h e = ap (λ (x : List (List ℕ)). first_no number (groups_faults [] x)) e
-groups_pass [] (s ∷ ss) number lines h e = absurd h
-groups_pass (g ∷ gs) [] number lines h e = absurd h
-groups_pass (g ∷ gs) (s ∷ ss) number lines h e =
-    let split : lines ≡ group_text s.heading ∷ (map output_text s.outputs ++ bound_text s.bound ∷ lines_of (flat_map stated_text ss)) = e ∙ ap lines_of (flat_map-cons stated_text s ss) ∙ group_lines s (flat_map stated_text ss) h.0.fits in
-    let here : first_no number (group_faults g lines) ≡ None = ap (λ (x : List (List ℕ)). first_no number (group_faults g x)) split ∙ group_passes_again g number s (lines_of (flat_map stated_text ss)) h.0.fits h.0.checked h.0.bound in
+pub groups_pass : (version : ℕ) (gs : List DueGroup) (ss : List Stated) (number : ℕ) (lines : List (List ℕ)) → EachMatches version gs ss → lines ≡ lines_of (flat_map stated_text ss) → first_no number (groups_faults version gs lines) ≡ None
+groups_pass version [] [] number lines h e = ap (λ (x : List (List ℕ)). first_no number (groups_faults version [] x)) e
+groups_pass version [] (s ∷ ss) number lines h e = absurd h
+groups_pass version (g ∷ gs) [] number lines h e = absurd h
+groups_pass version (g ∷ gs) (s ∷ ss) number lines h e =
+    let split : lines ≡ group_text s.heading ∷ (map output_text s.outputs ++ bound_text s.bound ∷ lines_of (flat_map stated_text ss)) = e ∙ ap lines_of (flat_map-cons stated_text s ss) ∙ group_lines version s (flat_map stated_text ss) h.0.fits in
+    let here : first_no number (group_faults version g lines) ≡ None = ap (λ (x : List (List ℕ)). first_no number (group_faults version g x)) split ∙ group_passes_again version g number s (lines_of (flat_map stated_text ss)) h.0.fits h.0.checked h.0.bound in
     let rest : drop (length g.outputs.items + 2) lines ≡ lines_of (flat_map stated_text ss) = ap (λ (x : List (List ℕ)). drop (length g.outputs.items + 2) x) split ∙ left g s (lines_of (flat_map stated_text ss)) h.0.checked.count in
-    pass_front number (group_faults g lines) (groups_faults gs (drop (length g.outputs.items + 2) lines)) here ∙ groups_pass gs ss (number + length (group_faults g lines)) (drop (length g.outputs.items + 2) lines) h.1 rest
+    pass_front number (group_faults version g lines) (groups_faults version gs (drop (length g.outputs.items + 2) lines)) here ∙ groups_pass version gs ss (number + length (group_faults version g lines)) (drop (length g.outputs.items + 2) lines) h.1 rest

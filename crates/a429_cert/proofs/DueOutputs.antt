@@ -1,6 +1,6 @@
 -- The outputs of a planned group are those that are due for it.
 use Rattle.std.proofs.Common.{◌≡◌, ◌≢◌, ℕ, zero, suc, ◌/◌, ◌^◌, ◌<◌, ◌≤◌, max, Bool, true, false, List, [], ◌∷◌, length, get_or, map, Option, Some, None, refl, sym, ap, subst, ◌∙◌, arith, inl, inr}
-use Rattle.std.specs.Prelude.{slice_get, option_map, sum}
+use Rattle.std.specs.Prelude.{slice_get, option_map, option_and_then, sum}
 use Rattle.std.specs.List.{AllZip, find, fold, sum_by}
 use Rattle.std.specs.Option.{option_map_or}
 use Rattle.std.specs.Str.{bytes_eq}
@@ -24,20 +24,17 @@ use Rattle.a429_pack.specs.Demands.{greatest}
 use Rattle.a429_cert.specs.declared.due.DueGroup.{DueGroup}
 use Rattle.a429_cert.specs.declared.due.DueOutput.{DueOutput}
 use Rattle.a429_cert.specs.Due.{IsDueOutput}
-use Rattle.a429_cert.specs.Faults.{frame, demand, period_of}
+use Rattle.a429_cert.specs.Faults.{frame, demand, output_of, period_of, hold_of}
 use Rattle.a429_cert.specs.PlanText.{source_name}
 use Rattle.a429_cert.proofs.Again.{same_again}
 use Rattle.a429_cert.proofs.CheckedPlans.{same_bytes}
-
--- what a read past the end gives
-abbrev blank : OutputRow
-blank = record { source = 0; min_us = 0; max_us = 0; hold = None }
+use Rattle.a429_cert.proofs.Gathered.{blank}
 
 abbrev pub row_at : List OutputRow → ℕ → OutputRow
 row_at rows i = get_or rows i blank
 
 abbrev pub due_at : DueGroup → ℕ → DueOutput
-due_at g i = get_or g.outputs.items i (record { source = []; period = 0 })
+due_at g i = get_or g.outputs.items i (record { source = []; period = 0; hold = None })
 
 -- the periods of a table's outputs, as exponents, by their numbers
 abbrev pub exponents_of : GroupTable → List ℕ
@@ -56,16 +53,16 @@ zipped_at R (x ∷ xs) (y ∷ ys) (suc i) d e below all = zipped_at R xs ys i d 
 grid_same : (a b r p q : ℕ) → IsGridPeriod a b r p → IsGridPeriod a b r q → p ≡ q
 grid_same a b r p q h k = omega (arith, h.2 q k.0 k.1, k.2 p h.0 h.1)
 
-pub periods_same : (e : TableRecord) (rows : List OutputRow) (ps : List Placed) (os : List DueOutput) → AllZip (IsServed e.rate) rows ps → AllZip (IsDueOutput e) rows os
+pub periods_same : (e : TableRecord) (rate : ℕ) (rows : List OutputRow) (ps : List Placed) (os : List DueOutput) → AllZip (IsServed rate) rows ps → AllZip (IsDueOutput e rate) rows os
     → map (λ o. o.period) os ≡ map (λ k. 2 ^ k) (map (λ p. p.place.period) ps)
-periods_same e [] [] [] served due = refl
-periods_same e [] [] (o ∷ os) served due = absurd due
-periods_same e [] (p ∷ ps) os served due = absurd served
-periods_same e (r ∷ rows) [] os served due = absurd served
-periods_same e (r ∷ rows) (p ∷ ps) [] served due = absurd due
-periods_same e (r ∷ rows) (p ∷ ps) (o ∷ os) served due =
-    let same : o.period ≡ 2 ^ p.place.period = grid_same r.min_us r.max_us e.rate o.period (2 ^ p.place.period) due.0.period served.0.1 in
-    rw (same, periods_same e rows ps os served.1 due.1) refl
+periods_same e rate [] [] [] served due = refl
+periods_same e rate [] [] (o ∷ os) served due = absurd due
+periods_same e rate [] (p ∷ ps) os served due = absurd served
+periods_same e rate (r ∷ rows) [] os served due = absurd served
+periods_same e rate (r ∷ rows) (p ∷ ps) [] served due = absurd due
+periods_same e rate (r ∷ rows) (p ∷ ps) (o ∷ os) served due =
+    let same : o.period ≡ 2 ^ p.place.period = grid_same r.min_us r.max_us rate o.period (2 ^ p.place.period) due.0.period served.0.1 in
+    rw (same, periods_same e rate rows ps os served.1 due.1) refl
 
 pow_max : (a b : ℕ) → 2 ^ max a b ≡ max (2 ^ a) (2 ^ b)
 pow_max a b =
@@ -115,69 +112,83 @@ pub output_at : (t : GroupTable) (o : ℕ) (d : Placed) → o < length t.demands
 output_at t o d below = get_or-map-range_with_len (placed_at t) 0 (length t.demands) o o d below (omega arith)
 
 -- the outputs of a planned group, and those that are due for it
-pub record AreSame (e : TableRecord) (rows : List OutputRow) (t : GroupTable) (g : DueGroup) : Type 0 where
-  pub served : AllZip (IsServed e.rate) rows (outputs_of t)
-  pub due : AllZip (IsDueOutput e) rows g.outputs.items
+pub record AreSame (e : TableRecord) (rate : ℕ) (rows : List OutputRow) (t : GroupTable) (g : DueGroup) : Type 0 where
+  pub served : AllZip (IsServed rate) rows (outputs_of t)
+  pub due : AllZip (IsDueOutput e rate) rows g.outputs.items
   pub own : HaveOwnSources rows
   pub names : HaveOwn (λ s. s.name) e.sources
 
-pub counts : (e : TableRecord) (rows : List OutputRow) (t : GroupTable) (g : DueGroup) → AreSame e rows t g → (length t.demands ≡ length rows) × (length g.outputs.items ≡ length rows)
-counts e rows t g s =
-    (sym (length-outputs t) ∙ AllZip-long (IsServed e.rate) rows (outputs_of t) s.served, AllZip-long (IsDueOutput e) rows g.outputs.items s.due)
+pub counts : (e : TableRecord) (rate : ℕ) (rows : List OutputRow) (t : GroupTable) (g : DueGroup) → AreSame e rate rows t g → (length t.demands ≡ length rows) × (length g.outputs.items ≡ length rows)
+counts e rate rows t g s =
+    (sym (length-outputs t) ∙ AllZip-long (IsServed rate) rows (outputs_of t) s.served, AllZip-long (IsDueOutput e rate) rows g.outputs.items s.due)
 
-served_at : (e : TableRecord) (rows : List OutputRow) (t : GroupTable) (g : DueGroup) → AreSame e rows t g → (i : ℕ) → i < length rows → IsServed e.rate (row_at rows i) (placed_at t i)
-served_at e rows t g s i below =
+served_at : (e : TableRecord) (rate : ℕ) (rows : List OutputRow) (t : GroupTable) (g : DueGroup) → AreSame e rate rows t g → (i : ℕ) → i < length rows → IsServed rate (row_at rows i) (placed_at t i)
+served_at e rate rows t g s i below =
     let d : Placed = placed_at t 0 in
-    subst (IsServed e.rate (row_at rows i)) (output_at t i d (omega (arith, (counts e rows t g s).0))) (zipped_at (IsServed e.rate) rows (outputs_of t) i blank d below s.served)
+    subst (IsServed rate (row_at rows i)) (output_at t i d (omega (arith, (counts e rate rows t g s).0))) (zipped_at (IsServed rate) rows (outputs_of t) i blank d below s.served)
 
-pub due_here : (e : TableRecord) (rows : List OutputRow) (t : GroupTable) (g : DueGroup) → AreSame e rows t g → (i : ℕ) → i < length rows → IsDueOutput e (row_at rows i) (due_at g i)
-due_here e rows t g s i below = zipped_at (IsDueOutput e) rows g.outputs.items i blank (record { source = []; period = 0 }) below s.due
+pub due_here : (e : TableRecord) (rate : ℕ) (rows : List OutputRow) (t : GroupTable) (g : DueGroup) → AreSame e rate rows t g → (i : ℕ) → i < length rows → IsDueOutput e rate (row_at rows i) (due_at g i)
+due_here e rate rows t g s i below = zipped_at (IsDueOutput e rate) rows g.outputs.items i blank (record { source = []; period = 0; hold = None }) below s.due
 
-pub source_there : (e : TableRecord) (rows : List OutputRow) (t : GroupTable) (g : DueGroup) (s : AreSame e rows t g) (i : ℕ) (below : i < length rows)
-    → slice_get e.sources (placed_at t i).source ≡ Some (due_here e rows t g s i below).source
-source_there e rows t g s i below = ap (slice_get e.sources) (served_at e rows t g s i below).0 ∙ (due_here e rows t g s i below).there
+pub source_there : (e : TableRecord) (rate : ℕ) (rows : List OutputRow) (t : GroupTable) (g : DueGroup) (s : AreSame e rate rows t g) (i : ℕ) (below : i < length rows)
+    → slice_get e.sources (placed_at t i).source ≡ Some (due_here e rate rows t g s i below).source
+source_there e rate rows t g s i below = ap (slice_get e.sources) (served_at e rate rows t g s i below).0 ∙ (due_here e rate rows t g s i below).there
 
 -- the name that the text gives an output is its due one
-name_same : (e : TableRecord) (rows : List OutputRow) (t : GroupTable) (g : DueGroup) → AreSame e rows t g → (i : ℕ) → i < length rows → (due_at g i).source ≡ source_name e.sources (placed_at t i).source
-name_same e rows t g s i below =
-    (due_here e rows t g s i below).name ∙ sym (ap (λ (o : Option SourceRow). option_map_or (λ (s : SourceRow). s.name) o []) (source_there e rows t g s i below))
+name_same : (e : TableRecord) (rate : ℕ) (rows : List OutputRow) (t : GroupTable) (g : DueGroup) → AreSame e rate rows t g → (i : ℕ) → i < length rows → (due_at g i).source ≡ source_name e.sources (placed_at t i).source
+name_same e rate rows t g s i below =
+    (due_here e rate rows t g s i below).name ∙ sym (ap (λ (o : Option SourceRow). option_map_or (λ (s : SourceRow). s.name) o []) (source_there e rate rows t g s i below))
 
-period_same : (e : TableRecord) (rows : List OutputRow) (t : GroupTable) (g : DueGroup) → AreSame e rows t g → (i : ℕ) → i < length rows → (due_at g i).period ≡ 2 ^ (placed_at t i).place.period
-period_same e rows t g s i below =
+period_same : (e : TableRecord) (rate : ℕ) (rows : List OutputRow) (t : GroupTable) (g : DueGroup) → AreSame e rate rows t g → (i : ℕ) → i < length rows → (due_at g i).period ≡ 2 ^ (placed_at t i).place.period
+period_same e rate rows t g s i below =
     let row = row_at rows i in
-    grid_same row.min_us row.max_us e.rate (due_at g i).period (2 ^ (placed_at t i).place.period) (due_here e rows t g s i below).period (served_at e rows t g s i below).1
+    grid_same row.min_us row.max_us rate (due_at g i).period (2 ^ (placed_at t i).place.period) (due_here e rate rows t g s i below).period (served_at e rate rows t g s i below).1
 
-pub name_own : (e : TableRecord) (rows : List OutputRow) (t : GroupTable) (g : DueGroup) → AreSame e rows t g → (i j : ℕ) → i < length rows → j < length rows → (due_at g i).source ≡ (due_at g j).source → i ≡ j
-name_own e rows t g s i j low-i low-j same =
-    let a = due_here e rows t g s i low-i in
-    let b = due_here e rows t g s j low-j in
+pub name_own : (e : TableRecord) (rate : ℕ) (rows : List OutputRow) (t : GroupTable) (g : DueGroup) → AreSame e rate rows t g → (i j : ℕ) → i < length rows → j < length rows → (due_at g i).source ≡ (due_at g j).source → i ≡ j
+name_own e rate rows t g s i j low-i low-j same =
+    let a = due_here e rate rows t g s i low-i in
+    let b = due_here e rate rows t g s j low-j in
     let named : a.source.name ≡ b.source.name = sym a.name ∙ same ∙ b.name in
     let one : (row_at rows i).source ≡ (row_at rows j).source = s.names (row_at rows i).source (row_at rows j).source a.source b.source a.there b.there named in
     s.own i j (row_at rows i) (row_at rows j) (slice_get-get_or rows i blank low-i) (slice_get-get_or rows j blank low-j) one
 
--- ---- the period that is due for a name
+-- ---- the output that is due for a name
 
-found : (name : List ℕ) (os : List DueOutput) (i p : ℕ) (d : DueOutput) → i < length os → (get_or os i d).source ≡ name → (get_or os i d).period ≡ p
-    → ((j : ℕ) → j < length os → (get_or os j d).source ≡ name → j ≡ i) → option_map (λ o. o.period) (find (λ o. bytes_eq o.source name) os) ≡ Some p
-found name [] i p d below at period only = absurd (omega arith)
-found name (o ∷ os) zero p d below at period only = rw (same_again o.source name at, period) refl
-found name (o ∷ os) (suc i) p d below at period only =
+found : (name : List ℕ) (os : List DueOutput) (i : ℕ) (d : DueOutput) → i < length os → (get_or os i d).source ≡ name
+    → ((j : ℕ) → j < length os → (get_or os j d).source ≡ name → j ≡ i) → find (λ o. bytes_eq o.source name) os ≡ Some (get_or os i d)
+found name [] i d below at only = absurd (omega arith)
+found name (o ∷ os) zero d below at only = rw (same_again o.source name at) refl
+found name (o ∷ os) (suc i) d below at only =
     let other : bytes_eq o.source name ≡ false = no_match (bytes_eq o.source name) (λ t. let z : 0 ≡ suc i = only 0 (omega arith) (same_bytes o.source name t) in absurd (omega arith)) in
-    rw other (found name os i p d (omega arith) at period (λ j less same. let z : suc j ≡ suc i = only (suc j) (omega arith) same in omega arith))
+    rw other (found name os i d (omega arith) at (λ j less same. let z : suc j ≡ suc i = only (suc j) (omega arith) same in omega arith))
   where
     no_match : (b : Bool) → (b ≡ true → ⊥) → b ≡ false
     no_match true h = absurd (h refl)
     no_match false h = refl
 
-pub period_due : (e : TableRecord) (rows : List OutputRow) (t : GroupTable) (g : DueGroup) → AreSame e rows t g → (i : ℕ) → i < length rows
-    → period_of g (source_name e.sources (placed_at t i).source) ≡ Some (2 ^ (placed_at t i).place.period)
-period_due e rows t g s i below =
-    let many = (counts e rows t g s).1 in
-    let named = name_same e rows t g s i below in
-    found (source_name e.sources (placed_at t i).source) g.outputs.items i (2 ^ (placed_at t i).place.period) (record { source = []; period = 0 }) (omega arith) named (period_same e rows t g s i below)
-    (λ j less same. name_own e rows t g s j i (omega arith) below (same ∙ sym named))
+output_due : (e : TableRecord) (rate : ℕ) (rows : List OutputRow) (t : GroupTable) (g : DueGroup) → AreSame e rate rows t g → (i : ℕ) → i < length rows
+    → output_of g (source_name e.sources (placed_at t i).source) ≡ Some (due_at g i)
+output_due e rate rows t g s i below =
+    let many = (counts e rate rows t g s).1 in
+    let named = name_same e rate rows t g s i below in
+    found (source_name e.sources (placed_at t i).source) g.outputs.items i (record { source = []; period = 0; hold = None }) (omega arith) named
+    (λ j less same. name_own e rate rows t g s j i (omega arith) below (same ∙ sym named))
 
-pub names_differ : (e : TableRecord) (rows : List OutputRow) (t : GroupTable) (g : DueGroup) → AreSame e rows t g → (i j : ℕ) → i < length rows → j < length rows → i ≢ j
+pub period_due : (e : TableRecord) (rate : ℕ) (rows : List OutputRow) (t : GroupTable) (g : DueGroup) → AreSame e rate rows t g → (i : ℕ) → i < length rows
+    → period_of g (source_name e.sources (placed_at t i).source) ≡ Some (2 ^ (placed_at t i).place.period)
+period_due e rate rows t g s i below =
+    ap (option_map (λ (o : DueOutput). o.period)) (output_due e rate rows t g s i below) ∙ ap (λ (n : ℕ). Some n) (period_same e rate rows t g s i below)
+
+pub row_hold : (e : TableRecord) (rate : ℕ) (rows : List OutputRow) (t : GroupTable) (g : DueGroup) → AreSame e rate rows t g → (i : ℕ) → i < length rows
+    → (placed_at t i).limits.hold ≡ (row_at rows i).hold
+row_hold e rate rows t g s i below = (served_at e rate rows t g s i below).2
+
+pub hold_due : (e : TableRecord) (rate : ℕ) (rows : List OutputRow) (t : GroupTable) (g : DueGroup) → AreSame e rate rows t g → (i : ℕ) → i < length rows
+    → hold_of g (source_name e.sources (placed_at t i).source) ≡ (placed_at t i).limits.hold
+hold_due e rate rows t g s i below =
+    ap (option_and_then (λ (o : DueOutput). o.hold)) (output_due e rate rows t g s i below) ∙ (due_here e rate rows t g s i below).hold ∙ sym (row_hold e rate rows t g s i below)
+
+pub names_differ : (e : TableRecord) (rate : ℕ) (rows : List OutputRow) (t : GroupTable) (g : DueGroup) → AreSame e rate rows t g → (i j : ℕ) → i < length rows → j < length rows → i ≢ j
     → source_name e.sources (placed_at t i).source ≢ source_name e.sources (placed_at t j).source
-names_differ e rows t g s i j low-i low-j other same =
-    other (name_own e rows t g s i j low-i low-j (name_same e rows t g s i low-i ∙ same ∙ sym (name_same e rows t g s j low-j)))
+names_differ e rate rows t g s i j low-i low-j other same =
+    other (name_own e rate rows t g s i j low-i low-j (name_same e rate rows t g s i low-i ∙ same ∙ sym (name_same e rate rows t g s j low-j)))

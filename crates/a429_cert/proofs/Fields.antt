@@ -11,8 +11,8 @@ use Rattle.std.proofs.lemmas.Str.Parse.{digits_value_short}
 use Rattle.std.proofs.lemmas.Fmt.{decimal-digits_value, digits_decimal, digits_value-decimal, length-decimal-le, first_decimal, decimal_nonempty}
 use Rattle.std.proofs.lemmas.List.Sums.{prefix_len-le-length}
 use Rattle.std.proofs.lemmas.Option.{some_pair_parts}
-use Rattle.a429_cert.specs.Spelling.{is_break, IsWord, IsShort}
-use Rattle.a429_cert.specs.Reading.{◌>>=◌, when, after, word, is_numeral, value_of, number}
+use Rattle.a429_cert.specs.Spelling.{when, is_break, IsWord, IsShort}
+use Rattle.a429_cert.specs.Reading.{◌>>=◌, after, word, is_numeral, value_of, number}
 use Rattle.a429_cert.proofs.Words.{digits_model, numeral_digits, numeral_short, numeral_fits}
 
 -- the value of a step that gave one

@@ -1,19 +1,20 @@
 -- What is due of a table, gathered row by row.
-use Rattle.std.proofs.Common.{◌≡◌, ℕ, ◌+◌, ◌<◌, ◌∷◌, [], ◌++◌, List, length, take, map, get_or, ap, ◌∙◌, sym, subst}
-use Rattle.std.specs.Prelude.{Some, None, slice_get}
-use Rattle.std.specs.List.{AllZip, AllByRecursion}
+use Rattle.std.proofs.Common.{◌≡◌, ℕ, zero, suc, ◌+◌, ◌<◌, ◌∷◌, [], ◌++◌, List, length, take, map, get_or, ap, ap₂, ◌∙◌, sym, subst}
+use Rattle.std.specs.Prelude.{Some, None, slice_get, option_map}
+use Rattle.std.specs.List.{AllZip, AllByRecursion, zip}
 use Rattle.std.proofs.lemmas.List.{take_more, map-append}
 use Rattle.std.proofs.lemmas.Slice.Zip.{all_zipped_more}
-use Rattle.std.proofs.lemmas.Option.{slice_get-get_or, get_or_from_slice_get, slice_get_within}
+use Rattle.std.proofs.lemmas.Option.{slice_get-get_or, slice_get-map, get_or_from_slice_get, slice_get_within, same_Some, none-some}
 use Rattle.a429_grid.specs.Grid.{IsGridPeriod}
 use Rattle.a429_equipment.specs.TableRecord.{TableRecord}
+use Rattle.a429_equipment.specs.declared.rows.GroupRow.{GroupRow}
 use Rattle.a429_equipment.specs.declared.rows.OutputRow.{OutputRow}
-use Rattle.a429_slots.specs.Planned.{IsFit}
+use Rattle.a429_slots.specs.Planned.{IsFit, rated_outputs}
 use Rattle.a429_cert.specs.declared.due.DueOutput.{DueOutput}
 use Rattle.a429_cert.specs.declared.due.DueGroup.{DueGroup}
 use Rattle.a429_cert.specs.declared.judging.NoVerdict.{NoVerdict}
 use Rattle.a429_cert.specs.declared.judging.NoVerdict.TheVariants as judge
-use Rattle.a429_cert.specs.Due.{IsDueOutput, IsDueGroup}
+use Rattle.a429_cert.specs.Due.{IsDueOutput, IsDueGroup, AreFit}
 use Rattle.a429_cert.specs.Judged.{IsNoVerdict, IsGroupUnfit}
 
 -- the row that a read past the end gives
@@ -38,34 +39,48 @@ map_next {A} {B} {C} f g xs ys i x y h old new =
     map-append g ys (y ∷ []) ∙ ap (λ (zs : List C). zs ++ g y ∷ []) old ∙ ap (λ (z : C). map f (take i xs) ++ z ∷ []) new
     ∙ sym (map-append f (take i xs) (x ∷ [])) ∙ ap (map f) (sym (take_next xs i x h))
 
+-- ---- outputs beside their rates
+
+zip_at : {X Y : Type 0} (xs : List X) (ys : List Y) (i : ℕ) (x : X) (y : Y) → slice_get xs i ≡ Some x → slice_get ys i ≡ Some y → slice_get (zip xs ys) i ≡ Some (x, y)
+zip_at [] ys i x y here there = absurd (none-some x here)
+zip_at (a ∷ xs) [] i x y here there = absurd (none-some y there)
+zip_at (a ∷ xs) (b ∷ ys) zero x y here there = ap₂ (λ s t. Some (s, t)) (same_Some a x here) (same_Some b y there)
+zip_at (a ∷ xs) (b ∷ ys) (suc i) x y here there = zip_at xs ys i x y here there
+
+pub rated_at : (e : TableRecord) (g rate : ℕ) (rows : List OutputRow) → option_map (λ row. row.rate) (slice_get e.groups g) ≡ Some rate → slice_get e.outputs g ≡ Some rows
+    → slice_get (rated_outputs e) g ≡ Some (rate, rows)
+rated_at e g rate rows here there = zip_at (map (λ (row : GroupRow). row.rate) e.groups) e.outputs g rate rows (slice_get-map (λ row. row.rate) e.groups g ∙ here) there
+
 -- ---- what is due has its grid period
 
-fit_of : (e : TableRecord) (row : OutputRow) (o : DueOutput) → IsDueOutput e row o → IsFit e.rate row
-fit_of e row o d =
+fit_of : (e : TableRecord) (rate : ℕ) (row : OutputRow) (o : DueOutput) → IsDueOutput e rate row o → IsFit rate row
+fit_of e rate row o d =
     let p = d.period.0 in
-    (p.0, subst (IsGridPeriod row.min_us row.max_us e.rate) p.2 d.period)
+    (p.0, subst (IsGridPeriod row.min_us row.max_us rate) p.2 d.period)
 
-pub fits_of : (e : TableRecord) (rows : List OutputRow) (os : List DueOutput) → AllZip (IsDueOutput e) rows os → AllByRecursion (IsFit e.rate) rows
-fits_of e [] [] h = tt
-fits_of e [] (o ∷ os) h = absurd h
-fits_of e (r ∷ rs) [] h = absurd h
-fits_of e (r ∷ rs) (o ∷ os) h = (fit_of e r o h.0, fits_of e rs os h.1)
+pub fits_of : (e : TableRecord) (rate : ℕ) (rows : List OutputRow) (os : List DueOutput) → AllZip (IsDueOutput e rate) rows os → AllByRecursion (IsFit rate) rows
+fits_of e rate [] [] h = tt
+fits_of e rate [] (o ∷ os) h = absurd h
+fits_of e rate (r ∷ rs) [] h = absurd h
+fits_of e rate (r ∷ rs) (o ∷ os) h = (fit_of e rate r o h.0, fits_of e rate rs os h.1)
 
-pub all_fit : (e : TableRecord) (rows : List (List OutputRow)) (gs : List DueGroup) → AllZip (IsDueGroup e) rows gs → AllByRecursion (AllByRecursion (IsFit e.rate)) rows
+pub all_fit : (e : TableRecord) (rated : List (ℕ × List OutputRow)) (gs : List DueGroup) → AllZip (IsDueGroup e) rated gs → AllByRecursion AreFit rated
 all_fit e [] [] h = tt
 all_fit e [] (g ∷ gs) h = absurd h
 all_fit e (r ∷ rs) [] h = absurd h
-all_fit e (r ∷ rs) (g ∷ gs) h = (fits_of e r g.outputs.items h.0, all_fit e rs gs h.1)
+all_fit e (r ∷ rs) (g ∷ gs) h = (fits_of e r.0 r.1 g.outputs.items h.0.outputs, all_fit e rs gs h.1)
 
 -- the fault of a group, as that of the table
-pub fault_in : (e : TableRecord) (g : ℕ) (none : NoVerdict) → AllByRecursion (AllByRecursion (IsFit e.rate)) (take g e.outputs) → IsGroupUnfit e g none → IsNoVerdict e none
-fault_in e g (judge.Unfit group o) earlier fault =
+pub fault_in : (e : TableRecord) (rate g : ℕ) (none : NoVerdict) → option_map (λ row. row.rate) (slice_get e.groups g) ≡ Some rate → AllByRecursion AreFit (take g (rated_outputs e))
+    → IsGroupUnfit e rate g none → IsNoVerdict e none
+fault_in e rate g (judge.Unfit group o) rated earlier fault =
     let (same, found) = fault in
     let (rows, there, unfit) = found in
     record {
+      rate = rate;
       rows = rows;
-      there = ap (slice_get e.outputs) same ∙ there;
+      there = ap (slice_get (rated_outputs e)) same ∙ rated_at e g rate rows rated there;
       unfit = unfit;
-      earlier = subst (λ (k : ℕ). AllByRecursion (AllByRecursion (IsFit e.rate)) (take k e.outputs)) (sym same) earlier;
+      earlier = subst (λ (k : ℕ). AllByRecursion AreFit (take k (rated_outputs e))) (sym same) earlier;
     }
-fault_in e g judge.NoMemory earlier fault = tt
+fault_in e rate g judge.NoMemory rated earlier fault = tt

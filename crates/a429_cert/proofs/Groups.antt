@@ -51,33 +51,33 @@ last_gives (Err q) s o n e f = rw (e, f) refl
 
 -- ---- a group
 
-pub length-output_faults : (g : DueGroup) (buses : ℕ) (lines : List (List ℕ)) (j n : ℕ) → length (output_faults g buses lines j n) ≡ n
-length-output_faults g buses lines j zero = refl
-length-output_faults g buses lines j (suc n) = ap suc (length-output_faults g buses lines (j + 1) n)
+pub length-output_faults : (version : ℕ) (g : DueGroup) (buses : ℕ) (lines : List (List ℕ)) (j n : ℕ) → length (output_faults version g buses lines j n) ≡ n
+length-output_faults version g buses lines j zero = refl
+length-output_faults version g buses lines j (suc n) = ap suc (length-output_faults version g buses lines (j + 1) n)
 
-pub group_ends : (g : DueGroup) (lines rest : List (List ℕ)) (line : List ℕ) (number buses : ℕ) (s : Stop) → line ≡ line_at lines 0 → rest ≡ drop 1 lines → group_fault g line ≡ None → buses ≡ buses_of line
-    → Stops s (first_no (number + 1) (output_faults g buses rest 0 (length g.outputs.items))) → Stops s (first_no number (group_faults g lines))
-group_ends g lines rest line number buses s at-line at-rest fine states h =
-    let none : group_fault g (line_at lines 0) ≡ None = rw (← at-line) fine in
-    let here : buses ≡ buses_of (line_at lines 0) = states ∙ ap buses_of at-line in
+pub group_ends : (version : ℕ) (g : DueGroup) (lines rest : List (List ℕ)) (line : List ℕ) (number buses : ℕ) (s : Stop) → line ≡ line_at lines 0 → rest ≡ drop 1 lines → group_fault version g line ≡ None → buses ≡ buses_of version line
+    → Stops s (first_no (number + 1) (output_faults version g buses rest 0 (length g.outputs.items))) → Stops s (first_no number (group_faults version g lines))
+group_ends version g lines rest line number buses s at-line at-rest fine states h =
+    let none : group_fault version g (line_at lines 0) ≡ None = rw (← at-line) fine in
+    let here : buses ≡ buses_of version (line_at lines 0) = states ∙ ap (buses_of version) at-line in
     let outs = rw (here, at-rest) at h in
-    rw none (stops_front (number + 1) (output_faults g (buses_of (line_at lines 0)) (drop 1 lines) 0 (length g.outputs.items)) _ s outs)
+    rw none (stops_front (number + 1) (output_faults version g (buses_of version (line_at lines 0)) (drop 1 lines) 0 (length g.outputs.items)) _ s outs)
 
 pub last_line : (lines rest left : List (List ℕ)) (n : ℕ) → rest ≡ drop 1 lines → left ≡ drop n rest → line_at left 0 ≡ line_at lines (n + 1)
 last_line lines rest left n e f = rw (f, e, drop-drop n 1 lines) (line_from lines (1 + n) ∙ ap (λ (k : ℕ). line_at lines k) (omega arith))
 
-pub group_passes : (g : DueGroup) (lines rest : List (List ℕ)) (line last : List ℕ) (number buses : ℕ) (r : Result (Unit {0}) Stop) → line ≡ line_at lines 0 → rest ≡ drop 1 lines → group_fault g line ≡ None → buses ≡ buses_of line
-    → first_no (number + 1) (output_faults g buses rest 0 (length g.outputs.items)) ≡ None → last ≡ line_at lines (length g.outputs.items + 1)
-    → Gives r (first_no (number + length g.outputs.items + 1) (bound_fault g buses last ∷ [])) → Gives r (first_no number (group_faults g lines))
-group_passes g lines rest line last number buses r at-line at-rest fine states outs at-last h =
-    let none : group_fault g (line_at lines 0) ≡ None = rw (← at-line) fine in
-    let here : buses ≡ buses_of (line_at lines 0) = states ∙ ap buses_of at-line in
-    let B = buses_of (line_at lines 0) in
-    let passed : first_no (number + 1) (output_faults g (buses_of (line_at lines 0)) (drop 1 lines) 0 (length g.outputs.items)) ≡ None = rw (← here, ← at-rest) outs in
-    let ended : Gives r (first_no (number + length g.outputs.items + 1) (bound_fault g (buses_of (line_at lines 0)) (line_at lines (length g.outputs.items + 1)) ∷ [])) = rw (← here, ← at-last) h in
-    let count : number + 1 + length (output_faults g (buses_of (line_at lines 0)) (drop 1 lines) 0 (length g.outputs.items)) ≡ number + length g.outputs.items + 1 = omega (arith, length-output_faults g (buses_of (line_at lines 0)) (drop 1 lines) 0 (length g.outputs.items)) in
-    rw none (gives_along _ _ r (pass_front (number + 1) (output_faults g (buses_of (line_at lines 0)) (drop 1 lines) 0 (length g.outputs.items)) (bound_fault g (buses_of (line_at lines 0)) (line_at lines (length g.outputs.items + 1)) ∷ []) passed)
-    (subst (λ (k : ℕ). Gives r (first_no k (bound_fault g (buses_of (line_at lines 0)) (line_at lines (length g.outputs.items + 1)) ∷ []))) (sym count) ended))
+pub group_passes : (version : ℕ) (g : DueGroup) (lines rest : List (List ℕ)) (line last : List ℕ) (number buses : ℕ) (r : Result (Unit {0}) Stop) → line ≡ line_at lines 0 → rest ≡ drop 1 lines → group_fault version g line ≡ None → buses ≡ buses_of version line
+    → first_no (number + 1) (output_faults version g buses rest 0 (length g.outputs.items)) ≡ None → last ≡ line_at lines (length g.outputs.items + 1)
+    → Gives r (first_no (number + length g.outputs.items + 1) (bound_fault g buses last ∷ [])) → Gives r (first_no number (group_faults version g lines))
+group_passes version g lines rest line last number buses r at-line at-rest fine states outs at-last h =
+    let none : group_fault version g (line_at lines 0) ≡ None = rw (← at-line) fine in
+    let here : buses ≡ buses_of version (line_at lines 0) = states ∙ ap (buses_of version) at-line in
+    let B = buses_of version (line_at lines 0) in
+    let passed : first_no (number + 1) (output_faults version g (buses_of version (line_at lines 0)) (drop 1 lines) 0 (length g.outputs.items)) ≡ None = rw (← here, ← at-rest) outs in
+    let ended : Gives r (first_no (number + length g.outputs.items + 1) (bound_fault g (buses_of version (line_at lines 0)) (line_at lines (length g.outputs.items + 1)) ∷ [])) = rw (← here, ← at-last) h in
+    let count : number + 1 + length (output_faults version g (buses_of version (line_at lines 0)) (drop 1 lines) 0 (length g.outputs.items)) ≡ number + length g.outputs.items + 1 = omega (arith, length-output_faults version g (buses_of version (line_at lines 0)) (drop 1 lines) 0 (length g.outputs.items)) in
+    rw none (gives_along _ _ r (pass_front (number + 1) (output_faults version g (buses_of version (line_at lines 0)) (drop 1 lines) 0 (length g.outputs.items)) (bound_fault g (buses_of version (line_at lines 0)) (line_at lines (length g.outputs.items + 1)) ∷ []) passed)
+    (subst (λ (k : ℕ). Gives r (first_no k (bound_fault g (buses_of version (line_at lines 0)) (line_at lines (length g.outputs.items + 1)) ∷ []))) (sym count) ended))
 
 -- ---- behind the last line
 
@@ -105,25 +105,25 @@ due_more gs i g lt e =
 pub due_within : (gs : List DueGroup) (i : ℕ) (g : DueGroup) → i < length gs → g ≡ get_or gs i g → due (take i gs) + (length g.outputs.items + 2) ≤ due gs
 due_within gs i g lt e = omega (arith, due_more gs i g lt e, sum_by-take-le (λ (g : DueGroup). length g.outputs.items + 2) gs (i + 1))
 
-pub length-group_faults : (g : DueGroup) (lines : List (List ℕ)) → length (group_faults g lines) ≡ length g.outputs.items + 2
-length-group_faults g lines =
-    omega (arith, length-output_faults g (buses_of (line_at lines 0)) (drop 1 lines) 0 (length g.outputs.items), length-append (output_faults g (buses_of (line_at lines 0)) (drop 1 lines) 0 (length g.outputs.items)) (bound_fault g (buses_of (line_at lines 0)) (line_at lines (length g.outputs.items + 1)) ∷ []))
+pub length-group_faults : (version : ℕ) (g : DueGroup) (lines : List (List ℕ)) → length (group_faults version g lines) ≡ length g.outputs.items + 2
+length-group_faults version g lines =
+    omega (arith, length-output_faults version g (buses_of version (line_at lines 0)) (drop 1 lines) 0 (length g.outputs.items), length-append (output_faults version g (buses_of version (line_at lines 0)) (drop 1 lines) 0 (length g.outputs.items)) (bound_fault g (buses_of version (line_at lines 0)) (line_at lines (length g.outputs.items + 1)) ∷ []))
 
-from_group : (gs : List DueGroup) (i : ℕ) (g : DueGroup) (lines : List (List ℕ)) → i < length gs → g ≡ get_or gs i g
-    → groups_faults (drop i gs) lines ≡ group_faults g lines ++ groups_faults (drop (i + 1) gs) (drop (length g.outputs.items + 2) lines)
-from_group gs i g lines lt e =
+from_group : (version : ℕ) (gs : List DueGroup) (i : ℕ) (g : DueGroup) (lines : List (List ℕ)) → i < length gs → g ≡ get_or gs i g
+    → groups_faults version (drop i gs) lines ≡ group_faults version g lines ++ groups_faults version (drop (i + 1) gs) (drop (length g.outputs.items + 2) lines)
+from_group version gs i g lines lt e =
     let read : get_or gs i g ≡ g = sym e in
     let more : drop i gs ≡ g ∷ drop (i + 1) gs = drop_more gs i g lt ∙ ap (λ (x : DueGroup). x ∷ drop (i + 1) gs) read in
     rw more refl
 
-pub groups_on : (gs : List DueGroup) (i n : ℕ) (g : DueGroup) (lines : List (List ℕ)) → i < length gs → g ≡ get_or gs i g → first_no n (group_faults g lines) ≡ None
-    → first_no n (groups_faults (drop i gs) lines) ≡ first_no (n + (length g.outputs.items + 2)) (groups_faults (drop (i + 1) gs) (drop (length g.outputs.items + 2) lines))
-groups_on gs i n g lines lt e fine =
-    ap (λ (fs : List (Option Reason)). first_no n fs) (from_group gs i g lines lt e)
-    ∙ pass_front n (group_faults g lines) (groups_faults (drop (i + 1) gs) (drop (length g.outputs.items + 2) lines)) fine
-    ∙ ap (λ (k : ℕ). first_no (n + k) (groups_faults (drop (i + 1) gs) (drop (length g.outputs.items + 2) lines))) (length-group_faults g lines)
+pub groups_on : (version : ℕ) (gs : List DueGroup) (i n : ℕ) (g : DueGroup) (lines : List (List ℕ)) → i < length gs → g ≡ get_or gs i g → first_no n (group_faults version g lines) ≡ None
+    → first_no n (groups_faults version (drop i gs) lines) ≡ first_no (n + (length g.outputs.items + 2)) (groups_faults version (drop (i + 1) gs) (drop (length g.outputs.items + 2) lines))
+groups_on version gs i n g lines lt e fine =
+    ap (λ (fs : List (Option Reason)). first_no n fs) (from_group version gs i g lines lt e)
+    ∙ pass_front n (group_faults version g lines) (groups_faults version (drop (i + 1) gs) (drop (length g.outputs.items + 2) lines)) fine
+    ∙ ap (λ (k : ℕ). first_no (n + k) (groups_faults version (drop (i + 1) gs) (drop (length g.outputs.items + 2) lines))) (length-group_faults version g lines)
 
-pub groups_end : (gs : List DueGroup) (i n : ℕ) (g : DueGroup) (lines : List (List ℕ)) (s : Stop) → i < length gs → g ≡ get_or gs i g → Stops s (first_no n (group_faults g lines))
-    → Stops s (first_no n (groups_faults (drop i gs) lines))
-groups_end gs i n g lines s lt e h =
-    stops_along _ _ s (ap (λ (fs : List (Option Reason)). first_no n fs) (from_group gs i g lines lt e)) (stops_front n (group_faults g lines) _ s h)
+pub groups_end : (version : ℕ) (gs : List DueGroup) (i n : ℕ) (g : DueGroup) (lines : List (List ℕ)) (s : Stop) → i < length gs → g ≡ get_or gs i g → Stops s (first_no n (group_faults version g lines))
+    → Stops s (first_no n (groups_faults version (drop i gs) lines))
+groups_end version gs i n g lines s lt e h =
+    stops_along _ _ s (ap (λ (fs : List (Option Reason)). first_no n fs) (from_group version gs i g lines lt e)) (stops_front n (group_faults version g lines) _ s h)

@@ -1,5 +1,6 @@
 pub mod Words
 pub mod Fields
+pub mod Parts
 pub mod LineLaws
 pub mod TextLines
 pub mod Listed

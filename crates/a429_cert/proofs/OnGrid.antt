@@ -1,12 +1,12 @@
 -- The groups of a table that is due: few outputs, each with a power of two for its period.
 use Rattle.std.proofs.Common.{◌≡◌, ℕ, suc, ◌+◌, ◌-◌, ◌*◌, ◌/◌, ◌^◌, ◌<◌, ◌≤◌, max, Bool, true, false, cond, List, [], ◌∷◌, length, map, Option, Some, arith, refl, sym, ap, subst, ◌∙◌, inl, inr, All, sum}
 use Rattle.std.specs.Prelude.{option_map}
-use Rattle.std.specs.List.{AllZip, AllByRecursion, fold, find}
+use Rattle.std.specs.List.{AllZip, AllByRecursion, fold, find, zip}
 use Rattle.std.specs.Str.{bytes_eq}
 use Rattle.std.proofs.lemmas.Bool.{cases_lt}
 use Rattle.std.proofs.lemmas.List.Elements.{All-from_recursion}
 use Rattle.std.proofs.lemmas.List.Sums.{sum_by-le, sum-map}
-use Rattle.std.proofs.lemmas.Slice.Zip.{AllZip-long}
+use Rattle.std.proofs.lemmas.Slice.Zip.{AllZip-long, length-zip}
 use Rattle.std.proofs.lemmas.Option.{same_Some, none-some}
 use Rattle.std.proofs.lemmas.Nat.{pow_pos, pow_below, pow-add}
 use Rattle.std.proofs.Math.Nat.{div-le_self, pow-le-pow_right}
@@ -16,7 +16,9 @@ use Rattle.a429_pack.specs.Demanded.{demand_of, IsBusCount}
 use Rattle.a429_pack.specs.Schedules.{IsFewest}
 use Rattle.a429_equipment.specs.TableRecord.{TableRecord}
 use Rattle.a429_equipment.specs.Sound.{IsSound}
+use Rattle.a429_equipment.specs.declared.rows.GroupRow.{GroupRow}
 use Rattle.a429_equipment.specs.declared.rows.OutputRow.{OutputRow}
+use Rattle.a429_slots.specs.Planned.{rated_outputs}
 use Rattle.a429_cert.specs.declared.due.DueOutput.{DueOutput}
 use Rattle.a429_cert.specs.declared.due.DueGroup.{DueGroup}
 use Rattle.a429_cert.specs.declared.due.DueTable.{DueTable}
@@ -35,28 +37,31 @@ pub record IsOnGrid (g : DueGroup) : Type 0 where
 
 -- ---- every table that is due has such groups
 
-have_periods : (e : TableRecord) (rows : List OutputRow) (os : List DueOutput) → AllZip (IsDueOutput e) rows os → HavePeriods os
-have_periods e [] [] h = tt
-have_periods e [] (o ∷ os) h = absurd h
-have_periods e (r ∷ rs) [] h = absurd h
-have_periods e (r ∷ rs) (o ∷ os) h = (h.0.period.0, have_periods e rs os h.1)
+have_periods : (e : TableRecord) (rate : ℕ) (rows : List OutputRow) (os : List DueOutput) → AllZip (IsDueOutput e rate) rows os → HavePeriods os
+have_periods e rate [] [] h = tt
+have_periods e rate [] (o ∷ os) h = absurd h
+have_periods e rate (r ∷ rs) [] h = absurd h
+have_periods e rate (r ∷ rs) (o ∷ os) h = (h.0.period.0, have_periods e rate rs os h.1)
 
 abbrev IsShortList : List OutputRow → Type 0
 IsShortList os = (1 ≤ length os) × (length os ≤ 128)
 
-group_on_grid : (e : TableRecord) (rows : List OutputRow) (g : DueGroup) → IsShortList rows → IsDueGroup e rows g → IsOnGrid g
-group_on_grid e rows g short d =
-    let long : length g.outputs.items ≡ length rows = AllZip-long (IsDueOutput e) rows g.outputs.items d in
-    record { periods = have_periods e rows g.outputs.items d; some = omega (arith, short.0, long); few = omega (arith, short.1, long) }
+group_on_grid : (e : TableRecord) (rate : ℕ) (rows : List OutputRow) (g : DueGroup) → IsShortList rows → IsDueGroup e (rate, rows) g → IsOnGrid g
+group_on_grid e rate rows g short d =
+    let long : length g.outputs.items ≡ length rows = AllZip-long (IsDueOutput e rate) rows g.outputs.items d.outputs in
+    record { periods = have_periods e rate rows g.outputs.items d.outputs; some = omega (arith, short.0, long); few = omega (arith, short.1, long) }
 
-groups_on_grid : (e : TableRecord) (rows : List (List OutputRow)) (gs : List DueGroup) → AllByRecursion IsShortList rows → AllZip (IsDueGroup e) rows gs → AllByRecursion IsOnGrid gs
-groups_on_grid e [] [] short d = tt
-groups_on_grid e [] (g ∷ gs) short d = absurd d
-groups_on_grid e (r ∷ rs) [] short d = absurd d
-groups_on_grid e (r ∷ rs) (g ∷ gs) short d = (group_on_grid e r g short.0 d.0, groups_on_grid e rs gs short.1 d.1)
+groups_on_grid : (e : TableRecord) (rates : List ℕ) (rows : List (List OutputRow)) (gs : List DueGroup) → AllByRecursion IsShortList rows → AllZip (IsDueGroup e) (zip rates rows) gs
+    → AllByRecursion IsOnGrid gs
+groups_on_grid e [] rs [] short d = tt
+groups_on_grid e [] rs (g ∷ gs) short d = absurd d
+groups_on_grid e (n ∷ ns) [] [] short d = tt
+groups_on_grid e (n ∷ ns) [] (g ∷ gs) short d = absurd d
+groups_on_grid e (n ∷ ns) (r ∷ rs) [] short d = absurd d
+groups_on_grid e (n ∷ ns) (r ∷ rs) (g ∷ gs) short d = (group_on_grid e n r g short.0 d.0, groups_on_grid e ns rs gs short.1 d.1)
 
 pub on_grid : (e : TableRecord) (t : DueTable) → IsSound e → IsDue e t → AllByRecursion IsOnGrid t.groups.items
-on_grid e t sound d = groups_on_grid e e.outputs t.groups.items sound.some_outputs d.outputs
+on_grid e t sound d = groups_on_grid e (map (λ (g : GroupRow). g.rate) e.groups) e.outputs t.groups.items sound.some_outputs d.groups
 
 -- ---- no sum of a check leaves 64 bits
 
@@ -109,9 +114,10 @@ lines_few (g ∷ gs) on = (omega (arith, on.0.few), lines_few gs on.1)
 pub due_few : (e : TableRecord) (t : DueTable) → IsSound e → IsDue e t → due t.groups.items < 2 ^ 63
 due_few e t sound d =
     let gs : List DueGroup = t.groups.items in
-    let long : length gs ≡ length e.outputs = AllZip-long (IsDueGroup e) e.outputs gs d.outputs in
+    let long : length gs ≡ length (rated_outputs e) = AllZip-long (IsDueGroup e) (rated_outputs e) gs d.groups in
+    let few : length (rated_outputs e) ≤ length e.outputs = omega (arith, length-zip (map (λ (g : GroupRow). g.rate) e.groups) e.outputs) in
     let lines : due gs ≤ length gs * 130 = sum_by-le (λ g. length g.outputs.items + 2) 130 gs (All-from_recursion (λ g. length g.outputs.items + 2 ≤ 130) gs (lines_few gs (on_grid e t sound d))) in
-    omega (arith, lines, long, sound.few_groups, sound.outputs_of_groups)
+    omega (arith, lines, long, few, sound.few_groups, sound.outputs_of_groups)
 
 -- ---- of two powers of two the smaller divides the greater
 
@@ -204,8 +210,8 @@ fewest g buses by_demand on above within =
     }) in
     subst (λ (f : ℕ). IsFewest f (periods_of g) buses) (sym top) (subst (λ (ps : List ℕ). IsFewest (2 ^ greatest ks) ps buses) (powers os on.periods) carried)
 
-states_fewest : (g : DueGroup) (lines : List (List ℕ)) → FewestByDemand → IsOnGrid g → StatesPlan g lines → StatesFewest g lines
-states_fewest g lines by_demand on plan =
+states_fewest : (version : ℕ) (g : DueGroup) (lines : List (List ℕ)) → FewestByDemand → IsOnGrid g → StatesPlan version g lines → StatesFewest version g lines
+states_fewest version g lines by_demand on plan =
     let c = plan.checked in
     record {
       plan = plan;
@@ -214,6 +220,6 @@ states_fewest g lines by_demand on plan =
           (subst (λ (f : ℕ). demand g ≤ plan.stated.heading.buses * f) c.greatest c.within);
     }
 
-pub state_fewest : (gs : List DueGroup) (lines : List (List ℕ)) → FewestByDemand → AllByRecursion IsOnGrid gs → StatePlans gs lines → StateFewest gs lines
-state_fewest [] lines by_demand on plans = plans
-state_fewest (g ∷ gs) lines by_demand on plans = (states_fewest g lines by_demand on.0 plans.0, state_fewest gs _ by_demand on.1 plans.1)
+pub state_fewest : (version : ℕ) (gs : List DueGroup) (lines : List (List ℕ)) → FewestByDemand → AllByRecursion IsOnGrid gs → StatePlans version gs lines → StateFewest version gs lines
+state_fewest version [] lines by_demand on plans = plans
+state_fewest version (g ∷ gs) lines by_demand on plans = (states_fewest version g lines by_demand on.0 plans.0, state_fewest version gs _ by_demand on.1 plans.1)

@@ -1,6 +1,6 @@
 -- What the text of a plan states for a group is a checked plan.
-use Rattle.std.proofs.Common.{◌≡◌, ◌≢◌, ℕ, zero, suc, ◌-◌, ◌*◌, ◌/◌, ◌^◌, ◌<◌, ◌≤◌, true, false, leb, List, [], ◌∷◌, length, get_or, map, Option, Some, refl, sym, ap, subst, ◌∙◌, arith}
-use Rattle.std.specs.Prelude.{slice_get, sum}
+use Rattle.std.proofs.Common.{◌≡◌, ◌≢◌, ℕ, zero, suc, ◌-◌, ◌*◌, ◌/◌, ◌^◌, ◌<◌, ◌≤◌, true, false, leb, List, [], ◌∷◌, length, get_or, map, Option, Some, None, inl, inr, refl, sym, ap, subst, ◌∙◌, arith}
+use Rattle.std.specs.Prelude.{slice_get, sum, IfSome}
 use Rattle.std.specs.Option.{option_map_or}
 use Rattle.std.specs.List.{AllZip, AllByRecursion, sum_by, range_with_len, list_all}
 use Rattle.std.specs.List.Sorted.{IsPermutation}
@@ -18,7 +18,7 @@ use Rattle.a429_equipment.specs.TableRecord.{TableRecord}
 use Rattle.a429_equipment.specs.declared.rows.GroupRow.{GroupRow}
 use Rattle.a429_equipment.specs.declared.rows.OutputRow.{OutputRow}
 use Rattle.a429_equipment.specs.declared.rows.SourceRow.{SourceRow}
-use Rattle.a429_equipment.specs.Sound.{HaveOwn, HaveOwnSources, IsSourceRow, IsGroupRow}
+use Rattle.a429_equipment.specs.Sound.{HaveOwn, HaveOwnSources, IsRate, IsHold, IsSourceRow, IsGroupRow}
 use Rattle.a429_equipment.specs.Texts.{is_name, is_name_byte}
 use Rattle.a429_pack.specs.Demanded.{demand_of, IsBusCount}
 use Rattle.a429_pack.specs.Demands.{greatest, exponent_of, periods_of}
@@ -29,13 +29,15 @@ use Rattle.a429_slots.specs.Kept.{StandsJustAt}
 use Rattle.a429_slots.specs.Planned.{IsPlannedFor, asked_by, asked_of}
 use Rattle.a429_cert.specs.declared.due.DueGroup.{DueGroup}
 use Rattle.a429_cert.specs.Due.{IsDueOutput}
-use Rattle.a429_cert.specs.Spelling.{IsWord, is_break, FitsListing}
+use Rattle.a429_cert.specs.Spelling.{IsWord, IsShort, IsShortLimit, is_break, said_in, FitsListing}
 use Rattle.a429_cert.specs.Checked.{AreApart, IsPlaced, EachPair}
 use Rattle.a429_cert.specs.PlanText.{source_name, listing_of, stated_of}
 use Rattle.a429_cert.proofs.Again.{FitsStated, StatesBound}
 use Rattle.a429_cert.proofs.Answered.{Matches}
 use Rattle.a429_cert.proofs.Arranged.{order_below, order_once, each_pair, each_placed}
-use Rattle.a429_cert.proofs.DueOutputs.{AreSame, exponents_of, length-outputs, counts, periods_same, frame_is, demand_is, due_here, source_there, period_due, names_differ}
+use Rattle.a429_cert.proofs.DueOutputs.{AreSame, exponents_of, length-outputs, counts, periods_same, frame_is, demand_is, due_here, source_there, period_due, row_at, row_hold, hold_due, names_differ}
+use Rattle.a429_cert.proofs.Gathered.{blank}
+use Rattle.a429_cert.proofs.Parts.{part_said}
 
 -- the fewest buses of a schedule carry the demand, and one fewer do not
 abbrev pub FewestCarry : Type 0
@@ -43,16 +45,18 @@ FewestCarry = (exponents : List ℕ) (buses : ℕ) → 1 ≤ length exponents �
 
 -- a group of the table with its plan and what is due for it
 pub record IsOwnGroup (e : TableRecord) (row : GroupRow) (rows : List OutputRow) (t : GroupTable) (g : DueGroup) : Type 0 where
-  pub planned : IsPlannedFor e.rate e.sources rows t
-  pub due : AllZip (IsDueOutput e) rows g.outputs.items
+  pub planned : IsPlannedFor row.rate e.sources rows t
+  pub due : AllZip (IsDueOutput e row.rate) rows g.outputs.items
+  pub rated : g.rate ≡ row.rate
   pub named : g.name ≡ row.name
   pub name : IsGroupRow row
   pub some : 1 ≤ length rows
+  pub holds : AllByRecursion IsHold rows
   pub own : HaveOwnSources rows
   pub names : HaveOwn (λ s. s.name) e.sources
   pub words : AllByRecursion IsSourceRow e.sources
 
-pub same_outputs : (e : TableRecord) (row : GroupRow) (rows : List OutputRow) (t : GroupTable) (g : DueGroup) → IsOwnGroup e row rows t g → AreSame e rows t g
+pub same_outputs : (e : TableRecord) (row : GroupRow) (rows : List OutputRow) (t : GroupTable) (g : DueGroup) → IsOwnGroup e row rows t g → AreSame e row.rate rows t g
 same_outputs e row rows t g o = record { served = o.planned.served; due = o.due; own = o.own; names = o.names }
 
 -- ---- names are words
@@ -87,16 +91,16 @@ asked_exponents sources t = map-map exponent_of (asked_by sources) (outputs_of t
 length-exponents : (t : GroupTable) → length (exponents_of t) ≡ length t.demands
 length-exponents t = length-map (outputs_of t) (λ p. p.place.period) ∙ length-outputs t
 
-frame_greatest : (e : TableRecord) (rows : List OutputRow) (t : GroupTable) → IsPlannedFor e.rate e.sources rows t → frame_of t ≡ 2 ^ greatest (exponents_of t)
-frame_greatest e rows t p = ap (λ (k : ℕ). 2 ^ k) (p.layout.frame ∙ ap greatest (asked_exponents e.sources t))
+frame_greatest : (e : TableRecord) (rate : ℕ) (rows : List OutputRow) (t : GroupTable) → IsPlannedFor rate e.sources rows t → frame_of t ≡ 2 ^ greatest (exponents_of t)
+frame_greatest e rate rows t p = ap (λ (k : ℕ). 2 ^ k) (p.layout.frame ∙ ap greatest (asked_exponents e.sources t))
 
 asked_periods : (sources : List SourceRow) (t : GroupTable) → periods_of (asked_of sources t) ≡ map (λ k. 2 ^ k) (exponents_of t)
 asked_periods sources t = sym (map-map (λ (k : ℕ). 2 ^ k) exponent_of (asked_of sources t)) ∙ ap (map (λ k. 2 ^ k)) (asked_exponents sources t)
 
-carried : (e : TableRecord) (rows : List OutputRow) (t : GroupTable) → FewestCarry → IsPlannedFor e.rate e.sources rows t → 1 ≤ length t.demands → IsBusCount (exponents_of t) (buses_of t)
-carried e rows t law p some =
+carried : (e : TableRecord) (rate : ℕ) (rows : List OutputRow) (t : GroupTable) → FewestCarry → IsPlannedFor rate e.sources rows t → 1 ≤ length t.demands → IsBusCount (exponents_of t) (buses_of t)
+carried e rate rows t law p some =
     law (exponents_of t) (buses_of t) (omega (arith, length-exponents t))
-    (subst (λ (h : ℕ). IsFewest h (map (λ k. 2 ^ k) (exponents_of t)) (buses_of t)) (frame_greatest e rows t p)
+    (subst (λ (h : ℕ). IsFewest h (map (λ k. 2 ^ k) (exponents_of t)) (buses_of t)) (frame_greatest e rate rows t p)
     (subst (λ (ps : List ℕ). IsFewest (frame_of t) ps (buses_of t)) (asked_periods e.sources t) p.layout.fewest))
 
 exponent_at : (t : GroupTable) (o : ℕ) → o < length t.demands → get_or (exponents_of t) o 0 ≡ (placed_at t o).place.period
@@ -111,128 +115,139 @@ at_most_greatest (k ∷ ks) zero below = omega arith
 at_most_greatest (k ∷ ks) (suc i) below = let rest = at_most_greatest ks i (omega arith) in omega arith
 
 -- a period is at most a frame
-period_within : (e : TableRecord) (rows : List OutputRow) (t : GroupTable) → IsPlannedFor e.rate e.sources rows t → (o : ℕ) → o < length t.demands → 2 ^ (placed_at t o).place.period ≤ frame_of t
-period_within e rows t p o below =
+period_within : (e : TableRecord) (rate : ℕ) (rows : List OutputRow) (t : GroupTable) → IsPlannedFor rate e.sources rows t → (o : ℕ) → o < length t.demands → 2 ^ (placed_at t o).place.period ≤ frame_of t
+period_within e rate rows t p o below =
     let one : 0 < 2 = omega arith in
     let most = at_most_greatest (exponents_of t) o (omega (arith, length-exponents t)) in
     let le : (placed_at t o).place.period ≤ greatest (exponents_of t) = omega (arith, most, exponent_at t o below) in
     let powers : 2 ^ (placed_at t o).place.period ≤ 2 ^ greatest (exponents_of t) = pow-le-pow_right {n = 2} one {i = (placed_at t o).place.period} {j = greatest (exponents_of t)} le in
-    omega (arith, powers, frame_greatest e rows t p)
+    omega (arith, powers, frame_greatest e rate rows t p)
 
 -- ---- the order and the demands
 
-order_moved : (e : TableRecord) (rows : List OutputRow) (t : GroupTable) → IsPlannedFor e.rate e.sources rows t → IsPermutation (range_with_len 0 (length t.demands)) (order_of t)
-order_moved e rows t p =
+order_moved : (e : TableRecord) (rate : ℕ) (rows : List OutputRow) (t : GroupTable) → IsPlannedFor rate e.sources rows t → IsPermutation (range_with_len 0 (length t.demands)) (order_of t)
+order_moved e rate rows t p =
     let many : length (asked_of e.sources t) ≡ length t.demands = length-map (outputs_of t) (asked_by e.sources) ∙ length-outputs t in
     subst (λ (n : ℕ). IsPermutation (range_with_len 0 n) (order_of t)) many p.layout.order.all
 
-length-order : (e : TableRecord) (rows : List OutputRow) (t : GroupTable) → IsPlannedFor e.rate e.sources rows t → length (order_of t) ≡ length t.demands
-length-order e rows t p = length_permutation (range_with_len 0 (length t.demands)) (order_of t) (order_moved e rows t p) ∙ length-range_with_len 0 (length t.demands)
+length-order : (e : TableRecord) (rate : ℕ) (rows : List OutputRow) (t : GroupTable) → IsPlannedFor rate e.sources rows t → length (order_of t) ≡ length t.demands
+length-order e rate rows t p = length_permutation (range_with_len 0 (length t.demands)) (order_of t) (order_moved e rate rows t p) ∙ length-range_with_len 0 (length t.demands)
 
 -- how many cells of a frame an output fills
 abbrev share : GroupTable → ℕ → ℕ
 share t o = frame_of t / 2 ^ get_or t.periods o 0
 
-total_is : (e : TableRecord) (rows : List OutputRow) (t : GroupTable) → IsPlannedFor e.rate e.sources rows t → sum t.demands ≡ demand_of (exponents_of t)
-total_is e rows t p =
+total_is : (e : TableRecord) (rate : ℕ) (rows : List OutputRow) (t : GroupTable) → IsPlannedFor rate e.sources rows t → sum t.demands ≡ demand_of (exponents_of t)
+total_is e rate rows t p =
     let n = length t.demands in
     let placed : sum t.demands ≡ sum_by (share t) (order_of t) = ap sum p.layout.demands ∙ sum-map (share t) (order_of t) in
-    let numbered : sum_by (share t) (order_of t) ≡ sum_by (share t) (range_with_len 0 n) = sum_by-IsPermutation (share t) (range_with_len 0 n) (order_of t) (order_moved e rows t p) in
+    let numbered : sum_by (share t) (order_of t) ≡ sum_by (share t) (range_with_len 0 n) = sum_by-IsPermutation (share t) (range_with_len 0 n) (order_of t) (order_moved e rate rows t p) in
     let shares : map (λ k. frame_of t / 2 ^ k) (exponents_of t) ≡ map (share t) (range_with_len 0 n) =
     map-map (λ k. frame_of t / 2 ^ k) (λ p. p.place.period) (outputs_of t) ∙ map-map (λ p. frame_of t / 2 ^ p.place.period) (placed_at t) (range_with_len 0 n) in
-    placed ∙ numbered ∙ sym (sum-map (share t) (range_with_len 0 n)) ∙ ap sum (sym shares) ∙ ap (λ (h : ℕ). sum (map (λ k. h / 2 ^ k) (exponents_of t))) (frame_greatest e rows t p)
+    placed ∙ numbered ∙ sym (sum-map (share t) (range_with_len 0 n)) ∙ ap sum (sym shares) ∙ ap (λ (h : ℕ). sum (map (λ k. h / 2 ^ k) (exponents_of t))) (frame_greatest e rate rows t p)
 
 -- ---- the buses
 
 -- the output at a place of the layout begins within the demand
-begins_within : (e : TableRecord) (rows : List OutputRow) (t : GroupTable) → IsPlannedFor e.rate e.sources rows t → (k : ℕ) → k < length t.demands → get_or (order_of t) k 0 < length t.demands
+begins_within : (e : TableRecord) (rate : ℕ) (rows : List OutputRow) (t : GroupTable) → IsPlannedFor rate e.sources rows t → (k : ℕ) → k < length t.demands → get_or (order_of t) k 0 < length t.demands
     → start_of t.demands k < sum t.demands
-begins_within e rows t p k below known =
+begins_within e rate rows t p k below known =
     let o : ℕ = get_or (order_of t) k 0 in
-    let positive : 1 ≤ share t o = le-div 1 (frame_of t) (2 ^ get_or t.periods o 0) (pow_pos (get_or t.periods o 0)) (omega (arith, period_within e rows t p o known)) in
-    let fills : get_or t.demands k 0 ≡ share t o = ap (λ (ds : List ℕ). get_or ds k 0) p.layout.demands ∙ get_or-map (share t) (order_of t) k 0 0 (omega (arith, length-order e rows t p)) in
+    let positive : 1 ≤ share t o = le-div 1 (frame_of t) (2 ^ get_or t.periods o 0) (pow_pos (get_or t.periods o 0)) (omega (arith, period_within e rate rows t p o known)) in
+    let fills : get_or t.demands k 0 ≡ share t o = ap (λ (ds : List ℕ). get_or ds k 0) p.layout.demands ∙ get_or-map (share t) (order_of t) k 0 0 (omega (arith, length-order e rate rows t p)) in
     let more = sum_by_more_le (λ x. x) t.demands k 0 below in
     omega (arith, more, positive, fills)
 
-bus_within : (e : TableRecord) (rows : List OutputRow) (t : GroupTable) → FewestCarry → IsPlannedFor e.rate e.sources rows t → 1 ≤ length t.demands → (k : ℕ) → k < length t.demands → get_or (order_of t) k 0 < length t.demands
+bus_within : (e : TableRecord) (rate : ℕ) (rows : List OutputRow) (t : GroupTable) → FewestCarry → IsPlannedFor rate e.sources rows t → 1 ≤ length t.demands → (k : ℕ) → k < length t.demands → get_or (order_of t) k 0 < length t.demands
     → (placed_at t (get_or (order_of t) k 0)).place.bus < buses_of t
-bus_within e rows t law p some k below known =
+bus_within e rate rows t law p some k below known =
     let at : get_or (order_of t) k 0 ≡ get_or t.order k 0 = get_or-take (length t.demands) t.order k 0 below in
     let begins : get_or t.on_bus (get_or (order_of t) k 0) 0 ≡ start_of t.demands k / frame_of t = ap (λ (o : ℕ). get_or t.on_bus o 0) at ∙ (p.layout.places k below).bus in
-    let within = begins_within e rows t p k below known in
-    let most : demand_of (exponents_of t) ≤ buses_of t * 2 ^ greatest (exponents_of t) = (carried e rows t law p some).within in
-    let framed : buses_of t * 2 ^ greatest (exponents_of t) ≡ buses_of t * frame_of t = ap (λ (h : ℕ). buses_of t * h) (sym (frame_greatest e rows t p)) in
-    let less : start_of t.demands k < buses_of t * frame_of t = omega (arith, within, most, framed, total_is e rows t p) in
+    let within = begins_within e rate rows t p k below known in
+    let most : demand_of (exponents_of t) ≤ buses_of t * 2 ^ greatest (exponents_of t) = (carried e rate rows t law p some).within in
+    let framed : buses_of t * 2 ^ greatest (exponents_of t) ≡ buses_of t * frame_of t = ap (λ (h : ℕ). buses_of t * h) (sym (frame_greatest e rate rows t p)) in
+    let less : start_of t.demands k < buses_of t * frame_of t = omega (arith, within, most, framed, total_is e rate rows t p) in
     let bus = div_below (start_of t.demands k) (frame_of t) (buses_of t) (pow_pos t.frame) less in
     omega (arith, bus, begins)
 
 -- ---- the listings
 
-apart_cells : (t : GroupTable) (i j : ℕ) (sources : List SourceRow) → StandsJustAt t i (placed_at t i).place.bus (placed_at t i).place.offset (2 ^ (placed_at t i).place.period)
-    → StandsJustAt t j (placed_at t j).place.bus (placed_at t j).place.offset (2 ^ (placed_at t j).place.period) → i ≢ j → AreApart (listing_of sources t i) (listing_of sources t j)
-apart_cells t i j sources at-i at-j other bus slot fills-i fills-j =
+apart_cells : (version : ℕ) (t : GroupTable) (i j : ℕ) (sources : List SourceRow) → StandsJustAt t i (placed_at t i).place.bus (placed_at t i).place.offset (2 ^ (placed_at t i).place.period)
+    → StandsJustAt t j (placed_at t j).place.bus (placed_at t j).place.offset (2 ^ (placed_at t j).place.period) → i ≢ j → AreApart (listing_of version sources t i) (listing_of version sources t j)
+apart_cells version t i j sources at-i at-j other bus slot fills-i fills-j =
     let here : cell_at t bus slot ≡ Some i = (at-i.cells bus slot).1 (fills-i.on_bus, fills-i.at_offset) in
     let there : cell_at t bus slot ≡ Some j = (at-j.cells bus slot).1 (fills-j.on_bus, fills-j.at_offset) in
     other cc
 
-own_apart : (e : TableRecord) (row : GroupRow) (rows : List OutputRow) (t : GroupTable) (g : DueGroup) → IsOwnGroup e row rows t g → EachPair AreApart (stated_of e.sources row t).outputs
+own_apart : (e : TableRecord) (row : GroupRow) (rows : List OutputRow) (t : GroupTable) (g : DueGroup) → IsOwnGroup e row rows t g → EachPair AreApart (stated_of e.version e.sources row t).outputs
 own_apart e row rows t g o =
-    let moved = order_moved e rows t o.planned in
-    each_pair AreApart (listing_of e.sources t) (length t.demands) (order_of t) (order_below (length t.demands) (order_of t) moved) (order_once (length t.demands) (order_of t) moved)
+    let moved = order_moved e row.rate rows t o.planned in
+    each_pair AreApart (listing_of e.version e.sources t) (length t.demands) (order_of t) (order_below (length t.demands) (order_of t) moved) (order_once (length t.demands) (order_of t) moved)
     (λ i j low-i low-j other.
-    apart_cells t i j e.sources (o.planned.periodic i (omega (arith, length-outputs t))) (o.planned.periodic j (omega (arith, length-outputs t))) other)
+    apart_cells e.version t i j e.sources (o.planned.periodic i (omega (arith, length-outputs t))) (o.planned.periodic j (omega (arith, length-outputs t))) other)
 
-own_once : (e : TableRecord) (row : GroupRow) (rows : List OutputRow) (t : GroupTable) (g : DueGroup) → IsOwnGroup e row rows t g → EachPair (λ k l. k.source ≢ l.source) (stated_of e.sources row t).outputs
+own_once : (e : TableRecord) (row : GroupRow) (rows : List OutputRow) (t : GroupTable) (g : DueGroup) → IsOwnGroup e row rows t g → EachPair (λ k l. k.source ≢ l.source) (stated_of e.version e.sources row t).outputs
 own_once e row rows t g o =
-    let moved = order_moved e rows t o.planned in
+    let moved = order_moved e row.rate rows t o.planned in
     let s = same_outputs e row rows t g o in
-    let many = (counts e rows t g s).0 in
-    each_pair (λ k l. k.source ≢ l.source) (listing_of e.sources t) (length t.demands) (order_of t) (order_below (length t.demands) (order_of t) moved) (order_once (length t.demands) (order_of t) moved)
-    (λ i j low-i low-j other. names_differ e rows t g s i j (omega arith) (omega arith) other)
+    let many = (counts e row.rate rows t g s).0 in
+    each_pair (λ k l. k.source ≢ l.source) (listing_of e.version e.sources t) (length t.demands) (order_of t) (order_below (length t.demands) (order_of t) moved) (order_once (length t.demands) (order_of t) moved)
+    (λ i j low-i low-j other. names_differ e row.rate rows t g s i j (omega arith) (omega arith) other)
 
 -- the number at a place of the layout is that of an output
-ordered_below : (e : TableRecord) (rows : List OutputRow) (t : GroupTable) → IsPlannedFor e.rate e.sources rows t → (k : ℕ) → k < length (order_of t) → get_or (order_of t) k 0 < length t.demands
-ordered_below e rows t p k below =
-    All-from_recursion (λ o. o < length t.demands) (order_of t) (order_below (length t.demands) (order_of t) (order_moved e rows t p)) k 0 below
+ordered_below : (e : TableRecord) (rate : ℕ) (rows : List OutputRow) (t : GroupTable) → IsPlannedFor rate e.sources rows t → (k : ℕ) → k < length (order_of t) → get_or (order_of t) k 0 < length t.demands
+ordered_below e rate rows t p k below =
+    All-from_recursion (λ o. o < length t.demands) (order_of t) (order_below (length t.demands) (order_of t) (order_moved e rate rows t p)) k 0 below
 
 own_bus : (e : TableRecord) (row : GroupRow) (rows : List OutputRow) (t : GroupTable) (g : DueGroup) → FewestCarry → IsOwnGroup e row rows t g
-    → (k : ℕ) → k < length (order_of t) → (listing_of e.sources t (get_or (order_of t) k 0)).bus < buses_of t
+    → (k : ℕ) → k < length (order_of t) → (listing_of e.version e.sources t (get_or (order_of t) k 0)).bus < buses_of t
 own_bus e row rows t g law o k below =
-    let many = (counts e rows t g (same_outputs e row rows t g o)).0 in
-    bus_within e rows t law o.planned (omega (arith, many, o.some)) k (omega (arith, length-order e rows t o.planned)) (ordered_below e rows t o.planned k below)
+    let many = (counts e row.rate rows t g (same_outputs e row rows t g o)).0 in
+    bus_within e row.rate rows t law o.planned (omega (arith, many, o.some)) k (omega (arith, length-order e row.rate rows t o.planned)) (ordered_below e row.rate rows t o.planned k below)
 
-own_placed : (e : TableRecord) (row : GroupRow) (rows : List OutputRow) (t : GroupTable) (g : DueGroup) → FewestCarry → IsOwnGroup e row rows t g → AllByRecursion (IsPlaced g (buses_of t)) (stated_of e.sources row t).outputs
+own_placed : (e : TableRecord) (row : GroupRow) (rows : List OutputRow) (t : GroupTable) (g : DueGroup) → FewestCarry → IsOwnGroup e row rows t g → AllByRecursion (IsPlaced e.version g (buses_of t)) (stated_of e.version e.sources row t).outputs
 own_placed e row rows t g law o =
     let s = same_outputs e row rows t g o in
-    let many = (counts e rows t g s).0 in
-    each_placed (IsPlaced g (buses_of t)) (listing_of e.sources t) (order_of t) (λ k below.
+    let many = (counts e row.rate rows t g s).0 in
+    each_placed (IsPlaced e.version g (buses_of t)) (listing_of e.version e.sources t) (order_of t) (λ k below.
     let n : ℕ = get_or (order_of t) k 0 in
-    let known : n < length t.demands = ordered_below e rows t o.planned k below in
+    let known : n < length t.demands = ordered_below e row.rate rows t o.planned k below in
     record {
-      listed = period_due e rows t g s n (omega arith);
+      listed = period_due e row.rate rows t g s n (omega arith);
+      hold = ap (λ (hold : Option ℕ). said_in e.version hold) (sym (hold_due e row.rate rows t g s n (omega arith)));
       bus = own_bus e row rows t g law o k below;
       offset = (o.planned.periodic n (omega (arith, length-outputs t))).within;
     })
 
 -- ---- numbers have few digits
 
-own_listings : (e : TableRecord) (row : GroupRow) (rows : List OutputRow) (t : GroupTable) (g : DueGroup) → FewestCarry → IsOwnGroup e row rows t g → AllByRecursion FitsListing (stated_of e.sources row t).outputs
+pub rate_short : (rate : ℕ) → IsRate rate → IsShort rate
+rate_short rate (inl same) = omega arith
+rate_short rate (inr range) = omega (arith, range.1)
+
+limit_short : (limit : Option ℕ) → IfSome limit (λ hold. (1 ≤ hold) × (hold ≤ 1000000)) → IsShortLimit limit
+limit_short None h = tt
+limit_short (Some limit) h = omega (arith, h.1)
+
+own_listings : (e : TableRecord) (row : GroupRow) (rows : List OutputRow) (t : GroupTable) (g : DueGroup) → FewestCarry → IsOwnGroup e row rows t g → AllByRecursion (FitsListing e.version) (stated_of e.version e.sources row t).outputs
 own_listings e row rows t g law o =
     let s = same_outputs e row rows t g o in
-    let many = (counts e rows t g s).0 in
-    each_placed FitsListing (listing_of e.sources t) (order_of t) (λ k below.
+    let many = (counts e row.rate rows t g s).0 in
+    each_placed (FitsListing e.version) (listing_of e.version e.sources t) (order_of t) (λ k below.
     let n : ℕ = get_or (order_of t) k 0 in
-    let known : n < length t.demands = ordered_below e rows t o.planned k below in
-    let here = due_here e rows t g s n (omega arith) in
-    let there = source_there e rows t g s n (omega arith) in
+    let known : n < length t.demands = ordered_below e row.rate rows t o.planned k below in
+    let here = due_here e row.rate rows t g s n (omega arith) in
+    let there = source_there e row.rate rows t g s n (omega arith) in
     let word : IsWord here.source.name = name_is_word here.source.name (row_of IsSourceRow e.sources (placed_at t n).source here.source o.words there).0 in
     let named : here.source.name ≡ source_name e.sources (placed_at t n).source = sym (ap (λ (o : Option SourceRow). option_map_or (λ (s : SourceRow). s.name) o []) there) in
-    let period = period_within e rows t o.planned n known in
+    let period = period_within e row.rate rows t o.planned n known in
+    let limit : IsShortLimit (row_at rows n).hold = limit_short (row_at rows n).hold (All-from_recursion IsHold rows o.holds n blank (omega arith)) in
     record {
       source = subst IsWord named word;
       period = omega (arith, period, o.planned.few_slots);
       bus = omega (arith, own_bus e row rows t g law o k below, o.planned.few_buses);
       offset = omega (arith, period, o.planned.few_slots, (o.planned.periodic n (omega (arith, length-outputs t))).within);
+      hold = part_said IsShortLimit e.version (placed_at t n).limits.hold (subst IsShortLimit (sym (row_hold e row.rate rows t g s n (omega arith))) limit);
     })
 
 -- the cells of a frame are few
@@ -241,17 +256,17 @@ few_cells b f few small = mul-le-mul {n₁ = b} {m₁ = f} {n₂ = 16} {m₂ = 8
 
 -- ---- the group
 
-own_bound : (e : TableRecord) (row : GroupRow) (rows : List OutputRow) (t : GroupTable) (g : DueGroup) → FewestCarry → IsOwnGroup e row rows t g → StatesBound g (buses_of t) (stated_of e.sources row t).bound
+own_bound : (e : TableRecord) (row : GroupRow) (rows : List OutputRow) (t : GroupTable) (g : DueGroup) → FewestCarry → IsOwnGroup e row rows t g → StatesBound g (buses_of t) (stated_of e.version e.sources row t).bound
 own_bound e row rows t g law o =
     let s = same_outputs e row rows t g o in
-    let many = (counts e rows t g s).0 in
+    let many = (counts e row.rate rows t g s).0 in
     let some : 1 ≤ length t.demands = omega (arith, many, o.some) in
     let ks = exponents_of t in
     let some-ks : 1 ≤ length ks = omega (arith, some, length-exponents t) in
-    let periods = periods_same e rows (outputs_of t) g.outputs.items s.served s.due in
-    let framed : frame_of t ≡ 2 ^ greatest (exponents_of t) = frame_greatest e rows t o.planned in
-    let total = total_is e rows t o.planned in
-    let fits = carried e rows t law o.planned some in
+    let periods = periods_same e row.rate rows (outputs_of t) g.outputs.items s.served s.due in
+    let framed : frame_of t ≡ 2 ^ greatest (exponents_of t) = frame_greatest e row.rate rows t o.planned in
+    let total = total_is e row.rate rows t o.planned in
+    let fits = carried e row.rate rows t law o.planned some in
     record {
       demand = total ∙ sym (demand_is g (exponents_of t) some-ks periods);
       full = refl;
@@ -260,12 +275,12 @@ own_bound e row rows t g law o =
       within = rw (framed, total) fits.within;
     }
 
-own_fits : (e : TableRecord) (row : GroupRow) (rows : List OutputRow) (t : GroupTable) (g : DueGroup) → FewestCarry → IsOwnGroup e row rows t g → FitsStated (stated_of e.sources row t)
+own_fits : (e : TableRecord) (row : GroupRow) (rows : List OutputRow) (t : GroupTable) (g : DueGroup) → FewestCarry → IsOwnGroup e row rows t g → FitsStated e.version (stated_of e.version e.sources row t)
 own_fits e row rows t g law o =
     let bound = own_bound e row rows t g law o in
     let cells = few_cells (buses_of t) (frame_of t) o.planned.few_buses o.planned.few_slots in
     record {
-      heading = record { name = name_is_word row.name o.name; frame = omega (arith, o.planned.few_slots); buses = omega (arith, o.planned.few_buses) };
+      heading = record { name = name_is_word row.name o.name.0; rate = part_said IsShort e.version row.rate (rate_short row.rate o.name.1); frame = omega (arith, o.planned.few_slots); buses = omega (arith, o.planned.few_buses) };
       outputs = own_listings e row rows t g law o;
       bound = record { demand = omega (arith, bound.within, cells); full_buses = omega (arith, o.planned.few_buses); frame = omega (arith, o.planned.few_slots) };
     }
@@ -274,19 +289,20 @@ some_bus : (b f d : ℕ) → (b - 1) * f < d → d ≤ b * f → 1 ≤ b
 some_bus zero f d above within = absurd (omega arith)
 some_bus (suc b) f d above within = omega arith
 
-pub own_matches : (e : TableRecord) (row : GroupRow) (rows : List OutputRow) (t : GroupTable) (g : DueGroup) → FewestCarry → IsOwnGroup e row rows t g → Matches g (stated_of e.sources row t)
+pub own_matches : (e : TableRecord) (row : GroupRow) (rows : List OutputRow) (t : GroupTable) (g : DueGroup) → FewestCarry → IsOwnGroup e row rows t g → Matches e.version g (stated_of e.version e.sources row t)
 own_matches e row rows t g law o =
     let s = same_outputs e row rows t g o in
-    let many = counts e rows t g s in
+    let many = counts e row.rate rows t g s in
     let bound = own_bound e row rows t g law o in
     record {
       fits = own_fits e row rows t g law o;
       checked = record {
         name = sym o.named;
+        rate = ap (λ (rate : ℕ). said_in e.version rate) (sym o.rated);
         greatest = bound.frame;
         some_bus = some_bus (buses_of t) (frame_of t) (sum t.demands) bound.above bound.within;
         few_buses = o.planned.few_buses;
-        count = omega (arith, length-map (order_of t) (listing_of e.sources t), length-order e rows t o.planned, many.0, many.1);
+        count = omega (arith, length-map (order_of t) (listing_of e.version e.sources t), length-order e row.rate rows t o.planned, many.0, many.1);
         placed = own_placed e row rows t g law o;
         once = own_once e row rows t g o;
         apart = own_apart e row rows t g o;

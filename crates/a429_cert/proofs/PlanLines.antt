@@ -1,7 +1,7 @@
 -- The lines that a plan's outputs are written with.
 use Rattle.std.proofs.Common.{◌≡◌, ℕ, zero, suc, ◌+◌, ◌<◌, ◌≤◌, List, [], ◌∷◌, ◌++◌, length, get_or, map, take, drop, Option, Some, refl, sym, ap, subst, ◌∙◌, arith, append_assoc}
 use Rattle.std.specs.Prelude.{slice_get, option_map}
-use Rattle.std.specs.List.{AllByRecursion, AllZip, flat_map}
+use Rattle.std.specs.List.{AllByRecursion, AllZip, flat_map, zip}
 use Rattle.std.specs.Option.{option_map_or}
 use Rattle.std.proofs.lemmas.List.{take_all, length-take, take_more, drop_more, map-append, flat_map_more}
 use Rattle.std.proofs.lemmas.List.Concat.{flat_map-cons}
@@ -12,8 +12,9 @@ use Rattle.a429_equipment.specs.declared.rows.SourceRow.{SourceRow}
 use Rattle.a429_equipment.specs.Sound.{IsSound}
 use Rattle.a429_equipment.specs.TableRecord.{TableRecord}
 use Rattle.a429_slots.specs.declared.group_plan.SlotPlace.{SlotPlace}
-use Rattle.a429_slots.specs.Tables.{Placed, GroupTable, PlanTable, placed_at, outputs_of, order_of, place_of, source_of, groups_of}
-use Rattle.a429_slots.specs.Planned.{IsServed, IsPlannedFor, IsPlanOf}
+use Rattle.a429_slots.specs.declared.group_plan.SendLimits.{SendLimits}
+use Rattle.a429_slots.specs.Tables.{Placed, GroupTable, PlanTable, placed_at, outputs_of, order_of, place_of, source_of, limits_of, groups_of}
+use Rattle.a429_slots.specs.Planned.{IsServed, IsPlannedAt, IsPlanOf}
 use Rattle.a429_cert.specs.Spelling.{Listing, output_text}
 use Rattle.a429_cert.specs.Checked.{Stated, stated_text}
 use Rattle.a429_cert.specs.PlanText.{source_name, placed_listing, listing_of, stated_of, stated_groups}
@@ -26,14 +27,18 @@ output_is t o below =
     let d : Placed = placed_at t 0 in
     slice_get-get_or (outputs_of t) o d below ∙ ap (λ (p : Placed). Some p) (output_at t o d (omega (arith, length-outputs t)))
 
-pub listing_is : (sources : List SourceRow) (t : GroupTable) (o n : ℕ) (place : SlotPlace) (row : SourceRow) → o < length (outputs_of t) → place_of t o ≡ Some place → source_of t o ≡ Some n → slice_get sources n ≡ Some row
-    → placed_listing row.name place ≡ listing_of sources t o
-listing_is sources t o n place row below at from there =
+pub listing_is : (version : ℕ) (sources : List SourceRow) (t : GroupTable) (o n : ℕ) (place : SlotPlace) (hold : Option ℕ) (row : SourceRow) → o < length (outputs_of t) → place_of t o ≡ Some place
+    → source_of t o ≡ Some n → option_map (λ l. l.hold) (limits_of t o) ≡ Some hold → slice_get sources n ≡ Some row
+    → placed_listing version row.name place hold ≡ listing_of version sources t o
+listing_is version sources t o n place hold row below at from limited there =
     let is = output_is t o below in
     let placed : (placed_at t o).place ≡ place = same_Some _ _ (sym (ap (option_map (λ (p : Placed). p.place)) is) ∙ at) in
     let source : (placed_at t o).source ≡ n = same_Some _ _ (sym (ap (option_map (λ (p : Placed). p.source)) is) ∙ from) in
     let named : source_name sources (placed_at t o).source ≡ row.name = ap (source_name sources) source ∙ ap (λ (r : Option SourceRow). option_map_or (λ (s : SourceRow). s.name) r []) there in
-    ap (λ (p : SlotPlace). placed_listing row.name p) (sym placed) ∙ ap (λ (w : List ℕ). placed_listing w (placed_at t o).place) (sym named)
+    let held : (placed_at t o).limits.hold ≡ hold = same_Some _ _ (sym (ap (λ (p : Option Placed). option_map (λ (l : SendLimits). l.hold) (option_map (λ (p : Placed). p.limits) p)) is) ∙ limited) in
+    ap (λ (p : SlotPlace). placed_listing version row.name p hold) (sym placed)
+    ∙ ap (λ (w : List ℕ). placed_listing version w (placed_at t o).place hold) (sym named)
+    ∙ ap (λ (h : Option ℕ). placed_listing version (source_name sources (placed_at t o).source) (placed_at t o).place h) (sym held)
 
 -- ---- one more of a list
 
@@ -65,24 +70,25 @@ known_sources n rate [] (p ∷ ps) served known = absurd served
 known_sources n rate (r ∷ rows) [] served known = absurd served
 known_sources n rate (r ∷ rows) (p ∷ ps) served known = (omega (arith, served.0.0, known.0), known_sources n rate rows ps served.1 known.1)
 
-pub known_in_group : (n rate i : ℕ) (sources : List SourceRow) (rowss : List (List OutputRow)) (ts : List GroupTable) (t : GroupTable) → AllZip (IsPlannedFor rate sources) rowss ts → AllByRecursion (AllByRecursion (λ o. o.source < n)) rowss → slice_get ts i ≡ Some t
-    → AllByRecursion (λ p. p.source < n) (outputs_of t)
-known_in_group n rate i sources rowss [] t planned known e = absurd cc
-known_in_group n rate i sources [] (u ∷ ts) t planned known e = absurd planned
-known_in_group n rate zero sources (rows ∷ rowss) (u ∷ ts) t planned known e =
+pub known_in_group : (n i : ℕ) (sources : List SourceRow) (rates : List ℕ) (rowss : List (List OutputRow)) (ts : List GroupTable) (t : GroupTable) → AllZip (IsPlannedAt sources) (zip rates rowss) ts
+    → AllByRecursion (AllByRecursion (λ o. o.source < n)) rowss → slice_get ts i ≡ Some t → AllByRecursion (λ p. p.source < n) (outputs_of t)
+known_in_group n i sources rates rowss [] t planned known e = absurd cc
+known_in_group n i sources [] rowss (u ∷ ts) t planned known e = absurd planned
+known_in_group n i sources (rate ∷ rates) [] (u ∷ ts) t planned known e = absurd planned
+known_in_group n zero sources (rate ∷ rates) (rows ∷ rowss) (u ∷ ts) t planned known e =
     let same : u ≡ t = cc in
     subst (λ (v : GroupTable). AllByRecursion (λ p. p.source < n) (outputs_of v)) same (known_sources n rate rows (outputs_of u) planned.0.served known.0)
-known_in_group n rate (suc i) sources (rows ∷ rowss) (u ∷ ts) t planned known e = known_in_group n rate i sources rowss ts t planned.1 known.1 e
+known_in_group n (suc i) sources (rate ∷ rates) (rows ∷ rowss) (u ∷ ts) t planned known e = known_in_group n i sources rates rowss ts t planned.1 known.1 e
 
 -- one more group is written
-pub groups_more : (sources : List SourceRow) (groups : List GroupRow) (ts : List GroupTable) (i : ℕ) (row : GroupRow) (t : GroupTable) (text new whole : List ℕ) → slice_get groups i ≡ Some row → slice_get ts i ≡ Some t
-    → text ++ flat_map stated_text (stated_groups sources (drop i groups) (drop i ts)) ≡ whole → new ≡ text ++ stated_text (stated_of sources row t)
-    → new ++ flat_map stated_text (stated_groups sources (drop (i + 1) groups) (drop (i + 1) ts)) ≡ whole
-groups_more sources groups ts i row t text new whole here there so now =
-    let left : stated_groups sources (drop i groups) (drop i ts) ≡ stated_of sources row t ∷ stated_groups sources (drop (i + 1) groups) (drop (i + 1) ts) = rw (left_from groups i row here, left_from ts i t there) refl in
-    ap (λ (x : List ℕ). x ++ flat_map stated_text (stated_groups sources (drop (i + 1) groups) (drop (i + 1) ts))) now
-    ∙ append_assoc text (stated_text (stated_of sources row t)) (flat_map stated_text (stated_groups sources (drop (i + 1) groups) (drop (i + 1) ts)))
-    ∙ ap (λ (x : List ℕ). text ++ x) (sym (flat_map-cons stated_text (stated_of sources row t) (stated_groups sources (drop (i + 1) groups) (drop (i + 1) ts))))
+pub groups_more : (version : ℕ) (sources : List SourceRow) (groups : List GroupRow) (ts : List GroupTable) (i : ℕ) (row : GroupRow) (t : GroupTable) (text new whole : List ℕ) → slice_get groups i ≡ Some row → slice_get ts i ≡ Some t
+    → text ++ flat_map stated_text (stated_groups version sources (drop i groups) (drop i ts)) ≡ whole → new ≡ text ++ stated_text (stated_of version sources row t)
+    → new ++ flat_map stated_text (stated_groups version sources (drop (i + 1) groups) (drop (i + 1) ts)) ≡ whole
+groups_more version sources groups ts i row t text new whole here there so now =
+    let left : stated_groups version sources (drop i groups) (drop i ts) ≡ stated_of version sources row t ∷ stated_groups version sources (drop (i + 1) groups) (drop (i + 1) ts) = rw (left_from groups i row here, left_from ts i t there) refl in
+    ap (λ (x : List ℕ). x ++ flat_map stated_text (stated_groups version sources (drop (i + 1) groups) (drop (i + 1) ts))) now
+    ∙ append_assoc text (stated_text (stated_of version sources row t)) (flat_map stated_text (stated_groups version sources (drop (i + 1) groups) (drop (i + 1) ts)))
+    ∙ ap (λ (x : List ℕ). text ++ x) (sym (flat_map-cons stated_text (stated_of version sources row t) (stated_groups version sources (drop (i + 1) groups) (drop (i + 1) ts))))
     ∙ ap (λ (ss : List Stated). text ++ flat_map stated_text ss) (sym left) ∙ so
 
 -- ---- what is read
@@ -95,4 +101,5 @@ pub order_whole : (t : GroupTable) (k : ℕ) → length (outputs_of t) ≤ k →
 order_whole t k past = take_all k (order_of t) (omega (arith, length-take (length t.demands) t.order, length-outputs t))
 
 pub plan_known : (e : TableRecord) (p : PlanTable) (i : ℕ) (t : GroupTable) → IsSound e → IsPlanOf e p → slice_get (groups_of p) i ≡ Some t → AllByRecursion (λ o. o.source < length e.sources) (outputs_of t)
-plan_known e p i t sound planned there = known_in_group (length e.sources) e.rate i e.sources e.outputs (groups_of p) t planned.groups sound.known_sources there
+plan_known e p i t sound planned there =
+    known_in_group (length e.sources) i e.sources (map (λ (g : GroupRow). g.rate) e.groups) e.outputs (groups_of p) t planned.groups sound.known_sources there

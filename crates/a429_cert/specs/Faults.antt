@@ -1,5 +1,5 @@
 -- Why the lines of a plan text are refused.
-use Rattle.std.specs.Prelude.{◌≡◌, ℕ, zero, suc, ◌+◌, ◌-◌, ◌*◌, ◌/◌, ◌%◌, ◌^◌, ◌<◌, min, max, List, [], ◌∷◌, ◌++◌, take, drop, length, Option, Some, None, option_map, unwrap_or, is_none, Bool, not, ◌==◌, ◌&&◌, ◌||◌, nat_lt, nat_le, if◌then◌else◌, find, fold, Result, Ok, Err, MatchResult}
+use Rattle.std.specs.Prelude.{◌≡◌, ℕ, zero, suc, ◌+◌, ◌-◌, ◌*◌, ◌/◌, ◌%◌, ◌^◌, ◌<◌, min, max, List, [], ◌∷◌, ◌++◌, take, drop, length, Option, Some, None, option_map, option_and_then, unwrap_or, is_none, Bool, true, false, not, ◌==◌, ◌&&◌, ◌||◌, nat_lt, nat_le, if◌then◌else◌, find, fold, Result, Ok, Err, MatchResult}
 use Rattle.std.specs.List.{list_any, sum_by, filter_map, All}
 use Rattle.std.specs.Str.{bytes_eq}
 use Rattle.a429_cert.specs.declared.verdicts.Reason.{Reason}
@@ -7,11 +7,12 @@ use Rattle.a429_cert.specs.declared.verdicts.Reason.TheVariants as reasons
 use Rattle.a429_cert.specs.declared.verdicts.No.{No}
 use Rattle.a429_cert.specs.declared.stops.Stop.{Stop}
 use Rattle.a429_cert.specs.declared.stops.Stop.TheVariants as stops
+use Rattle.a429_cert.specs.declared.due.DueOutput.{DueOutput}
 use Rattle.a429_cert.specs.declared.due.DueGroup.{DueGroup}
 use Rattle.a429_cert.specs.declared.due.DueTable.{DueTable}
 use Rattle.a429_cert.specs.Spelling.{Listing, Bounding}
-use Rattle.a429_cert.specs.Reading.{is_plan_line, rate_line, group_line, output_line, bound_line}
-use Rattle.a429_cert.specs.Lines.{line_at}
+use Rattle.a429_cert.specs.Reading.{plan_line, rate_line, group_line, output_line, bound_line}
+use Rattle.a429_cert.specs.Lines.{line_at, lines_of_groups}
 
 -- ---- a group of the table
 
@@ -32,9 +33,17 @@ pub record IsModest (g : DueGroup) : Type 0 where
   pub frame_fits : frame g < 2 ^ 32
   pub demand_fits : demand g < 2 ^ 64
 
--- the grid period of the output with this source
+-- the output with this source
+abbrev pub output_of : DueGroup → List ℕ → Option DueOutput
+output_of g source = find (λ o. bytes_eq o.source source) g.outputs.items
+
+-- its grid period
 abbrev pub period_of : DueGroup → List ℕ → Option ℕ
-period_of g source = option_map (λ o. o.period) (find (λ o. bytes_eq o.source source) g.outputs.items)
+period_of g source = option_map (λ o. o.period) (output_of g source)
+
+-- its hold; none where there is no limit
+abbrev pub hold_of : DueGroup → List ℕ → Option ℕ
+hold_of g source = option_and_then (λ o. o.hold) (output_of g source)
 
 -- how many lines are due for groups
 abbrev pub due : List DueGroup → ℕ
@@ -52,15 +61,22 @@ abbrev pub of_form : {A : Type 0} → Option A → (A → List (Bool × Reason))
 of_form None reasons_of = Some reasons.Form
 of_form (Some said) reasons_of = first_reason (reasons_of said)
 
-unfoldable pub plan_fault : List ℕ → Option Reason
-plan_fault line = if is_plan_line line then None else Some reasons.Form
+-- the form of a text is that of its version
+unfoldable pub plan_fault : ℕ → List ℕ → Option Reason
+plan_fault version line = of_form (plan_line line) (λ said. (not (said == version), reasons.Form) ∷ [])
 
-unfoldable pub rate_fault : DueTable → List ℕ → Option Reason
-rate_fault t line = of_form (rate_line line) (λ rate. (not (rate == t.rate), reasons.Rate) ∷ [])
+unfoldable pub rate_fault : ℕ → List ℕ → Option Reason
+rate_fault rate line = of_form (rate_line line) (λ said. (not (said == rate), reasons.Rate) ∷ [])
 
-unfoldable pub group_fault : DueGroup → List ℕ → Option Reason
-group_fault g line = of_form (group_line line) (λ said.
-    (not (bytes_eq said.name g.name), reasons.Group)
+-- a rate is said, and it is not this one
+abbrev pub says_other_rate : Option ℕ → ℕ → Bool
+says_other_rate None rate = false
+says_other_rate (Some said) rate = not (said == rate)
+
+unfoldable pub group_fault : ℕ → DueGroup → List ℕ → Option Reason
+group_fault version g line = of_form (group_line version line) (λ said.
+    (says_other_rate said.rate g.rate, reasons.Rate)
+    ∷ (not (bytes_eq said.name g.name), reasons.Group)
     ∷ (not (said.frame == frame g), reasons.Frame)
     ∷ ((said.buses == 0) || nat_lt 16 said.buses, reasons.Buses)
     ∷ [])
@@ -75,12 +91,24 @@ shares l e = (l.bus == e.bus) && (l.offset % min l.period e.period == e.offset %
 abbrev pub has_bad_place : ℕ → Listing → Bool
 has_bad_place buses l = nat_le buses l.bus || nat_le l.period l.offset
 
-unfoldable pub output_fault : DueGroup → ℕ → List Listing → List ℕ → Option Reason
-output_fault g buses earlier line = of_form (output_line line) (λ said.
+-- both are none, or the same number
+abbrev pub same_limit : Option ℕ → Option ℕ → Bool
+same_limit None None = true
+same_limit (Some m) (Some n) = m == n
+same_limit _ _ = false
+
+-- a hold is said, and it is not this one
+abbrev pub says_other_hold : Option (Option ℕ) → Option ℕ → Bool
+says_other_hold None hold = false
+says_other_hold (Some said) hold = not (same_limit said hold)
+
+unfoldable pub output_fault : ℕ → DueGroup → ℕ → List Listing → List ℕ → Option Reason
+output_fault version g buses earlier line = of_form (output_line version line) (λ said.
     (is_none (period_of g said.source) || is_listed earlier said.source, reasons.Output)
     ∷ (not (said.period == unwrap_or (period_of g said.source) 0), reasons.Period)
     ∷ (has_bad_place buses said, reasons.Place)
     ∷ (list_any (shares said) earlier, reasons.Shared)
+    ∷ (says_other_hold said.hold (hold_of g said.source), reasons.Hold)
     ∷ [])
 
 -- the group's demand needs more than the full buses that the line states, and no more than all buses
@@ -99,34 +127,44 @@ end_fault (line ∷ lines) = Some reasons.Form
 -- ---- the lines of a group
 
 -- how many buses a group's first line states
-unfoldable pub buses_of : List ℕ → ℕ
-buses_of line = unwrap_or (option_map (λ said. said.buses) (group_line line)) 0
+unfoldable pub buses_of : ℕ → List ℕ → ℕ
+buses_of version line = unwrap_or (option_map (λ said. said.buses) (group_line version line)) 0
 
 -- for each of so many lines of outputs from line j on, what is wrong with it, by the lines before it
-abbrev pub output_faults : DueGroup → ℕ → List (List ℕ) → ℕ → ℕ → List (Option Reason)
-output_faults g buses lines j zero = []
-output_faults g buses lines j (suc count) = output_fault g buses (filter_map output_line (take j lines)) (line_at lines j) ∷ output_faults g buses lines (j + 1) count
+abbrev pub output_faults : ℕ → DueGroup → ℕ → List (List ℕ) → ℕ → ℕ → List (Option Reason)
+output_faults version g buses lines j zero = []
+output_faults version g buses lines j (suc count) =
+    output_fault version g buses (filter_map (output_line version) (take j lines)) (line_at lines j)
+    ∷ output_faults version g buses lines (j + 1) count
 
 -- for each line of a group's outputs, what is wrong with it
-abbrev pub all_output_faults : DueGroup → ℕ → List (List ℕ) → List (Option Reason)
-all_output_faults g buses lines = output_faults g buses lines 0 (length g.outputs.items)
+abbrev pub all_output_faults : ℕ → DueGroup → ℕ → List (List ℕ) → List (Option Reason)
+all_output_faults version g buses lines = output_faults version g buses lines 0 (length g.outputs.items)
 
 -- for each line of a group, what is wrong with it
-abbrev pub group_faults : DueGroup → List (List ℕ) → List (Option Reason)
-group_faults g lines =
-    let buses = buses_of (line_at lines 0) in
-    group_fault g (line_at lines 0)
-    ∷ (all_output_faults g buses (drop 1 lines)
+abbrev pub group_faults : ℕ → DueGroup → List (List ℕ) → List (Option Reason)
+group_faults version g lines =
+    let buses = buses_of version (line_at lines 0) in
+    group_fault version g (line_at lines 0)
+    ∷ (all_output_faults version g buses (drop 1 lines)
     ++ bound_fault g buses (line_at lines (length g.outputs.items + 1)) ∷ [])
 
 -- the same group by group; nothing may stand behind the last
-abbrev pub groups_faults : List DueGroup → List (List ℕ) → List (Option Reason)
-groups_faults [] lines = end_fault lines ∷ []
-groups_faults (g ∷ gs) lines = group_faults g lines ++ groups_faults gs (drop (length g.outputs.items + 2) lines)
+abbrev pub groups_faults : ℕ → List DueGroup → List (List ℕ) → List (Option Reason)
+groups_faults version [] lines = end_fault lines ∷ []
+groups_faults version (g ∷ gs) lines = group_faults version g lines ++ groups_faults version gs (drop (length g.outputs.items + 2) lines)
+
+-- the line of the rate of all groups is due where the table has one
+abbrev pub rate_faults : Option ℕ → List ℕ → List (Option Reason)
+rate_faults None line = []
+rate_faults (Some rate) line = rate_fault rate line ∷ []
 
 -- for each line that is due, what is wrong with it
 abbrev pub faults : DueTable → List (List ℕ) → List (Option Reason)
-faults t lines = plan_fault (line_at lines 0) ∷ rate_fault t (line_at lines 1) ∷ groups_faults t.groups.items (drop 2 lines)
+faults t lines =
+    plan_fault t.version (line_at lines 0)
+    ∷ (rate_faults t.rate (line_at lines 1)
+    ++ groups_faults t.version t.groups.items (lines_of_groups t.rate lines))
 
 -- ---- the answer
 

@@ -14,7 +14,7 @@ use Rattle.a429_cert.specs.declared.judging.NoVerdict.TheVariants as judge
 use Rattle.a429_cert.specs.declared.checking.CheckFault.{CheckFault}
 use Rattle.a429_cert.specs.declared.checking.CheckFault.TheVariants as check
 use Rattle.a429_cert.specs.Due.{IsDue, IsFirstUnfitOf}
-use Rattle.a429_cert.specs.Lines.{lines_of}
+use Rattle.a429_cert.specs.Lines.{lines_of, lines_of_groups}
 use Rattle.a429_cert.specs.Faults.{frame}
 use Rattle.a429_cert.specs.Checked.{StatesPlan}
 
@@ -23,18 +23,18 @@ abbrev pub periods_of : DueGroup → List ℕ
 periods_of g = map (λ o. o.period) g.outputs.items
 
 -- the lines of a group state a checked plan, and no schedule that serves the group has fewer buses than they state
-pub record StatesFewest (g : DueGroup) (lines : List (List ℕ)) : Type 0 where
-  pub plan : StatesPlan g lines
+pub record StatesFewest (version : ℕ) (g : DueGroup) (lines : List (List ℕ)) : Type 0 where
+  pub plan : StatesPlan version g lines
   pub fewest : IsFewest (frame g) (periods_of g) plan.stated.heading.buses
 
 -- the same group by group, and nothing stands behind the last
-abbrev pub StateFewest : List DueGroup → List (List ℕ) → Type 0
-StateFewest [] lines = lines ≡ []
-StateFewest (g ∷ gs) lines = StatesFewest g lines × StateFewest gs (drop (length g.outputs.items + 2) lines)
+abbrev pub StateFewest : ℕ → List DueGroup → List (List ℕ) → Type 0
+StateFewest version [] lines = lines ≡ []
+StateFewest version (g ∷ gs) lines = StatesFewest version g lines × StateFewest version gs (drop (length g.outputs.items + 2) lines)
 
--- behind its first two lines a text states for each group a checked plan on the fewest buses, and nothing else
+-- from the first group on a text states for each group a checked plan on the fewest buses, and nothing else
 abbrev pub ShowsFewest : DueTable → List ℕ → Type 0
-ShowsFewest t text = StateFewest t.groups.items (drop 2 (lines_of text))
+ShowsFewest t text = StateFewest t.version t.groups.items (lines_of_groups t.rate (lines_of text))
 
 -- the bytes state a table, and the text shows the fewest buses of what the table asks
 abbrev pub ShowsFewestOfBytes : List ℕ → List ℕ → Type 0
@@ -46,10 +46,11 @@ abbrev pub IsNoVerdict : TableRecord → NoVerdict → Type 0
 IsNoVerdict e (judge.Unfit g o) = IsFirstUnfitOf e g o
 IsNoVerdict e judge.NoMemory = ⊤
 
--- the same of an output of group g alone
-abbrev pub IsGroupUnfit : TableRecord → ℕ → NoVerdict → Type 0
-IsGroupUnfit e g (judge.Unfit group o) = (group ≡ g) × ((rows : List OutputRow) × (slice_get e.outputs g ≡ Some rows) × IsFirstUnfit e.rate rows o)
-IsGroupUnfit e g judge.NoMemory = ⊤
+-- the same of an output of group g alone, at this rate
+abbrev pub IsGroupUnfit : TableRecord → ℕ → ℕ → NoVerdict → Type 0
+IsGroupUnfit e rate g (judge.Unfit group o) =
+    (group ≡ g) × ((rows : List OutputRow) × (slice_get e.outputs g ≡ Some rows) × IsFirstUnfit rate rows o)
+IsGroupUnfit e rate g judge.NoMemory = ⊤
 
 -- want of memory in reading a table is the check's own
 abbrev pub of_table : TableFault → CheckFault

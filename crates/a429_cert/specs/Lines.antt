@@ -1,5 +1,5 @@
 -- The lines of a text.
-use Rattle.std.specs.Prelude.{ℕ, ◌+◌, List, [], ◌∷◌, ◌==◌, if◌then◌else◌, slice_index_or, length, Option, Some, None, position}
+use Rattle.std.specs.Prelude.{ℕ, ◌+◌, List, [], ◌∷◌, ◌==◌, if◌then◌else◌, slice_index_or, length, drop, Option, Some, None, position}
 use Rattle.std.specs.List.{onto_first}
 
 -- each line with its line feed; bytes after the last line feed are a line too
@@ -10,6 +10,11 @@ lines_of (b ∷ bs) = if b == 10 then (b ∷ []) ∷ lines_of bs else onto_first
 -- the n-th line from 0; an absent line has no byte
 abbrev pub line_at : List (List ℕ) → ℕ → List ℕ
 line_at lines n = slice_index_or lines n []
+
+-- the lines from the first group on: behind the line of the version, and behind that of the rate where all groups have one
+abbrev pub lines_of_groups : Option ℕ → List (List ℕ) → List (List ℕ)
+lines_of_groups None lines = drop 1 lines
+lines_of_groups (Some rate) lines = drop 2 lines
 
 abbrev pub after_place : Option ℕ → ℕ → ℕ
 after_place None n = n

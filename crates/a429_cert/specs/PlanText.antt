@@ -1,5 +1,5 @@
--- The text of a plan: what its lines state (profile: plan text, version 1).
-use Rattle.std.specs.Prelude.{ℕ, ◌-◌, ◌^◌, ◌<◌, List, [], ◌∷◌, ◌++◌, length, map, slice_get, sum}
+-- The text of a plan: what its lines state (profile: plan text, in the version of the equipment table).
+use Rattle.std.specs.Prelude.{ℕ, ◌-◌, ◌^◌, ◌<◌, List, [], ◌∷◌, ◌++◌, Option, length, map, slice_get, sum}
 use Rattle.std.specs.List.{AllByRecursion, flat_map}
 use Rattle.std.specs.Option.{option_map_or}
 use Rattle.a429_equipment.specs.TableRecord.{TableRecord}
@@ -7,51 +7,59 @@ use Rattle.a429_equipment.specs.declared.rows.GroupRow.{GroupRow}
 use Rattle.a429_equipment.specs.declared.rows.SourceRow.{SourceRow}
 use Rattle.a429_slots.specs.declared.group_plan.SlotPlace.{SlotPlace}
 use Rattle.a429_slots.specs.Tables.{GroupTable, PlanTable, placed_at, outputs_of, order_of, frame_of, buses_of, groups_of}
-use Rattle.a429_cert.specs.Spelling.{Heading, Listing, Bounding, version_text, rate_text, output_text}
+use Rattle.a429_cert.specs.Spelling.{Heading, Listing, Bounding, said_in, version_text, rate_text, output_text}
 use Rattle.a429_cert.specs.Checked.{Stated, stated_text}
 
 -- the name of a source; behind the last source, nothing
 abbrev pub source_name : List SourceRow → ℕ → List ℕ
 source_name sources n = option_map_or (λ s. s.name) (slice_get sources n) []
 
--- the number of slots in a frame, and of buses
-abbrev pub heading_of : List ℕ → GroupTable → Heading
-heading_of name t = record { name = name; frame = frame_of t; buses = buses_of t }
+-- in version 2 its rate in bit/s, and the number of slots in a frame, and of buses
+abbrev pub heading_of : ℕ → GroupRow → GroupTable → Heading
+heading_of version g t = record { name = g.name; rate = said_in version g.rate; frame = frame_of t; buses = buses_of t }
 
--- an output that stands at a place: its period in slots, its bus and its offset
-abbrev pub placed_listing : List ℕ → SlotPlace → Listing
-placed_listing name place = record { source = name; period = 2 ^ place.period; bus = place.bus; offset = place.offset }
+-- an output that stands at a place: its period in slots, its bus and its offset, and in version 2 its hold
+abbrev pub placed_listing : ℕ → List ℕ → SlotPlace → Option ℕ → Listing
+placed_listing version name place hold =
+    record { source = name; period = 2 ^ place.period; bus = place.bus; offset = place.offset; hold = said_in version hold }
 
 -- the source of each output is one of these
 abbrev pub HasSources : List SourceRow → GroupTable → Type 0
 HasSources sources t = AllByRecursion (λ o. o.source < length sources) (outputs_of t)
 
 -- the output of this number
-abbrev pub listing_of : List SourceRow → GroupTable → ℕ → Listing
-listing_of sources t o = placed_listing (source_name sources (placed_at t o).source) (placed_at t o).place
+abbrev pub listing_of : ℕ → List SourceRow → GroupTable → ℕ → Listing
+listing_of version sources t o =
+    let placed = placed_at t o in
+    placed_listing version (source_name sources placed.source) placed.place placed.limits.hold
 
 -- the group's demand, against one bus fewer than it has
 abbrev pub bound_of : GroupTable → Bounding
 bound_of t = record { demand = sum t.demands; full_buses = buses_of t - 1; frame = frame_of t }
 
 -- a group, with its outputs in layout order
-abbrev pub stated_of : List SourceRow → GroupRow → GroupTable → Stated
-stated_of sources g t = record { heading = heading_of g.name t; outputs = map (listing_of sources t) (order_of t); bound = bound_of t }
+abbrev pub stated_of : ℕ → List SourceRow → GroupRow → GroupTable → Stated
+stated_of version sources g t =
+    record { heading = heading_of version g t; outputs = map (listing_of version sources t) (order_of t); bound = bound_of t }
 
 -- each group, in table order
-abbrev pub stated_groups : List SourceRow → List GroupRow → List GroupTable → List Stated
-stated_groups sources [] ts = []
-stated_groups sources (g ∷ gs) [] = []
-stated_groups sources (g ∷ gs) (t ∷ ts) = stated_of sources g t ∷ stated_groups sources gs ts
+abbrev pub stated_groups : ℕ → List SourceRow → List GroupRow → List GroupTable → List Stated
+stated_groups version sources [] ts = []
+stated_groups version sources (g ∷ gs) [] = []
+stated_groups version sources (g ∷ gs) (t ∷ ts) = stated_of version sources g t ∷ stated_groups version sources gs ts
 
 -- the lines of a group's outputs, in layout order
-abbrev pub outputs_text : List SourceRow → GroupTable → List ℕ
-outputs_text sources t = flat_map output_text (map (listing_of sources t) (order_of t))
+abbrev pub outputs_text : ℕ → List SourceRow → GroupTable → List ℕ
+outputs_text version sources t = flat_map output_text (map (listing_of version sources t) (order_of t))
 
 -- the lines of all groups, in table order
 abbrev pub groups_text : TableRecord → PlanTable → List ℕ
-groups_text e p = flat_map stated_text (stated_groups e.sources e.groups (groups_of p))
+groups_text e p = flat_map stated_text (stated_groups e.version e.sources e.groups (groups_of p))
 
--- the version, the rate, then each group: its heading, a line for each output, its bound
+-- the version, and the rate where all groups have one
+abbrev pub head_text : TableRecord → List ℕ
+head_text e = version_text e.version ++ option_map_or rate_text e.rate []
+
+-- and then each group: its heading, a line for each output, its bound
 abbrev pub plan_text_of : TableRecord → PlanTable → List ℕ
-plan_text_of e p = version_text ++ (rate_text e.rate ++ groups_text e p)
+plan_text_of e p = head_text e ++ groups_text e p

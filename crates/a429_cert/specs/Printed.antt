@@ -2,7 +2,7 @@
 use Rattle.std.specs.Prelude.{codes, ℕ, List, ◌++◌}
 use Rattle.std.specs.Fmt.{decimal}
 use Rattle.a429_cert.specs.declared.verdicts.Reason.{Reason}
-use Rattle.a429_cert.specs.declared.verdicts.Reason.TheVariants.{Form, Rate, Group, Frame, Buses, Output, Period, Place, Shared, Bound}
+use Rattle.a429_cert.specs.declared.verdicts.Reason.TheVariants.{Form, Rate, Group, Frame, Buses, Output, Period, Place, Shared, Bound, Hold}
 use Rattle.a429_cert.specs.declared.verdicts.No.{No as Refused}
 use Rattle.a429_cert.specs.declared.verdicts.Verdict.{Verdict}
 use Rattle.a429_cert.specs.declared.verdicts.Verdict.TheVariants.{Fewest, No}
@@ -18,6 +18,7 @@ reason_text Period = codes "period"
 reason_text Place = codes "place"
 reason_text Shared = codes "shared"
 reason_text Bound = codes "bound"
+reason_text Hold = codes "hold"
 
 -- the reason, and the line's number from 1
 abbrev pub no_text : Refused → List ℕ

@@ -4,16 +4,12 @@ use Rattle.std.specs.List.{starts_with, position_or_len, list_all}
 use Rattle.std.specs.Char.{is_ascii_digit}
 use Rattle.std.specs.Str.{bytes_eq}
 use Rattle.std.specs.Str.Parse.{digits_value}
-use Rattle.a429_cert.specs.Spelling as spelled
-use Rattle.a429_cert.specs.Spelling.{Heading, Listing, Bounding, is_break as ends_word}
+use Rattle.a429_cert.specs.Spelling.{Heading, Listing, Bounding, when, says_more, is_break as ends_word}
 
 infixl 10 ◌>>=◌
 abbrev pub ◌>>=◌ : {A B : Type 0} → Option A → (A → Option B) → Option B
 (Some x) >>= f = f x
 None >>= f = None
-
-abbrev pub when : {A : Type 0} → Bool → A → Option A
-when b x = if b then Some x else None
 
 abbrev pub is_break : ℕ → Bool
 is_break = ends_word
@@ -43,31 +39,71 @@ number bytes = do
   n ← value_of w.0
   Some (n, w.1)
 
+-- the limit that a word spells: a number, or that there is no limit
+unfoldable pub limit_of : List ℕ → Option (Option ℕ)
+limit_of w = if bytes_eq w (codes "none") then Some None else (value_of w >>= λ n. Some (Some n))
+
+-- the limit at the front, and the bytes after it
+unfoldable pub limit : List ℕ → Option (Option ℕ × List ℕ)
+limit bytes = do
+  w ← word bytes
+  l ← limit_of w.0
+  Some (l, w.1)
+
 -- the end of a line
 unfoldable pub is_end : List ℕ → Bool
 is_end bytes = bytes_eq bytes (codes "\n")
 
-unfoldable pub is_plan_line : List ℕ → Bool
-is_plan_line line = bytes_eq line spelled.version_text
+-- a number behind a text, and nothing else
+unfoldable pub number_line : List ℕ → List ℕ → Option ℕ
+number_line text line = do
+  rest ← after text line
+  n ← number rest
+  when (is_end n.1) n.0
 
-unfoldable pub rate_line : List ℕ → Option ℕ
-rate_line line = do
-  rest ← after (codes "rate ") line
+abbrev pub plan_line : List ℕ → Option ℕ
+plan_line line = number_line (codes "plan ") line
+
+abbrev pub rate_line : List ℕ → Option ℕ
+rate_line line = number_line (codes "rate ") line
+
+-- ---- what only a text of version 2 says
+
+unfoldable pub said_rate : List ℕ → Option (Option ℕ × List ℕ)
+said_rate bytes = do
+  rest ← after (codes " rate ") bytes
   rate ← number rest
-  when (is_end rate.1) rate.0
+  Some (Some rate.0, rate.1)
 
-unfoldable pub group_line : List ℕ → Option Heading
-group_line line = do
+-- the rate at the front, and the bytes after it
+unfoldable pub rate_part : ℕ → List ℕ → Option (Option ℕ × List ℕ)
+rate_part version bytes = if says_more version then said_rate bytes else Some (None, bytes)
+
+unfoldable pub said_hold : List ℕ → Option (Option (Option ℕ) × List ℕ)
+said_hold bytes = do
+  rest ← after (codes " hold ") bytes
+  hold ← limit rest
+  Some (Some hold.0, hold.1)
+
+-- the hold at the front, and the bytes after it
+unfoldable pub hold_part : ℕ → List ℕ → Option (Option (Option ℕ) × List ℕ)
+hold_part version bytes = if says_more version then said_hold bytes else Some (None, bytes)
+
+-- ---- the lines of a group
+
+unfoldable pub group_line : ℕ → List ℕ → Option Heading
+group_line version line = do
   rest ← after (codes "group ") line
   name ← word rest
-  rest ← after (codes " frame ") name.1
+  rate ← rate_part version name.1
+  rest ← after (codes " frame ") rate.1
   frame ← number rest
   rest ← after (codes " buses ") frame.1
   buses ← number rest
-  when (is_end buses.1) (record { name = name.0; frame = frame.0; buses = buses.0 })
+  when (is_end buses.1) (record { name = name.0; rate = rate.0; frame = frame.0; buses = buses.0 })
 
-unfoldable pub output_line : List ℕ → Option Listing
-output_line line = do
+unfoldable pub output_line : ℕ → List ℕ → Option Listing
+output_line version line = do
   rest ← after (codes "output ") line
   source ← word rest
   rest ← after (codes " period ") source.1
@@ -76,7 +112,8 @@ output_line line = do
   bus ← number rest
   rest ← after (codes " offset ") bus.1
   offset ← number rest
-  when (is_end offset.1) (record { source = source.0; period = period.0; bus = bus.0; offset = offset.0 })
+  hold ← hold_part version offset.1
+  when (is_end hold.1) (record { source = source.0; period = period.0; bus = bus.0; offset = offset.0; hold = hold.0 })
 
 unfoldable pub bound_line : List ℕ → Option Bounding
 bound_line line = do

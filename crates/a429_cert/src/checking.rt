@@ -57,7 +57,7 @@ impl From<NoVerdict> for CheckFault {
 }
 
 /// Checks a plan text against the bytes of an equipment table (profile: plan text and equipment table,
-/// version 1). The table is read first (`Table`), then its first output in table order whose interval
+/// versions 1 and 2). The table is read first (`Table`), then its first output in table order whose interval
 /// admits no grid period is refused (`Unfit`), and then the text is judged as `judge` does.
 pub fn check(alloc: Global, table: &[u8], text: &[u8]) -> Result<Verdict, CheckFault>
     // The first line that fails, with its first reason.

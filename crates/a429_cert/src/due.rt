@@ -1,6 +1,6 @@
 //! What an equipment table asks of the text of its plan.
 
-ghost use Rattle.std.specs.Prelude.{◌<◌, length, IfOk, IfErr};
+ghost use Rattle.std.specs.Prelude.{◌≡◌, ◌<◌, Some, length, IfOk, IfErr};
 ghost use Rattle.a429_equipment.specs.Sound.{IsSound};
 ghost use Rattle.a429_cert.specs.Due.{AreDueOfGroup, IsDue, IsDueOfRow};
 ghost use Rattle.a429_cert.specs.Judged.{IsNoVerdict, IsGroupUnfit};
@@ -10,58 +10,79 @@ use a429_equipment::{Equipment, Name, OutputRow};
 use a429_grid::grid_period;
 use std::alloc::{AllocError, Global};
 
-/// An output: the name of its source, and its grid period in slots.
+/// An output: the name of its source, its grid period in slots, and its hold.
 #[derive(Debug, Drop)]
 pub struct DueOutput {
     pub source: Name,
     pub period: u64,
+    /// How often one accepted word is sent at most; None where there is no limit.
+    pub hold: Option<u64>,
 }
 
-/// A group with its outputs in table order.
+/// A group with its rate, and its outputs in table order.
 #[derive(Debug, Drop)]
 pub struct DueGroup {
     pub name: Name,
+    /// In bit/s.
+    pub rate: u64,
     pub outputs: Vec<DueOutput>,
 }
 
-/// The rate in bit/s, and the groups in table order.
+/// The version of the table, its rate, and the groups in table order.
 #[derive(Debug, Drop)]
 pub struct DueTable {
-    pub rate: u64,
+    /// 1 or 2: that of the text.
+    pub version: u32,
+    /// In bit/s; None in version 2, where each group has its own.
+    pub rate: Option<u64>,
     pub groups: Vec<DueGroup>,
 }
 
-/// What is due of a row; none where its interval admits no grid period.
+/// The same number in 64 bits.
+fn widened(number: Option<u32>) -> Option<u64>
+    ensures { result ≡ number }
+{
+    number.map(u64::from)
+}
+
+/// What is due of a row, at the rate of its group in bit/s; none where its interval admits no grid period.
 fn due_output(
     alloc: Global,
     equipment: &Equipment,
+    rate: u32,
     row: &OutputRow,
 ) -> Result<Option<DueOutput>, AllocError>
     requires { row.now.source < length equipment.now.sources }
-    ensures { IfOk result (IsDueOfRow equipment.now row.now) }
+    ensures { IfOk result (IsDueOfRow equipment.now rate row.now) }
 {
-    let Some(period) = grid_period(row.min_us, row.max_us, equipment.rate()) else {
+    let Some(period) = grid_period(row.min_us, row.max_us, rate) else {
         return Ok(None);
     };
     let source = equipment.sources()[row.source].name.copied(alloc)?;
     let period = u64::from(period.slots());
-    Ok(Some(DueOutput { source, period }))
+    let hold = widened(row.hold);
+    Ok(Some(DueOutput {
+        source,
+        period,
+        hold,
+    }))
 }
 
-/// The outputs of a group; refused is the first whose interval admits no grid period.
+/// The outputs of a group, at this rate in bit/s; refused is the first whose interval admits no grid period.
 fn due_outputs(
     alloc: Global,
     equipment: &Equipment,
+    rate: u32,
     group: usize,
 ) -> Result<Vec<DueOutput>, NoVerdict>
     requires { group < length equipment.now.groups }
-    ensures due { IfOk result (λ outputs. AreDueOfGroup equipment.now group outputs.items) }
-    ensures fault { IfErr result (IsGroupUnfit equipment.now group) }
+    ensures due { IfOk result (λ outputs. AreDueOfGroup equipment.now rate group outputs.items) }
+    ensures fault { IfErr result (IsGroupUnfit equipment.now rate group) }
 {
     let mut outputs = Vec::new(alloc);
     let rows = equipment.outputs(group);
     for (output, row) in rows.iter().enumerate() {
-        match due_output(alloc, equipment, row)? {
+        match due_output(alloc, equipment, rate, row)? {
             Some(due) => outputs.push(due)?,
             None => return Err(NoVerdict::Unfit { group, output }),
         }
@@ -70,19 +91,29 @@ fn due_outputs(
 }
 
 /// What a text has to state; refused is the first output in table order whose interval admits no grid
-/// period (`Unfit`).
+/// period at the rate of its group (`Unfit`).
 pub fn due_of(alloc: Global, equipment: &Equipment) -> Result<DueTable, NoVerdict>
     ensures due { IfOk result (IsDue equipment.now) }
     ensures fault { IfErr result (IsNoVerdict equipment.now) }
     ensures sound { IsSound equipment.now }
 {
-    let rate = u64::from(equipment.rate());
+    let version = equipment.version();
     let mut groups = Vec::new(alloc);
     let rows = equipment.groups();
     for (group, row) in rows.iter().enumerate() {
         let name = row.name.copied(alloc)?;
-        let outputs = due_outputs(alloc, equipment, group)?;
-        groups.push(DueGroup { name, outputs })?;
+        let rate = equipment.group_rate(group);
+        let outputs = due_outputs(alloc, equipment, rate, group)?;
+        let rate = u64::from(rate);
+        groups.push(DueGroup {
+            name,
+            rate,
+            outputs,
+        })?;
     }
-    Ok(DueTable { rate, groups })
+    Ok(DueTable {
+        version,
+        rate: widened(equipment.rate()),
+        groups,
+    })
 }

@@ -4,7 +4,7 @@ ghost use Rattle.std.specs.Prelude.{◌≡◌, ◌≤◌, ◌<◌, ◌+◌, ◌^
 ghost use Rattle.std.specs.List.{sum_by};
 ghost use Rattle.a429_cert.specs.Views.{bounding};
 ghost use Rattle.a429_cert.specs.Lines.{lines_of};
-ghost use Rattle.a429_cert.specs.Faults.{frame, group_fault, bound_fault, HasPeriods, Gives, IsModest, group_faults, first_no, buses_of, bound_holds};
+ghost use Rattle.a429_cert.specs.Faults.{frame, says_other_rate, group_fault, bound_fault, HasPeriods, Gives, IsModest, group_faults, first_no, buses_of, bound_holds};
 
 use crate::due::DueGroup;
 use crate::line::{BoundLine, GroupLine, bound_line, group_line};
@@ -37,15 +37,29 @@ fn demand(group: &DueGroup, frame: u64) -> u64
         .sum()
 }
 
+/// Whether a line says another rate than this.
+fn says_other_rate(said: Option<u64>, rate: u64) -> bool
+    ensures { result ≡ says_other_rate said rate }
+{
+    said.is_some_and(|said| said != rate)
+}
+
 /// What a group's first line says, or the first reason against it.
 #[tactic(auto, unfolding(crate::specs::Faults::group_fault, crate::specs::Faults::buses_of))]
-fn checked_group<'a>(group: &DueGroup, line: &'a [u8]) -> Result<GroupLine<'a>, Reason>
-    ensures fault { MatchResult result (λ _. group_fault group.now line.now ≡ None) (λ r. group_fault group.now line.now ≡ Some r) }
-    ensures says { MatchResult result (λ l. (l.buses ≡ buses_of line.now) × (1 ≤ l.buses) × (l.buses ≤ 16)) (λ _. Unit {0}) }
+fn checked_group<'a>(
+    version: u32,
+    group: &DueGroup,
+    line: &'a [u8],
+) -> Result<GroupLine<'a>, Reason>
+    ensures fault { MatchResult result (λ _. group_fault version group.now line.now ≡ None) (λ r. group_fault version group.now line.now ≡ Some r) }
+    ensures says { MatchResult result (λ l. (l.buses ≡ buses_of version line.now) × (1 ≤ l.buses) × (l.buses ≤ 16)) (λ _. Unit {0}) }
 {
-    let Some(said) = group_line(line) else {
+    let Some(said) = group_line(version, line) else {
         return Err(Reason::Form);
     };
+    if says_other_rate(said.rate, group.rate) {
+        return Err(Reason::Rate);
+    }
     if said.name != group.name.as_str().as_bytes() {
         return Err(Reason::Group);
     }
@@ -93,17 +107,18 @@ fn checked_bound(group: &DueGroup, buses: u64, line: &[u8]) -> Result<(), Reason
 /// Checks the lines of a group, the first of which has this number.
 pub fn check_group(
     alloc: Global,
+    version: u32,
     group: &DueGroup,
     number: usize,
     lines: &mut Lines<'_>,
 ) -> Result<(), Stop>
     requires modest { IsModest group.now }
     requires fits { number + length group.now.outputs.items + 2 < 2 ^ 64 }
-    ensures answer { Gives result (first_no number (group_faults group.now (lines_of lines.old.rest.now))) }
+    ensures answer { Gives result (first_no number (group_faults version group.now (lines_of lines.old.rest.now))) }
     ensures rest { OnOk result (lines_of lines.new.rest.now ≡ drop (length group.now.outputs.items + 2) (lines_of lines.old.rest.now)) }
 {
-    let buses = numbered(number, checked_group(group, lines.next_line()))?.buses;
-    check_outputs(alloc, group, buses, number + 1, lines)?;
+    let buses = numbered(number, checked_group(version, group, lines.next_line()))?.buses;
+    check_outputs(alloc, version, group, buses, number + 1, lines)?;
     let last = number + group.outputs.len() + 1;
     numbered(last, checked_bound(group, buses, lines.next_line()))
 }

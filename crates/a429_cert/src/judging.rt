@@ -48,10 +48,10 @@ impl<T: Drop> From<AllocFailed<T>> for NoVerdict {
     }
 }
 
-/// Judges a plan text by an equipment (profile: plan text, version 1). The text is walked line by line
-/// against the table; the verdict is the first line that fails, counted from 1, with the first reason
-/// that fits it, else `Fewest`. Before that the first output in table order whose interval admits no
-/// grid period is refused (`Unfit`).
+/// Judges a plan text by an equipment (profile: plan text, in the version of the equipment table). The text
+/// is walked line by line against the table; the verdict is the first line that fails, counted from 1, with
+/// the first reason that fits it, else `Fewest`. Before that the first output in table order whose interval
+/// admits no grid period at the rate of its group is refused (`Unfit`).
 pub fn judge(alloc: Global, equipment: &Equipment, text: &[u8]) -> Result<Verdict, NoVerdict>
     // The first line that fails, with its first reason.
     ensures answer { IfOk result (λ v. (t : Due) × IsDue equipment.now t × (v ≡ verdict t text.now)) }

@@ -7,30 +7,36 @@ ghost use Rattle.a429_slots.specs.Tables.{PlanTable};
 ghost use Rattle.a429_slots.specs.Planned.{IsPlanOf};
 ghost use Rattle.a429_cert.specs.declared.verdicts.Verdict.TheVariants.{Fewest};
 ghost use Rattle.a429_cert.specs.declared.due.DueTable.{DueTable};
-ghost use Rattle.a429_cert.specs.Spelling.{Heading, Listing, Bounding, rate_text, group_text, output_text, bound_text, IsShort, FitsHeading, FitsListing, FitsBounding};
-ghost use Rattle.a429_cert.specs.Reading.{rate_line, group_line, output_line, bound_line};
+ghost use Rattle.a429_cert.specs.Spelling.{Heading, Listing, Bounding, version_text, rate_text, group_text, output_text, bound_text, IsShort, FitsHeading, FitsListing, FitsBounding};
+ghost use Rattle.a429_cert.specs.Reading.{plan_line, rate_line, group_line, output_line, bound_line};
 ghost use Rattle.a429_cert.specs.Due.{IsDue};
 ghost use Rattle.a429_cert.specs.PlanText.{plan_text_of};
 ghost use Rattle.a429_cert.specs.Verdicts.{verdict};
 
 use a429_pack::laws::fewest_by_demand;
 
-/// A rate line that is read is spelled so, and one that is spelled so is read (profile: plan text, version 1).
+/// A first line that is read is spelled so, and one that is spelled so is read (profile: plan text).
+pub fn plan_lines()
+    ensures found { (line : List ℕ) (version : ℕ) → plan_line line ≡ Some version → (line ≡ version_text version) × IsShort version }
+    ensures only { (version : ℕ) → IsShort version → plan_line (version_text version) ≡ Some version }
+{}
+
+/// The same of the rate line of version 1.
 pub fn rate_lines()
     ensures found { (line : List ℕ) (rate : ℕ) → rate_line line ≡ Some rate → (line ≡ rate_text rate) × IsShort rate }
     ensures only { (rate : ℕ) → IsShort rate → rate_line (rate_text rate) ≡ Some rate }
 {}
 
-/// The same of a group's first line.
+/// The same of a group's first line, in each version.
 pub fn group_lines()
-    ensures found { (line : List ℕ) (h : Heading) → group_line line ≡ Some h → (line ≡ group_text h) × FitsHeading h }
-    ensures only { (h : Heading) → FitsHeading h → group_line (group_text h) ≡ Some h }
+    ensures found { (version : ℕ) (line : List ℕ) (h : Heading) → group_line version line ≡ Some h → (line ≡ group_text h) × FitsHeading version h }
+    ensures only { (version : ℕ) (h : Heading) → FitsHeading version h → group_line version (group_text h) ≡ Some h }
 {}
 
-/// The same of the line of an output.
+/// The same of the line of an output, in each version.
 pub fn output_lines()
-    ensures found { (line : List ℕ) (l : Listing) → output_line line ≡ Some l → (line ≡ output_text l) × FitsListing l }
-    ensures only { (l : Listing) → FitsListing l → output_line (output_text l) ≡ Some l }
+    ensures found { (version : ℕ) (line : List ℕ) (l : Listing) → output_line version line ≡ Some l → (line ≡ output_text l) × FitsListing version l }
+    ensures only { (version : ℕ) (l : Listing) → FitsListing version l → output_line version (output_text l) ≡ Some l }
 {}
 
 /// The same of a group's last line.

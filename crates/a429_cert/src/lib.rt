@@ -1,4 +1,4 @@
-//! The text of a plan, and the check of any text against an equipment table (profile: plan text, version 1).
+//! The text of a plan, and the check of any text against an equipment table (profile: plan text).
 #![tactic(auto)]
 
 mod checking;

@@ -5,13 +5,16 @@ ghost use Rattle.std.specs.List.{list_all};
 ghost use Rattle.std.specs.Char.{is_ascii_digit};
 ghost use Rattle.std.specs.Str.Parse.{digits_value};
 ghost use Rattle.std.specs.Option.{option_copied};
-ghost use Rattle.a429_cert.specs.Reading.{after, word, is_break, is_numeral, value_of, number, is_end, is_plan_line, rate_line, group_line, output_line, bound_line};
+ghost use Rattle.a429_cert.specs.Spelling.{says_more};
+ghost use Rattle.a429_cert.specs.Reading.{after, word, is_break, is_numeral, value_of, number, limit_of, limit, is_end, number_line, plan_line, rate_line, rate_part, hold_part, group_line, output_line, bound_line};
 ghost use Rattle.a429_cert.specs.Views.{heading, listing, bounding};
 
 /// What a group's first line says.
 #[derive(Clone, Copy, Debug)]
 pub struct GroupLine<'a> {
     pub name: &'a [u8],
+    /// In bit/s; only a line of version 2 says it.
+    pub rate: Option<u64>,
     pub frame: u64,
     pub buses: u64,
 }
@@ -23,6 +26,9 @@ pub struct OutputLine<'a> {
     pub period: u64,
     pub bus: u64,
     pub offset: u64,
+    /// How often one accepted word is sent at most, or none where there is no limit; only a line of
+    /// version 2 says it.
+    pub hold: Option<Option<u64>>,
 }
 
 /// What a group's last line says.
@@ -31,6 +37,13 @@ pub struct BoundLine {
     pub demand: u64,
     pub full_buses: u64,
     pub frame: u64,
+}
+
+/// Whether a text of this version says the rate of each group and the hold of each output.
+pub fn says_more(version: u32) -> bool
+    ensures { result ≡ says_more version }
+{
+    version == 2
 }
 
 /// What follows a text at the front.
@@ -122,6 +135,26 @@ fn number(bytes: &[u8]) -> Option<(u64, &[u8])>
     Some((value_of(word)?, rest))
 }
 
+/// The limit that a word spells: a number, or that there is no limit.
+#[tactic(auto, unfolding(crate::specs::Reading::limit_of))]
+fn limit_of(word: &[u8]) -> Option<Option<u64>>
+    ensures { result ≡ limit_of word.now }
+{
+    if word == "none".as_bytes() {
+        return Some(None);
+    }
+    Some(Some(value_of(word)?))
+}
+
+/// The limit at the front, and the bytes after it.
+#[tactic(auto, unfolding(crate::specs::Reading::limit))]
+fn limit(bytes: &[u8]) -> Option<(Option<u64>, &[u8])>
+    ensures { option_map (λ x. (x.0, x.1.now)) result ≡ limit bytes.now }
+{
+    let (word, rest) = word(bytes)?;
+    Some((limit_of(word)?, rest))
+}
+
 /// Whether nothing but the line's end is left.
 #[tactic(auto, unfolding(crate::specs::Reading::is_end))]
 fn is_end(bytes: &[u8]) -> bool
@@ -130,53 +163,91 @@ fn is_end(bytes: &[u8]) -> bool
     bytes == "\n".as_bytes()
 }
 
-/// Whether this is the first line of a plan text.
-#[tactic(auto, unfolding(crate::specs::Reading::is_plan_line))]
-pub fn is_plan_line(line: &[u8]) -> bool
-    ensures { result ≡ is_plan_line line.now }
+/// The number that a line says behind a text; none where it is not of this form.
+#[tactic(auto, unfolding(crate::specs::Reading::number_line))]
+fn number_line(line: &[u8], text: &str) -> Option<u64>
+    ensures { result ≡ number_line text.now line.now }
 {
-    line == "plan 1\n".as_bytes()
+    let (number, rest) = number(after(line, text)?)?;
+    if is_end(rest) { Some(number) } else { None }
 }
 
-/// The rate in bit/s that the second line of a text states; none where it is not of its form.
-#[tactic(auto, unfolding(crate::specs::Reading::rate_line))]
+/// The version that the first line of a text states; none where it is not of its form.
+pub fn plan_line(line: &[u8]) -> Option<u64>
+    ensures { result ≡ plan_line line.now }
+{
+    number_line(line, "plan ")
+}
+
+/// The rate in bit/s that the second line of a text of version 1 states; none where it is not of its form.
 pub fn rate_line(line: &[u8]) -> Option<u64>
     ensures { result ≡ rate_line line.now }
 {
-    let (rate, rest) = number(after(line, "rate ")?)?;
-    if is_end(rest) { Some(rate) } else { None }
+    number_line(line, "rate ")
 }
 
-/// What a group's first line says; none where it is not of its form.
+/// The rate at the front, which only a line of version 2 says, and the bytes after it.
+#[tactic(auto, unfolding(crate::specs::Reading::rate_part, crate::specs::Reading::said_rate))]
+fn rate_part(version: u32, bytes: &[u8]) -> Option<(Option<u64>, &[u8])>
+    ensures { option_map (λ x. (x.0, x.1.now)) result ≡ rate_part version bytes.now }
+{
+    if !says_more(version) {
+        return Some((None, bytes));
+    }
+    let (rate, rest) = number(after(bytes, " rate ")?)?;
+    Some((Some(rate), rest))
+}
+
+/// The hold at the front, which only a line of version 2 says, and the bytes after it.
+#[tactic(auto, unfolding(crate::specs::Reading::hold_part, crate::specs::Reading::said_hold))]
+fn hold_part(version: u32, bytes: &[u8]) -> Option<(Option<Option<u64>>, &[u8])>
+    ensures { option_map (λ x. (x.0, x.1.now)) result ≡ hold_part version bytes.now }
+{
+    if !says_more(version) {
+        return Some((None, bytes));
+    }
+    let (hold, rest) = limit(after(bytes, " hold ")?)?;
+    Some((Some(hold), rest))
+}
+
+/// What a group's first line says; none where it is not of the form of this version.
 #[tactic(auto, unfolding(crate::specs::Reading::group_line))]
-pub fn group_line(line: &[u8]) -> Option<GroupLine<'_>>
-    ensures { option_map heading result ≡ group_line line.now }
+pub fn group_line(version: u32, line: &[u8]) -> Option<GroupLine<'_>>
+    ensures { option_map heading result ≡ group_line version line.now }
 {
     let (name, rest) = word(after(line, "group ")?)?;
+    let (rate, rest) = rate_part(version, rest)?;
     let (frame, rest) = number(after(rest, " frame ")?)?;
     let (buses, rest) = number(after(rest, " buses ")?)?;
     if is_end(rest) {
-        Some(GroupLine { name, frame, buses })
+        Some(GroupLine {
+            name,
+            rate,
+            frame,
+            buses,
+        })
     } else {
         None
     }
 }
 
-/// What the line of an output says; none where it is not of its form.
+/// What the line of an output says; none where it is not of the form of this version.
 #[tactic(auto, unfolding(crate::specs::Reading::output_line))]
-pub fn output_line(line: &[u8]) -> Option<OutputLine<'_>>
-    ensures { option_map listing result ≡ output_line line.now }
+pub fn output_line(version: u32, line: &[u8]) -> Option<OutputLine<'_>>
+    ensures { option_map listing result ≡ output_line version line.now }
 {
     let (source, rest) = word(after(line, "output ")?)?;
     let (period, rest) = number(after(rest, " period ")?)?;
     let (bus, rest) = number(after(rest, " bus ")?)?;
     let (offset, rest) = number(after(rest, " offset ")?)?;
+    let (hold, rest) = hold_part(version, rest)?;
     if is_end(rest) {
         Some(OutputLine {
             source,
             period,
             bus,
             offset,
+            hold,
         })
     } else {
         None

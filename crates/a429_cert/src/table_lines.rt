@@ -1,12 +1,12 @@
 //! The lines that a table asks for.
 
-ghost use Rattle.std.specs.Prelude.{◌≡◌, ◌<◌, ◌^◌, Some, None, MatchResult, All};
+ghost use Rattle.std.specs.Prelude.{◌≡◌, ◌≤◌, ◌<◌, ◌^◌, Some, None, MatchResult, All};
 ghost use Rattle.a429_cert.specs.Lines.{lines_of};
 ghost use Rattle.a429_cert.specs.Faults.{rate_fault, plan_fault, end_fault, Gives, IsModest, groups_faults, first_no, faults, due};
 
 use crate::due::{DueGroup, DueTable};
 use crate::group_lines::check_group;
-use crate::line::{is_plan_line, rate_line};
+use crate::line::{plan_line, rate_line};
 use crate::lines::Lines;
 use crate::stops::{Stop, numbered};
 use crate::verdicts::Reason;
@@ -23,39 +23,45 @@ fn checked_end(lines: &mut Lines<'_>) -> Result<(), Reason>
     }
 }
 
-/// Checks the first line.
+/// Checks the first line, which states the version.
 #[tactic(auto, unfolding(crate::specs::Faults::plan_fault))]
-fn checked_plan(line: &[u8]) -> Result<(), Reason>
-    ensures { MatchResult result (λ _. plan_fault line.now ≡ None) (λ r. plan_fault line.now ≡ Some r) }
+fn checked_plan(version: u32, line: &[u8]) -> Result<(), Reason>
+    ensures { MatchResult result (λ _. plan_fault version line.now ≡ None) (λ r. plan_fault version line.now ≡ Some r) }
 {
-    if is_plan_line(line) {
-        Ok(())
-    } else {
-        Err(Reason::Form)
+    match plan_line(line) {
+        Some(said) if said == u64::from(version) => Ok(()),
+        _ => Err(Reason::Form),
     }
 }
 
-/// Checks the second line.
+/// Checks the line of the rate that all groups have.
 #[tactic(auto, unfolding(crate::specs::Faults::rate_fault))]
-fn checked_rate(table: &DueTable, line: &[u8]) -> Result<(), Reason>
-    ensures { MatchResult result (λ _. rate_fault table.now line.now ≡ None) (λ r. rate_fault table.now line.now ≡ Some r) }
+fn checked_rate(rate: u64, line: &[u8]) -> Result<(), Reason>
+    ensures { MatchResult result (λ _. rate_fault rate line.now ≡ None) (λ r. rate_fault rate line.now ≡ Some r) }
 {
     match rate_line(line) {
         None => Err(Reason::Form),
-        Some(rate) if rate != table.rate => Err(Reason::Rate),
+        Some(said) if said != rate => Err(Reason::Rate),
         Some(_) => Ok(()),
     }
 }
 
-/// Checks the lines from the first group on, the first of which has the number 3.
-fn check_groups(alloc: Global, groups: &[DueGroup], lines: &mut Lines<'_>) -> Result<(), Stop>
+/// Checks the lines from the first group on, the first of which has this number.
+fn check_groups(
+    alloc: Global,
+    version: u32,
+    groups: &[DueGroup],
+    first: usize,
+    lines: &mut Lines<'_>,
+) -> Result<(), Stop>
     requires modest { All IsModest groups.now }
+    requires head { first ≤ 3 }
     requires fits { due groups.now < 2 ^ 63 }
-    ensures { Gives result (first_no 3 (groups_faults groups.now (lines_of lines.old.rest.now))) }
+    ensures { Gives result (first_no first (groups_faults version groups.now (lines_of lines.old.rest.now))) }
 {
-    let mut number = 3;
+    let mut number = first;
     for group in groups {
-        check_group(alloc, group, number, lines)?;
+        check_group(alloc, version, group, number, lines)?;
         number += group.outputs.len() + 2;
     }
     numbered(number, checked_end(lines))
@@ -68,7 +74,10 @@ pub fn check_lines(alloc: Global, table: &DueTable, text: &[u8]) -> Result<(), S
     ensures { Gives result (first_no 1 (faults table.now (lines_of text.now))) }
 {
     let mut lines = Lines::of(text);
-    numbered(1, checked_plan(lines.next_line()))?;
-    numbered(2, checked_rate(table, lines.next_line()))?;
-    check_groups(alloc, &table.groups, &mut lines)
+    numbered(1, checked_plan(table.version, lines.next_line()))?;
+    let Some(rate) = table.rate else {
+        return check_groups(alloc, table.version, &table.groups, 2, &mut lines);
+    };
+    numbered(2, checked_rate(rate, lines.next_line()))?;
+    check_groups(alloc, table.version, &table.groups, 3, &mut lines)
 }

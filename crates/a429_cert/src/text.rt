@@ -1,10 +1,11 @@
 //! The text of a plan.
-ghost use Rattle.std.specs.Prelude.{◌≡◌, ◌++◌, ◌<◌, length, string_bytes, OnOk, IfOk, IfSome};
+ghost use Rattle.std.specs.Prelude.{◌≡◌, ◌++◌, ◌<◌, codes, length, string_bytes, OnOk, IfOk, IfSome};
 ghost use Rattle.a429_slots.specs.Tables.{outputs_of, source_of};
-ghost use Rattle.a429_cert.specs.Spelling.{group_text, output_text, bound_text};
+ghost use Rattle.a429_cert.specs.Spelling.{said_in, group_text, output_text, hold_before, bound_text};
 ghost use Rattle.a429_cert.specs.Checked.{stated_text};
-ghost use Rattle.a429_cert.specs.PlanText.{HasSources, heading_of, placed_listing, listing_of, bound_of, stated_of, outputs_text, groups_text, plan_text_of};
+ghost use Rattle.a429_cert.specs.PlanText.{HasSources, heading_of, placed_listing, listing_of, bound_of, stated_of, outputs_text, groups_text, head_text, plan_text_of};
 
+use crate::line::says_more;
 use a429_equipment::{Equipment, GroupRow, SourceRow};
 use a429_slots::{GroupPlan, OUTPUTS, OutputId, Proposal, SlotPlace};
 use std::alloc::{AllocError, Global};
@@ -13,42 +14,76 @@ use std::fmt::Write;
 /// Writes a group's first line.
 fn write_heading(
     text: &mut String,
-    name: &str,
+    version: u32,
+    group: &GroupRow,
     table: &GroupPlan<OUTPUTS>,
 ) -> Result<(), AllocError>
-    ensures { OnOk result (string_bytes text.new ≡ string_bytes text.old ++ group_text (heading_of name.now table.now)) }
+    ensures { OnOk result (string_bytes text.new ≡ string_bytes text.old ++ group_text (heading_of version group.now table.now)) }
 {
+    let name = group.name.as_str();
+    let rate = group.rate;
     let frame = table.frame();
     let buses = table.buses();
-    writeln!(text, "group {name} frame {frame} buses {buses}")
+    if says_more(version) {
+        writeln!(text, "group {name} rate {rate} frame {frame} buses {buses}")
+    } else {
+        writeln!(text, "group {name} frame {frame} buses {buses}")
+    }
+}
+
+/// Writes the hold of an output, where a text of this version says it, and ends the line.
+fn write_hold(text: &mut String, version: u32, hold: Option<u32>) -> Result<(), AllocError>
+    ensures { OnOk result (string_bytes text.new ≡ string_bytes text.old ++ hold_before (said_in version hold) (codes "\n")) }
+{
+    if !says_more(version) {
+        return writeln!(text);
+    }
+    match hold {
+        None => writeln!(text, " hold none"),
+        Some(hold) => writeln!(text, " hold {hold}"),
+    }
 }
 
 /// Writes the line of an output that stands at a place.
-fn write_place(text: &mut String, source: &str, place: SlotPlace) -> Result<(), AllocError>
-    ensures { OnOk result (string_bytes text.new ≡ string_bytes text.old ++ output_text (placed_listing source.now place)) }
+fn write_place(
+    text: &mut String,
+    version: u32,
+    source: &str,
+    place: SlotPlace,
+    hold: Option<u32>,
+) -> Result<(), AllocError>
+    ensures { OnOk result (string_bytes text.new ≡ string_bytes text.old ++ output_text (placed_listing version source.now place hold)) }
 {
     let period = place.period.slots();
     let bus = place.bus;
     let offset = place.offset;
-    writeln!(
+    write!(
         text,
         "output {source} period {period} bus {bus} offset {offset}"
-    )
+    )?;
+    write_hold(text, version, hold)
 }
 
 /// Writes the line of an output.
 fn write_output(
     text: &mut String,
+    version: u32,
     sources: &[SourceRow],
     table: &GroupPlan<OUTPUTS>,
     output: OutputId,
 ) -> Result<(), AllocError>
     requires known { output < length (outputs_of table.now) }
     requires source { IfSome (source_of table.now output) (λ source. source < length sources.now) }
-    ensures { OnOk result (string_bytes text.new ≡ string_bytes text.old ++ output_text (listing_of sources.now table.now output)) }
+    ensures { OnOk result (string_bytes text.new ≡ string_bytes text.old ++ output_text (listing_of version sources.now table.now output)) }
 {
     let source = sources[table.source(output)].name.as_str();
-    write_place(text, source, table.place(output))
+    write_place(
+        text,
+        version,
+        source,
+        table.place(output),
+        table.hold(output),
+    )
 }
 
 /// Writes a group's last line.
@@ -64,14 +99,15 @@ fn write_bound(text: &mut String, table: &GroupPlan<OUTPUTS>) -> Result<(), Allo
 /// Writes a line for each output, in layout order.
 fn write_outputs(
     text: &mut String,
+    version: u32,
     sources: &[SourceRow],
     table: &GroupPlan<OUTPUTS>,
 ) -> Result<(), AllocError>
     requires known { HasSources sources.now table.now }
-    ensures { OnOk result (string_bytes text.new ≡ string_bytes text.old ++ outputs_text sources.now table.now) }
+    ensures { OnOk result (string_bytes text.new ≡ string_bytes text.old ++ outputs_text version sources.now table.now) }
 {
     for place in 0..table.outputs() {
-        write_output(text, sources, table, table.ordered(place))?;
+        write_output(text, version, sources, table, table.ordered(place))?;
     }
     Ok(())
 }
@@ -79,15 +115,16 @@ fn write_outputs(
 /// Writes the lines of a group.
 fn write_group(
     text: &mut String,
+    version: u32,
     sources: &[SourceRow],
     group: &GroupRow,
     table: &GroupPlan<OUTPUTS>,
 ) -> Result<(), AllocError>
     requires known { HasSources sources.now table.now }
-    ensures { OnOk result (string_bytes text.new ≡ string_bytes text.old ++ stated_text (stated_of sources.now group.now table.now)) }
+    ensures { OnOk result (string_bytes text.new ≡ string_bytes text.old ++ stated_text (stated_of version sources.now group.now table.now)) }
 {
-    write_heading(text, group.name.as_str(), table)?;
-    write_outputs(text, sources, table)?;
+    write_heading(text, version, group, table)?;
+    write_outputs(text, version, sources, table)?;
     write_bound(text, table)
 }
 
@@ -95,11 +132,14 @@ fn write_group(
 fn write_groups(text: &mut String, proposal: &Proposal<OUTPUTS>) -> Result<(), AllocError>
     ensures { OnOk result (string_bytes text.new ≡ string_bytes text.old ++ groups_text proposal.now.station proposal.now.plan) }
 {
-    let sources = proposal.equipment().sources();
-    let groups = proposal.equipment().groups();
+    let equipment = proposal.equipment();
+    let version = equipment.version();
+    let sources = equipment.sources();
+    let groups = equipment.groups();
     for number in 0..groups.len() {
         write_group(
             text,
+            version,
             sources,
             &groups[number],
             proposal.plan().group(number),
@@ -108,17 +148,27 @@ fn write_groups(text: &mut String, proposal: &Proposal<OUTPUTS>) -> Result<(), A
     Ok(())
 }
 
-/// The text of a proposal's plan (profile: plan text, version 1): the version, the rate in bit/s, and for each group in
-/// table order its name, frame in slots and number of buses, then its outputs in layout order, each with its period in
-/// slots, bus and offset, then its demand in cells of a frame against those of one bus fewer. The error is that memory
-/// was refused.
+/// Writes the lines before the groups: the version, and the rate in bit/s where all groups have one.
+fn write_head(text: &mut String, equipment: &Equipment) -> Result<(), AllocError>
+    ensures { OnOk result (string_bytes text.new ≡ string_bytes text.old ++ head_text equipment.now) }
+{
+    let version = equipment.version();
+    writeln!(text, "plan {version}")?;
+    match equipment.rate() {
+        Some(rate) => writeln!(text, "rate {rate}"),
+        None => Ok(()),
+    }
+}
+
+/// The text of a proposal's plan (profile: plan text, in the version of the equipment table): the version, in version 1
+/// the rate in bit/s, and for each group in table order its name, in version 2 its rate, its frame in slots and number of
+/// buses, then its outputs in layout order, each with its period in slots, bus and offset, and in version 2 its hold, then
+/// its demand in cells of a frame against those of one bus fewer. The error is that memory was refused.
 pub fn plan_text(alloc: Global, proposal: &Proposal<OUTPUTS>) -> Result<Vec<u8>, AllocError>
     ensures { IfOk result (λ text. text.items ≡ plan_text_of proposal.now.station proposal.now.plan) }
 {
     let mut text = String::new(alloc);
-    let rate = proposal.equipment().rate();
-    writeln!(text, "plan 1")?;
-    writeln!(text, "rate {rate}")?;
+    write_head(&mut text, proposal.equipment())?;
     write_groups(&mut text, proposal)?;
     Ok(text.into_bytes())
 }

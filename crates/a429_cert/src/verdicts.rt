@@ -5,13 +5,13 @@ ghost use Rattle.a429_cert.specs.Printed.{reason_text, no_text, verdict_text};
 
 use std::fmt;
 
-/// Why a line is refused, in the order in which reasons are asked (profile: plan text, version 1).
+/// Why a line is refused, in the order in which reasons are asked (profile: plan text).
 #[derive(Clone, Copy, Debug, PartialEq, Eq)]
 pub enum Reason {
     /// The line is not of the form due here, is not ended by a line feed, is absent, or stands after the
     /// last line due.
     Form,
-    /// The rate is not the table's.
+    /// The rate is not the table's, or not that of the group due.
     Rate,
     /// The name is not that of the group due.
     Group,
@@ -31,6 +31,8 @@ pub enum Reason {
     /// The demand is not the group's, the full buses are not one fewer than the buses, the frame is not
     /// the group's, or the full buses carry the demand in a frame, or the buses do not.
     Bound,
+    /// The hold is not that of the output.
+    Hold,
 }
 
 /// The first line that is refused, counted from 1, with the first reason against it.
@@ -52,7 +54,7 @@ pub enum Verdict {
 }
 
 impl Reason {
-    /// Its name in answers: `form` to `bound`.
+    /// Its name in answers: `form` to `hold`.
     #[tactic(auto, unfolding(crate::specs::Printed::reason_text))]
     fn text(self) -> &'static str
         ensures { result.now ≡ reason_text self }
@@ -68,6 +70,7 @@ impl Reason {
             Reason::Place => "place",
             Reason::Shared => "shared",
             Reason::Bound => "bound",
+            Reason::Hold => "hold",
         }
     }
 }

@@ -1,12 +1,9 @@
-use Rattle.std.proofs.Common.{◌≡◌, ◌∙◌, ◌^◌, ◌<◌, ℕ, List, ap, length, subst, sym}
+use Rattle.std.proofs.Common.{◌≡◌, ◌∙◌, ◌^◌, ◌<◌, List, ap, length, subst, sym}
 use Rattle.std.specs.Prelude.{slice_get}
-use Rattle.a429_grid.specs.Grid.{HasNoGridPeriod, IsGridPeriod}
+use Rattle.a429_grid.specs.Grid.{IsGridPeriod}
 use Rattle.a429_equipment.specs.declared.rows.SourceRow.{SourceRow}
 use Rattle.a429_cert.proofs.Gathered.{read_is}
 use Rattle.a429_cert.proofs.due.due_output.Goals as goal
-
-pub returns-in_default : goal.returns-in_default
-returns-in_default c = subst (HasNoGridPeriod c.args.row.now.min_us c.args.row.now.max_us) c.rate.ensures.rate c.in_default.ensures
 
 pub returns : goal.returns
 returns c =
@@ -18,6 +15,6 @@ returns c =
       source = c.index-sources-row.result;
       there = ap (λ (rs : List SourceRow). slice_get rs c.args.row.now.source) (sym same) ∙ read_is rows c.args.row.now.source c.index-sources-row.result below c.index-sources-row.is;
       name = c.in_ok-source.ensures ∙ ap (λ (s : SourceRow). s.name) (sym c.index-sources-row.is);
-      period = subst (IsGridPeriod c.args.row.now.min_us c.args.row.now.max_us c.args.equipment.now.rate) (sym slots)
-          (subst (λ (r : ℕ). IsGridPeriod c.args.row.now.min_us c.args.row.now.max_us r (2 ^ c.in-Some.period)) c.rate.ensures.rate c.in-Some.ensures);
+      period = subst (IsGridPeriod c.args.row.now.min_us c.args.row.now.max_us c.args.rate) (sym slots) c.in-Some.ensures;
+      hold = c.widened-hold.ensures;
     }

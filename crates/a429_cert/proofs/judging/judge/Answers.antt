@@ -18,7 +18,7 @@ pub returns-in-Ok-clause-fewest : goal.returns-in-Ok-clause-fewest
 returns-in-Ok-clause-fewest c = λ _.
     let t : DueTable = c.in_ok-due.due in
     let on = on_grid c.args.equipment.now t c.in_ok-due.ensures.sound c.in_ok-due.ensures.due in
-    (t, c.in_ok-due.ensures.due, state_fewest t.groups.items _ c.fewest_by_demand.ensures.carried on (fewest_states t c.args.text.now (all_nest t.groups.items on) c.in-Ok.ensures))
+    (t, c.in_ok-due.ensures.due, state_fewest t.version t.groups.items _ c.fewest_by_demand.ensures.carried on (fewest_states t c.args.text.now (all_nest t.groups.items on) c.in-Ok.ensures))
 
 pub returns-in-Err-Refused-clause-answer : goal.returns-in-Err-Refused-clause-answer
 returns-in-Err-Refused-clause-answer c =

@@ -8,4 +8,4 @@ use Rattle.a429_cert.proofs.laws.fewest_is_shown.Goals as goal
 pub returns : goal.returns
 returns c = λ e t text sound due shown.
     let on = on_grid e t sound due in
-    state_fewest t.groups.items _ c.fewest_by_demand.ensures.carried on (fewest_states t text (all_nest t.groups.items on) (none_refused (first_no 1 (faults t (lines_of text))) shown))
+    state_fewest t.version t.groups.items _ c.fewest_by_demand.ensures.carried on (fewest_states t text (all_nest t.groups.items on) (none_refused (first_no 1 (faults t (lines_of text))) shown))

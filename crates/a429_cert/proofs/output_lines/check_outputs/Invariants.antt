@@ -8,9 +8,9 @@ use Rattle.a429_cert.proofs.output_lines.check_outputs.Given as goal
 
 abbrev pub invariant-loop-place : goal.invariant-loop-place
 invariant-loop-place l = record {
-  listed : map listing l.earlier.items ≡ filter_map output_line (take l.place (lines_of l.fn.lines.rest.now));
+  listed : map listing l.earlier.items ≡ filter_map (output_line l.version) (take l.place (lines_of l.fn.lines.rest.now));
   positive : All (λ o. 0 < o.period) l.earlier.items;
   rest : lines_of l.lines.rest.now ≡ drop l.place (lines_of l.fn.lines.rest.now);
-  answer : first_no l.number (output_faults l.group l.buses (lines_of l.fn.lines.rest.now) 0 (length l.group.outputs.items))
-      ≡ first_no (l.number + l.place) (output_faults l.group l.buses (lines_of l.fn.lines.rest.now) l.place (length l.group.outputs.items - l.place));
+  answer : first_no l.number (output_faults l.version l.group l.buses (lines_of l.fn.lines.rest.now) 0 (length l.group.outputs.items))
+      ≡ first_no (l.number + l.place) (output_faults l.version l.group l.buses (lines_of l.fn.lines.rest.now) l.place (length l.group.outputs.items - l.place));
 }

@@ -5,6 +5,6 @@ use Rattle.a429_cert.proofs.table_lines.check_groups.Given as goal
 
 abbrev pub invariant-loop-group : goal.invariant-loop-group
 invariant-loop-group l = record {
-  number_is : l.number ≡ 3 + due (take l.group-index l.groups);
-  answer : first_no 3 (groups_faults l.groups (lines_of l.fn.lines.rest.now)) ≡ first_no l.number (groups_faults (drop l.group-index l.groups) (lines_of l.lines.rest.now));
+  number_is : l.number ≡ l.first + due (take l.group-index l.groups);
+  answer : first_no l.first (groups_faults l.version l.groups (lines_of l.fn.lines.rest.now)) ≡ first_no l.number (groups_faults l.version (drop l.group-index l.groups) (lines_of l.lines.rest.now));
 }

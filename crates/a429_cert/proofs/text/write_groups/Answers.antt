@@ -1,4 +1,4 @@
-use Rattle.std.proofs.Common.{◌≡◌, ◌++◌, ◌<◌, ◌∙◌, ap, sym, subst, length, string_bytes, List}
+use Rattle.std.proofs.Common.{◌≡◌, ◌++◌, ◌<◌, ◌∙◌, ap, ap₂, sym, subst, length, string_bytes, ℕ, List}
 use Rattle.std.specs.Prelude.{Some, slice_get}
 use Rattle.std.specs.List.{AllByRecursion, flat_map}
 use Rattle.a429_equipment.specs.TableRecord.{TableRecord}
@@ -13,22 +13,24 @@ use Rattle.a429_cert.proofs.text.write_groups.Goals as goal
 
 pub write_group-requires : goal.write_group-requires
 write_group-requires c =
-    let sound : IsSound c.args.proposal.now.station = subst IsSound c.equipment.ensures.equipment c.sources-sources.ensures.sound in
+    let sound : IsSound c.args.proposal.now.station = subst IsSound c.equipment-equipment.ensures.equipment c.sources-sources.ensures.sound in
     let there : slice_get (groups_of c.args.proposal.now.plan) c.loop-number.number ≡ Some c.group.result.now = ap (λ (p : PlanTable). slice_get (groups_of p) c.loop-number.number) (sym c.plan.ensures.plan) ∙ c.group.ensures in
-    let rows : c.sources-sources.result.now ≡ c.args.proposal.now.station.sources = c.sources-sources.ensures.rows ∙ ap (λ (e : TableRecord). e.sources) c.equipment.ensures.equipment in
+    let rows : c.sources-sources.result.now ≡ c.args.proposal.now.station.sources = c.sources-sources.ensures.rows ∙ ap (λ (e : TableRecord). e.sources) c.equipment-equipment.ensures.equipment in
     let known = plan_known c.args.proposal.now.station c.args.proposal.now.plan c.loop-number.number c.group.result.now sound c.plan.ensures.own there in
     record { known = subst (λ (ss : List SourceRow). AllByRecursion (λ o. o.source < length ss) (outputs_of c.group.result.now)) (sym rows) known }
 
 pub loop-number-preserved : goal.loop-number-preserved
 loop-number-preserved c =
+    let e : TableRecord = c.args.proposal.now.station in
     let there : slice_get (groups_of c.args.proposal.now.plan) c.loop-number.number ≡ Some c.group.result.now = ap (λ (p : PlanTable). slice_get (groups_of p) c.loop-number.number) (sym c.plan.ensures.plan) ∙ c.group.ensures in
-    let sources : c.sources-sources.result.now ≡ c.args.proposal.now.station.sources = c.sources-sources.ensures.rows ∙ ap (λ (e : TableRecord). e.sources) c.equipment.ensures.equipment in
-    let groups : c.groups-groups.result.now ≡ c.args.proposal.now.station.groups = c.groups-groups.ensures.rows ∙ ap (λ (e : TableRecord). e.groups) c.equipment-2.ensures.equipment in
-    let here : slice_get c.args.proposal.now.station.groups c.loop-number.number ≡ Some c.index-groups-number.result =
+    let version : c.version-version.result ≡ e.version = c.version-version.ensures.version ∙ ap (λ (e : TableRecord). e.version) c.equipment-equipment.ensures.equipment in
+    let sources : c.sources-sources.result.now ≡ e.sources = c.sources-sources.ensures.rows ∙ ap (λ (e : TableRecord). e.sources) c.equipment-equipment.ensures.equipment in
+    let groups : c.groups-groups.result.now ≡ e.groups = c.groups-groups.ensures.rows ∙ ap (λ (e : TableRecord). e.groups) c.equipment-equipment.ensures.equipment in
+    let here : slice_get e.groups c.loop-number.number ≡ Some c.index-groups-number.result =
     ap (λ (gs : List GroupRow). slice_get gs c.loop-number.number) (sym groups) ∙ read_is c.groups-groups.result.now c.loop-number.number c.index-groups-number.result c.loop-number-test.true c.index-groups-number.is in
-    let written : string_bytes c.write_group.new.text ≡ string_bytes c.loop-number.text ++ stated_text (stated_of c.args.proposal.now.station.sources c.index-groups-number.result c.group.result.now) =
-    c.in_ok-write_group.ensures ∙ ap (λ (ss : List SourceRow). string_bytes c.loop-number.text ++ stated_text (stated_of ss c.index-groups-number.result c.group.result.now)) sources in
-    groups_more c.args.proposal.now.station.sources c.args.proposal.now.station.groups (groups_of c.args.proposal.now.plan) c.loop-number.number c.index-groups-number.result c.group.result.now
+    let written : string_bytes c.write_group.new.text ≡ string_bytes c.loop-number.text ++ stated_text (stated_of e.version e.sources c.index-groups-number.result c.group.result.now) =
+    c.in_ok-write_group.ensures ∙ ap₂ (λ (v : ℕ) (ss : List SourceRow). string_bytes c.loop-number.text ++ stated_text (stated_of v ss c.index-groups-number.result c.group.result.now)) version sources in
+    groups_more e.version e.sources e.groups (groups_of c.args.proposal.now.plan) c.loop-number.number c.index-groups-number.result c.group.result.now
     (string_bytes c.loop-number.text) (string_bytes c.write_group.new.text)
-    (string_bytes c.args.text.now ++ flat_map stated_text (stated_groups c.args.proposal.now.station.sources c.args.proposal.now.station.groups (groups_of c.args.proposal.now.plan)))
+    (string_bytes c.args.text.now ++ flat_map stated_text (stated_groups e.version e.sources e.groups (groups_of c.args.proposal.now.plan)))
     here there c.loop-number.invariant written

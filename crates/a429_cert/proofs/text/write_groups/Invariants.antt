@@ -7,5 +7,5 @@ use Rattle.a429_cert.proofs.text.write_groups.Given as goal
 
 abbrev pub invariant-loop-number : goal.invariant-loop-number
 invariant-loop-number l =
-    string_bytes l.text ++ flat_map stated_text (stated_groups l.fn.proposal.station.sources (drop l.number l.fn.proposal.station.groups) (drop l.number (groups_of l.fn.proposal.plan)))
-    ≡ string_bytes l.fn.text ++ flat_map stated_text (stated_groups l.fn.proposal.station.sources l.fn.proposal.station.groups (groups_of l.fn.proposal.plan))
+    string_bytes l.text ++ flat_map stated_text (stated_groups l.fn.proposal.station.version l.fn.proposal.station.sources (drop l.number l.fn.proposal.station.groups) (drop l.number (groups_of l.fn.proposal.plan)))
+    ≡ string_bytes l.fn.text ++ flat_map stated_text (stated_groups l.fn.proposal.station.version l.fn.proposal.station.sources l.fn.proposal.station.groups (groups_of l.fn.proposal.plan))

@@ -8,11 +8,11 @@ use Rattle.a429_cert.proofs.text.write_outputs.Goals as goal
 
 pub loop-place-preserved : goal.loop-place-preserved
 loop-place-preserved c =
-    outputs_more (string_bytes c.loop-place.text) (string_bytes c.write_output.new.text) (string_bytes c.args.text.now) (listing_of c.args.sources.now c.args.table.now) (order_of c.args.table.now) c.loop-place.place c.ordered.result
+    outputs_more (string_bytes c.loop-place.text) (string_bytes c.write_output.new.text) (string_bytes c.args.text.now) (listing_of c.args.version c.args.sources.now c.args.table.now) (order_of c.args.table.now) c.loop-place.place c.ordered.result
     c.ordered.ensures.value c.loop-place.invariant c.in_ok-write_output.ensures
 
 pub returns : goal.returns
 returns c =
     let past : length (outputs_of c.args.table.now) ≤ c.loop-place.place = omega (arith, c.loop-place-test.false, c.outputs-place-end.ensures) in
     c.loop-place.invariant
-    ∙ ap (λ (order : List ℕ). string_bytes c.args.text.now ++ flat_map output_text (map (listing_of c.args.sources.now c.args.table.now) order)) (order_whole c.args.table.now c.loop-place.place past)
+    ∙ ap (λ (order : List ℕ). string_bytes c.args.text.now ++ flat_map output_text (map (listing_of c.args.version c.args.sources.now c.args.table.now) order)) (order_whole c.args.table.now c.loop-place.place past)

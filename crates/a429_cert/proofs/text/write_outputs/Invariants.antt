@@ -6,4 +6,4 @@ use Rattle.a429_cert.specs.PlanText.{listing_of}
 use Rattle.a429_cert.proofs.text.write_outputs.Given as goal
 
 abbrev pub invariant-loop-place : goal.invariant-loop-place
-invariant-loop-place l = string_bytes l.text ≡ string_bytes l.fn.text ++ flat_map output_text (map (listing_of l.sources l.table) (take l.place (order_of l.table)))
+invariant-loop-place l = string_bytes l.text ≡ string_bytes l.fn.text ++ flat_map output_text (map (listing_of l.version l.sources l.table) (take l.place (order_of l.table)))
