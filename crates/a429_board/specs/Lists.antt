@@ -1,5 +1,5 @@
 -- The list of published plans, and who has seen how much of it.
-use Rattle.std.specs.Prelude.{◌≡◌, ℕ, ◌+◌, ◌<◌, ◌≤◌, ◌==◌, ⊤, List, [], ◌∷◌, ◌++◌, length, true, false, MatchBool}
+use Rattle.std.specs.Prelude.{◌≡◌, ℕ, ◌+◌, ◌<◌, ◌≤◌, ◌==◌, ⊤, List, [], ◌∷◌, ◌++◌, length, true, false, All, MatchBool}
 use Rattle.logbook.specs.Pages.{Book, Cell, Named, Nib, Step, View, cell, nib, may_make, may_write}
 use Rattle.a429_slots.specs.Tables.{PlanTable}
 
@@ -23,6 +23,14 @@ pub record Planning : Type 0 where
   pub book : Book
   pub list : List PlanTable
   pub last : PlanTable
+
+-- a watcher that begins with a planner's list, whose last plan is the one that its board was opened with
+abbrev pub beginner : Planning → Watched
+beginner p = record { book = p.book; list = p.list; opened = p.last }
+
+-- so many watchers, each of them this one
+abbrev pub AreAlike : List Watched → ℕ → Watched → Type 0
+AreAlike watchers count one = (length watchers ≡ count) × All (λ w. w ≡ one) watchers
 
 -- the plan under another number
 abbrev pub numbered : PlanTable → ℕ → PlanTable

@@ -1,5 +1,6 @@
 //! The opening of a board.
-ghost use Rattle.std.specs.Prelude.{◌≡◌, ◌<◌, ◌∷◌, [], All, length, IfOk};
+ghost use Rattle.std.specs.Prelude.{◌≡◌, ◌<◌, ◌∷◌, [], IfOk};
+ghost use Rattle.a429_board.specs.Lists.{AreAlike};
 
 use crate::planner::Planner;
 use crate::watcher::Watcher;
@@ -21,7 +22,7 @@ impl Board {
     ) -> Result<(Planner, Vec<Watcher>), AllocError>
         requires some { 0 < watchers }
         ensures planner { IfOk result (λ r. (r.0.list ≡ plan ∷ []) × (r.0.last ≡ plan)) }
-        ensures watchers { IfOk result (λ r. (length r.1.items ≡ watchers) × All (λ w. w ≡ record { book = r.0.book; list = plan ∷ []; opened = plan }) r.1.items) }
+        ensures watchers { IfOk result (λ r. AreAlike r.1.items watchers (record { book = r.0.book; list = plan ∷ []; opened = plan })) }
     {
         let mut planner = Planner::begin(rt, alloc, plan, watchers)?;
         match planner.watchers(alloc, watchers) {

@@ -1,7 +1,7 @@
 //! The end of a board that publishes.
-ghost use Rattle.std.specs.Prelude.{◌≡◌, ◌+◌, ◌<◌, ◌++◌, ◌∷◌, [], All, drop, length, IfOk, IfErr, OnErr};
+ghost use Rattle.std.specs.Prelude.{◌≡◌, ◌+◌, ◌<◌, ◌++◌, ◌∷◌, [], drop, length, IfOk, IfErr, OnErr};
 ghost use mathlib.Core.List.{IsPrefix};
-ghost use Rattle.a429_board.specs.Lists.{numbered};
+ghost use Rattle.a429_board.specs.Lists.{AreAlike, beginner, numbered};
 ghost use Rattle.a429_board.specs.Refused.{IsWhy};
 ghost use Rattle.a429_board.specs.Showing.{knower};
 
@@ -35,7 +35,10 @@ impl Model for Planner {
 
     ghost view = { λ p. record { book = p.front.book; list = p.front.log; last = p.front.last } };
 
-    ghost invariant = { λ p. (p.head ≡ head_of p.front.book) × (p.pen.book ≡ p.front.book) × (p.pen.nib ≡ next_nib (length p.front.log)) × (p.writer.desk.place.me.0.client ≡ knower p.front.book) × (drop p.writer.behind p.writer.log.items ≡ []) × (p.writer.desk.shown.value.front.book ≡ p.front.book) };
+    ghost invariant = { λ p. (p.head ≡ head_of p.front.book)
+        × (p.pen.book ≡ p.front.book) × (p.pen.nib ≡ next_nib (length p.front.log))
+        × (p.writer.desk.place.me.0.client ≡ knower p.front.book) × (drop p.writer.behind p.writer.log.items ≡ [])
+        × (p.writer.desk.shown.value.front.book ≡ p.front.book) };
 }
 
 /// Why a plan was not published.
@@ -97,7 +100,7 @@ impl Planner {
     fn watcher(&mut self) -> Result<Watcher, AllocError>
         requires { self.old.list ≡ self.old.last ∷ [] }
         ensures planner { self.new ≡ self.old }
-        ensures watcher { IfOk result (λ w. w ≡ record { book = self.old.book; list = self.old.list; opened = self.old.last }) }
+        ensures watcher { IfOk result (λ w. w ≡ beginner self.old) }
     {
         let mut reader = self.writer.factory().reader()?;
         reader.learn::<Copies>(self.writer.tell::<Copies>());
@@ -112,7 +115,7 @@ impl Planner {
     pub(crate) fn watchers(&mut self, alloc: Global, count: u32) -> Result<Vec<Watcher>, AllocError>
         requires { self.old.list ≡ self.old.last ∷ [] }
         ensures planner { self.new ≡ self.old }
-        ensures watchers { IfOk result (λ v. (length v.items ≡ count) × All (λ w. w ≡ record { book = self.old.book; list = self.old.list; opened = self.old.last }) v.items) }
+        ensures watchers { IfOk result (λ v. AreAlike v.items count (beginner self.old)) }
     {
         let mut all = Vec::new(alloc);
         for _ in 0..count {

@@ -1,7 +1,7 @@
 -- What an equipment table asks of the text of its plan.
-use Rattle.std.specs.Prelude.{◌≡◌, ℕ, List, Some, map, take, slice_get}
+use Rattle.std.specs.Prelude.{◌≡◌, ℕ, List, Option, Some, MatchOption, map, take, slice_get}
 use Rattle.std.specs.List.{AllZip, AllByRecursion}
-use Rattle.a429_grid.specs.Grid.{IsGridPeriod}
+use Rattle.a429_grid.specs.Grid.{HasNoGridPeriod, IsGridPeriod}
 use Rattle.a429_equipment.specs.TableRecord.{TableRecord}
 use Rattle.a429_equipment.specs.declared.rows.OutputRow.{OutputRow}
 use Rattle.a429_equipment.specs.declared.rows.SourceRow.{SourceRow}
@@ -16,6 +16,14 @@ pub record IsDueOutput (e : TableRecord) (row : OutputRow) (o : DueOutput) : Typ
   pub there : slice_get e.sources row.source ≡ Some source
   pub name : o.source ≡ source.name
   pub period : IsGridPeriod row.min_us row.max_us e.rate o.period
+
+-- what is due of a row: an output, or nothing where the row's interval admits no grid period
+abbrev pub IsDueOfRow : TableRecord → OutputRow → Option DueOutput → Type 0
+IsDueOfRow e row due = MatchOption due (HasNoGridPeriod row.min_us row.max_us e.rate) (IsDueOutput e row)
+
+-- these are the outputs that are due of group g, in table order
+abbrev pub AreDueOfGroup : TableRecord → ℕ → List DueOutput → Type 0
+AreDueOfGroup e g outputs = (rows : List OutputRow) × (slice_get e.outputs g ≡ Some rows) × AllZip (IsDueOutput e) rows outputs
 
 -- each output of a group, in table order
 abbrev pub IsDueGroup : TableRecord → List OutputRow → DueGroup → Type 0

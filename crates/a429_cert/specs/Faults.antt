@@ -1,5 +1,5 @@
 -- Why the lines of a plan text are refused.
-use Rattle.std.specs.Prelude.{◌≡◌, ℕ, zero, suc, ◌+◌, ◌-◌, ◌*◌, ◌/◌, ◌%◌, ◌^◌, ◌<◌, min, max, List, [], ◌∷◌, ◌++◌, take, drop, length, Option, Some, None, option_map, unwrap_or, is_none, Bool, not, ◌==◌, ◌&&◌, ◌||◌, nat_lt, nat_le, if◌then◌else◌, find, fold, Result, Ok, Err}
+use Rattle.std.specs.Prelude.{◌≡◌, ℕ, zero, suc, ◌+◌, ◌-◌, ◌*◌, ◌/◌, ◌%◌, ◌^◌, ◌<◌, min, max, List, [], ◌∷◌, ◌++◌, take, drop, length, Option, Some, None, option_map, unwrap_or, is_none, Bool, not, ◌==◌, ◌&&◌, ◌||◌, nat_lt, nat_le, if◌then◌else◌, find, fold, Result, Ok, Err, MatchResult}
 use Rattle.std.specs.List.{list_any, sum_by, filter_map, All}
 use Rattle.std.specs.Str.{bytes_eq}
 use Rattle.a429_cert.specs.declared.verdicts.Reason.{Reason}
@@ -107,12 +107,16 @@ abbrev pub output_faults : DueGroup → ℕ → List (List ℕ) → ℕ → ℕ 
 output_faults g buses lines j zero = []
 output_faults g buses lines j (suc count) = output_fault g buses (filter_map output_line (take j lines)) (line_at lines j) ∷ output_faults g buses lines (j + 1) count
 
+-- for each line of a group's outputs, what is wrong with it
+abbrev pub all_output_faults : DueGroup → ℕ → List (List ℕ) → List (Option Reason)
+all_output_faults g buses lines = output_faults g buses lines 0 (length g.outputs.items)
+
 -- for each line of a group, what is wrong with it
 abbrev pub group_faults : DueGroup → List (List ℕ) → List (Option Reason)
 group_faults g lines =
     let buses = buses_of (line_at lines 0) in
     group_fault g (line_at lines 0)
-    ∷ (output_faults g buses (drop 1 lines) 0 (length g.outputs.items)
+    ∷ (all_output_faults g buses (drop 1 lines)
     ++ bound_fault g buses (line_at lines (length g.outputs.items + 1)) ∷ [])
 
 -- the same group by group; nothing may stand behind the last
@@ -140,3 +144,7 @@ Stops (stops.Refused refusal) answer = answer ≡ Some refusal
 abbrev pub Gives : {A : Type 0} → Result A Stop → Option No → Type 0
 Gives (Ok x) answer = answer ≡ None
 Gives (Err stop) answer = Stops stop answer
+
+-- an answer is the reason against a line, where there is one
+abbrev pub GivesReason : {A : Type 0} → Result A Reason → Option Reason → Type 0
+GivesReason answer reason = MatchResult answer (λ _. reason ≡ None) (λ r. reason ≡ Some r)

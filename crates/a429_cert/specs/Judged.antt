@@ -8,11 +8,13 @@ use Rattle.a429_equipment.specs.declared.fault.TableFault.TheVariants as table
 use Rattle.a429_equipment.specs.declared.rows.OutputRow.{OutputRow}
 use Rattle.a429_slots.specs.Planned.{IsFirstUnfit}
 use Rattle.a429_cert.specs.declared.due.DueGroup.{DueGroup}
+use Rattle.a429_cert.specs.declared.due.DueTable.{DueTable}
 use Rattle.a429_cert.specs.declared.judging.NoVerdict.{NoVerdict}
 use Rattle.a429_cert.specs.declared.judging.NoVerdict.TheVariants as judge
 use Rattle.a429_cert.specs.declared.checking.CheckFault.{CheckFault}
 use Rattle.a429_cert.specs.declared.checking.CheckFault.TheVariants as check
-use Rattle.a429_cert.specs.Due.{IsFirstUnfitOf}
+use Rattle.a429_cert.specs.Due.{IsDue, IsFirstUnfitOf}
+use Rattle.a429_cert.specs.Lines.{lines_of}
 use Rattle.a429_cert.specs.Faults.{frame}
 use Rattle.a429_cert.specs.Checked.{StatesPlan}
 
@@ -29,6 +31,15 @@ pub record StatesFewest (g : DueGroup) (lines : List (List ℕ)) : Type 0 where
 abbrev pub StateFewest : List DueGroup → List (List ℕ) → Type 0
 StateFewest [] lines = lines ≡ []
 StateFewest (g ∷ gs) lines = StatesFewest g lines × StateFewest gs (drop (length g.outputs.items + 2) lines)
+
+-- behind its first two lines a text states for each group a checked plan on the fewest buses, and nothing else
+abbrev pub ShowsFewest : DueTable → List ℕ → Type 0
+ShowsFewest t text = StateFewest t.groups.items (drop 2 (lines_of text))
+
+-- the bytes state a table, and the text shows the fewest buses of what the table asks
+abbrev pub ShowsFewestOfBytes : List ℕ → List ℕ → Type 0
+ShowsFewestOfBytes table text =
+    (e : TableRecord) × (t : DueTable) × (reading table ≡ Ok e) × IsDue e t × ShowsFewest t text
 
 -- the fault stands in the table, unless memory ran out
 abbrev pub IsNoVerdict : TableRecord → NoVerdict → Type 0

@@ -1,13 +1,12 @@
 //! The check of a plan text against the bytes of an equipment table.
 
-ghost use Rattle.std.specs.Prelude.{◌≡◌, drop, Ok, IfOk, IfErr};
+ghost use Rattle.std.specs.Prelude.{◌≡◌, Ok, IfOk, IfErr};
 ghost use Rattle.a429_equipment.specs.TableRecord.{TableRecord};
 ghost use Rattle.a429_equipment.specs.Reading.{reading};
 ghost use Rattle.a429_cert.specs.declared.due.DueTable.{DueTable as Due};
 ghost use Rattle.a429_cert.specs.Due.{IsDue};
-ghost use Rattle.a429_cert.specs.Lines.{lines_of};
 ghost use Rattle.a429_cert.specs.Verdicts.{verdict};
-ghost use Rattle.a429_cert.specs.Judged.{IsCheckFault, StateFewest};
+ghost use Rattle.a429_cert.specs.Judged.{IsCheckFault, ShowsFewestOfBytes};
 
 use crate::judging::{NoVerdict, judge};
 use crate::verdicts::Verdict;
@@ -64,7 +63,7 @@ pub fn check(alloc: Global, table: &[u8], text: &[u8]) -> Result<Verdict, CheckF
     // The first line that fails, with its first reason.
     ensures answer { IfOk result (λ v. (e : TableRecord) × (t : Due) × (reading table.now ≡ Ok e) × IsDue e t × (v ≡ verdict t text.now)) }
     // Of each group the text states a plan, and no schedule that serves the group has fewer buses.
-    ensures fewest { IfOk result (λ v. v ≡ Verdict.Fewest → (e : TableRecord) × (t : Due) × (reading table.now ≡ Ok e) × IsDue e t × StateFewest t.groups.items (drop 2 (lines_of text.now))) }
+    ensures fewest { IfOk result (λ v. v ≡ Verdict.Fewest → ShowsFewestOfBytes table.now text.now) }
     ensures fault { IfErr result (IsCheckFault table.now) }
 {
     let equipment = Equipment::read(alloc, table)?;

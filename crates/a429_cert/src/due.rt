@@ -1,11 +1,8 @@
 //! What an equipment table asks of the text of its plan.
 
-ghost use Rattle.std.specs.Prelude.{◌≡◌, ◌<◌, List, Some, length, slice_get, IfOk, IfErr, MatchOption, MatchResult};
-ghost use Rattle.std.specs.List.{AllZip};
-ghost use Rattle.a429_grid.specs.Grid.{HasNoGridPeriod};
-ghost use Rattle.a429_equipment.specs.declared.rows.OutputRow.{OutputRow as Row};
+ghost use Rattle.std.specs.Prelude.{◌<◌, length, IfOk, IfErr};
 ghost use Rattle.a429_equipment.specs.Sound.{IsSound};
-ghost use Rattle.a429_cert.specs.Due.{IsDueOutput, IsDue};
+ghost use Rattle.a429_cert.specs.Due.{AreDueOfGroup, IsDue, IsDueOfRow};
 ghost use Rattle.a429_cert.specs.Judged.{IsNoVerdict, IsGroupUnfit};
 
 use crate::judging::NoVerdict;
@@ -41,7 +38,7 @@ fn due_output(
     row: &OutputRow,
 ) -> Result<Option<DueOutput>, AllocError>
     requires { row.now.source < length equipment.now.sources }
-    ensures { IfOk result (λ due. MatchOption due (HasNoGridPeriod row.now.min_us row.now.max_us equipment.now.rate) (IsDueOutput equipment.now row.now)) }
+    ensures { IfOk result (IsDueOfRow equipment.now row.now) }
 {
     let Some(period) = grid_period(row.min_us, row.max_us, equipment.rate()) else {
         return Ok(None);
@@ -58,7 +55,7 @@ fn due_outputs(
     group: usize,
 ) -> Result<Vec<DueOutput>, NoVerdict>
     requires { group < length equipment.now.groups }
-    ensures due { IfOk result (λ outputs. (rows : List Row) × (slice_get equipment.now.outputs group ≡ Some rows) × AllZip (IsDueOutput equipment.now) rows outputs.items) }
+    ensures due { IfOk result (λ outputs. AreDueOfGroup equipment.now group outputs.items) }
     ensures fault { IfErr result (IsGroupUnfit equipment.now group) }
 {
     let mut outputs = Vec::new(alloc);

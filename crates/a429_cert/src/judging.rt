@@ -1,11 +1,10 @@
 //! The verdict on a plan text by an equipment.
 
-ghost use Rattle.std.specs.Prelude.{◌≡◌, drop, IfOk, IfErr};
+ghost use Rattle.std.specs.Prelude.{◌≡◌, IfOk, IfErr};
 ghost use Rattle.a429_cert.specs.declared.due.DueTable.{DueTable as Due};
 ghost use Rattle.a429_cert.specs.Due.{IsDue};
-ghost use Rattle.a429_cert.specs.Lines.{lines_of};
 ghost use Rattle.a429_cert.specs.Verdicts.{verdict};
-ghost use Rattle.a429_cert.specs.Judged.{IsNoVerdict, StateFewest};
+ghost use Rattle.a429_cert.specs.Judged.{IsNoVerdict, ShowsFewest};
 
 use crate::due::due_of;
 use crate::stops::Stop;
@@ -57,7 +56,7 @@ pub fn judge(alloc: Global, equipment: &Equipment, text: &[u8]) -> Result<Verdic
     // The first line that fails, with its first reason.
     ensures answer { IfOk result (λ v. (t : Due) × IsDue equipment.now t × (v ≡ verdict t text.now)) }
     // Of each group the text states a plan, and no schedule that serves the group has fewer buses.
-    ensures fewest { IfOk result (λ v. v ≡ Verdict.Fewest → (t : Due) × IsDue equipment.now t × StateFewest t.groups.items (drop 2 (lines_of text.now))) }
+    ensures fewest { IfOk result (λ v. v ≡ Verdict.Fewest → (t : Due) × IsDue equipment.now t × ShowsFewest t text.now) }
     ensures fault { IfErr result (IsNoVerdict equipment.now) }
 {
     fewest_by_demand();

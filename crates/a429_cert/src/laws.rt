@@ -1,7 +1,6 @@
 //! What holds of the definitions that the contracts cite.
-ghost use Rattle.std.specs.Prelude.{◌≡◌, List, ℕ, Some, drop};
-ghost use Rattle.a429_cert.specs.Lines.{lines_of};
-ghost use Rattle.a429_cert.specs.Judged.{StateFewest};
+ghost use Rattle.std.specs.Prelude.{◌≡◌, List, ℕ, Some};
+ghost use Rattle.a429_cert.specs.Judged.{ShowsFewest};
 ghost use Rattle.a429_equipment.specs.TableRecord.{TableRecord};
 ghost use Rattle.a429_equipment.specs.Sound.{IsSound};
 ghost use Rattle.a429_slots.specs.Tables.{PlanTable};
@@ -50,7 +49,7 @@ pub fn own_text_is_fewest()
 
 /// A text that is answered by `fewest` states a plan of every group, and no schedule that serves the group has fewer buses.
 pub fn fewest_is_shown()
-    ensures { (e : TableRecord) (t : DueTable) (text : List ℕ) → IsSound e → IsDue e t → verdict t text ≡ Fewest → StateFewest t.groups.items (drop 2 (lines_of text)) }
+    ensures { (e : TableRecord) (t : DueTable) (text : List ℕ) → IsSound e → IsDue e t → verdict t text ≡ Fewest → ShowsFewest t text }
 {
     fewest_by_demand();
 }

@@ -1,11 +1,11 @@
 //! The lines of a group's outputs.
 
-ghost use Rattle.std.specs.Prelude.{◌≡◌, ◌<◌, ◌+◌, ◌^◌, map, drop, length, Some, None, MatchResult, OnOk, All};
+ghost use Rattle.std.specs.Prelude.{◌≡◌, ◌<◌, ◌+◌, ◌^◌, map, drop, length, Some, MatchResult, OnOk, All};
 ghost use Rattle.std.specs.List.{list_any};
 ghost use Rattle.a429_cert.specs.Views.{listing};
 ghost use Rattle.a429_cert.specs.Reading.{output_line};
 ghost use Rattle.a429_cert.specs.Lines.{lines_of};
-ghost use Rattle.a429_cert.specs.Faults.{period_of, shares, output_fault, is_listed, HasPeriods, Gives, output_faults, first_no};
+ghost use Rattle.a429_cert.specs.Faults.{period_of, shares, output_fault, is_listed, HasPeriods, Gives, GivesReason, all_output_faults, first_no};
 
 use crate::due::DueGroup;
 use crate::line::{OutputLine, output_line};
@@ -61,7 +61,7 @@ fn checked_output<'a>(
 ) -> Result<OutputLine<'a>, Reason>
     requires periods { HasPeriods group.now }
     requires earlier { All (λ l. 0 < l.period) earlier.now }
-    ensures fault { MatchResult result (λ _. output_fault group.now buses (map listing earlier.now) line.now ≡ None) (λ r. output_fault group.now buses (map listing earlier.now) line.now ≡ Some r) }
+    ensures fault { GivesReason result (output_fault group.now buses (map listing earlier.now) line.now) }
     ensures says { MatchResult result (λ l. (output_line line.now ≡ Some (listing l)) × (0 < l.period)) (λ _. Unit {0}) }
 {
     let Some(said) = output_line(line) else {
@@ -95,7 +95,7 @@ pub fn check_outputs(
 ) -> Result<(), Stop>
     requires periods { HasPeriods group.now }
     requires fits { number + length group.now.outputs.items < 2 ^ 64 }
-    ensures answer { Gives result (first_no number (output_faults group.now buses (lines_of lines.old.rest.now) 0 (length group.now.outputs.items))) }
+    ensures answer { Gives result (first_no number (all_output_faults group.now buses (lines_of lines.old.rest.now))) }
     ensures rest { OnOk result (lines_of lines.new.rest.now ≡ drop (length group.now.outputs.items) (lines_of lines.old.rest.now)) }
 {
     let mut earlier = Vec::new(alloc);

@@ -1,10 +1,9 @@
 //! The text of a plan.
-ghost use Rattle.std.specs.Prelude.{◌≡◌, ◌++◌, ◌<◌, length, string_bytes, map, OnOk, IfOk, IfSome};
-ghost use Rattle.std.specs.List.{flat_map, AllByRecursion};
-ghost use Rattle.a429_slots.specs.Tables.{order_of, outputs_of, source_of, groups_of};
+ghost use Rattle.std.specs.Prelude.{◌≡◌, ◌++◌, ◌<◌, length, string_bytes, OnOk, IfOk, IfSome};
+ghost use Rattle.a429_slots.specs.Tables.{outputs_of, source_of};
 ghost use Rattle.a429_cert.specs.Spelling.{group_text, output_text, bound_text};
 ghost use Rattle.a429_cert.specs.Checked.{stated_text};
-ghost use Rattle.a429_cert.specs.PlanText.{heading_of, placed_listing, listing_of, bound_of, stated_of, stated_groups, plan_text_of};
+ghost use Rattle.a429_cert.specs.PlanText.{HasSources, heading_of, placed_listing, listing_of, bound_of, stated_of, outputs_text, groups_text, plan_text_of};
 
 use a429_equipment::{Equipment, GroupRow, SourceRow};
 use a429_slots::{GroupPlan, OUTPUTS, OutputId, Proposal, SlotPlace};
@@ -68,8 +67,8 @@ fn write_outputs(
     sources: &[SourceRow],
     table: &GroupPlan<OUTPUTS>,
 ) -> Result<(), AllocError>
-    requires known { AllByRecursion (λ o. o.source < length sources.now) (outputs_of table.now) }
-    ensures { OnOk result (string_bytes text.new ≡ string_bytes text.old ++ flat_map output_text (map (listing_of sources.now table.now) (order_of table.now))) }
+    requires known { HasSources sources.now table.now }
+    ensures { OnOk result (string_bytes text.new ≡ string_bytes text.old ++ outputs_text sources.now table.now) }
 {
     for place in 0..table.outputs() {
         write_output(text, sources, table, table.ordered(place))?;
@@ -84,7 +83,7 @@ fn write_group(
     group: &GroupRow,
     table: &GroupPlan<OUTPUTS>,
 ) -> Result<(), AllocError>
-    requires known { AllByRecursion (λ o. o.source < length sources.now) (outputs_of table.now) }
+    requires known { HasSources sources.now table.now }
     ensures { OnOk result (string_bytes text.new ≡ string_bytes text.old ++ stated_text (stated_of sources.now group.now table.now)) }
 {
     write_heading(text, group.name.as_str(), table)?;
@@ -94,7 +93,7 @@ fn write_group(
 
 /// Writes the lines of all groups, in table order.
 fn write_groups(text: &mut String, proposal: &Proposal<OUTPUTS>) -> Result<(), AllocError>
-    ensures { OnOk result (string_bytes text.new ≡ string_bytes text.old ++ flat_map stated_text (stated_groups proposal.now.station.sources proposal.now.station.groups (groups_of proposal.now.plan))) }
+    ensures { OnOk result (string_bytes text.new ≡ string_bytes text.old ++ groups_text proposal.now.station proposal.now.plan) }
 {
     let sources = proposal.equipment().sources();
     let groups = proposal.equipment().groups();

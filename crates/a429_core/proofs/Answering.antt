@@ -10,8 +10,8 @@ use Rattle.std.proofs.lemmas.Option.{same_Some}
 use Rattle.a429_equipment.specs.declared.rows.SourceRow.{SourceRow}
 use Rattle.a429_slots.specs.Tables.{GroupTable, groups_of, frame_of, buses_of}
 use Rattle.a429_slots.specs.Events.{Event, Cell}
-use Rattle.a429_slots.specs.History.{Opening, Current, AnsweredCell, current, is_cell, is_taken, cells_since, accepted_in, accepted_by, newest_number, newest_table, answered_after, answered_cells, next_answered, has_sent, sent_word}
-use Rattle.a429_slots.specs.Recalling.{Recent, Recalls, never, may_send, sent_again}
+use Rattle.a429_slots.specs.History.{Opening, Current, AnsweredCell, current, is_cell, is_taken, cells_since, accepted_in, accepted_by, newest_number, newest_table, answered_after, answered_cells, next_answered, has_sent}
+use Rattle.a429_slots.specs.Recalling.{Recalls, Recent, RecentCountsSends, RecentDecides, RecentPassesOtherCells, never, sent_again}
 use Rattle.a429_core.specs.Standing.{Remembers, recent_at}
 use Rattle.a429_core.proofs.Words.{words_in, words_append}
 use Rattle.a429_core.proofs.Frames.{current_push, gone_on, goes_on, count_push}
@@ -19,13 +19,9 @@ use Rattle.a429_core.proofs.Frames.{current_push, gone_on, goes_on, count_push}
 -- what the law of the crate below says of sends
 pub record AreRecalled : Type 0 where
   pub none : (source : ℕ) → Recalls [] source never
-  pub decides : (earlier : List AnsweredCell) (source : ℕ) (r : Recent) (slot count : ℕ) (hold : Option ℕ) (q : ℕ) (word : Option ℕ)
-      → Recalls earlier source r → r.count ≤ count
-      → sent_word earlier slot source hold q (count, word) ≡ (if may_send r slot count hold q then word else None)
-  pub sent : (earlier : List AnsweredCell) (source : ℕ) (r : Recent) (slot count word : ℕ) → Recalls earlier source r → r.count ≤ count → r.slot ≤ slot
-      → Recalls (earlier ++ record { slot = slot; source = source; count = count; word = Some word } ∷ []) source (sent_again r slot count)
-  pub other : (earlier : List AnsweredCell) (source : ℕ) (r : Recent) (c : AnsweredCell) → Recalls earlier source r → has_sent source c ≡ false
-      → Recalls (earlier ++ c ∷ []) source r
+  pub decides : RecentDecides
+  pub sent : RecentCountsSends
+  pub other : RecentPassesOtherCells
 
 -- ---- the answered cells
 

@@ -1,12 +1,12 @@
 -- How far apart a group sends words of one source, as the answers say it.
-use Rattle.std.proofs.Common.{◌≡◌, ℕ, ◌+◌, ◌<◌, ◌≤◌, Bool, true, false, List, length, take, ◌∙◌, sym, ap, refl}
+use Rattle.std.proofs.Common.{◌≡◌, ℕ, ◌+◌, ◌<◌, ◌≤◌, Bool, true, false, List, take, ◌∙◌, sym, ap, refl}
 use Rattle.std.specs.Prelude.{Option, Some, None, ◌||◌, slice_get, if◌then◌else◌}
 use Rattle.std.specs.Option.{option_map_or}
 use Rattle.std.proofs.lemmas.Option.{none-some, same_Some, slice_get_within}
 use Rattle.a429_slots.specs.Tables.{Placed, GroupTable, groups_of}
 use Rattle.a429_slots.specs.Events.{Event, Cell}
 use Rattle.a429_slots.specs.History.{Opening, current, accepted_by, answered_cells, last_of, is_too_close}
-use Rattle.a429_slots.specs.Spacing.{IsOutputCell, IsSentWithin, IsSpacedTable, IsTooClose, Sends, answered_at, number_at}
+use Rattle.a429_slots.specs.Spacing.{EmptyCellsAreFirst, EmptyCellsFollowWords, IsOutputCell, IsSpacedTable, IsTooClose, OpeningPlanEmptiesNone, Sends, WordsAreApart, answered_at, number_at}
 use Rattle.a429_slots.specs.declared.answers.Answer.TheVariants.{Sent, Refused}
 use Rattle.a429_slots.specs.declared.answers.Refusal.TheVariants.{NoSuch}
 use Rattle.a429_slots.specs.Answers.{answer, cell_answer}
@@ -15,15 +15,10 @@ use Rattle.a429_core.proofs.Carrying.{sent_in}
 
 -- what the laws of the crate below say of spacing
 pub record AreSpaced : Type 0 where
-  pub apart : (C : ℕ) (o : Opening) (g : ℕ) (p : GroupTable) (E : List Event) (j k : ℕ) (earlier now : Placed) (u t w x : ℕ) → j < k
-      → Sends C o g p E j earlier u w → Sends C o g p E k now t x → earlier.source ≡ now.source → u + now.limits.spacing ≤ t
-  pub only : (C : ℕ) (o : Opening) (g : ℕ) (p : GroupTable) (E : List Event) (k : ℕ) (now : Placed) (t : ℕ) → k < length E
-      → IsTooClose C o g p E k now t → IsSentWithin C o g p E k now t
-  pub first : (C : ℕ) (o : Opening) (g : ℕ) (p : GroupTable) (E : List Event) (i k : ℕ) (x now : Placed) (s t : ℕ) → slice_get (groups_of o.proposal.plan) g ≡ Some p
-      → IsSpacedTable (current o g p (take k E)).table → i < k → IsOutputCell o g p E i x s → IsOutputCell o g p E k now t → x.source ≡ now.source
-      → IsTooClose C o g p E k now t → ¬ (number_at o g p E i ≡ number_at o g p E k)
-  pub opening : (C : ℕ) (o : Opening) (g : ℕ) (p : GroupTable) (E : List Event) (k : ℕ) (now : Placed) (t : ℕ) → slice_get (groups_of o.proposal.plan) g ≡ Some p
-      → IsSpacedTable (current o g p (take k E)).table → IsOutputCell o g p E k now t → number_at o g p E k ≡ o.proposal.plan.number → ¬ (IsTooClose C o g p E k now t)
+  pub apart : WordsAreApart
+  pub only : EmptyCellsFollowWords
+  pub first : EmptyCellsAreFirst
+  pub opening : OpeningPlanEmptiesNone
 
 -- ---- the answer to an output's cell
 

@@ -1,5 +1,5 @@
 -- What a state is: what contracts see of it, and the histories that it stands for. Below, what the machine does in one step.
-use Rattle.std.specs.Prelude.{◌≡◌, ◌≤◌, ◌+◌, ◌-◌, ◌/◌, ◌^◌, ℕ, Bool, false, List, Option, Some, None, Result, Ok, Err, ⊤, if◌then◌else◌, nat_lt, nat_le, length, slice_get, slice_set, option_and_then, option_map}
+use Rattle.std.specs.Prelude.{◌≡◌, ◌≤◌, ◌+◌, ◌-◌, ◌/◌, ◌^◌, ◌++◌, ℕ, Bool, false, List, Option, Some, None, Result, Ok, Err, ⊤, if◌then◌else◌, nat_lt, nat_le, length, slice_get, slice_set, option_and_then, option_map}
 use Rattle.std.specs.Option.{option_map_or}
 use Rattle.a429_equipment.specs.declared.rows.SourceRow.{SourceRow}
 use Rattle.a429_equipment.specs.declared.arrivals.ArrivalRefusal.{ArrivalRefusal}
@@ -10,13 +10,13 @@ use Rattle.a429_slots.specs.Tables.{GroupTable, PlanTable, groups_of, cells_of, 
 use Rattle.a429_slots.specs.Recalling.{Recent, Recalls, may_send, recent_after}
 use Rattle.a429_slots.specs.Proposed.{Proposed}
 use Rattle.a429_slots.specs.Events.{Event, Arrive, Cell, Frame, Publish}
-use Rattle.a429_slots.specs.History.{Opening, current, cells_since, accepted_in, accepted_by, answered_cells, last_of, newest_number, newest_plan}
+use Rattle.a429_slots.specs.History.{Opening, OpensWith, current, cells_since, accepted_in, accepted_by, answered_cells, last_of, newest_number, newest_plan}
 use Rattle.a429_core.specs.declared.sources.Kept.{Kept}
 use Rattle.a429_slots.specs.declared.senders.Due.{Due}
 use Rattle.a429_slots.specs.declared.answers.Answer.{Answer}
 use Rattle.a429_slots.specs.declared.answers.Answer.TheVariants.{Accepted, Sent, Changed, Published, Refused}
 use Rattle.a429_slots.specs.declared.answers.Refusal.TheVariants.{NoSuch, CountSpent, FrameEnd, MidFrame, SlotsSpent, StationDiffers}
-use Rattle.a429_slots.specs.Answers.{refusal_of}
+use Rattle.a429_slots.specs.Answers.{answers, refusal_of}
 use Rattle.a429_slots.specs.Sending.{Sending, due_of, sending_of, next_cell, after_cell, fits_next, turned}
 
 -- what a state keeps: of each source how many words it accepted and the last of them, of each group where it stands and what it sent last
@@ -65,12 +65,26 @@ pub record StandsFor (C : ℕ) (o : Opening) (E : List Event) (v : Standing) : T
   pub station : v.station ≡ o.proposal.station
   pub sources : (i : ℕ) → slice_get v.sources i ≡ option_map (λ s. kept_of (accepted_in C o s E)) (slice_get o.proposal.station.sources i)
   pub groups : (g : ℕ) → slice_get v.groups g ≡ option_map (λ p. sending_of g (current o g p E)) (slice_get (groups_of o.proposal.plan) g)
-  pub sends : (g : ℕ) (p : GroupTable) → slice_get (groups_of o.proposal.plan) g ≡ Some p → (i : ℕ) (s : SourceRow) → slice_get o.proposal.station.sources i ≡ Some s
+  pub sends : (g : ℕ) (p : GroupTable) → OpensWith o g p → (i : ℕ) (s : SourceRow) → slice_get o.proposal.station.sources i ≡ Some s
       → Remembers C o E g p i (recent_at v.sends g i)
   pub size : length v.groups ≡ length (groups_of o.proposal.plan)
   pub number : v.newest.number ≡ newest_number o E
   pub newest : groups_of v.newest ≡ groups_of (newest_plan o E)
   pub as_many : length (groups_of v.newest) ≡ length (groups_of o.proposal.plan)
+
+-- for every history that the state stands for, these are the answers to events that come after it
+abbrev pub AnswerEvents : ℕ → Standing → List Event → List Answer → Type 0
+AnswerEvents C v events given = (o : Opening) (E : List Event) → StandsFor C o E v → given ≡ answers C o E events
+
+-- for every history that the state stands for, the next state stands for that history with these events at its end
+abbrev pub GoesOnBy : ℕ → Standing → List Event → Standing → Type 0
+GoesOnBy C before events after = (o : Opening) (E : List Event) → StandsFor C o E before → StandsFor C o (E ++ events) after
+
+-- the limit is the greatest count of C bits; words are kept of each source, and each group stands in a frame and has a newest table
+abbrev pub KeepsAll : ℕ → ℕ → TableRecord → List Kept → List Sending → PlanTable → Type 0
+KeepsAll C limit station sources groups newest =
+    (limit ≡ 2 ^ C - 1) × (length sources ≡ length station.sources)
+    × (length groups ≡ length (groups_of newest)) × (length groups ≡ length station.groups)
 
 -- ---- what the machine does in one step
 

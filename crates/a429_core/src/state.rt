@@ -1,13 +1,13 @@
 //! The machine: one step for each event.
-ghost use Rattle.std.specs.Prelude.{◌≡◌, ◌≤◌, ◌+◌, ◌-◌, ◌^◌, ◌<◌, ◌∷◌, [], ◌++◌, ◌↔◌, List, Ok, Some, None, map, length, IfOk, IfSome, OnOk, OnErr, IsErrOf, IsOk, IsTrue, false};
+ghost use Rattle.std.specs.Prelude.{◌≡◌, ◌≤◌, ◌+◌, ◌^◌, ◌<◌, ◌∷◌, [], ◌↔◌, List, Ok, map, length, IfOk, IfSome, OnOk, OnErr, IsErrOf, IsOk, IsTrue, false};
 ghost use Rattle.a429_slots.specs.Tables.{groups_of};
 ghost use Rattle.a429_slots.specs.Events.{Event as History_Event};
 ghost use Rattle.a429_slots.specs.History.{Opening};
-ghost use Rattle.a429_slots.specs.Answers.{answer, answers};
+ghost use Rattle.a429_slots.specs.Answers.{answer};
 ghost use Rattle.a429_core.specs.Happened.{event_of};
 ghost use Rattle.a429_slots.specs.declared.answers.Refusal.{Refusal as Why};
 ghost use Rattle.a429_slots.specs.Sending.{begun, all_fit};
-ghost use Rattle.a429_core.specs.Standing.{StandsFor, IsWhole, IsWholeEvent, word_at, arrived, cell_asked, frame_asked, publish_asked, asked_cell, after_asked, frame_at, stepped};
+ghost use Rattle.a429_core.specs.Standing.{AnswerEvents, GoesOnBy, StandsFor, IsWhole, IsWholeEvent, word_at, arrived, cell_asked, frame_asked, publish_asked, asked_cell, after_asked, frame_at, stepped};
 
 use crate::events::Event;
 use crate::sends::{GroupSends, send_word, sends_of};
@@ -62,15 +62,19 @@ pub struct State<const C: u32> {
 }
 
 impl<const C: u32> Model for State<C> {
-    ghost use Rattle.std.specs.Prelude.{◌≡◌, ◌-◌, ◌^◌, length};
-    ghost use Rattle.a429_slots.specs.Tables.{groups_of};
-    ghost use Rattle.a429_core.specs.Standing.{Standing};
+    ghost use Rattle.a429_core.specs.Standing.{KeepsAll, Standing};
 
     ghost Value = { Standing };
 
-    ghost view = { λ s. record { station = s.equipment; sources = s.sources.items; groups = s.groups.items; sends = s.sends.items; newest = s.newest.value } };
+    ghost view = { λ s. record {
+      station = s.equipment;
+      sources = s.sources.items;
+      groups = s.groups.items;
+      sends = s.sends.items;
+      newest = s.newest.value;
+    } };
 
-    ghost invariant = { λ s. (s.limit ≡ 2 ^ C - 1) × (length s.sources.items ≡ length s.equipment.sources) × (length s.groups.items ≡ length (groups_of s.newest.value)) × (length s.groups.items ≡ length s.equipment.groups) };
+    ghost invariant = { λ s. KeepsAll C s.limit s.equipment s.sources.items s.groups.items s.newest.value };
 }
 
 /// Whether the slots of each group's first frame can be counted in 64 bits.
@@ -271,7 +275,7 @@ impl<const C: u32> State<C> {
     pub fn step(&mut self, event: Event) -> Result<Answer, AllocError>
         ensures ok { IsOk result }
         ensures answer { (o : Opening) (E : List History_Event) → StandsFor C o E self.old → result ≡ Ok (answer C o E (event_of event)) }
-        ensures stands { (o : Opening) (E : List History_Event) → StandsFor C o E self.old → StandsFor C o (E ++ event_of event ∷ []) self.new }
+        ensures stands { GoesOnBy C self.old (event_of event ∷ []) self.new }
         ensures refused { (why : Why) → result ≡ Ok (Answer.Refused why) → self.new ≡ self.old }
     {
         sends_are_recalled();
@@ -281,8 +285,8 @@ impl<const C: u32> State<C> {
     /// Takes events one after another. Memory for all answers is taken first; where it is refused,
     /// nothing happened.
     pub fn run(&mut self, alloc: Global, events: Vec<Event>) -> Result<Vec<Answer>, AllocError>
-        ensures answers { IfOk result (λ all. (o : Opening) (E : List History_Event) → StandsFor C o E self.old → all.items ≡ answers C o E (map event_of events.items)) }
-        ensures stands { OnOk result ((o : Opening) (E : List History_Event) → StandsFor C o E self.old → StandsFor C o (E ++ map event_of events.items) self.new) }
+        ensures answers { IfOk result (λ all. AnswerEvents C self.old (map event_of events.items) all.items) }
+        ensures stands { OnOk result (GoesOnBy C self.old (map event_of events.items) self.new) }
         ensures err { OnErr result (self.new ≡ self.old) }
     {
         sends_are_recalled();

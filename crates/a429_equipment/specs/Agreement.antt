@@ -86,3 +86,19 @@ abbrev pub last_cut : (ℕ → Bool) → List (ℕ × ℕ) → Option ℕ → Li
 last_cut mine A None ls = None
 last_cut mine A (Some before) [] = Some before
 last_cut mine A (Some before) (l ∷ ls) = last_cut mine A (next_cut (mine l.source) A before l) ls
+
+-- the last cut of loads in what receiver r accepted
+abbrev pub last_cut_of : TableRecord → ℕ → List (ℕ × ℕ) → List Load → Option ℕ
+last_cut_of t r A loads = last_cut (is_of t r) A (Some 0) loads
+
+-- loads with a last cut that is computed agree with what the receiver accepted, up to that cut
+abbrev pub ComputedCutsAgree : Type 0
+ComputedCutsAgree =
+    (t : TableRecord) (r last : ℕ) (A : List (ℕ × ℕ)) (loads : List Load)
+    → last_cut_of t r A loads ≡ Some last → AgreesTo t r A loads last
+
+-- loads that agree up to some cut have a last cut that is computed, and it is no longer
+abbrev pub ComputedCutsAreLeast : Type 0
+ComputedCutsAreLeast =
+    (t : TableRecord) (r last : ℕ) (A : List (ℕ × ℕ)) (loads : List Load) → AgreesTo t r A loads last
+    → (least : ℕ) × (last_cut_of t r A loads ≡ Some least) × (least ≤ last)

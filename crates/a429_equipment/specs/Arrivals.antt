@@ -35,3 +35,8 @@ accepts t s a = has_odd_parity a.1 && (passes_at t a.0 a.1 && is_for a.0 a.1 s)
 
 abbrev pub accepted : ℕ → TableRecord → SourceRow → List (ℕ × ℕ) → List ℕ
 accepted C t s arrivals = take (2 ^ C - 1) (map (λ a. a.1) (filter (accepts t s) arrivals))
+
+-- no two sources accept one raw word that came in at one receiver
+abbrev pub AcceptApart : TableRecord → Type 0
+AcceptApart t = (a : ℕ × ℕ) (i j : ℕ) (s u : SourceRow) → slice_get t.sources i ≡ Some s → slice_get t.sources j ≡ Some u
+    → IsTrue (accepts t s a) → IsTrue (accepts t u a) → i ≡ j

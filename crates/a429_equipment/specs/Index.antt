@@ -29,3 +29,8 @@ with_words places number s sdi =
     if option_map_or (λ k. k == sdi) s.sdi true
     then slice_set places (place s.receiver s.label sdi) (option_or (entry_at places s.receiver s.label sdi) (Some number))
     else places
+
+-- the places have the words of one more source, but those that an earlier source has
+abbrev pub AreGiven : List (Option ℕ) → List (Option ℕ) → ℕ → SourceRow → Type 0
+AreGiven before after number s =
+    (r label sdi : ℕ) → label < 256 → sdi < 4 → entry_at after r label sdi ≡ given_at before number s r label sdi

@@ -1,10 +1,10 @@
 -- What a receiver accepts of the raw words that come in there.
-use Rattle.std.specs.Prelude.{◌≡◌, ◌<◌, ◌^◌, ◌++◌, ℕ, List, [], ◌∷◌, Result, Ok, Err, Some, IsTrue, if◌then◌else◌, nat_lt, length, map, slice_get}
+use Rattle.std.specs.Prelude.{◌≡◌, ◌<◌, ◌-◌, ◌^◌, ◌++◌, ℕ, List, [], ◌∷◌, Result, Ok, Err, Some, IsTrue, if◌then◌else◌, nat_lt, length, map, slice_get}
 use Rattle.std.specs.List.{AllByRecursion}
 use Rattle.a429_equipment.specs.declared.rows.SourceRow.{SourceRow}
 use Rattle.a429_equipment.specs.declared.arrivals.ArrivalRefusal.{ArrivalRefusal}
 use Rattle.a429_equipment.specs.TableRecord.{TableRecord}
-use Rattle.a429_equipment.specs.Arrivals.{sorted, accepts}
+use Rattle.a429_equipment.specs.Arrivals.{sorted, accepts, accepted}
 use Rattle.a429_equipment.specs.Agreement.{words_of}
 
 -- a word that is for a source is accepted, unless so many words of the source were
@@ -31,3 +31,15 @@ pub record IsAccepted (t : TableRecord) (r : ℕ) (e : ℕ × ℕ) : Type 0 wher
 -- each of these is
 abbrev pub AreAccepted : TableRecord → ℕ → List (ℕ × ℕ) → Type 0
 AreAccepted t r A = AllByRecursion (IsAccepted t r) A
+
+-- of the raw words that come in at a receiver, those accepted for a source are those that the source accepts
+abbrev pub ReceiversAcceptForSources : TableRecord → Type 0
+ReceiversAcceptForSources t =
+    (C r i : ℕ) (s : SourceRow) (raws : List ℕ) → slice_get t.sources i ≡ Some s
+    → words_of i (accepted_after (2 ^ C - 1) t r [] raws) ≡ accepted C t s (map (λ raw. (r, raw)) raws)
+
+-- raw words that come in at a receiver piece by piece are accepted as in one piece
+abbrev pub ReceiversAcceptInPieces : TableRecord → Type 0
+ReceiversAcceptInPieces t =
+    (limit r : ℕ) (A : List (ℕ × ℕ)) (raws more : List ℕ)
+    → accepted_after limit t r A (raws ++ more) ≡ accepted_after limit t r (accepted_after limit t r A raws) more

@@ -65,3 +65,7 @@ pub record IsSound (t : TableRecord) : Type 0 where
 -- P of each element, by its number
 abbrev pub OfEach : {X : Type 0} → (X → Type 0) → List X → Type 0
 OfEach {X} P xs = (i : ℕ) (x : X) → slice_get xs i ≡ Some x → P x
+
+-- 1 to 128 outputs, each of a source of the table, with intervals in range
+abbrev pub AreOutputRows : TableRecord → List OutputRow → Type 0
+AreOutputRows t os = (1 ≤ length os) × (length os ≤ 128) × OfEach (λ o. (o.source < length t.sources) × IsInterval o) os

@@ -1,6 +1,7 @@
 -- What sources state of their words, as the tests for repeats compare it.
 use Rattle.std.specs.Prelude.{◌≡◌, codes, ℕ, ℤ, List, [], Vec, String, map, Bool, false, ◌&&◌, Option, Some, option_map}
 use Rattle.std.specs.declared.alloc.Global.{Global}
+use Rattle.std.specs.List.{list_any}
 use Rattle.std.specs.Option.{option_map_or}
 use Rattle.std.specs.Str.{bytes_eq}
 use Rattle.indexmap.specs.IndexMap.{IndexMap}
@@ -48,3 +49,22 @@ senders_view senders = map (λ s. map (option_map key_view) s.items) senders
 -- those of a group, or none where there is no such group
 abbrev pub keys_in : Option (Vec (Option SourceKey) Global) → List (Option SourceKey)
 keys_in senders = option_map_or (λ s. s.items) senders []
+
+-- the key is that of the source of an output of a table, by the numbers and the keys of its sources
+abbrev pub IsSenderOf : {S : Type 0} → IndexMap (String Global) ℕ S → List SourceKey → Data → Option SourceKey → Type 0
+IsSenderOf numbers keys output sender =
+    (root : Data) → AreOfSources numbers keys root → option_map key_view sender ≡ sender_of root output
+
+-- the keys are those of the sources of these outputs
+abbrev pub AreSendersOf : {S : Type 0} → IndexMap (String Global) ℕ S → List SourceKey → List Data → List (Option SourceKey) → Type 0
+AreSendersOf numbers keys outputs senders =
+    (root : Data) → AreOfSources numbers keys root → map (option_map key_view) senders ≡ map (sender_of root) outputs
+
+-- the keys are those of the sources of the outputs of each group
+abbrev pub AreSendersOfGroups : {S : Type 0} → IndexMap (String Global) ℕ S → List SourceKey → List Data → List (Vec (Option SourceKey) Global) → Type 0
+AreSendersOfGroups numbers keys groups senders =
+    (root : Data) → AreOfSources numbers keys root → senders_view senders ≡ map (senders_of root) groups
+
+-- some of these sources has the label and the SDI of this one
+abbrev pub any_same : List (Option SourceKey) → Option SourceKey → Bool
+any_same senders source = list_any (λ k. same_keys (option_map key_view k) (option_map key_view source)) senders

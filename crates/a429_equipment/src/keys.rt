@@ -2,10 +2,9 @@
 
 ghost use Rattle.std.specs.Prelude.{◌≡◌, map, slice_get, option_map, IfOk};
 ghost use Rattle.indexmap.specs.IndexMap.{get_by_text};
-ghost use Rattle.toml.specs.Data.{Data};
 ghost use Rattle.toml.specs.View.{view};
 ghost use Rattle.a429_equipment.specs.Faults.{sdi_at, sdis_meet, same_sdi};
-ghost use Rattle.a429_equipment.specs.SourceKeys.{key_view, key_of, keys_meet, same_keys, sender_of, senders_of, senders_view, AreOfSources};
+ghost use Rattle.a429_equipment.specs.SourceKeys.{key_view, key_of, keys_meet, same_keys, AreSendersOf, AreSendersOfGroups, IsSenderOf};
 
 use crate::tree::{rows_at, text_at};
 use indexmap::IndexMap;
@@ -109,7 +108,7 @@ pub fn sender_key<'a>(
     keys: &[SourceKey<'a>],
     output: &Value,
 ) -> Option<SourceKey<'a>>
-    ensures { (root : Data) → AreOfSources numbers.now keys.now root → option_map key_view result ≡ sender_of root (view output.now) }
+    ensures { IsSenderOf numbers.now keys.now (view output.now) result }
 {
     match number_of(numbers, text_at(output, "source")) {
         Some(number) => nth_key(keys, number),
@@ -123,7 +122,7 @@ fn group_keys<'a>(
     keys: &[SourceKey<'a>],
     outputs: &[Value],
 ) -> Result<Vec<Option<SourceKey<'a>>>, AllocError>
-    ensures { IfOk result (λ senders. (root : Data) → AreOfSources numbers.now keys.now root → map (option_map key_view) senders.items ≡ map (sender_of root) (map view outputs.now)) }
+    ensures { IfOk result (λ senders. AreSendersOf numbers.now keys.now (map view outputs.now) senders.items) }
 {
     let mut senders = Vec::new(alloc);
     for output in outputs {
@@ -139,7 +138,7 @@ pub fn sender_keys<'a>(
     keys: &[SourceKey<'a>],
     groups: &[Value],
 ) -> Result<Vec<Vec<Option<SourceKey<'a>>>>, AllocError>
-    ensures { IfOk result (λ senders. (root : Data) → AreOfSources numbers.now keys.now root → senders_view senders.items ≡ map (senders_of root) (map view groups.now)) }
+    ensures { IfOk result (λ senders. AreSendersOfGroups numbers.now keys.now (map view groups.now) senders.items) }
 {
     let mut senders = Vec::new(alloc);
     for group in groups {

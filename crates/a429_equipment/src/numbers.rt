@@ -2,13 +2,10 @@
 //!
 //! A table may have hundreds of names, and each is looked up for several faults: so they are gathered once.
 
-ghost use Rattle.std.specs.Prelude.{◌≡◌, ℕ, List, map, codes, IfOk, OnOk, Some, None, option_map, if◌then◌else◌};
-ghost use Rattle.std.specs.Option.{option_or};
-ghost use Rattle.std.specs.Str.{bytes_eq};
-ghost use Rattle.indexmap.specs.IndexMap.{get_by_text};
+ghost use Rattle.std.specs.Prelude.{◌≡◌, map, codes, IfOk, OnOk, option_map};
 ghost use Rattle.toml.specs.View.{view};
 ghost use Rattle.a429_equipment.specs.Names.{number_named};
-ghost use Rattle.a429_equipment.specs.Numbers.{NumbersNames};
+ghost use Rattle.a429_equipment.specs.Numbers.{NumbersNames, NumbersOneMore};
 ghost use Rattle.a429_equipment.specs.Tree.{rows_at};
 ghost use Rattle.a429_equipment.specs.SourceKeys.{key_view, key_of, sender_of, senders_of, senders_view};
 
@@ -104,7 +101,7 @@ fn number_name(
     name: &str,
     number: usize,
 ) -> Result<(), AllocError>
-    ensures { OnOk result ((q : List ℕ) → get_by_text numbers.new q ≡ option_or (get_by_text numbers.old q) (if bytes_eq q name.now then Some number else None)) }
+    ensures { OnOk result (NumbersOneMore numbers.old numbers.new name.now number) }
 {
     if !numbers.contains_key(name) {
         numbers.insert(String::from_str(alloc, name)?, number)?;

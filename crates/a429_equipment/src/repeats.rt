@@ -1,11 +1,11 @@
 //! Words that two sources would be for, and words that a group would send twice.
 
-ghost use Rattle.std.specs.Prelude.{◌≡◌, take, slice_get, option_map};
+ghost use Rattle.std.specs.Prelude.{◌≡◌, take, slice_get};
 ghost use Rattle.std.specs.List.{list_any};
 ghost use Rattle.toml.specs.View.{view};
 ghost use Rattle.a429_equipment.specs.Stops.{table_of};
 ghost use Rattle.a429_equipment.specs.Faults.{repeats_source, repeats_output};
-ghost use Rattle.a429_equipment.specs.SourceKeys.{key_view, keys_meet, same_keys, keys_in};
+ghost use Rattle.a429_equipment.specs.SourceKeys.{any_same, key_view, keys_meet, keys_in};
 
 use crate::fault::TablePlace;
 use crate::keys::{SourceKey, keys_meet, same_keys, source_key};
@@ -34,7 +34,7 @@ pub fn repeats_source(numbers: &Numbers<'_>, stop: &Stop) -> bool
 }
 
 fn sends_any(senders: &[Option<SourceKey<'_>>], source: &Option<SourceKey<'_>>) -> bool
-    ensures { result ≡ list_any (λ k. same_keys (option_map key_view k) (option_map key_view source.now)) senders.now }
+    ensures { result ≡ any_same senders.now source.now }
 {
     senders.iter().any(|other| same_keys(other, source))
 }
@@ -45,7 +45,7 @@ fn sends_before(
     row: usize,
     source: Option<SourceKey<'_>>,
 ) -> bool
-    ensures { result ≡ list_any (λ k. same_keys (option_map key_view k) (option_map key_view source.entry)) (take row (keys_in (slice_get senders.now group))) }
+    ensures { result ≡ any_same (take row (keys_in (slice_get senders.now group))) source.entry }
 {
     match nth_row(senders, group) {
         Some(senders) => sends_any(first_rows(senders.as_slice(), row), &source),

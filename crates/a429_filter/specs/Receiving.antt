@@ -1,5 +1,5 @@
 -- What a socket answers, by the words that it took in the call (profile).
-use Rattle.std.specs.Prelude.{◌≡◌, ◌≤◌, ℕ, Bool, true, false, List, ◌++◌, Option, Result, Ok, Err, length, filter, min, ◌+◌, ◌-◌, ◌^◌, ◌==◌, ◌&&◌}
+use Rattle.std.specs.Prelude.{◌≡◌, ◌≤◌, ℕ, Bool, true, false, List, ◌++◌, Option, Result, Ok, Err, length, filter, min, option_map, ◌+◌, ◌-◌, ◌^◌, ◌==◌, ◌&&◌}
 use Rattle.a429_word.specs.Bits.{has_odd_parity, label_of}
 use Rattle.a429_filter.specs.declared.filters.Filter.{Filter}
 use Rattle.a429_filter.specs.declared.sources.SourceFault.{SourceFault}
@@ -25,6 +25,12 @@ pub record Received (filters : Option (List Filter)) (taken : List ℕ) (answer 
   pub passed : filter (accepts filters) taken ≡ word_given answer
   pub looks : length refused ≤ 65536
   pub skipped : is_skipped answer ≡ (length refused == 65536)
+
+-- the answer is by the words that the source gave in the call, and what was behind them the source has still to give
+abbrev pub ReceivesFrom : {L : Type 0} → (L → List ℕ) → (L → Option (List ℕ)) → L → L → Option (List Filter) → Result (Option ℕ) SourceFault → Type 0
+ReceivesFrom given left before after filters answer =
+    (taken : List ℕ) × (given after ≡ given before ++ taken) × (left before ≡ option_map (λ more. taken ++ more) (left after))
+    × Received filters taken answer
 
 -- the count of the source's failures after the call: it failed once just where the answer says so
 abbrev pub failures_since : ℕ → Result (Option ℕ) SourceFault → ℕ

@@ -1,6 +1,7 @@
 -- The lines that a reader stands for: it keeps of a line what its last run is, or how many Nulls stand behind it.
-use Rattle.std.specs.Prelude.{◌≡◌, ◌∷◌, [], ℕ, List, if◌then◌else◌, nat_lt, min, length}
-use Rattle.a429_line.specs.Reports.{number, gap_after, first_piece, later_pieces}
+use Rattle.std.specs.Prelude.{◌≡◌, ◌++◌, ◌∷◌, [], ℕ, List, if◌then◌else◌, nat_lt, min, length}
+use Rattle.a429_line.specs.Reports.{number, gap_after, first_piece, later_pieces, reports}
+use Rattle.a429_line.specs.declared.found.Found.{Found}
 use Rattle.a429_line.specs.declared.found.Symbol.{Symbol}
 use Rattle.a429_line.specs.declared.stage.Stage.{Stage}
 use Rattle.a429_line.specs.declared.stage.Stage.TheVariants.{Between, Within, Reported}
@@ -31,3 +32,17 @@ left Reported = 0
 -- a reader at this stage stands for the line x
 unfoldable pub StandsFor : List Symbol → Stage → Type 0
 StandsFor x stage = stage ≡ kept_of x
+
+-- for every line that the reader stood for, it stands now for that line with these symbols behind it
+abbrev pub GoesOnBy : Stage → List Symbol → Stage → Type 0
+GoesOnBy before piece after = (x : List Symbol) → StandsFor x before → StandsFor (x ++ piece) after
+
+-- behind every line that a reader at this stage stands for, these symbols bring just these reports
+abbrev pub BringReports : Stage → List Symbol → List Found → Type 0
+BringReports stage piece found = (x : List Symbol) → StandsFor x stage → reports (x ++ piece) ≡ reports x ++ found
+
+-- a list of reports is longer by those that these symbols bring behind every line that a reader at this stage stands for
+abbrev pub AddsReports : Stage → List Symbol → List Found → List Found → Type 0
+AddsReports stage piece before after =
+    (x : List Symbol) → StandsFor x stage
+    → (added : List Found) × (after ≡ before ++ added) × (reports (x ++ piece) ≡ reports x ++ added)

@@ -2,11 +2,10 @@
 ghost use Rattle.std.specs.Prelude.{◌≡◌, ◌++◌, ◌≤◌, ◌<◌, List, [], None, IfSome, OnOk, OnErr, IfOk, is_ok, length, slice_range, if◌then◌else◌};
 ghost use Rattle.std.specs.Option.{option_to_list};
 ghost use Rattle.a429_line.specs.LineBytes.{symbols_of};
-ghost use Rattle.a429_line.specs.Reports.{reports, rest};
+ghost use Rattle.a429_line.specs.Reports.{rest};
 ghost use Rattle.a429_line.specs.Stages.{after_all, due_in};
-ghost use Rattle.a429_line.specs.Standing.{StandsFor};
+ghost use Rattle.a429_line.specs.Standing.{AddsReports, BringReports, GoesOnBy, StandsFor};
 ghost use Rattle.a429_line.specs.declared.found.Symbol.{Symbol};
-ghost use Rattle.a429_line.specs.declared.found.Found.{Found};
 
 use crate::found::{Found, Symbol};
 use crate::stage::Stage;
@@ -72,9 +71,8 @@ impl LineReader {
     // For every line that the reader stands for, it then stands for that line with the piece behind it,
     // and the reports added are those that the longer line has beyond the shorter one's.
     pub fn feed(&mut self, piece: &[Symbol], out: &mut Vec<Found>) -> Result<(), AllocError>
-        ensures stands { OnOk result ((x : List Symbol) → StandsFor x self.old → StandsFor (x ++ piece.now) self.new) }
-        ensures reports { OnOk result ((x : List Symbol) → StandsFor x self.old → (added : List Found)
-            × (out.new.items ≡ out.old.items ++ added) × (reports (x ++ piece.now) ≡ reports x ++ added)) }
+        ensures stands { OnOk result (GoesOnBy self.old piece.now self.new) }
+        ensures reports { OnOk result (AddsReports self.old piece.now out.old.items out.new.items) }
         ensures err { OnErr result ((self.new ≡ self.old) × (out.new.items ≡ out.old.items)) }
     {
         self.stage = take_all(self.stage, piece, out)?;
@@ -88,9 +86,8 @@ impl LineReader {
     // taken behind it, and the report is the one that the longer line has beyond the shorter one's.
     pub fn next(&mut self, bytes: &[u8], from: &mut usize) -> Option<Found>
         requires { from.old ≤ length bytes.now }
-        ensures stands { (x : List Symbol) → StandsFor x self.old → StandsFor (x ++ symbols_of (slice_range bytes.now from.old from.new)) self.new }
-        ensures reports { (x : List Symbol) → StandsFor x self.old →
-            reports (x ++ symbols_of (slice_range bytes.now from.old from.new)) ≡ reports x ++ option_to_list result }
+        ensures stands { GoesOnBy self.old (symbols_of (slice_range bytes.now from.old from.new)) self.new }
+        ensures reports { BringReports self.old (symbols_of (slice_range bytes.now from.old from.new)) (option_to_list result) }
         ensures forward { (from.old ≤ from.new) × (from.new ≤ length bytes.now) }
         ensures goes_on { IfSome result (λ _. from.old < from.new) }
         ensures end { result ≡ None → from.new ≡ length bytes.now }

@@ -3,6 +3,7 @@ use Rattle.std.specs.Prelude.{◌≡◌, ◌+◌, ◌-◌, ◌≤◌, ◌++◌, 
 use Rattle.std.specs.List.{All}
 use Rattle.std.proofs.Common.{ap, arith, length-append}
 use Rattle.std.proofs.lemmas.List.{length-replicate, length-take-le}
+use Rattle.a429_pack.specs.Layout.{Layout}
 
 -- numbers in an array of n, with zeros behind them
 abbrev pub padded : ℕ → List ℕ → List ℕ
@@ -20,6 +21,10 @@ pub record AreKept (n : ℕ) (first second : List ℕ) (count end : ℕ) : Type 
   pub starts : second ≡ padded n (starts_from 0 (take count first))
   pub total : end ≡ sum (take count first)
   pub some : All (λ d. 1 ≤ d) (take count first)
+
+-- the layout that is kept as these demands and an array of inputs: as many inputs as there are demands
+abbrev pub kept_layout : ℕ → ℕ → List ℕ → List ℕ → Layout
+kept_layout frame buses demands inputs = record { frame = frame; buses = buses; inputs = take (length demands) inputs; demands = demands }
 
 pub length-padded : (n : ℕ) (xs : List ℕ) → n ≤ length (padded n xs)
 length-padded n xs = omega (arith, length-append xs (replicate (n - length xs) 0), length-replicate {A = ℕ} (n - length xs) 0)

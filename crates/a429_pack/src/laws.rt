@@ -1,11 +1,10 @@
 //! What follows from the definitions of schedules, orders and stretches.
-ghost use Rattle.std.specs.Prelude.{◌≡◌, ℕ, ◌<◌, ◌≤◌, ◌^◌, List, length, map, slice_index, sum};
+ghost use Rattle.std.specs.Prelude.{◌≡◌, ℕ, ◌<◌, ◌≤◌, List, length, slice_index, sum};
 ghost use Rattle.std.specs.List.{range_with_len};
 ghost use Rattle.std.specs.List.Sorted.{IsPermutation};
-ghost use Rattle.a429_pack.specs.Demanded.{IsBusCount};
+ghost use Rattle.a429_pack.specs.Demanded.{AreFewestBuses, IsBusCount};
 ghost use Rattle.a429_pack.specs.Demands.{greatest};
 ghost use Rattle.a429_pack.specs.Orders.{NamesEachOnce};
-ghost use Rattle.a429_pack.specs.Schedules.{IsFewest};
 ghost use Rattle.a429_pack.specs.Sums.{Holds};
 
 use a429_grid::laws::blocks_are_periodic;
@@ -15,9 +14,9 @@ use a429_grid::laws::blocks_are_periodic;
 /// greatest of them (profile: layout).
 pub fn fewest_by_demand()
     ensures carried { (exponents : List ℕ) (buses : ℕ) → 1 ≤ length exponents → IsBusCount exponents buses
-        → IsFewest (2 ^ greatest exponents) (map (λ k. 2 ^ k) exponents) buses }
+        → AreFewestBuses exponents buses }
     ensures only { (exponents : List ℕ) (buses : ℕ) → 1 ≤ length exponents
-        → IsFewest (2 ^ greatest exponents) (map (λ k. 2 ^ k) exponents) buses → IsBusCount exponents buses }
+        → AreFewestBuses exponents buses → IsBusCount exponents buses }
 {
     blocks_are_periodic();
 }

@@ -1,5 +1,5 @@
 //! The layout of a group.
-ghost use Rattle.std.specs.Prelude.{◌≡◌, ◌<◌, ◌≤◌, ◌*◌, length, slice_index};
+ghost use Rattle.std.specs.Prelude.{◌≡◌, ◌<◌, ◌≤◌, length, slice_index};
 
 use crate::sums::SumTable;
 use a429_grid::Period;
@@ -17,15 +17,15 @@ pub struct Packed<const N: usize> {
 
 impl<const N: usize> Model for Packed<N> {
     ghost use Rattle.std.specs.Prelude.{◌≡◌, length, take};
-    ghost use Rattle.std.proofs.Common.{refl, sym};
+    ghost use Rattle.std.proofs.Common.{sym};
     ghost use Rattle.a429_pack.specs.Layout.{Layout, IsLaidOut};
-    ghost use Rattle.a429_pack.specs.Kept.{padded};
+    ghost use Rattle.a429_pack.specs.Kept.{kept_layout, padded};
 
     ghost Value = { Layout };
 
-    ghost view = { λ p. record { frame = p.frame; buses = p.buses; inputs = take (length p.sums) p.inputs; demands = p.sums } };
+    ghost view = { λ p. kept_layout p.frame p.buses p.sums p.inputs };
 
-    ghost invariant = { λ p. (p.inputs ≡ padded N (take (length p.sums) p.inputs)) × IsLaidOut (record { frame = p.frame; buses = p.buses; inputs = take (length p.sums) p.inputs; demands = p.sums }) };
+    ghost invariant = { λ p. (p.inputs ≡ padded N (take (length p.sums) p.inputs)) × IsLaidOut (kept_layout p.frame p.buses p.sums p.inputs) };
 
     ghost inverse = { λ l. record { frame = l.frame; buses = l.buses; sums = l.demands; inputs = padded N l.inputs } };
 

@@ -1,6 +1,7 @@
 -- What the rows of a group ask of its layout.
-use Rattle.std.specs.Prelude.{◌≡◌, ◌<◌, ℕ, List, Some, MatchOption, length, map, slice_get, slice_index, take}
+use Rattle.std.specs.Prelude.{◌≡◌, ◌/◌, ◌%◌, ◌^◌, ◌<◌, ℕ, List, Some, MatchOption, length, map, slice_get, slice_index, take}
 use Rattle.a429_grid.specs.Grid.{HasNoGridPeriod, least_spacing}
+use Rattle.a429_grid.specs.Reversal.{reversed}
 use Rattle.a429_pack.specs.declared.demands.Demand.{Demand}
 use Rattle.a429_pack.specs.Demands.{exponent_of}
 use Rattle.a429_pack.specs.Layout.{Layout}
@@ -23,6 +24,15 @@ pub record IsAsked (rate : ℕ) (sources : List SourceRow) (row : OutputRow) (d 
 -- what limits the sends of the row's output: its hold, and the least spacing of its interval
 abbrev pub limits_at : ℕ → OutputRow → SendLimits
 limits_at rate row = record { hold = row.hold; spacing = least_spacing row.min_us rate }
+
+-- each output of a layout has here the bus on which its stretch begins
+abbrev pub AreBusesOf : Layout → List ℕ → Type 0
+AreBusesOf l buses = (k : ℕ) → k < length l.inputs → slice_index buses (slice_index l.inputs k) ≡ start_of l.demands k / 2 ^ l.frame
+
+-- each has here its offset: the digits in reverse of the place on the bus where its stretch begins
+abbrev pub AreOffsetsOf : Layout → List ℕ → Type 0
+AreOffsetsOf l offsets =
+    (k : ℕ) → k < length l.inputs → slice_index offsets (slice_index l.inputs k) ≡ reversed l.frame (start_of l.demands k % 2 ^ l.frame)
 
 -- the table of a layout, with its outputs' rows and what they ask
 pub record IsTableOf (rate : ℕ) (l : Layout) (rows : List OutputRow) (asked : List Demand) (t : GroupTable) : Type 0 where

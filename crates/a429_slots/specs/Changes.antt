@@ -1,6 +1,7 @@
 -- What lies between the cells of an output where the plan of its group changes.
-use Rattle.std.specs.Prelude.{◌≡◌, ℕ, ◌+◌, ◌<◌, Some}
-use Rattle.a429_slots.specs.Tables.{GroupTable, cell_at, frame_of}
+use Rattle.std.specs.Prelude.{◌≡◌, ℕ, ◌+◌, ◌-◌, ◌^◌, ◌<◌, Some}
+use Rattle.a429_slots.specs.declared.group_plan.SlotPlace.{SlotPlace}
+use Rattle.a429_slots.specs.Tables.{GroupTable, cell_at, frame_of, place_of}
 
 -- the output stands in the slot, on some bus
 abbrev pub StandsIn : GroupTable → ℕ → ℕ → Type 0
@@ -26,3 +27,9 @@ pub record IsGap (before : GroupTable) (output : ℕ) (after : GroupTable) (same
   pub last : IsLastSlot before output from
   pub first : IsFirstSlot after same to
   pub apart : from + gap ≡ frame_of before + to
+
+-- the gap is what the output's old offset leaves of its old period, and its new offset; it is below both periods together
+abbrev pub IsGapOfPlaces : GroupTable → ℕ → GroupTable → ℕ → ℕ → Type 0
+IsGapOfPlaces before output after same gap =
+    (old new : SlotPlace) → place_of before output ≡ Some old → place_of after same ≡ Some new
+    → (gap ≡ 2 ^ old.period - old.offset + new.offset) × (gap < 2 ^ old.period + 2 ^ new.period)

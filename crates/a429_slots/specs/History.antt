@@ -1,5 +1,5 @@
 -- What a history comes to: the words that were accepted, the plans in force, the cell that is due, and the word that is sent in it.
-use Rattle.std.specs.Prelude.{◌==◌, ◌&&◌, ◌||◌, ◌++◌, ◌+◌, ◌-◌, ◌/◌, ◌%◌, ◌^◌, ◌∷◌, [], ℕ, Bool, false, List, Option, Some, None, if◌then◌else◌, nat_lt, nat_le, length, take, reverse, filter_map, count_by, slice_get, option_and_then, option_map, unwrap_or, is_some}
+use Rattle.std.specs.Prelude.{◌≡◌, ◌==◌, ◌&&◌, ◌||◌, ◌++◌, ◌+◌, ◌-◌, ◌/◌, ◌%◌, ◌^◌, ◌∷◌, [], ℕ, Bool, false, List, Option, Some, None, if◌then◌else◌, nat_lt, nat_le, length, take, reverse, filter_map, count_by, slice_get, option_and_then, option_map, unwrap_or, is_some}
 use Rattle.std.specs.List.{list_any}
 use Rattle.std.specs.Option.{option_map_or}
 use Rattle.a429_equipment.specs.declared.rows.SourceRow.{SourceRow}
@@ -13,6 +13,10 @@ use Rattle.a429_slots.specs.Events.{Event, Arrive, Cell, Frame, Publish}
 pub record Opening : Type 0 where
   pub proposal : Proposed
   pub first : ℕ
+
+-- group g begins with this slot table: that of the opening plan
+abbrev pub OpensWith : Opening → ℕ → GroupTable → Type 0
+OpensWith o g p = slice_get (groups_of o.proposal.plan) g ≡ Some p
 
 -- ---- accepted words
 

@@ -4,6 +4,7 @@ use Rattle.std.specs.List.{AllZip, AllByRecursion}
 use Rattle.std.specs.Option.{option_map_or}
 use Rattle.a429_grid.specs.Grid.{IsGridPeriod, HasNoGridPeriod, IsLeastSpacing}
 use Rattle.a429_pack.specs.declared.demands.Demand.{Demand}
+use Rattle.a429_pack.specs.Demanded.{AreFewestBuses}
 use Rattle.a429_pack.specs.Demands.{IsLayoutOrder, greatest, exponent_of, periods_of}
 use Rattle.a429_pack.specs.Schedules.{IsFewest}
 use Rattle.a429_pack.specs.Sums.{start_of}
@@ -59,6 +60,10 @@ pub record IsPlanOf (e : TableRecord) (p : PlanTable) : Type 0 where
   pub count : length (groups_of p) ≡ length e.groups
   pub groups : AllZip (IsPlannedFor e.rate e.sources) e.outputs (groups_of p)
 
+-- the source of each row is one of these
+abbrev pub HaveSources : List SourceRow → List OutputRow → Type 0
+HaveSources sources rows = AllByRecursion (λ o. o.source < length sources) rows
+
 -- no group has more than n outputs
 abbrev pub HaveRoom : ℕ → List (List OutputRow) → Type 0
 HaveRoom n outputs = AllByRecursion (λ rows. length rows ≤ n) outputs
@@ -80,7 +85,7 @@ pub record IsFirstUnfit (rate : ℕ) (rows : List OutputRow) (o : ℕ) : Type 0 
 pub record NeedsBuses (rate : ℕ) (rows : List OutputRow) (needed : ℕ) : Type 0 where
   pub exponents : List ℕ
   pub fit : AllZip (HasPeriod rate) rows exponents
-  pub fewest : IsFewest (2 ^ greatest exponents) (map (λ k. 2 ^ k) exponents) needed
+  pub fewest : AreFewestBuses exponents needed
 
 -- more than a group can have
 abbrev pub NeedsTooMany : ℕ → List OutputRow → ℕ → Type 0
@@ -89,6 +94,10 @@ NeedsTooMany rate rows needed = NeedsBuses rate rows needed × (16 < needed)
 -- neither of the two
 abbrev pub CanBePlanned : ℕ → List OutputRow → Type 0
 CanBePlanned rate rows = (needed : ℕ) × NeedsBuses rate rows needed × (needed ≤ 16)
+
+-- the group can be planned, and this is its slot table
+abbrev pub IsPlanOfGroup : ℕ → List SourceRow → List OutputRow → GroupTable → Type 0
+IsPlanOfGroup rate sources rows t = IsPlannedFor rate sources rows t × CanBePlanned rate rows
 
 -- group g is the first that cannot be planned, for this reason
 pub record IsFirstFaulty (e : TableRecord) (g : ℕ) (IsFault : List OutputRow → Type 0) : Type 0 where

@@ -1,7 +1,7 @@
 -- What has to be kept of a group's earlier cells to tell the word that is sent in the next one.
-use Rattle.std.specs.Prelude.{◌≡◌, ◌==◌, ◌&&◌, ◌+◌, ◌<◌, ℕ, Bool, List, Option, false, not, if◌then◌else◌, nat_lt, nat_le}
+use Rattle.std.specs.Prelude.{◌≡◌, ◌==◌, ◌&&◌, ◌+◌, ◌<◌, ◌≤◌, ◌++◌, ◌∷◌, [], ℕ, Bool, List, Option, Some, None, false, not, if◌then◌else◌, nat_lt, nat_le}
 use Rattle.std.specs.Option.{option_map_or}
-use Rattle.a429_slots.specs.History.{AnsweredCell, times_sent, is_too_close}
+use Rattle.a429_slots.specs.History.{AnsweredCell, has_sent, sent_word, times_sent, is_too_close}
 
 -- the word of a source that the group sent last: its number among the accepted words, how often it was sent, and the slot of the last
 -- time; `times` is 0 where none was sent
@@ -34,3 +34,22 @@ pub record Recalls (earlier : List AnsweredCell) (source : ℕ) (r : Recent) : T
   pub times : times_sent earlier source r.count ≡ r.times
   pub newer : (count : ℕ) → r.count < count → times_sent earlier source count ≡ 0
   pub close : (slot q : ℕ) → is_too_close earlier slot source q ≡ (nat_lt 0 r.times && nat_lt slot (r.slot + q))
+
+-- what is kept tells the word that is sent in the next cell, as long as the number of accepted words does not go back
+abbrev pub RecentDecides : Type 0
+RecentDecides =
+    (earlier : List AnsweredCell) (source : ℕ) (r : Recent) (slot count : ℕ) (hold : Option ℕ) (q : ℕ) (word : Option ℕ)
+    → Recalls earlier source r → r.count ≤ count
+    → sent_word earlier slot source hold q (count, word) ≡ (if may_send r slot count hold q then word else None)
+
+-- after a cell with a word of the source that send is kept, as long as neither the number of accepted words nor the slot goes back
+abbrev pub RecentCountsSends : Type 0
+RecentCountsSends =
+    (earlier : List AnsweredCell) (source : ℕ) (r : Recent) (slot count word : ℕ) → Recalls earlier source r → r.count ≤ count → r.slot ≤ slot
+    → Recalls (earlier ++ record { slot = slot; source = source; count = count; word = Some word } ∷ []) source (sent_again r slot count)
+
+-- a cell without a word of the source changes nothing of what is kept
+abbrev pub RecentPassesOtherCells : Type 0
+RecentPassesOtherCells =
+    (earlier : List AnsweredCell) (source : ℕ) (r : Recent) (c : AnsweredCell) → Recalls earlier source r → has_sent source c ≡ false
+    → Recalls (earlier ++ c ∷ []) source r

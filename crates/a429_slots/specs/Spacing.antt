@@ -1,10 +1,14 @@
 -- The cells of outputs by their places in a history, and how far apart a group sends words of one source. A place is how many events come
 -- before it.
-use Rattle.std.specs.Prelude.{◌≡◌, ◌+◌, ◌<◌, ◌≤◌, ◌^◌, ℕ, IsTrue, List, Some, take, slice_get}
+use Rattle.std.specs.Prelude.{◌≡◌, ◌+◌, ◌<◌, ◌≤◌, ◌^◌, ℕ, IsTrue, List, Some, length, take, slice_get}
+use Rattle.a429_equipment.specs.Sound.{HaveOwnSources}
+use Rattle.a429_equipment.specs.declared.rows.OutputRow.{OutputRow}
+use Rattle.a429_equipment.specs.declared.rows.SourceRow.{SourceRow}
 use Rattle.a429_slots.specs.Tables.{Placed, GroupTable, outputs_of, output_in}
 use Rattle.a429_slots.specs.Kept.{StandsJustAt}
+use Rattle.a429_slots.specs.Planned.{IsPlannedFor}
 use Rattle.a429_slots.specs.Events.{Event, Cell}
-use Rattle.a429_slots.specs.History.{Opening, AnsweredCell, current, cell_due, answered_cell, answered_cells, is_too_close}
+use Rattle.a429_slots.specs.History.{Opening, OpensWith, AnsweredCell, current, cell_due, answered_cell, answered_cells, is_too_close}
 
 -- at this place the group answers a cell of this output, in this slot counted from the station's first
 pub record IsOutputCell (o : Opening) (g : ℕ) (p : GroupTable) (E : List Event) (k : ℕ) (output : Placed) (slot : ℕ) : Type 0 where
@@ -48,3 +52,47 @@ pub record IsSpacedTable (t : GroupTable) : Type 0 where
   pub periodic : (n : ℕ) (x : Placed) → slice_get (outputs_of t) n ≡ Some x → StandsJustAt t n x.place.bus x.place.offset (2 ^ x.place.period)
   pub fits : (n : ℕ) (x : Placed) → slice_get (outputs_of t) n ≡ Some x → x.place.period ≤ t.frame
   pub spaced : (n : ℕ) (x : Placed) → slice_get (outputs_of t) n ≡ Some x → x.limits.spacing ≤ 2 ^ x.place.period
+
+-- the slot table that is in force at this place is such a one
+abbrev pub HasSpacedTable : Opening → ℕ → GroupTable → List Event → ℕ → Type 0
+HasSpacedTable o g p E k = IsSpacedTable (current o g p (take k E)).table
+
+-- ---- laws
+
+-- two words of one source that a group sends are as far apart as the plan in force at the second asks
+abbrev pub WordsAreApart : Type 0
+WordsAreApart =
+    (C : ℕ) (o : Opening) (g : ℕ) (p : GroupTable) (E : List Event) (j k : ℕ) (earlier now : Placed) (u t w x : ℕ) → j < k
+    → Sends C o g p E j earlier u w → Sends C o g p E k now t x → earlier.source ≡ now.source → u + now.limits.spacing ≤ t
+
+-- a cell is empty for the sake of the least spacing only where a word of the source was sent within it
+abbrev pub EmptyCellsFollowWords : Type 0
+EmptyCellsFollowWords =
+    (C : ℕ) (o : Opening) (g : ℕ) (p : GroupTable) (E : List Event) (k : ℕ) (now : Placed) (t : ℕ) → k < length E
+    → IsTooClose C o g p E k now t → IsSentWithin C o g p E k now t
+
+-- two cells of one source by one plan are as far apart as the plan asks
+abbrev pub CellsOfOnePlanAreApart : Type 0
+CellsOfOnePlanAreApart =
+    (o : Opening) (g : ℕ) (p : GroupTable) (E : List Event) (j k : ℕ) (earlier now : Placed) (u t : ℕ) → OpensWith o g p → j < k
+    → IsOutputCell o g p E j earlier u → IsOutputCell o g p E k now t → earlier.source ≡ now.source
+    → number_at o g p E j ≡ number_at o g p E k → HasSpacedTable o g p E k → u + now.limits.spacing ≤ t
+
+-- before a cell that is empty for the sake of the least spacing there is none of its source by the same plan
+abbrev pub EmptyCellsAreFirst : Type 0
+EmptyCellsAreFirst =
+    (C : ℕ) (o : Opening) (g : ℕ) (p : GroupTable) (E : List Event) (i k : ℕ) (x now : Placed) (s t : ℕ) → OpensWith o g p
+    → HasSpacedTable o g p E k → i < k → IsOutputCell o g p E i x s → IsOutputCell o g p E k now t → x.source ≡ now.source
+    → IsTooClose C o g p E k now t → ¬ (number_at o g p E i ≡ number_at o g p E k)
+
+-- by the opening plan no cell is empty for the sake of the least spacing
+abbrev pub OpeningPlanEmptiesNone : Type 0
+OpeningPlanEmptiesNone =
+    (C : ℕ) (o : Opening) (g : ℕ) (p : GroupTable) (E : List Event) (k : ℕ) (now : Placed) (t : ℕ) → OpensWith o g p
+    → HasSpacedTable o g p E k → IsOutputCell o g p E k now t → number_at o g p E k ≡ o.proposal.plan.number → ¬ (IsTooClose C o g p E k now t)
+
+-- the slot table of a planned group whose outputs have sources of their own keeps to the least spacings
+abbrev pub PlannedTablesAreSpaced : Type 0
+PlannedTablesAreSpaced =
+    (rate : ℕ) (sources : List SourceRow) (rows : List OutputRow) (t : GroupTable)
+    → IsPlannedFor rate sources rows t → HaveOwnSources rows → IsSpacedTable t

@@ -53,12 +53,24 @@ is_taken_after o g p E e = is_taken g (newest_table o g p E) (current o g p E) e
 abbrev pub is_taken_at : Opening → ℕ → GroupTable → List Event → ℕ → Bool
 is_taken_at o g p E k = option_map_or (is_taken_after o g p (take k E)) (slice_get E k) false
 
+-- no other places of a history than these have its taken Frames
+abbrev pub TakenFramesAreUnique : Type 0
+TakenFramesAreUnique =
+    (o : Opening) (g : ℕ) (p : GroupTable) (E : List Event) (T : ℕ → Bool) → AreTaken o g p E T
+    → (k : ℕ) → k < length E → T k ≡ is_taken_at o g p E k
+
 -- the frame that the group is in at place k
 pub record IsFrameAt (o : Opening) (g : ℕ) (p : GroupTable) (E : List Event) (T : ℕ → Bool) (k : ℕ) (f : Current) : Type 0 where
   pub table : f.table ≡ table_in_force o g p E T k
   pub number : f.number ≡ number_in_force o E T k
   pub first : f.first ≡ first_slot o g p E T k
   pub cells : cells_since g f ≡ count_by (is_cell g) (events_since E T k)
+
+-- at each place of a history a group is in the frame that its taken Frames before that place make
+abbrev pub FramesFollowTakenOnes : Type 0
+FramesFollowTakenOnes =
+    (o : Opening) (g : ℕ) (p : GroupTable) (E : List Event) (k : ℕ) → k ≤ length E
+    → IsFrameAt o g p E (is_taken_at o g p E) k (current o g p (take k E))
 
 -- a frame of the group begins after this history: at the opening, or by a taken Frame
 pub record EndsInTaken (o : Opening) (g : ℕ) (p : GroupTable) (E : List Event) : Type 0 where
@@ -107,8 +119,16 @@ pub record HasOpening (o : Opening) (p : GroupTable) (f : Current) : Type 0 wher
   pub number : f.number ≡ o.proposal.plan.number
   pub table : f.table ≡ p
 
+-- the plan that the group has is the opening one or a published one
+abbrev pub HasOpeningOrPublished : Opening → ℕ → GroupTable → List Event → Type 0
+HasOpeningOrPublished o g p E = HasOpening o p (current o g p E) ⊎ HasPublished o g p E (current o g p E)
+
 -- nothing but the events since the frame began is new
 pub record IsSameFrame (f h : Current) : Type 0 where
   pub table : h.table ≡ f.table
   pub number : h.number ≡ f.number
   pub first : h.first ≡ f.first
+
+-- the event leaves the group's plan and the first slot of its frame as they were
+abbrev pub LeavesFrame : Opening → ℕ → GroupTable → List Event → Event → Type 0
+LeavesFrame o g p E e = IsSameFrame (current o g p E) (current o g p (E ++ e ∷ []))

@@ -1,8 +1,7 @@
 //! An output across a change of plans.
-ghost use Rattle.std.specs.Prelude.{◌≡◌, ◌+◌, ◌-◌, ◌<◌, ◌≤◌, ◌^◌, Some, length};
-ghost use Rattle.a429_slots.specs.Tables.{outputs_of, place_of};
-ghost use Rattle.a429_slots.specs.declared.group_plan.SlotPlace.{SlotPlace as Place};
-ghost use Rattle.a429_slots.specs.Changes.{IsGap};
+ghost use Rattle.std.specs.Prelude.{◌<◌, ◌≤◌, length};
+ghost use Rattle.a429_slots.specs.Tables.{outputs_of};
+ghost use Rattle.a429_slots.specs.Changes.{IsGap, IsGapOfPlaces};
 
 use crate::group_plan::GroupPlan;
 use crate::outputs::OutputId;
@@ -20,7 +19,7 @@ pub fn gap<const N: usize>(
     requires after { same < length (outputs_of after.now) }
     ensures gap { IsGap before.now output after.now same result }
     ensures some { 1 ≤ result }
-    ensures places { (old new : Place) → place_of before.now output ≡ Some old → place_of after.now same ≡ Some new → (result ≡ 2 ^ old.period - old.offset + new.offset) × (result < 2 ^ old.period + 2 ^ new.period) }
+    ensures places { IsGapOfPlaces before.now output after.now same result }
 {
     let old = before.place(output);
     let new = after.place(same);

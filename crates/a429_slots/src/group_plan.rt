@@ -53,11 +53,41 @@ impl<const N: usize> Model for GroupPlan<N> {
 
     ghost Value = { GroupTable };
 
-    ghost view = { λ p. record { frame = p.frame; buses = p.buses; demands = p.sums; order = p.order; sources = p.sources; on_bus = p.on_bus; offsets = p.offsets; periods = p.periods; limits = p.limits } };
+    ghost view = { λ p. record {
+      frame = p.frame;
+      buses = p.buses;
+      demands = p.sums;
+      order = p.order;
+      sources = p.sources;
+      on_bus = p.on_bus;
+      offsets = p.offsets;
+      periods = p.periods;
+      limits = p.limits;
+    } };
 
-    ghost invariant = { λ p. IsTable N (record { frame = p.frame; buses = p.buses; demands = p.sums; order = p.order; sources = p.sources; on_bus = p.on_bus; offsets = p.offsets; periods = p.periods; limits = p.limits }) };
+    ghost invariant = { λ p. IsTable N (record {
+      frame = p.frame;
+      buses = p.buses;
+      demands = p.sums;
+      order = p.order;
+      sources = p.sources;
+      on_bus = p.on_bus;
+      offsets = p.offsets;
+      periods = p.periods;
+      limits = p.limits;
+    }) };
 
-    ghost inverse = { λ t. record { frame = t.frame; buses = t.buses; sums = t.demands; order = t.order; sources = t.sources; on_bus = t.on_bus; offsets = t.offsets; periods = t.periods; limits = t.limits } };
+    ghost inverse = { λ t. record {
+      frame = t.frame;
+      buses = t.buses;
+      sums = t.demands;
+      order = t.order;
+      sources = t.sources;
+      on_bus = t.on_bus;
+      offsets = t.offsets;
+      periods = t.periods;
+      limits = t.limits;
+    } };
 }
 
 impl<const N: usize> GroupPlan<N> {

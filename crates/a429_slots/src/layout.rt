@@ -1,8 +1,8 @@
 //! The columns of a slot table.
-ghost use Rattle.std.specs.Prelude.{◌≡◌, ℕ, ◌+◌, ◌<◌, ◌≤◌, ◌*◌, ◌/◌, ◌%◌, ◌^◌, length, map, slice_index, take};
+ghost use Rattle.std.specs.Prelude.{◌≡◌, ◌+◌, ◌<◌, ◌≤◌, ◌*◌, ◌%◌, ◌^◌, length, map, take};
 ghost use Rattle.a429_grid.specs.Reversal.{reversed};
 ghost use Rattle.a429_pack.specs.Demands.{exponent_of};
-ghost use Rattle.a429_pack.specs.Sums.{start_of};
+ghost use Rattle.a429_slots.specs.Asked.{AreBusesOf, AreOffsetsOf};
 
 use a429_equipment::OutputRow;
 use a429_grid::{Period, reverse};
@@ -74,8 +74,8 @@ pub fn place_of_cell(bus: u32, slot: u64, frame: Period) -> u32
 /// The bus and the offset of each output, by their numbers: the output at place `k` of the layout begins at
 /// the sum of the demands before it.
 pub fn places_in<const N: usize>(packed: &Packed<N>) -> ([u32; N], [u32; N])
-    ensures bus { (k : ℕ) → k < length packed.now.inputs → slice_index result.0 (slice_index packed.now.inputs k) ≡ start_of packed.now.demands k / 2 ^ packed.now.frame }
-    ensures offset { (k : ℕ) → k < length packed.now.inputs → slice_index result.1 (slice_index packed.now.inputs k) ≡ reversed packed.now.frame (start_of packed.now.demands k % 2 ^ packed.now.frame) }
+    ensures bus { AreBusesOf packed.now result.0 }
+    ensures offset { AreOffsetsOf packed.now result.1 }
 {
     orders_name_each_once();
     let frame = packed.frame();

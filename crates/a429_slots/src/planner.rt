@@ -1,8 +1,8 @@
 //! The planner: the outputs of each group on the fewest buses, each at its grid period.
-ghost use Rattle.std.specs.Prelude.{◌≡◌, ◌<◌, ◌≤◌, length, IfOk, IfErr, MatchResult};
+ghost use Rattle.std.specs.Prelude.{◌≡◌, ◌≤◌, length, IfOk, IfErr, MatchResult};
 ghost use Rattle.std.specs.List.{AllByRecursion, AllZip};
 ghost use Rattle.a429_equipment.specs.Sound.{IsInterval};
-ghost use Rattle.a429_slots.specs.Planned.{IsPlannedFor, IsPlanOf, CanBePlanned, HaveRoom};
+ghost use Rattle.a429_slots.specs.Planned.{IsPlanOf, IsPlanOfGroup, HaveRoom, HaveSources};
 ghost use Rattle.a429_slots.specs.Asked.{IsAsked};
 ghost use Rattle.a429_slots.specs.Faults.{IsFaultOf, IsGroupFault, of_group};
 
@@ -49,7 +49,7 @@ fn demands_of(
     sources: &[SourceRow],
     outputs: &[OutputRow],
 ) -> Result<Vec<Demand>, AllocError>
-    requires { AllByRecursion (λ o. o.source < length sources.now) outputs.now }
+    requires { HaveSources sources.now outputs.now }
     ensures { IfOk result (λ demands. AllZip (IsAsked rate sources.now) outputs.now demands.items) }
 {
     let mut demands = Vec::new(alloc);
@@ -74,10 +74,10 @@ fn group_plan<const N: usize>(
 ) -> Result<GroupPlan<N>, PackFault>
     requires some { 1 ≤ length outputs.now }
     requires room { length outputs.now ≤ N }
-    requires known { AllByRecursion (λ o. o.source < length sources.now) outputs.now }
+    requires known { HaveSources sources.now outputs.now }
     requires intervals { AllByRecursion IsInterval outputs.now }
     requires rate { (1 ≤ rate) × (rate ≤ 100000) }
-    ensures { MatchResult result (λ table. IsPlannedFor rate sources.now outputs.now table × CanBePlanned rate outputs.now) (IsGroupFault rate outputs.now) }
+    ensures { MatchResult result (IsPlanOfGroup rate sources.now outputs.now) (IsGroupFault rate outputs.now) }
 {
     orders_name_each_once();
     stretches_are_apart();

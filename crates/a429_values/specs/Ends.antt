@@ -60,6 +60,12 @@ with_answer A raw Filtered = A
 with_answer A raw NoSource = A
 with_answer A raw CountSpent = A
 
+-- ---- loading
+
+-- these loads are appended, and nothing else
+abbrev pub with_loads : Sending → List Load → Sending
+with_loads t loads = record t { loads = t.loads ++ loads }
+
 -- ---- how the ends stand for this
 
 abbrev pub view_in : List View → View

@@ -1,10 +1,11 @@
 -- What a seat of the table knows, by what it is.
-use Rattle.std.specs.Prelude.{◌≡◌, ℕ, [], ◌∷◌, ◌++◌, Some, length, slice_get, true, false}
+use Rattle.std.specs.Prelude.{◌≡◌, ◌==◌, ◌+◌, ◌^◌, ◌<◌, ℕ, [], ◌∷◌, ◌++◌, Some, length, slice_get, true, false}
+use Rattle.std.specs.List.{list_any}
 use Rattle.atomic_table.specs.Table.{Me, Step}
 use Rattle.a429_equipment.specs.declared.loads.Load.{Load}
 use Rattle.a429_equipment.specs.declared.rows.SourceRow.{SourceRow}
 use Rattle.a429_equipment.specs.TableRecord.{TableRecord}
-use Rattle.a429_equipment.specs.Agreement.{is_of, load_after, Agrees, AgreesTo}
+use Rattle.a429_equipment.specs.Agreement.{is_of, load_after, loads_of_all, words_of, Agrees, AgreesTo}
 use Rattle.a429_values.specs.declared.view.View.{View}
 use Rattle.a429_values.specs.Words.{Tells}
 
@@ -50,6 +51,36 @@ with_accepted v e = record v { accepted = v.accepted ++ e ∷ [] }
 
 abbrev pub with_load : View → Load → View
 with_load v l = record v { loads = v.loads ++ l ∷ [] }
+
+-- the loads of all sources of receiver r, after what was accepted
+abbrev pub with_loads_of : View → TableRecord → ℕ → View
+with_loads_of v t r = record v { loads = v.loads ++ loads_of_all t r v.accepted }
+
+-- ---- what a seat is for a step
+
+-- the desk, which has not given this receiver out
+abbrev pub CanDeal : View → ℕ → Type 0
+CanDeal v r = (v.deals ≡ true) × (list_any (λ y. y == r) v.given ≡ false)
+
+-- the desk, which has not given this transmitter out
+abbrev pub CanDealTransmitter : View → ℕ → Type 0
+CanDealTransmitter v g = (v.deals ≡ true) × (list_any (λ y. y == g) v.sent ≡ false)
+
+-- the desk gave the receiver out, and the other seat is that
+abbrev pub Deals : View → ℕ → View → View → Type 0
+Deals v r w other = (w ≡ dealt v r) × (other ≡ receiver v.station r)
+
+-- the desk gave the transmitter out, and the other seat is that
+abbrev pub DealsTransmitter : View → ℕ → View → View → Type 0
+DealsTransmitter v g w other = (w ≡ dealt_transmitter v g) × (other ≡ transmitter v.station g)
+
+-- a receiver of this station
+abbrev pub IsReceiverOf : View → TableRecord → Type 0
+IsReceiverOf v t = (v.receives ≡ true) × (v.station ≡ t)
+
+-- the next word that the source accepts is its `count`th, and 41 bits can count it
+abbrev pub IsNextCount : View → ℕ → ℕ → Type 0
+IsNextCount v source count = (count ≡ length (words_of source v.accepted) + 1) × (count < 2 ^ 41)
 
 -- ---- what the steps tell
 

@@ -1,8 +1,8 @@
 //! The desk, which gives the ends of a hub out.
-ghost use Rattle.std.specs.Prelude.{◌≡◌, ◌==◌, ◌++◌, ◌∷◌, [], ◌<◌, ◌-◌, ◌^◌, ◌↔◌, length, true, false, IfOk, OnErr, IsErrOf, IsTrue};
+ghost use Rattle.std.specs.Prelude.{◌≡◌, ◌==◌, ◌++◌, ◌∷◌, [], ◌<◌, ◌-◌, ◌^◌, ◌↔◌, length, true, IfOk, OnErr, IsErrOf, IsTrue};
 ghost use Rattle.std.specs.List.{list_any};
-ghost use Rattle.a429_values.specs.Seats.{IsAt, Stays};
-ghost use Rattle.a429_values.specs.Views.{dealt, dealt_transmitter, receiver, transmitter};
+ghost use Rattle.a429_values.specs.Seats.{IsAt, SitsAt, Stays};
+ghost use Rattle.a429_values.specs.Views.{CanDeal, CanDealTransmitter, Deals, DealsTransmitter};
 
 use crate::board::{Board, Chosen, HubSeat};
 use crate::hub::Hub;
@@ -30,7 +30,11 @@ impl Model for Desk {
 
     ghost Value = { Dealing };
 
-    ghost view = { λ d. record { at = record { hub = d.seat.table_id; station = d.seat.me.0.station }; receivers = d.receivers.items; transmitters = d.transmitters.items } };
+    ghost view = { λ d. record {
+      at = record { hub = d.seat.table_id; station = d.seat.me.0.station };
+      receivers = d.receivers.items;
+      transmitters = d.transmitters.items;
+    } };
 
     ghost invariant = { λ d. IsAt d.seat.table_id d.seat × IsDealing d.seat.me.0 d.receivers.items d.transmitters.items };
 }
@@ -146,38 +150,38 @@ impl Desk {
 
 fn cut_receiver_as<N: Chosen>(board: &Board, seat: &mut HubSeat, number: usize) -> HubSeat
     requires number { number ≡ N.number }
-    requires seat { IsAt board.now.shared.table_id seat.old × (0 < board.now.shared.table_id.words) }
-    requires view { (seat.old.me.0.deals ≡ true) × (list_any (λ y. y == number) seat.old.me.0.given ≡ false) }
+    requires seat { SitsAt board.now.shared.table_id seat.old }
+    requires view { CanDeal seat.old.me.0 number }
     ensures seat { Stays seat.old seat.new × Stays seat.old result }
-    ensures view { (seat.new.me.0 ≡ dealt seat.old.me.0 number) × (result.me.0 ≡ receiver seat.old.me.0.station number) }
+    ensures view { Deals seat.old.me.0 number seat.new.me.0 result.me.0 }
 {
     receiver_step::<N>(board, seat)
 }
 
 fn cut_receiver(board: &Board, seat: &mut HubSeat, number: usize) -> HubSeat
-    requires seat { IsAt board.now.shared.table_id seat.old × (0 < board.now.shared.table_id.words) }
-    requires view { (seat.old.me.0.deals ≡ true) × (list_any (λ y. y == number) seat.old.me.0.given ≡ false) }
+    requires seat { SitsAt board.now.shared.table_id seat.old }
+    requires view { CanDeal seat.old.me.0 number }
     ensures seat { Stays seat.old seat.new × Stays seat.old result }
-    ensures view { (seat.new.me.0 ≡ dealt seat.old.me.0 number) × (result.me.0 ≡ receiver seat.old.me.0.station number) }
+    ensures view { Deals seat.old.me.0 number seat.new.me.0 result.me.0 }
 {
     cut_receiver_as::<Brand>(board, seat, number)
 }
 
 fn cut_transmitter_as<N: Chosen>(board: &Board, seat: &mut HubSeat, number: usize) -> HubSeat
     requires number { number ≡ N.number }
-    requires seat { IsAt board.now.shared.table_id seat.old × (0 < board.now.shared.table_id.words) }
-    requires view { (seat.old.me.0.deals ≡ true) × (list_any (λ y. y == number) seat.old.me.0.sent ≡ false) }
+    requires seat { SitsAt board.now.shared.table_id seat.old }
+    requires view { CanDealTransmitter seat.old.me.0 number }
     ensures seat { Stays seat.old seat.new × Stays seat.old result }
-    ensures view { (seat.new.me.0 ≡ dealt_transmitter seat.old.me.0 number) × (result.me.0 ≡ transmitter seat.old.me.0.station number) }
+    ensures view { DealsTransmitter seat.old.me.0 number seat.new.me.0 result.me.0 }
 {
     transmitter_step::<N>(board, seat)
 }
 
 fn cut_transmitter(board: &Board, seat: &mut HubSeat, number: usize) -> HubSeat
-    requires seat { IsAt board.now.shared.table_id seat.old × (0 < board.now.shared.table_id.words) }
-    requires view { (seat.old.me.0.deals ≡ true) × (list_any (λ y. y == number) seat.old.me.0.sent ≡ false) }
+    requires seat { SitsAt board.now.shared.table_id seat.old }
+    requires view { CanDealTransmitter seat.old.me.0 number }
     ensures seat { Stays seat.old seat.new × Stays seat.old result }
-    ensures view { (seat.new.me.0 ≡ dealt_transmitter seat.old.me.0 number) × (result.me.0 ≡ transmitter seat.old.me.0.station number) }
+    ensures view { DealsTransmitter seat.old.me.0 number seat.new.me.0 result.me.0 }
 {
     cut_transmitter_as::<Brand>(board, seat, number)
 }

@@ -1,10 +1,9 @@
 //! A receiver's end of a hub.
-ghost use Rattle.std.specs.Prelude.{◌≡◌, ◌<◌, ◌+◌, ◌^◌, ◌∷◌, [], ℕ, length, true};
-ghost use Rattle.a429_equipment.specs.Agreement.{words_of};
+ghost use Rattle.std.specs.Prelude.{◌≡◌, ◌∷◌, []};
 ghost use Rattle.a429_equipment.specs.Receiving.{accepted_after, AreAccepted, IsAccepted, IsReceived};
 ghost use Rattle.a429_values.specs.Ends.{accept_answer, with_answer};
-ghost use Rattle.a429_values.specs.Seats.{IsAt, Stays};
-ghost use Rattle.a429_values.specs.Views.{with_accepted};
+ghost use Rattle.a429_values.specs.Seats.{HasWordOf, IsAt, Stays};
+ghost use Rattle.a429_values.specs.Views.{with_accepted, IsReceiverOf, IsNextCount};
 
 use crate::board::{Board, Chosen, HubSeat};
 use crate::steps::accept_step;
@@ -67,7 +66,12 @@ impl Model for Receiver {
 
     ghost Value = { Receiving };
 
-    ghost view = { λ r. record { at = place_of (arc_value r.wired); number = r.number; limit = r.limit; accepted = (view_in r.badge.views).accepted } };
+    ghost view = { λ r. record {
+      at = place_of (arc_value r.wired);
+      number = r.number;
+      limit = r.limit;
+      accepted = (view_in r.badge.views).accepted;
+    } };
 
     ghost invariant = { λ r. IsReceiving (place_of (arc_value r.wired)) r.number r.limit r.counts.items r.badge.table_id r.badge.views };
 }
@@ -75,10 +79,10 @@ impl Model for Receiver {
 fn store_as<N: Chosen>(board: &Board, seat: &mut HubSeat, source: usize, count: u64, word: Word)
     requires number { word ≡ N.number }
     requires seat { IsAt board.now.shared.table_id seat.old }
-    requires source { (source < length board.now.shared.key.value.sources) × (source < board.now.shared.table_id.words) }
-    requires view { (seat.old.me.0.receives ≡ true) × (seat.old.me.0.station ≡ board.now.shared.key.value) }
+    requires source { HasWordOf board.now.shared.table_id board.now.shared.key.value source }
+    requires view { IsReceiverOf seat.old.me.0 board.now.shared.key.value }
     requires word { IsAccepted board.now.shared.key.value seat.old.me.0.number (source, word) }
-    requires count { (count ≡ length (words_of source seat.old.me.0.accepted) + 1) × (count < 2 ^ 41) }
+    requires count { IsNextCount seat.old.me.0 source count }
     ensures seat { Stays seat.old seat.new }
     ensures view { seat.new.me.0 ≡ with_accepted seat.old.me.0 (source, word) }
 {
@@ -88,10 +92,10 @@ fn store_as<N: Chosen>(board: &Board, seat: &mut HubSeat, source: usize, count: 
 /// Stores an accepted word, the source's `count`th, by one step.
 fn store(board: &Board, seat: &mut HubSeat, source: usize, count: u64, word: Word)
     requires seat { IsAt board.now.shared.table_id seat.old }
-    requires source { (source < length board.now.shared.key.value.sources) × (source < board.now.shared.table_id.words) }
-    requires view { (seat.old.me.0.receives ≡ true) × (seat.old.me.0.station ≡ board.now.shared.key.value) }
+    requires source { HasWordOf board.now.shared.table_id board.now.shared.key.value source }
+    requires view { IsReceiverOf seat.old.me.0 board.now.shared.key.value }
     requires word { IsAccepted board.now.shared.key.value seat.old.me.0.number (source, word) }
-    requires count { (count ≡ length (words_of source seat.old.me.0.accepted) + 1) × (count < 2 ^ 41) }
+    requires count { IsNextCount seat.old.me.0 source count }
     ensures seat { Stays seat.old seat.new }
     ensures view { seat.new.me.0 ≡ with_accepted seat.old.me.0 (source, word) }
 {

@@ -1,11 +1,10 @@
 //! The steps of the table, each one atomic step of a seat.
-ghost use Rattle.std.specs.Prelude.{◌≡◌, ℕ, ◌+◌, ◌*◌, ◌<◌, ◌^◌, ◌==◌, [], Some, length, slice_get, true, false};
-ghost use Rattle.std.specs.List.{list_any};
+ghost use Rattle.std.specs.Prelude.{◌≡◌, ◌<◌, ◌^◌, true};
 ghost use Rattle.a429_word.specs.Bits.{number_from};
-ghost use Rattle.a429_equipment.specs.Agreement.{words_of, Agrees};
+ghost use Rattle.a429_equipment.specs.Agreement.{Agrees};
 ghost use Rattle.a429_equipment.specs.Receiving.{IsAccepted};
-ghost use Rattle.a429_values.specs.Views.{with_accepted, dealt, dealt_transmitter, receiver, transmitter, both_of, transmitting, receiving, Found};
-ghost use Rattle.a429_values.specs.Seats.{IsAt, Stays};
+ghost use Rattle.a429_values.specs.Views.{with_accepted, both_of, transmitting, receiving, Found, CanDeal, CanDealTransmitter, Deals, DealsTransmitter, IsReceiverOf, IsNextCount};
+ghost use Rattle.a429_values.specs.Seats.{HasWordOf, IsAt, SitsAt, Stays};
 
 use crate::board::{
     Accepts, Board, Chosen, HubSeat, Loads, Looks, Meets, NewReceiver, NewTransmitter,
@@ -23,12 +22,12 @@ pub fn accept_step<N: Chosen>(
     bits: u32,
 )
     requires seat { IsAt board.now.shared.table_id seat.old }
-    requires source { (source < length board.now.shared.key.value.sources) × (source < board.now.shared.table_id.words) }
-    requires view { (seat.old.me.0.receives ≡ true) × (seat.old.me.0.station ≡ board.now.shared.key.value) }
+    requires source { HasWordOf board.now.shared.table_id board.now.shared.key.value source }
+    requires view { IsReceiverOf seat.old.me.0 board.now.shared.key.value }
     requires word { IsAccepted board.now.shared.key.value seat.old.me.0.number (source, N.number) }
     requires bits { bits ≡ number_from 9 23 N.number }
     requires small { bits < 2 ^ 23 }
-    requires count { (count ≡ length (words_of source seat.old.me.0.accepted) + 1) × (count < 2 ^ 41) }
+    requires count { IsNextCount seat.old.me.0 source count }
     ensures seat { Stays seat.old seat.new }
     ensures view { seat.new.me.0 ≡ with_accepted seat.old.me.0 (source, N.number) }
 {
@@ -40,7 +39,7 @@ pub fn accept_step<N: Chosen>(
 /// The one load of a source's word.
 pub fn load_step(board: &Board, seat: &mut HubSeat, source: usize) -> u64
     requires seat { IsAt board.now.shared.table_id seat.old }
-    requires source { (source < length board.now.shared.key.value.sources) × (source < board.now.shared.table_id.words) }
+    requires source { HasWordOf board.now.shared.table_id board.now.shared.key.value source }
     requires view { (seat.old.me.0.transmits ≡ true) × (seat.old.me.0.station ≡ board.now.shared.key.value) }
     ensures seat { Stays seat.old seat.new }
     ensures found { Found seat.old.me.0 source result seat.new.me.0 }
@@ -50,7 +49,7 @@ pub fn load_step(board: &Board, seat: &mut HubSeat, source: usize) -> u64
 
 /// A load that shows the seat that its own lists agree.
 pub fn look_step(board: &Board, seat: &mut HubSeat)
-    requires seat { IsAt board.now.shared.table_id seat.old × (0 < board.now.shared.table_id.words) }
+    requires seat { SitsAt board.now.shared.table_id seat.old }
     requires view { (seat.old.me.0.receives ≡ true) × (seat.old.me.0.transmits ≡ true) }
     ensures seat { Stays seat.old seat.new }
     ensures view { seat.new.me.0 ≡ seat.old.me.0 }
@@ -61,27 +60,27 @@ pub fn look_step(board: &Board, seat: &mut HubSeat)
 
 /// Cuts off the receiver of this number, which was not given out.
 pub fn receiver_step<N: Chosen>(board: &Board, seat: &mut HubSeat) -> HubSeat
-    requires seat { IsAt board.now.shared.table_id seat.old × (0 < board.now.shared.table_id.words) }
-    requires view { (seat.old.me.0.deals ≡ true) × (list_any (λ y. y == N.number) seat.old.me.0.given ≡ false) }
+    requires seat { SitsAt board.now.shared.table_id seat.old }
+    requires view { CanDeal seat.old.me.0 N.number }
     ensures seat { Stays seat.old seat.new × Stays seat.old result }
-    ensures view { (seat.new.me.0 ≡ dealt seat.old.me.0 N.number) × (result.me.0 ≡ receiver seat.old.me.0.station N.number) }
+    ensures view { Deals seat.old.me.0 N.number seat.new.me.0 result.me.0 }
 {
     board.shared.split_seat::<NewReceiver<N>>(seat)
 }
 
 /// Cuts off the transmitter of this number, which was not given out.
 pub fn transmitter_step<N: Chosen>(board: &Board, seat: &mut HubSeat) -> HubSeat
-    requires seat { IsAt board.now.shared.table_id seat.old × (0 < board.now.shared.table_id.words) }
-    requires view { (seat.old.me.0.deals ≡ true) × (list_any (λ y. y == N.number) seat.old.me.0.sent ≡ false) }
+    requires seat { SitsAt board.now.shared.table_id seat.old }
+    requires view { CanDealTransmitter seat.old.me.0 N.number }
     ensures seat { Stays seat.old seat.new × Stays seat.old result }
-    ensures view { (seat.new.me.0 ≡ dealt_transmitter seat.old.me.0 N.number) × (result.me.0 ≡ transmitter seat.old.me.0.station N.number) }
+    ensures view { DealsTransmitter seat.old.me.0 N.number seat.new.me.0 result.me.0 }
 {
     board.shared.split_seat::<NewTransmitter<N>>(seat)
 }
 
 /// The transmitter's seat takes in the receiver's.
 pub fn join_step(board: &Board, seat: &mut HubSeat, other: HubSeat)
-    requires seat { IsAt board.now.shared.table_id seat.old × (0 < board.now.shared.table_id.words) }
+    requires seat { SitsAt board.now.shared.table_id seat.old }
     requires other { IsAt board.now.shared.table_id other }
     requires view { (seat.old.me.0.transmits ≡ true) × (other.me.0.receives ≡ true) }
     ensures seat { Stays seat.old seat.new }
@@ -92,7 +91,7 @@ pub fn join_step(board: &Board, seat: &mut HubSeat, other: HubSeat)
 
 /// It gives the receiver's part back.
 pub fn part_step(board: &Board, seat: &mut HubSeat) -> HubSeat
-    requires seat { IsAt board.now.shared.table_id seat.old × (0 < board.now.shared.table_id.words) }
+    requires seat { SitsAt board.now.shared.table_id seat.old }
     requires view { seat.old.me.0.receives ≡ true }
     ensures seat { Stays seat.old seat.new × Stays seat.old result }
     ensures view { (seat.new.me.0 ≡ transmitting seat.old.me.0) × (result.me.0 ≡ receiving seat.old.me.0) }

@@ -1,9 +1,11 @@
 //! A transmitter's end of a hub.
-ghost use Rattle.std.specs.Prelude.{◌≡◌, ◌≢◌, ◌<◌, ◌++◌, ◌∷◌, [], length, ℕ, List, true};
+ghost use Rattle.std.specs.Prelude.{◌≡◌, ◌<◌, ◌∷◌, [], length, ℕ, true};
 ghost use Rattle.a429_equipment.specs.declared.loads.Load.{Load};
-ghost use Rattle.a429_equipment.specs.Agreement.{loads_of_all, AgreesTo, AgreesToTheEnd};
-ghost use Rattle.a429_values.specs.Later.{StaysWhole};
+ghost use Rattle.a429_equipment.specs.Agreement.{loads_of_all, AgreesToTheEnd};
+ghost use Rattle.a429_values.specs.Ends.{with_loads};
+ghost use Rattle.a429_values.specs.Later.{OthersStayAgreed, StaysWhole};
 ghost use Rattle.a429_values.specs.Seats.{IsAt, Stays};
+ghost use Rattle.a429_values.specs.Views.{with_loads_of};
 ghost use Rattle.a429_values.specs.Words.{Tells, load_of};
 
 use crate::board::HubSeat;
@@ -60,7 +62,7 @@ fn load_all(wired: &Wired, seat: &mut HubSeat, number: usize)
     requires view { (seat.old.me.0.transmits ≡ true) × (seat.old.me.0.receives ≡ true) × (seat.old.me.0.station ≡ wired.now.equipment) }
     requires number { seat.old.me.0.number ≡ number }
     ensures seat { Stays seat.old seat.new }
-    ensures view { seat.new.me.0 ≡ record seat.old.me.0 { loads = seat.old.me.0.loads ++ loads_of_all wired.now.equipment number seat.old.me.0.accepted } }
+    ensures view { seat.new.me.0 ≡ with_loads_of seat.old.me.0 wired.now.equipment number }
     ensures agrees { AgreesToTheEnd wired.now.equipment number seat.old.me.0.accepted seat.new.me.0.loads }
 {
     look_step(&wired.board, seat);
@@ -84,7 +86,7 @@ impl Transmitter {
     /// from 1, by one load; none where no word was accepted. This takes no memory and waits for nobody.
     pub fn load_numbered(&mut self, source: usize) -> Option<(u64, Word)>
         requires { source < length self.old.at.station.sources }
-        ensures { self.new ≡ record self.old { loads = self.old.loads ++ load_of source result ∷ [] } }
+        ensures { self.new ≡ with_loads self.old (load_of source result ∷ []) }
     {
         let Transmitter { wired, seat, .. } = self;
         let label = wired.equipment.sources()[source].label;
@@ -95,7 +97,7 @@ impl Transmitter {
     /// memory and waits for nobody.
     pub fn load(&mut self, source: usize) -> Option<Word>
         requires { source < length self.old.at.station.sources }
-        ensures { (count : ℕ) × (self.new ≡ record self.old { loads = self.old.loads ++ record { source = source; count = count; word = result } ∷ [] }) }
+        ensures { (count : ℕ) × (self.new ≡ with_loads self.old (record { source = source; count = count; word = result } ∷ [])) }
     {
         self.load_numbered(source).map(|found| found.1)
     }
@@ -105,10 +107,10 @@ impl Transmitter {
     pub fn meet(&mut self, other: &mut Receiver)
         requires { other.old.at ≡ self.old.at }
         ensures receiver { other.new ≡ other.old }
-        ensures loads { self.new ≡ record self.old { loads = self.old.loads ++ loads_of_all self.old.at.station other.old.number other.old.accepted } }
+        ensures loads { self.new ≡ with_loads self.old (loads_of_all self.old.at.station other.old.number other.old.accepted) }
         ensures agrees { AgreesToTheEnd self.old.at.station other.old.number other.old.accepted self.new.loads }
         ensures later { StaysWhole self.old.at.station other.old.number other.old.accepted self.new.loads }
-        ensures others { (r last : ℕ) (A : List (ℕ × ℕ)) → r ≢ other.old.number → AgreesTo self.old.at.station r A self.old.loads last → AgreesTo self.old.at.station r A self.new.loads last }
+        ensures others { OthersStayAgreed self.old.at.station other.old.number self.old.loads self.new.loads }
     {
         let Transmitter { wired, seat, .. } = self;
         let Receiver { badge, number, .. } = other;
