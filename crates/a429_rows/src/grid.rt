@@ -1,7 +1,7 @@
 //! Filters, and periods of the slot grid.
 
 use a429_filter::{Filter, FilterSet};
-use a429_grid::{Period, fits, grid_period, reverse};
+use a429_grid::{Period, fits, grid_period, reverse, spacing};
 use a429_word::Label;
 use std::test::Fail;
 
@@ -62,6 +62,10 @@ fn intervals_admit_their_greatest_period(rt: HostRuntime) {
     assert_eq!(rt; (two.slots(), two.digits()), (2, 1));
     assert!(rt; fits(two, 720, 720, 100000));
     assert!(rt; !fits(two, 721, 800, 100000) && !fits(two, 1, 719, 100000));
+    // at 100000 bit/s a slot is 360 us, at 12500 bit/s 2880 us
+    assert_eq!(rt; (spacing(1, 100000), spacing(360, 100000)), (1, 1));
+    assert_eq!(rt; (spacing(361, 100000), spacing(720, 100000)), (2, 2));
+    assert_eq!(rt; (spacing(2880, 12500), spacing(2881, 12500)), (1, 2));
     assert_eq!(rt; reverse(1, 2), 2);
     assert_eq!(rt; reverse(3, 4), 12);
     assert_eq!(rt; reverse(1, 13), 4096);

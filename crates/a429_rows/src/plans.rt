@@ -1,7 +1,7 @@
 //! Plans and proposals.
 
 use crate::machine::proposal;
-use crate::support::{edited, standard};
+use crate::support::{ONE, edited, standard};
 use a429_equipment::Equipment;
 use a429_grid::Period;
 use a429_slots::{GroupPlan, OUTPUTS, OutputId, Plan, PlanFault, Proposal, SlotPlace, gap, plan};
@@ -89,6 +89,26 @@ fn places_do_not_follow_the_order_of_the_outputs(rt: HostRuntime) -> Result<(), 
     for (slot, output) in [(0, a), (1, b), (2, a), (3, c)] {
         assert_eq!(rt; group.at(0, slot), Some(output), "{slot}");
     }
+    Ok(())
+}
+
+#[test]
+fn outputs_have_the_limits_of_their_rows(rt: HostRuntime) -> Result<(), Fail> {
+    // 2881 us are more than one slot of 2880, and a period of two slots is the greatest within 5760
+    let table = edited(&rt, ONE, "version = 1\nrate = 100000", "version = 2")?;
+    let table = edited(&rt, &table, "name = \"g\"", "name = \"g\"\nrate = 12500")?;
+    let table = edited(
+        &rt,
+        &table,
+        "min_us = 1\nmax_us = 360",
+        "min_us = 2881\nmax_us = 5760\nhold = 7",
+    )?;
+    let group = first_group(&rt, &table)?;
+    assert_eq!(rt; (group.frame(), group.outputs()), (2, 1));
+    let only = OutputId::new(0);
+    assert_eq!(rt; (group.hold(only), group.spacing(only)), (Some(7), 2));
+    let limits = group.limits(only);
+    assert_eq!(rt; (limits.hold, limits.spacing), (Some(7), 2));
     Ok(())
 }
 

@@ -10,7 +10,7 @@ fn gives_the_rows(rt: HostRuntime) -> Result<(), Fail> {
     let filters = "name = \"r\"\nfilters = [\"200/370\"]";
     let table = edited(&rt, ONE, "name = \"r\"", filters)?;
     let equipment = Equipment::read(rt.alloc(), table.as_bytes())?;
-    assert_eq!(rt; equipment.rate(), 100000);
+    assert_eq!(rt; (equipment.version(), equipment.rate()), (1, Some(100000)));
     let [receiver] = equipment.receivers() else {
         return Err(Fail::new("not one receiver"));
     };
@@ -35,6 +35,20 @@ fn gives_the_rows(rt: HostRuntime) -> Result<(), Fail> {
         hold: None,
     };
     assert_eq!(rt; equipment.outputs(0), [stated].as_slice());
+    Ok(())
+}
+
+#[test]
+fn gives_rates_and_holds_of_version_2(rt: HostRuntime) -> Result<(), Fail> {
+    let table = edited(&rt, ONE, "version = 1\nrate = 100000", "version = 2")?;
+    let table = edited(&rt, &table, "name = \"g\"", "name = \"g\"\nrate = 12500")?;
+    let table = edited(&rt, &table, "360", "2880\nhold = 7")?;
+    let equipment = Equipment::read(rt.alloc(), table.as_bytes())?;
+    assert_eq!(rt; (equipment.version(), equipment.rate()), (2, None));
+    assert_eq!(rt; equipment.groups().len(), 1);
+    assert_eq!(rt; equipment.group_rate(0), 12500);
+    assert_eq!(rt; equipment.outputs(0).len(), 1);
+    assert_eq!(rt; equipment.hold(0, 0), Some(7));
     Ok(())
 }
 
