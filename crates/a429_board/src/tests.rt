@@ -6,8 +6,9 @@ use a429_equipment::Equipment;
 use a429_slots::{OUTPUTS, Plan, plan};
 use std::alloc::Global;
 use std::sync::Wait;
+use std::sync::atomic::{AtomicU64, Ordering};
 use std::test::Fail;
-use std::thread::{Threads, join_mut};
+use std::thread::{Threads, for_each_mut, join_mut};
 
 /// One group that sends its source in every slot.
 const TABLE: &str = r#"version = 1
@@ -156,5 +157,62 @@ fn a_thread_reads_while_plans_are_published(rt: HostRuntime) -> Result<(), Fail>
     planner.close(&rt);
     assert!(rt; rises);
     assert_eq!(rt; (published, untold, told), (20, (20, 20), 20));
+    Ok(())
+}
+
+/// Reads by each watcher in a thread of its own, and counts those whose numbers fell.
+fn read_by_all<R: Threads + Sync>(rt: &R, watchers: &mut [Watcher], times: u64, falls: &AtomicU64) {
+    for_each_mut(
+        rt,
+        watchers,
+        10,
+        &|_, watcher: &mut Watcher| {
+            if !read_all(watcher, times) {
+                falls.fetch_add(1, Ordering::SeqCst);
+            }
+        },
+    );
+}
+
+/// Publishes the plan so often while all watchers read; how many plans were published.
+fn soak<R: Threads + Wait + Sync>(
+    rt: &R,
+    planner: &mut Planner,
+    plan: Plan<OUTPUTS>,
+    watchers: &mut [Watcher],
+    falls: &AtomicU64,
+) -> u64 {
+    let (published, _) = join_mut(
+        rt,
+        &mut || publish_all(rt, planner, plan, 10000),
+        &mut || read_by_all(rt, watchers, 2000, falls),
+    );
+    published
+}
+
+/// The number that each watcher reads, where it is one for all.
+fn number_of_all(watchers: &mut [Watcher]) -> Option<u64> {
+    let mut common = None;
+    for watcher in watchers.iter_mut() {
+        let (number, _) = watcher.newest();
+        if common.is_some_and(|before| before != number) {
+            return None;
+        }
+        common = Some(number);
+    }
+    common
+}
+
+#[test]
+fn ten_watchers_never_go_back(rt: HostRuntime) -> Result<(), Fail> {
+    let opening = planned(rt.alloc())?;
+    let (mut planner, mut watchers) = Board::open(&rt, rt.alloc(), opening, 10)?;
+    let falls = AtomicU64::new(0);
+    let published = soak(&rt, &mut planner, opening, &mut watchers, &falls);
+    // None of them was told.
+    let last = number_of_all(&mut watchers);
+    planner.close(&rt);
+    assert_eq!(rt; falls.load(Ordering::SeqCst), 0);
+    assert_eq!(rt; (published, last), (10000, Some(10000)));
     Ok(())
 }

@@ -26,7 +26,7 @@ pub count_push : (g : ℕ) (f : Current) (e : Event) → cells_since g (goes_on 
 count_push g f e = sum_by-cons (λ x. cond (is_cell g x) 1 0) e f.since
 
 abbrev sent_at : ℕ → Current → ℕ → Sending
-sent_at g f n = record { table = f.table; number = f.number; first = f.first; sent = n }
+sent_at g f n = record { table = f.table; first = f.first; sent = n }
 
 pub frame_stays : (g : ℕ) (f : Current) (e : Event) → is_cell g e ≡ false → sending_of g (goes_on f e) ≡ sending_of g f
 frame_stays g f e k =

@@ -99,7 +99,7 @@ stands_at_first C first q ks ss rs law apart whole number kept sent unsent =
       sources = λ i. ap (λ (zs : List Kept). slice_get zs i) kept ∙ (get_replicate unheard q.station.sources i
           ∙ map_same (λ _. unheard) (λ s. kept_of (accepted_in C o s [])) (slice_get q.station.sources i) (λ s h. sym (ap kept_of (none_cut (2 ^ C - 1)))));
       groups = λ g. ap (λ (zs : List Sending). slice_get zs g) sent ∙ (get_map (begun first) (groups_of q.plan) g
-          ∙ map_same (begun first) (λ p. sending_of g (current o g p [])) (slice_get (groups_of q.plan) g) (λ p h. none_sent first p ∙ ap (λ (n : ℕ). record { table = p; number = n; first = first; sent = min 0 (cells_of p) }) (sym number)));
+          ∙ map_same (begun first) (λ p. sending_of g (current o g p [])) (slice_get (groups_of q.plan) g) (λ p h. none_sent first p));
       sends = nothing_sent C first q rs law unsent;
       size = ap (λ (zs : List Sending). length zs) sent ∙ length-map (groups_of q.plan) (begun first);
       number = let none = ap (λ (ps : List Proposed). length ps) (none_cut (numbers_left o)) in omega (arith, none);
@@ -107,5 +107,5 @@ stands_at_first C first q ks ss rs law apart whole number kept sent unsent =
       as_many = refl;
     }
   where
-    none_sent : (first : ℕ) (p : GroupTable) → begun first p ≡ record { table = p; number = 0; first = first; sent = min 0 (cells_of p) }
-    none_sent first p = let none : 0 ≡ min 0 (cells_of p) = omega arith in ap (λ (n : ℕ). record { table = p; number = 0; first = first; sent = n }) none
+    none_sent : (first : ℕ) (p : GroupTable) → begun first p ≡ record { table = p; first = first; sent = min 0 (cells_of p) }
+    none_sent first p = let none : 0 ≡ min 0 (cells_of p) = omega arith in ap (λ (n : ℕ). record { table = p; first = first; sent = n }) none

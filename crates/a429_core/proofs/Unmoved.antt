@@ -70,9 +70,9 @@ frame_by : (ss : List Sending) (number g : ℕ) (x : Option Sending) (y : Option
 frame_by ss number g None y h r = refl
 frame_by ss number g (Some s) None h r = refl
 frame_by ss number g (Some s) (Some newest) h r =
-    pick_by ss g (nat_lt s.sent (cells_of s.table)) (Refused MidFrame, s) ((if fits_next s newest then Changed number else Refused SlotsSpent), turned s number newest)
+    pick_by ss g (nat_lt s.sent (cells_of s.table)) (Refused MidFrame, s) ((if fits_next s newest then Changed number else Refused SlotsSpent), turned s newest)
     (λ _. set_same ss g s h)
-    (turn_by ss g number s (record { table = newest; number = number; first = s.first + frame_of s.table; sent = 0 }) (fits_next s newest) h) r
+    (turn_by ss g number s (record { table = newest; first = s.first + frame_of s.table; sent = 0 }) (fits_next s newest) h) r
 
 pub unmoved : (C : ℕ) (v : Standing) (e : Event) → IsRefused (stepped C v e).0 → (stepped C v e).1 ≡ v
 unmoved C v (Arrive receiver raw) r =

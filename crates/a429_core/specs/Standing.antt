@@ -157,7 +157,7 @@ cell_asked v g =
 abbrev pub framed : Sending → ℕ → GroupTable → Answer × Sending
 framed s number newest =
     if nat_lt s.sent (cells_of s.table) then (Refused MidFrame, s)
-    else ((if fits_next s newest then Changed number else Refused SlotsSpent), turned s number newest)
+    else ((if fits_next s newest then Changed number else Refused SlotsSpent), turned s newest)
 
 abbrev pub frame_of_both : List Sending → ℕ → ℕ → Option Sending → Option GroupTable → Answer × List Sending
 frame_of_both groups number g (Some s) (Some newest) = ((framed s number newest).0, slice_set groups g (framed s number newest).1)

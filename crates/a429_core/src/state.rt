@@ -127,7 +127,7 @@ fn next_frame(groups: &mut Vec<Sender>, newest: &Plan<OUTPUTS>, group: usize) ->
     if sender.is_mid_frame() {
         return Answer::Refused(Refusal::MidFrame);
     }
-    if sender.turn(newest.number(), newest.group(group)) {
+    if sender.turn(newest.group(group)) {
         Answer::Changed {
             plan: newest.number(),
         }

@@ -5,15 +5,14 @@ use Rattle.a429_slots.specs.Tables.{Placed, GroupTable, frame_of, buses_of, cell
 use Rattle.a429_slots.specs.declared.senders.Due.{Due}
 use Rattle.a429_slots.specs.History.{Current, cells_since}
 
--- the table in force with its plan's number, the frame's first slot, and how many of its cells were sent
+-- the table in force, the frame's first slot, and how many of its cells were sent
 pub record Sending : Type 0 where
   pub table : GroupTable
-  pub number : ℕ
   pub first : ℕ
   pub sent : ℕ
 
 abbrev pub begun : ℕ → GroupTable → Sending
-begun first p = record { table = p; number = 0; first = first; sent = 0 }
+begun first p = record { table = p; first = first; sent = 0 }
 
 -- 64 bits can count the slots of each group's first frame
 abbrev pub all_fit : ℕ → List GroupTable → Bool
@@ -30,13 +29,13 @@ after_cell s = if nat_lt s.sent (cells_of s.table) then record s { sent = s.sent
 abbrev pub fits_next : Sending → GroupTable → Bool
 fits_next s newest = nat_lt (s.first + frame_of s.table + frame_of newest) (2 ^ 64)
 
-abbrev pub turned : Sending → ℕ → GroupTable → Sending
-turned s number newest =
-    if fits_next s newest then record { table = newest; number = number; first = s.first + frame_of s.table; sent = 0 } else s
+abbrev pub turned : Sending → GroupTable → Sending
+turned s newest =
+    if fits_next s newest then record { table = newest; first = s.first + frame_of s.table; sent = 0 } else s
 
 -- what the machine keeps of a frame
 abbrev pub sending_of : ℕ → Current → Sending
-sending_of g f = record { table = f.table; number = f.number; first = f.first; sent = min (cells_since g f) (cells_of f.table) }
+sending_of g f = record { table = f.table; first = f.first; sent = min (cells_since g f) (cells_of f.table) }
 
 -- the output that stands in a cell: its source, and what limits its sends
 abbrev pub due_of : Placed → Due

@@ -13,12 +13,10 @@ pub struct Due {
     pub limits: SendLimits,
 }
 
-/// The plan in force of a group with its number, the first slot of its frame, and how many cells of the
-/// frame were sent.
+/// The plan in force of a group, the first slot of its frame, and how many cells of the frame were sent.
 #[derive(Drop)]
 pub struct Sender {
     plan: GroupPlan<OUTPUTS>,
-    number: u64,
     first: u64,
     sent: u64,
 }
@@ -30,7 +28,7 @@ impl Model for Sender {
 
     ghost Value = { Sending };
 
-    ghost view = { λ s. record { table = s.plan; number = s.number; first = s.first; sent = s.sent } };
+    ghost view = { λ s. record { table = s.plan; first = s.first; sent = s.sent } };
 
     ghost invariant = { λ s. (s.first + frame_of s.plan < 2 ^ 64) × (s.sent ≤ cells_of s.plan) };
 }
@@ -43,7 +41,6 @@ impl Sender {
     {
         Sender {
             plan,
-            number: 0,
             first,
             sent: 0,
         }
@@ -98,16 +95,15 @@ impl Sender {
     }
 
     /// Goes on to the next frame by this plan, unless its slots cannot be counted in 64 bits.
-    pub fn turn(&mut self, number: u64, newest: &GroupPlan<OUTPUTS>) -> bool
+    pub fn turn(&mut self, newest: &GroupPlan<OUTPUTS>) -> bool
         ensures room { result ≡ fits_next self.old newest.now }
-        ensures after { self.new ≡ turned self.old number newest.now }
+        ensures after { self.new ≡ turned self.old newest.now }
     {
         let first = self.first + u64::from(self.plan.frame());
         if u64::MAX - first < u64::from(newest.frame()) {
             return false;
         }
         self.plan = *newest;
-        self.number = number;
         self.first = first;
         self.sent = 0;
         true
