@@ -1,7 +1,7 @@
 //! Plans and proposals.
 
 use crate::machine::proposal;
-use crate::support::{ONE, edited, standard};
+use crate::support::{LIMITED, standard};
 use a429_equipment::Equipment;
 use a429_grid::Period;
 use a429_slots::{GroupPlan, OUTPUTS, OutputId, Plan, PlanFault, Proposal, SlotPlace, gap, plan};
@@ -27,13 +27,25 @@ fn places(rt: &HostRuntime, group: &GroupPlan<OUTPUTS>) -> Result<Vec<(u32, u32,
     Ok(places)
 }
 
+/// Two outputs, `a` in every other slot and `b` in every fourth.
+const TWO: &str = r#"version = 1
+rate = 100000
+receiver = [{ name = "r" }]
+source = [
+    { name = "a", receiver = "r", label = "001", sdi = "any" },
+    { name = "b", receiver = "r", label = "002", sdi = "any" },
+]
+[[group]]
+name = "g"
+output = [
+    { source = "a", min_us = 1, max_us = 720 },
+    { source = "b", min_us = 1, max_us = 1440 },
+]
+"#;
+
 #[test]
-fn outputs_stand_in_their_cells(rt: HostRuntime) -> Result<(), Fail> {
-    let table = standard(&rt, 100000, &[(1, 720), (1, 1440)])?;
-    let proposed = proposal(&rt, &table)?;
-    let made = proposed.plan();
-    assert_eq!(rt; (made.groups(), made.number()), (1, 0));
-    let group = made.group(0);
+fn outputs_have_their_places(rt: HostRuntime) -> Result<(), Fail> {
+    let group = first_group(&rt, TWO)?;
     assert_eq!(rt; (group.buses(), group.frame(), group.outputs()), (1, 4, 2));
     let (a, b) = (OutputId::new(0), OutputId::new(1));
     let place = SlotPlace {
@@ -44,66 +56,84 @@ fn outputs_stand_in_their_cells(rt: HostRuntime) -> Result<(), Fail> {
     assert_eq!(rt; group.place(b), place);
     assert_eq!(rt; (group.source(a), group.source(b)), (0, 1));
     assert_eq!(rt; (group.ordered(0), group.ordered(1)), (a, b));
+    Ok(())
+}
+
+/// The number of the output in a cell, and whether it was found in at most two probes.
+fn found_in(group: &GroupPlan<OUTPUTS>, bus: u32, slot: u64) -> (Option<usize>, bool) {
+    let (output, probes) = group.at_counted(bus, slot);
+    let same = group.at(bus, slot) == output;
+    (output.map(|output| output.number()), same && probes <= 2)
+}
+
+#[test]
+fn cells_have_their_outputs(rt: HostRuntime) -> Result<(), Fail> {
+    let group = first_group(&rt, TWO)?;
     let cells = [
-        (0, 0, Some(a)),
-        (0, 1, Some(b)),
-        (0, 2, Some(a)),
+        (0, 0, Some(0)),
+        (0, 1, Some(1)),
+        (0, 2, Some(0)),
         (0, 3, None),
-        (0, 5, Some(b)),
-        (0, 18446744073709551614, Some(a)),
+        (0, 5, Some(1)),
+        (0, 18446744073709551614, Some(0)),
         (1, 0, None),
         (4294967295, 0, None),
     ];
     for (bus, slot, output) in cells {
-        assert_eq!(rt; group.at(bus, slot), output, "{bus} {slot}");
-        let (found, probes) = group.at_counted(bus, slot);
-        assert!(rt; found == output && probes <= 2);
+        assert!(rt;
+            found_in(&group, bus, slot) == (output, true),
+            "{bus} {slot}"
+        );
     }
+    Ok(())
+}
+
+#[test]
+fn plans_have_numbers(rt: HostRuntime) -> Result<(), Fail> {
+    let proposed = proposal(&rt, TWO)?;
+    let made = proposed.plan();
+    assert_eq!(rt; (made.groups(), made.number()), (1, 0));
     let seventh = made.copied().numbered(7);
     assert_eq!(rt; (seventh.number(), seventh.group(0).frame()), (7, 4));
     assert_eq!(rt; proposed.equipment().sources().len(), 2);
     Ok(())
 }
 
+/// Outputs of `b` and `c` in every fourth slot, and behind them `a` in every other.
+const BEHIND: &str = r#"version = 1
+rate = 100000
+receiver = [{ name = "r" }]
+source = [
+    { name = "a", receiver = "r", label = "001", sdi = "any" },
+    { name = "b", receiver = "r", label = "002", sdi = "any" },
+    { name = "c", receiver = "r", label = "003", sdi = "any" },
+]
+[[group]]
+name = "g"
+output = [
+    { source = "b", min_us = 1, max_us = 1440 },
+    { source = "c", min_us = 1, max_us = 1440 },
+    { source = "a", min_us = 1, max_us = 720 },
+]
+"#;
+
 #[test]
 fn places_do_not_follow_the_order_of_the_outputs(rt: HostRuntime) -> Result<(), Fail> {
-    let table = standard(&rt, 100000, &[(1, 720), (1, 1440), (1, 1440)])?;
-    let first = "[[group.output]]\nsource = \"a\"\nmin_us = 1\nmax_us = 720\n";
-    let others = edited(&rt, &table, first, "")?;
-    let moved = format!(in rt.alloc(); "{others}{first}")?;
-    let group = first_group(&rt, &moved)?;
+    let group = first_group(&rt, BEHIND)?;
     assert_eq!(rt; (group.frame(), group.buses(), group.outputs()), (4, 1, 3));
-    let (b, c, a) = (OutputId::new(0), OutputId::new(1), OutputId::new(2));
-    assert_eq!(rt;
-        (group.source(b), group.source(c), group.source(a)),
-        (1, 2, 0)
-    );
     assert_eq!(rt;
         places(&rt, &group)?.as_slice(),
         [(0, 1, 4), (0, 3, 4), (0, 0, 2)].as_slice()
     );
-    assert_eq!(rt;
-        (group.ordered(0), group.ordered(1), group.ordered(2)),
-        (a, b, c)
-    );
-    for (slot, output) in [(0, a), (1, b), (2, a), (3, c)] {
-        assert_eq!(rt; group.at(0, slot), Some(output), "{slot}");
+    for (slot, output) in [(0, 2), (1, 0), (2, 2), (3, 1)] {
+        assert!(rt; found_in(&group, 0, slot) == (Some(output), true), "{slot}");
     }
     Ok(())
 }
 
 #[test]
 fn outputs_have_the_limits_of_their_rows(rt: HostRuntime) -> Result<(), Fail> {
-    // 2881 us are more than one slot of 2880, and a period of two slots is the greatest within 5760
-    let table = edited(&rt, ONE, "version = 1\nrate = 100000", "version = 2")?;
-    let table = edited(&rt, &table, "name = \"g\"", "name = \"g\"\nrate = 12500")?;
-    let table = edited(
-        &rt,
-        &table,
-        "min_us = 1\nmax_us = 360",
-        "min_us = 2881\nmax_us = 5760\nhold = 7",
-    )?;
-    let group = first_group(&rt, &table)?;
+    let group = first_group(&rt, LIMITED)?;
     assert_eq!(rt; (group.frame(), group.outputs()), (2, 1));
     let only = OutputId::new(0);
     assert_eq!(rt; (group.hold(only), group.spacing(only)), (Some(7), 2));

@@ -1,6 +1,6 @@
 //! The rows that tables without faults state.
 
-use crate::support::{ONE, edited};
+use crate::support::{LIMITED, ONE, edited};
 use a429_cli::{CountedWriter, MemoryFiles, command};
 use a429_equipment::{Equipment, OutputRow};
 use std::test::Fail;
@@ -40,10 +40,7 @@ fn gives_the_rows(rt: HostRuntime) -> Result<(), Fail> {
 
 #[test]
 fn gives_rates_and_holds_of_version_2(rt: HostRuntime) -> Result<(), Fail> {
-    let table = edited(&rt, ONE, "version = 1\nrate = 100000", "version = 2")?;
-    let table = edited(&rt, &table, "name = \"g\"", "name = \"g\"\nrate = 12500")?;
-    let table = edited(&rt, &table, "360", "2880\nhold = 7")?;
-    let equipment = Equipment::read(rt.alloc(), table.as_bytes())?;
+    let equipment = Equipment::read(rt.alloc(), LIMITED.as_bytes())?;
     assert_eq!(rt; (equipment.version(), equipment.rate()), (2, None));
     assert_eq!(rt; equipment.groups().len(), 1);
     assert_eq!(rt; equipment.group_rate(0), 12500);

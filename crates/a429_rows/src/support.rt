@@ -20,6 +20,17 @@ min_us = 1
 max_us = 360
 "#;
 
+/// A table of version 2 with one output, at 12500 bit/s: 2881 us are more than one slot of 2880, and a period of
+/// two slots is the greatest within 5760.
+pub const LIMITED: &str = r#"version = 2
+receiver = [{ name = "r" }]
+source = [{ name = "s", receiver = "r", label = "203", sdi = "any" }]
+[[group]]
+name = "g"
+rate = 12500
+output = [{ source = "s", min_us = 2881, max_us = 5760, hold = 7 }]
+"#;
+
 /// A text with one piece of it replaced, where it first stands.
 pub fn edited(rt: &HostRuntime, text: &str, old: &str, new: &str) -> Result<String, Fail> {
     let (front, back) = text.split_once(old).ok_or("no such text")?;
