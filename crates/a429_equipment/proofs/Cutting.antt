@@ -7,7 +7,7 @@ use Rattle.std.proofs.lemmas.Bool.{eqb-true, and_parts, and_from, cases_lt, lt-l
 use Rattle.std.proofs.lemmas.Option.{none-some, same_Some, cond_some}
 use lib.Seq.{take-length}
 use Rattle.a429_equipment.specs.declared.loads.Load.{Load}
-use Rattle.a429_equipment.specs.Agreement.{words_of, last_word, load_after, IsCut, Cuts, reach, least_cut, same_word, is_load, next_cut, last_cut}
+use Rattle.a429_equipment.specs.Agreement.{words_of, last_of, load_after, IsCut, Cuts, reach, least_cut, same_word, is_load, next_cut, last_cut}
 
 pub words_append : (s : ℕ) (A B : List (ℕ × ℕ)) → words_of s (A ++ B) ≡ words_of s A ++ words_of s B
 words_append s A B =
@@ -140,7 +140,7 @@ least_step true A before from l cut le within h =
     let reached : length (words_of s (take (reach s l.count A) A)) ≡ l.count = reach_counts s l.count A all in
     let many : length (words_of s (take cut A)) ≤ length (words_of s (take least A)) = omega (arith, reached, count, count_up s (reach s l.count A) least A cases.1) in
     let same : words_of s (take least A) ≡ words_of s (take cut A) = same_words s least cut A under many in
-    let is : l ≡ load_after s (take least A) = h.2 ∙ sym (ap (λ (ws : List ℕ). record { source = s; count = length ws; word = last_word ws }) same) in
+    let is : l ≡ load_after s (take least A) = h.2 ∙ sym (ap (λ (ws : List ℕ). record { source = s; count = length ws; word = last_of ws }) same) in
     (least, rw (is_load_itself l (load_after s (take least A)) is) refl, under, h.1)
 
 pub least : (mine : ℕ → Bool) (A : List (ℕ × ℕ)) (before from : ℕ) (ls : List Load) (last : ℕ) → from ≤ before → before ≤ length A → Cuts mine A before ls last

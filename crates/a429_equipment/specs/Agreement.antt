@@ -1,7 +1,7 @@
 -- What a receiver accepted, what a transmitter loaded, and when the two agree. An accepted word is a pair of its source's number and the word.
 use Rattle.std.specs.Prelude.{◌≡◌, ◌==◌, ◌&&◌, ◌-◌, ◌≤◌, ℕ, zero, suc, Bool, true, false, List, [], ◌∷◌, Option, Some, None, if◌then◌else◌, nat_le, length, take, map, filter, slice_get}
 use Rattle.std.specs.Option.{option_map_or}
-use Rattle.std.specs.List.{range_with_len}
+use Rattle.std.specs.List.{range_with_len, AllByRecursion}
 use Rattle.a429_equipment.specs.declared.loads.Load.{Load}
 use Rattle.a429_equipment.specs.TableRecord.{TableRecord}
 
@@ -11,8 +11,8 @@ use Rattle.a429_equipment.specs.TableRecord.{TableRecord}
 abbrev pub words_of : ℕ → List (ℕ × ℕ) → List ℕ
 words_of s A = map (λ e. e.1) (filter (λ e. e.0 == s) A)
 
-abbrev pub last_word : List ℕ → Option ℕ
-last_word ws = slice_get ws (length ws - 1)
+abbrev pub last_of : {A : Type 0} → List A → Option A
+last_of xs = slice_get xs (length xs - 1)
 
 -- the source of this number is one of receiver r
 abbrev pub is_of : TableRecord → ℕ → ℕ → Bool
@@ -26,11 +26,15 @@ sources_of t r = filter (is_of t r) (range_with_len 0 (length t.sources))
 
 -- the load of a source where these words were accepted before
 abbrev pub load_after : ℕ → List (ℕ × ℕ) → Load
-load_after s A = record { source = s; count = length (words_of s A); word = last_word (words_of s A) }
+load_after s A = record { source = s; count = length (words_of s A); word = last_of (words_of s A) }
 
 -- the loads of each source of receiver r, where it accepted these words
 abbrev pub loads_of_all : TableRecord → ℕ → List (ℕ × ℕ) → List Load
 loads_of_all t r A = map (λ s. load_after s A) (sources_of t r)
+
+-- none of the loads found more words of the source than this one: a count never goes back
+abbrev pub CountsNoLess : List Load → Load → Type 0
+CountsNoLess loads l = AllByRecursion (λ m. m.source ≡ l.source → m.count ≤ l.count) loads
 
 -- ---- agreement
 

@@ -187,7 +187,7 @@ impl Equipment {
     /// The number of the source that a raw word is for, which came in at this receiver, with the word
     /// (profile: sources). Refused are a word of even parity, then a label that passes no filter of the
     /// receiver, then a word whose label and SDI no source of the receiver has. The cost does not grow
-    /// with the number of sources, and no memory is taken.
+    /// with the number of filters or of sources, and no memory is taken.
     pub fn source_for(&self, receiver: usize, raw: u32) -> Result<(usize, Word), ArrivalRefusal>
         requires { receiver < length self.now.receivers }
         ensures sorted { sorted self.now receiver raw ≡ result_map_both (λ found. found.0) (λ refusal. refusal) result }

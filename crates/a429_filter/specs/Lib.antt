@@ -1,3 +1,4 @@
 pub mod Filters
+pub mod Passing
 pub mod Receiving
 pub mod Sources

@@ -2,6 +2,7 @@
 ghost use Rattle.std.specs.Prelude.{◌≡◌, ◌≤◌, ◌++◌, ◌∷◌, [], ◌↔◌, Some, None, length, IsErr, OnOk, OnErr, option_map, if◌then◌else◌};
 ghost use Rattle.a429_filter.specs.Filters.{passes, set_passes, filters_of};
 
+use crate::passing::Passing;
 use a429_word::Label;
 use std::marker::Model;
 use thiserror::Error;
@@ -37,17 +38,19 @@ pub struct FilterSet {
     listed: bool,
     len: usize,
     filters: [Filter; FILTERS],
+    passing: Passing,
 }
 
 impl Model for FilterSet {
     ghost use Rattle.std.specs.Prelude.{◌≤◌, List, Option, Some, None, take, if◌then◌else◌};
     ghost use Rattle.a429_filter.specs.declared.filters.Filter.{Filter};
+    ghost use Rattle.a429_filter.specs.Passing.{Tells};
 
     ghost Value = { Option (List Filter) };
 
     ghost view = { λ s. if s.listed then Some (take s.len s.filters) else None };
 
-    ghost invariant = { λ s. s.len ≤ 32 };
+    ghost invariant = { λ s. (s.len ≤ 32) × Tells s.passing (if s.listed then Some (take s.len s.filters) else None) };
 }
 
 impl FilterSet {
@@ -76,6 +79,7 @@ impl FilterSet {
             listed,
             len: 0,
             filters: [unused; FILTERS],
+            passing: Passing::each(!listed),
         }
     }
 
@@ -90,6 +94,10 @@ impl FilterSet {
         if len == FILTERS {
             return Err(Full);
         }
+        if !self.listed {
+            self.passing = Passing::each(false);
+        }
+        self.passing = self.passing.with(&filter);
         self.filters[len] = filter;
         self.len = len + 1;
         self.listed = true;
@@ -118,11 +126,12 @@ impl FilterSet {
         }
     }
 
-    /// Whether a label passes: there is no list, or a filter of it passes the label.
+    /// Whether a label passes: there is no list, or a filter of it passes the label. The cost does not grow
+    /// with the number of filters.
     pub fn passes(&self, label: Label) -> bool
         ensures { result ≡ set_passes self.now label }
     {
-        !self.listed || any_passes(&self.filters[..self.len], label)
+        self.passing.passes(label)
     }
 }
 
@@ -137,10 +146,4 @@ fn set_of(filters: &[Filter]) -> FilterSet
         let _ = set.add(*filter);
     }
     set
-}
-
-fn any_passes(filters: &[Filter], label: Label) -> bool
-    ensures { result ≡ set_passes (Some filters.now) label }
-{
-    filters.iter().any(|filter| filter.passes(label))
 }

@@ -3,6 +3,7 @@
 
 mod filters;
 mod lines;
+mod passing;
 mod sockets;
 mod sources;
 

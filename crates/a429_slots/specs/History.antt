@@ -4,6 +4,7 @@ use Rattle.std.specs.List.{list_any}
 use Rattle.std.specs.Option.{option_map_or}
 use Rattle.a429_equipment.specs.declared.rows.SourceRow.{SourceRow}
 use Rattle.a429_equipment.specs.Arrivals.{accepted}
+pub use Rattle.a429_equipment.specs.Agreement.{last_of}
 use Rattle.a429_equipment.specs.SameStation.{same_station}
 use Rattle.a429_slots.specs.Tables.{Placed, GroupTable, PlanTable, groups_of, frame_of, buses_of, cells_of, output_in}
 use Rattle.a429_slots.specs.Proposed.{Proposed}
@@ -33,9 +34,6 @@ accepted_in C o s E = accepted C o.proposal.station s (filter_map arrival_of E)
 -- those of the source with this number
 abbrev pub accepted_by : ℕ → Opening → ℕ → List Event → List ℕ
 accepted_by C o i E = option_map_or (λ s. accepted_in C o s E) (slice_get o.proposal.station.sources i) []
-
-abbrev pub last_of : {A : Type 0} → List A → Option A
-last_of xs = slice_get xs (length xs - 1)
 
 -- ---- published plans
 

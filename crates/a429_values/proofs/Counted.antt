@@ -11,7 +11,7 @@ use Rattle.a429_word.specs.Bits.{has_odd_parity, label_of, number_from}
 use Rattle.a429_equipment.specs.declared.rows.SourceRow.{SourceRow}
 use Rattle.a429_equipment.specs.TableRecord.{TableRecord}
 use Rattle.a429_equipment.specs.Arrivals.{passes_at, is_for, accepts}
-use Rattle.a429_equipment.specs.Agreement.{words_of, last_word, load_after, is_of}
+use Rattle.a429_equipment.specs.Agreement.{words_of, last_of, load_after, is_of}
 use Rattle.a429_equipment.specs.Receiving.{IsAccepted, AreAccepted}
 use Rattle.a429_values.specs.Words.{HasLabel, IsCounted}
 
@@ -26,21 +26,21 @@ words_same s w A = words_append s A ((s, w) ∷ []) ∙ ap (λ (ws : List ℕ). 
 pub words_other : (s x w : ℕ) (A : List (ℕ × ℕ)) → x ≢ s → words_of s (A ++ (x, w) ∷ []) ≡ words_of s A
 words_other s x w A ne = words_append s A ((x, w) ∷ []) ∙ ap (λ (ws : List ℕ). words_of s A ++ ws) (rw (ne_eqb x s ne) refl) ∙ append-nil (words_of s A)
 
-pub last_push : (ws : List ℕ) (w : ℕ) → last_word (ws ++ w ∷ []) ≡ Some w
-last_push ws w =
-    let len : length (ws ++ w ∷ []) ≡ length ws + 1 = length_push ws w in
-    let within : length ws < length (ws ++ w ∷ []) = omega arith in
-    let here : length (ws ++ w ∷ []) - 1 ≡ length ws = omega arith in
-    ap (slice_get (ws ++ w ∷ [])) here ∙ (slice_get-get_or (ws ++ w ∷ []) (length ws) w within ∙ ap (λ y. Some y) (get_or_push ws w w (length ws) refl))
+pub last_push : {A : Type 0} (xs : List A) (w : A) → last_of (xs ++ w ∷ []) ≡ Some w
+last_push xs w =
+    let len : length (xs ++ w ∷ []) ≡ length xs + 1 = length_push xs w in
+    let within : length xs < length (xs ++ w ∷ []) = omega arith in
+    let here : length (xs ++ w ∷ []) - 1 ≡ length xs = omega arith in
+    ap (slice_get (xs ++ w ∷ [])) here ∙ (slice_get-get_or (xs ++ w ∷ []) (length xs) w within ∙ ap (λ y. Some y) (get_or_push xs w w (length xs) refl))
 
 -- the load after one more word of the source, and of another
 pub load_same : (s w : ℕ) (A : List (ℕ × ℕ)) → load_after s (A ++ (s, w) ∷ []) ≡ record { source = s; count = length (words_of s A) + 1; word = Some w }
 load_same s w A =
-    ap (λ (ws : List ℕ). record { source = s; count = length ws; word = last_word ws }) (words_same s w A)
+    ap (λ (ws : List ℕ). record { source = s; count = length ws; word = last_of ws }) (words_same s w A)
     ∙ (λ i. record { source = s; count = length_push (words_of s A) w i; word = last_push (words_of s A) w i })
 
 pub load_other : (s x w : ℕ) (A : List (ℕ × ℕ)) → x ≢ s → load_after s (A ++ (x, w) ∷ []) ≡ load_after s A
-load_other s x w A ne = ap (λ (ws : List ℕ). record { source = s; count = length ws; word = last_word ws }) (words_other s x w A ne)
+load_other s x w A ne = ap (λ (ws : List ℕ). record { source = s; count = length ws; word = last_of ws }) (words_other s x w A ne)
 
 -- ---- accepted words
 
@@ -76,7 +76,7 @@ all_at P [] i x all e = absurd (none-some x e)
 all_at P (y ∷ ys) zero x all e = subst P (same_Some y x e) all.0
 all_at P (y ∷ ys) (suc i) x all e = all_at P ys i x all.1 e
 
-counted : (label : ℕ) (ws : List ℕ) → AllByRecursion (HasLabel label) ws → IsCounted label (length ws) (last_word ws)
+counted : (label : ℕ) (ws : List ℕ) → AllByRecursion (HasLabel label) ws → IsCounted label (length ws) (last_of ws)
 counted label [] all = refl
 counted label (w ∷ ws) all = elim (slice_get_cases (w ∷ ws) (length (w ∷ ws) - 1)).1 [
   | inl hit ↦ subst (λ (o : Option ℕ). IsCounted label (length (w ∷ ws)) o) (sym hit.2) (omega arith, all_at (HasLabel label) (w ∷ ws) (length (w ∷ ws) - 1) hit.0 all hit.2)
