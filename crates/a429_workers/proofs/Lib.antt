@@ -3,3 +3,5 @@ mod Heard
 mod Histories
 mod Steps
 mod Order
+mod Growing
+mod Sends

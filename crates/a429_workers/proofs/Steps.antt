@@ -2,7 +2,6 @@
 use Rattle.std.proofs.Common.{◌≡◌, ℕ, suc, ◌+◌, ◌-◌, ◌^◌, ◌<◌, ◌≤◌, ◌/◌, ◌%◌, true, List, [], ◌∷◌, ◌++◌, length, take, map, ◌∙◌, sym, ap, subst, refl, inl, inr, arith, append-nil, append_assoc}
 use Rattle.std.specs.Prelude.{Option, Some, None, Result, Ok, IsTrue, if◌then◌else◌, ◌==◌, filter, filter_map, slice_get, unwrap_or, option_map, option_and_then}
 use Rattle.std.specs.Option.{option_map_or}
-use Rattle.std.specs.List.{AllByRecursion}
 use Rattle.std.proofs.lemmas.List.{take_all, length-append, map-append}
 use Rattle.std.proofs.lemmas.List.Elements.{filter-append, filter_map-append}
 use Rattle.std.proofs.lemmas.Option.{none-some, same_Some}
@@ -14,6 +13,7 @@ use Rattle.a429_equipment.specs.Agreement.{words_of}
 use Rattle.a429_equipment.specs.Arrivals.{sorted}
 use Rattle.a429_equipment.specs.Receiving.{IsReceived, ReceiversAcceptForSources, ReceiversAcceptInPieces}
 use Rattle.a429_equipment.specs.SameStation.{same_station}
+use Rattle.a429_equipment.specs.Sound.{OfEach}
 use Rattle.a429_slots.specs.Tables.{Placed, GroupTable, PlanTable, groups_of, buses_of, cells_of, output_in}
 use Rattle.a429_slots.specs.Proposed.{Proposed}
 use Rattle.a429_slots.specs.Events.{Event, Arrive, Cell, Frame, Publish}
@@ -33,7 +33,7 @@ use Rattle.a429_workers.proofs.Histories.{answered_push, due_is, frame_other, fr
 pub record Given (C : ℕ) (o : Opening) (g : ℕ) (p : GroupTable) (later : List Proposed) (heard : ℕ → List (ℕ × ℕ)) : Type 0 where
   pub words : ReceiversAcceptForSources o.proposal.station
   pub pieces : ReceiversAcceptInPieces o.proposal.station
-  pub known : AllByRecursion (λ s. s.receiver < length o.proposal.station.receivers) o.proposal.station.sources
+  pub known : OfEach (λ s. s.receiver < length o.proposal.station.receivers) o.proposal.station.sources
   pub opens : OpensWith o g p
   pub plans : ArePublished o later
   pub accepted : AreHeard C o.proposal.station heard

@@ -4,7 +4,9 @@ ghost use Rattle.a429_slots.specs.Tables.{GroupTable};
 ghost use Rattle.a429_slots.specs.Proposed.{Proposed};
 ghost use Rattle.a429_slots.specs.History.{Opening};
 ghost use Rattle.a429_workers.specs.Calls.{Call};
+ghost use Rattle.a429_workers.specs.MoreCalls.{LastCallLeads, LastCallLoads, LawfulCallsGrow};
 ghost use Rattle.a429_workers.specs.Runs.{IsWorking, HasRun};
+ghost use Rattle.a429_workers.specs.Sends.{HoldsAreKept, WordsAreApart};
 
 use a429_equipment::laws::tables_receive_for_sources;
 
@@ -18,3 +20,23 @@ pub fn one_run()
 {
     tables_receive_for_sources();
 }
+
+/// Calls that are lawful stay lawful with one more that is lawful where they led.
+pub fn lawful_calls_grow()
+    ensures lawful { LawfulCallsGrow }
+    ensures standing { LastCallLeads }
+    ensures loads { LastCallLoads }
+{}
+
+/// A transmitter never sends two words of one source in cells that are fewer slots apart than the plan in force at
+/// the second asks, whatever plans changed between.
+pub fn words_are_spaced()
+    ensures { WordsAreApart }
+{}
+
+/// A transmitter sends one accepted word at most as often as the output's hold says, under whatever plans: each
+/// time it is sent, it was sent fewer times before. The load tells which accepted word it is, so an equal word that
+/// is accepted again is another.
+pub fn holds_are_kept()
+    ensures { HoldsAreKept }
+{}
