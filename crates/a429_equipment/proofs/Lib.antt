@@ -14,5 +14,6 @@ pub mod Soundness
 pub mod IndexPlaces
 pub mod Ranges
 pub mod Cutting
+pub mod Lasting
 pub mod Receiving
 pub mod KeyPairs

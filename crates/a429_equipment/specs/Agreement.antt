@@ -1,5 +1,5 @@
 -- What a receiver accepted, what a transmitter loaded, and when the two agree. An accepted word is a pair of its source's number and the word.
-use Rattle.std.specs.Prelude.{◌≡◌, ◌==◌, ◌&&◌, ◌-◌, ◌≤◌, ℕ, zero, suc, Bool, true, false, List, [], ◌∷◌, Option, Some, None, if◌then◌else◌, nat_le, length, take, map, filter, slice_get}
+use Rattle.std.specs.Prelude.{◌≡◌, ◌==◌, ◌&&◌, ◌-◌, ◌≤◌, ◌++◌, ℕ, zero, suc, Bool, true, false, List, [], ◌∷◌, Option, Some, None, if◌then◌else◌, nat_le, length, take, map, filter, slice_get}
 use Rattle.std.specs.Option.{option_map_or}
 use Rattle.std.specs.List.{range_with_len, AllByRecursion}
 use Rattle.a429_equipment.specs.declared.loads.Load.{Load}
@@ -106,3 +106,20 @@ abbrev pub ComputedCutsAreLeast : Type 0
 ComputedCutsAreLeast =
     (t : TableRecord) (r last : ℕ) (A : List (ℕ × ℕ)) (loads : List Load) → AgreesTo t r A loads last
     → (least : ℕ) × (last_cut_of t r A loads ≡ Some least) × (least ≤ last)
+
+-- ---- agreement lasts
+
+-- loads that agree with what a receiver accepted agree with it where it accepts more
+abbrev pub AgreesWithMore : Type 0
+AgreesWithMore = (t : TableRecord) (r : ℕ) (A more : List (ℕ × ℕ)) (loads : List Load) → Agrees t r A loads → Agrees t r (A ++ more) loads
+
+-- a stretch of them agrees with it
+abbrev pub StretchesAgree : Type 0
+StretchesAgree =
+    (t : TableRecord) (r : ℕ) (A : List (ℕ × ℕ)) (before loads later : List Load) → Agrees t r A (before ++ (loads ++ later)) → Agrees t r A loads
+
+-- they agree with it where loads of no source of the receiver follow
+abbrev pub AgreesBesideOthers : Type 0
+AgreesBesideOthers =
+    (t : TableRecord) (r : ℕ) (A : List (ℕ × ℕ)) (loads others : List Load)
+    → AllByRecursion (λ l. is_of t r l.source ≡ false) others → Agrees t r A loads → Agrees t r A (loads ++ others)

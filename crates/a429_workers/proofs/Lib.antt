@@ -1,0 +1,7 @@
+mod Lists
+mod Heard
+mod Histories
+mod Steps
+mod Order
+mod Growing
+mod Sends

@@ -1,0 +1,108 @@
+-- The words that lawful calls send: what went out before each of them, and what follows where one goes out.
+use Rattle.std.proofs.Common.{◌≡◌, ℕ, zero, suc, ◌+◌, ◌<◌, ◌≤◌, Bool, true, false, true≢false, List, [], ◌∷◌, ◌++◌, take, ◌∙◌, sym, ap, subst, refl, inl, inr, arith, append-nil, append_assoc}
+use Rattle.std.specs.Prelude.{Option, Some, None, ◌==◌, ◌&&◌, ◌||◌, cond, if◌then◌else◌, nat_lt, slice_get, option_map, option_and_then}
+use Rattle.std.specs.List.{list_any}
+use Rattle.std.proofs.lemmas.List.Sums.{sum_by-append}
+use Rattle.std.proofs.lemmas.List.Folds.{list_any-append}
+use Rattle.std.proofs.lemmas.Option.{none-some, same_Some}
+use Rattle.std.proofs.lemmas.Bool.{cases_lt, lt-ltb, leb-false, eq-eqb}
+use Rattle.a429_equipment.specs.declared.loads.Load.{Load}
+use Rattle.a429_slots.specs.Tables.{Placed, GroupTable, PlanTable, output_in}
+use Rattle.a429_slots.specs.History.{AnsweredCell, has_sent, is_held, is_too_close, times_sent}
+use Rattle.a429_workers.specs.Calls.{Call, Asks, Turns, Meets, Turn, Takes, StaysMid, StaysSpent, Carried, Standing, IsAnswered, IsLawful, AreLawful, after, after_turn, standing_after, word_of, answered_by}
+use Rattle.a429_workers.specs.Sends.{SendsAt, standing_at, output_due, cells_in, cells_of}
+
+-- ---- what went out before
+
+earlier_turned : (g : ℕ) (p : GroupTable) (s : Standing) (plans : List PlanTable) (t : Turn) → (after_turn g p s plans t).earlier ≡ s.earlier
+earlier_turned g p s plans (Takes n) = refl
+earlier_turned g p s plans StaysMid = refl
+earlier_turned g p s plans StaysSpent = refl
+
+-- a call leaves the cells that it answered
+earlier_after : (g : ℕ) (p : GroupTable) (s : Standing) (c : Call) → (after g p s c).earlier ≡ s.earlier ++ cells_in c
+earlier_after g p s (Asks (Some c)) = refl
+earlier_after g p s (Asks None) = sym (append-nil s.earlier)
+earlier_after g p s (Turns plans t) = earlier_turned g p s plans t ∙ sym (append-nil s.earlier)
+earlier_after g p s (Meets loads) = sym (append-nil s.earlier)
+
+earlier_is : (g : ℕ) (p : GroupTable) (s : Standing) (calls : List Call) → (standing_after g p s calls).earlier ≡ s.earlier ++ cells_of calls
+earlier_is g p s [] = sym (append-nil s.earlier)
+earlier_is g p s (c ∷ calls) =
+    earlier_is g p (after g p s c) calls ∙ (ap (λ (cs : List AnsweredCell). cs ++ cells_of calls) (earlier_after g p s c) ∙ append_assoc s.earlier (cells_in c) (cells_of calls))
+
+lawful_at : (g : ℕ) (p : GroupTable) (s : Standing) (calls : List Call) (k : ℕ) (c : Call) → AreLawful g p s calls → slice_get calls k ≡ Some c → IsLawful g p (standing_at g p s calls k) c
+lawful_at g p s [] k c all h = absurd (none-some c h)
+lawful_at g p s (d ∷ calls) zero c all h = subst (IsLawful g p s) (same_Some d c h) all.0
+lawful_at g p s (d ∷ calls) (suc k) c all h = lawful_at g p (after g p s d) calls k c all.1 h
+
+or_right : (a b : Bool) → b ≡ true → (a || b) ≡ true
+or_right true b h = refl
+or_right false b h = h
+
+or_left : (a b : Bool) → a ≡ true → (a || b) ≡ true
+or_left true b h = refl
+or_left false b h = absurd (true≢false (sym h))
+
+-- a test that a cell of an earlier call passes
+passed : (test : AnsweredCell → Bool) (calls : List Call) (j k : ℕ) (c : Call) → j < k → slice_get calls j ≡ Some c → list_any test (cells_in c) ≡ true → list_any test (cells_of (take k calls)) ≡ true
+passed test calls j zero c less h pass = absurd (omega (arith, less))
+passed test [] j (suc k) c less h pass = absurd (none-some c h)
+passed test (d ∷ calls) zero (suc k) c less h pass =
+    list_any-append test (cells_in d) (cells_of (take k calls)) ∙ or_left (list_any test (cells_in d)) _ (ap (λ (x : Call). list_any test (cells_in x)) (same_Some d c h) ∙ pass)
+passed test (d ∷ calls) (suc j) (suc k) c less h pass =
+    list_any-append test (cells_in d) (cells_of (take k calls)) ∙ or_right (list_any test (cells_in d)) _ (passed test calls j k c (omega (arith, less)) h pass)
+
+-- ---- where a word goes out
+
+-- it is neither held back nor too close to another
+record IsFree (earlier : List AnsweredCell) (slot : ℕ) (output : Placed) (l : Load) : Type 0 where
+  pub source : l.source ≡ output.source
+  pub held : is_held earlier output.source output.limits.hold l.count ≡ false
+  pub close : is_too_close earlier slot output.source output.limits.spacing ≡ false
+
+free : (held close : Bool) (x : Option ℕ) (word : ℕ) → (if held || close then None else x) ≡ Some word → (held ≡ false) × (close ≡ false)
+free true close x word h = absurd (none-some word h)
+free false true x word h = absurd (none-some word h)
+free false false x word h = (refl, refl)
+
+is_free : (g : ℕ) (p : GroupTable) (s : Standing) (calls : List Call) (k : ℕ) (c : Carried) (l : Load) (output : Placed) → AreLawful g p s calls → SendsAt calls k c l → output_due (standing_at g p s calls k) ≡ Some output
+    → IsFree (standing_at g p s calls k).earlier c.slot output l
+is_free g p s calls k c l output all S due =
+    let now = standing_at g p s calls k in
+    let A : IsAnswered now c = lawful_at g p s calls k (Asks (Some c)) all S.asked in
+    let stands : output_in now.frame.table A.cell.0 A.cell.1 ≡ Some output = sym (ap (λ (x : Option (ℕ × ℕ)). option_and_then (λ cell. output_in now.frame.table cell.0 cell.1) x) A.due) ∙ due in
+    let sources = ap (λ (x : Option Load). option_map (λ l. l.source) x) (sym S.load) ∙ (A.load ∙ ap (λ (x : Option Placed). option_map (λ o. o.source) x) stands) in
+    let word = ap (λ (x : Option Placed). word_of now.earlier c.slot x c.load) (sym stands) ∙ (sym A.word ∙ S.sent) in
+    let goes = ap (word_of now.earlier c.slot (Some output)) (sym S.load) ∙ word in
+    let both = free (is_held now.earlier output.source output.limits.hold l.count) (is_too_close now.earlier c.slot output.source output.limits.spacing) l.word S.word goes in
+    record { source = same_Some l.source output.source sources; held = both.0; close = both.1 }
+
+pub words_apart : (g : ℕ) (p : GroupTable) (s : Standing) (calls : List Call) (j k : ℕ) (c d : Carried) (l m : Load) (output : Placed) → AreLawful g p s calls → j < k → SendsAt calls j c l → SendsAt calls k d m
+    → l.source ≡ m.source → output_due (standing_at g p s calls k) ≡ Some output → c.slot + output.limits.spacing ≤ d.slot
+words_apart g p s calls j k c d l m output all less S T same due =
+    let q = output.limits.spacing in
+    let F = is_free g p s calls k d m output all T due in
+    elim (cases_lt d.slot (c.slot + q)) [
+      | inr far ↦ far
+      | inl near ↦
+          let test = λ (x : AnsweredCell). has_sent output.source x && nat_lt d.slot (x.slot + q) in
+          let own : (l.source == output.source) ≡ true = eq-eqb l.source output.source (same ∙ F.source) in
+          let pass : list_any test (answered_by c) ≡ true = rw (S.load, S.sent, own, lt-ltb d.slot (c.slot + q) near) refl in
+          let cells = passed test calls j k (Asks (Some c)) less S.asked pass in
+          let found : is_too_close (standing_at g p s calls k).earlier d.slot output.source q ≡ true =
+          ap (list_any test) (earlier_is g p s (take k calls)) ∙ (list_any-append test s.earlier (cells_of (take k calls)) ∙ or_right (list_any test s.earlier) _ cells) in
+          absurd (true≢false (sym found ∙ F.close))
+    ]
+
+pub holds_kept : (g : ℕ) (p : GroupTable) (s : Standing) (calls : List Call) (k : ℕ) (d : Carried) (m : Load) (output : Placed) (hold : ℕ) → AreLawful g p s calls → SendsAt calls k d m
+    → output_due (standing_at g p s calls k) ≡ Some output → output.limits.hold ≡ Some hold → times_sent (cells_of (take k calls)) m.source m.count < hold
+holds_kept g p s calls k d m output hold all T due limited =
+    let F = is_free g p s calls k d m output all T due in
+    let earlier = (standing_at g p s calls k).earlier in
+    let below : times_sent earlier output.source m.count < hold =
+    leb-false hold (times_sent earlier output.source m.count) (sym (ap (λ (h : Option ℕ). is_held earlier output.source h m.count) limited) ∙ F.held) in
+    let test : AnsweredCell → ℕ = λ x. cond (has_sent output.source x && x.count == m.count) 1 0 in
+    let parts : times_sent earlier output.source m.count ≡ times_sent s.earlier output.source m.count + times_sent (cells_of (take k calls)) output.source m.count =
+    ap (λ (cs : List AnsweredCell). times_sent cs output.source m.count) (earlier_is g p s (take k calls)) ∙ sum_by-append test s.earlier (cells_of (take k calls)) in
+    subst (λ (i : ℕ). times_sent (cells_of (take k calls)) i m.count < hold) (sym F.source) (omega (arith, below, parts))

@@ -1,0 +1,5 @@
+use Rattle.a429_workers.proofs.Sends.{holds_kept}
+use Rattle.a429_workers.proofs.laws.holds_are_kept.Goals as goal
+
+pub returns : goal.returns
+returns c = holds_kept

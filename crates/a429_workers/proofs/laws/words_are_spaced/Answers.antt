@@ -1,0 +1,5 @@
+use Rattle.a429_workers.proofs.Sends.{words_apart}
+use Rattle.a429_workers.proofs.laws.words_are_spaced.Goals as goal
+
+pub returns : goal.returns
+returns c = words_apart

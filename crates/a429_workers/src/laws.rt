@@ -1,0 +1,42 @@
+//! What a transmitter does is what the machine does: laws over the definitions alone.
+ghost use Rattle.std.specs.Prelude.{ℕ, List};
+ghost use Rattle.a429_slots.specs.Tables.{GroupTable};
+ghost use Rattle.a429_slots.specs.Proposed.{Proposed};
+ghost use Rattle.a429_slots.specs.History.{Opening};
+ghost use Rattle.a429_workers.specs.Calls.{Call};
+ghost use Rattle.a429_workers.specs.MoreCalls.{LastCallLeads, LastCallLoads, LawfulCallsGrow};
+ghost use Rattle.a429_workers.specs.Runs.{IsWorking, HasRun};
+ghost use Rattle.a429_workers.specs.Sends.{HoldsAreKept, WordsAreApart};
+
+use a429_equipment::laws::tables_receive_for_sources;
+
+/// One run: the lawful calls of a group's transmitter, whose loads agree with what each receiver of the station
+/// accepted, are answered as one list of events of the station is by the machine. Its cells and frames are the
+/// calls, its arrivals what each receiver accepted, its publications the plans that were published, each list in
+/// its order and nothing else.
+pub fn one_run()
+    ensures { (C : ℕ) (o : Opening) (g : ℕ) (p : GroupTable) (later : List Proposed) (calls : List Call) (heard : ℕ → List (ℕ × ℕ))
+        → IsWorking C o g p later calls heard → HasRun C o g later calls heard }
+{
+    tables_receive_for_sources();
+}
+
+/// Calls that are lawful stay lawful with one more that is lawful where they led.
+pub fn lawful_calls_grow()
+    ensures lawful { LawfulCallsGrow }
+    ensures standing { LastCallLeads }
+    ensures loads { LastCallLoads }
+{}
+
+/// A transmitter never sends two words of one source in cells that are fewer slots apart than the plan in force at
+/// the second asks, whatever plans changed between.
+pub fn words_are_spaced()
+    ensures { WordsAreApart }
+{}
+
+/// A transmitter sends one accepted word at most as often as the output's hold says, under whatever plans: each
+/// time it is sent, it was sent fewer times before. The load tells which accepted word it is, so an equal word that
+/// is accepted again is another.
+pub fn holds_are_kept()
+    ensures { HoldsAreKept }
+{}
