@@ -6,6 +6,7 @@ pub mod TextLines
 pub mod Listed
 pub mod Walk
 pub mod Groups
+pub mod DuePlans
 pub mod CheckedPlans
 pub mod Again
 pub mod LinesOfText
@@ -17,4 +18,5 @@ pub mod OwnText
 pub mod PlanLines
 pub mod Gathered
 pub mod OnGrid
+pub mod RowPlans
 mod Shown

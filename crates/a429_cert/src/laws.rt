@@ -55,7 +55,7 @@ pub fn own_text_is_fewest()
 
 /// A text that is answered by `fewest` states a plan of every group, and no schedule that serves the group has fewer buses.
 pub fn fewest_is_shown()
-    ensures { (e : TableRecord) (t : DueTable) (text : List ℕ) → IsSound e → IsDue e t → verdict t text ≡ Fewest → ShowsFewest t text }
+    ensures { (e : TableRecord) (t : DueTable) (text : List ℕ) → IsSound e → IsDue e t → verdict t text ≡ Fewest → ShowsFewest e text }
 {
     fewest_by_demand();
 }
