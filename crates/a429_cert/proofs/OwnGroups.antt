@@ -141,7 +141,7 @@ period_within e rate rows t p o below =
 
 -- ---- the order and the demands
 
-order_moved : (e : TableRecord) (rate : ℕ) (rows : List OutputRow) (t : GroupTable) → IsPlannedFor rate e.sources rows t → IsPermutation (range_with_len 0 (length t.demands)) (order_of t)
+pub order_moved : (e : TableRecord) (rate : ℕ) (rows : List OutputRow) (t : GroupTable) → IsPlannedFor rate e.sources rows t → IsPermutation (range_with_len 0 (length t.demands)) (order_of t)
 order_moved e rate rows t p =
     let many : length (asked_of e.sources t) ≡ length t.demands = length-map (outputs_of t) (asked_by e.sources) ∙ length-outputs t in
     subst (λ (n : ℕ). IsPermutation (range_with_len 0 n) (order_of t)) many p.layout.order.all

@@ -14,6 +14,7 @@ ghost use Rattle.a429_cert.specs.PlanText.{plan_text_of};
 ghost use Rattle.a429_cert.specs.Verdicts.{verdict};
 
 use a429_pack::laws::fewest_by_demand;
+use a429_slots::laws::plans_are_unique;
 
 /// A first line that is read is spelled so, and one that is spelled so is read (profile: plan text).
 pub fn plan_lines()
@@ -44,6 +45,13 @@ pub fn bound_lines()
     ensures found { (line : List ℕ) (b : Bounding) → bound_line line ≡ Some b → (line ≡ bound_text b) × FitsBounding b }
     ensures only { (b : Bounding) → FitsBounding b → bound_line (bound_text b) ≡ Some b }
 {}
+
+/// A table has one plan text: that of any plan of it.
+pub fn plan_texts_are_unique()
+    ensures { (e : TableRecord) (p q : PlanTable) → IsPlanOf e p → IsPlanOf e q → plan_text_of e p ≡ plan_text_of e q }
+{
+    plans_are_unique();
+}
 
 /// The text of a table's own plan is answered by `fewest`: the text that `plan_text` gives of a proposal, checked against
 /// the table of its equipment.

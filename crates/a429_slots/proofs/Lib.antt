@@ -15,3 +15,4 @@ pub mod Following
 pub mod SamePlan
 pub mod SpacedTables
 pub mod SpacedPlans
+pub mod OnePlan

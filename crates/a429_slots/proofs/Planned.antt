@@ -35,14 +35,14 @@ zip_by R [] (y ∷ ys) d e same all = absurd (omega arith)
 zip_by R (x ∷ xs) [] d e same all = absurd (omega arith)
 zip_by R (x ∷ xs) (y ∷ ys) d e same all = (all 0 (omega arith), zip_by R xs ys d e (omega arith) (λ i below. all (suc i) (omega arith)))
 
-same_lists : {A : Type 0} (xs ys : List A) (d : A) → length xs ≡ length ys → ((i : ℕ) → i < length ys → get_or xs i d ≡ get_or ys i d) → xs ≡ ys
+pub same_lists : {A : Type 0} (xs ys : List A) (d : A) → length xs ≡ length ys → ((i : ℕ) → i < length ys → get_or xs i d ≡ get_or ys i d) → xs ≡ ys
 same_lists [] [] d same all = refl
 same_lists [] (y ∷ ys) d same all = absurd (omega arith)
 same_lists (x ∷ xs) [] d same all = absurd (omega arith)
 same_lists (x ∷ xs) (y ∷ ys) d same all =
     ap (λ z. z ∷ xs) (all 0 (omega arith)) ∙ ap (λ zs. y ∷ zs) (same_lists xs ys d (omega arith) (λ i below. all (suc i) (omega arith)))
 
-map_where : (f g : ℕ → ℕ) (xs : List ℕ) → ((k : ℕ) → k < length xs → f (get_or xs k 0) ≡ g (get_or xs k 0)) → map f xs ≡ map g xs
+pub map_where : (f g : ℕ → ℕ) (xs : List ℕ) → ((k : ℕ) → k < length xs → f (get_or xs k 0) ≡ g (get_or xs k 0)) → map f xs ≡ map g xs
 map_where f g [] same = refl
 map_where f g (x ∷ xs) same = ap (λ z. z ∷ map f xs) (same 0 (omega arith)) ∙ ap (λ zs. g x ∷ zs) (map_where f g xs (λ k below. same (suc k) (omega arith)))
 
