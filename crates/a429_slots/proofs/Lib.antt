@@ -16,3 +16,4 @@ pub mod SamePlan
 pub mod SpacedTables
 pub mod SpacedPlans
 pub mod OnePlan
+pub mod OneFault

@@ -40,7 +40,7 @@ one_period rate row i j h k = same_power i j (omega (arith, h.2 (2 ^ j) k.0 k.1,
 one_spacing : (min_us rate q r : ℕ) → IsLeastSpacing min_us rate q → IsLeastSpacing min_us rate r → q ≡ r
 one_spacing min_us rate q r h k = omega (arith, h.1 r k.0, k.1 q h.0)
 
-same_exponents : (rate : ℕ) (rows : List OutputRow) (is js : List ℕ) → AllZip (HasPeriod rate) rows is → AllZip (HasPeriod rate) rows js → is ≡ js
+pub same_exponents : (rate : ℕ) (rows : List OutputRow) (is js : List ℕ) → AllZip (HasPeriod rate) rows is → AllZip (HasPeriod rate) rows js → is ≡ js
 same_exponents rate [] [] [] h k = refl
 same_exponents rate [] [] (j ∷ js) h k = absurd k
 same_exponents rate [] (i ∷ is) js h k = absurd h
@@ -69,7 +69,7 @@ same_asked rate sources (row ∷ rows) (x ∷ xs) (y ∷ ys) h k =
 abbrev OneOrder : Type 0
 OneOrder = (ds : List Demand) (xs ys : List ℕ) → IsLayoutOrder ds xs → IsLayoutOrder ds ys → xs ≡ ys
 
-abbrev OneCount : Type 0
+abbrev pub OneCount : Type 0
 OneCount = (exponents : List ℕ) (m n : ℕ) → AreFewestBuses exponents m → AreFewestBuses exponents n → m ≡ n
 
 abbrev NameEach : Type 0

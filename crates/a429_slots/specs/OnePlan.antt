@@ -1,7 +1,10 @@
--- A table has one plan.
-use Rattle.std.specs.Prelude.{◌≡◌, ℕ}
+-- A table has one plan, or one fault.
+use Rattle.std.specs.Prelude.{◌≡◌, ◌≢◌, ℕ}
 use Rattle.std.specs.List.{AllZip}
 use Rattle.a429_equipment.specs.TableRecord.{TableRecord}
+use Rattle.a429_slots.specs.declared.planner.PlanFault.{PlanFault}
+use Rattle.a429_slots.specs.declared.planner.PlanFault.TheVariants.{NoMemory}
+use Rattle.a429_slots.specs.Faults.{IsFaultOf}
 use Rattle.a429_slots.specs.Planned.{IsPlanOf}
 use Rattle.a429_slots.specs.Tables.{GroupTable, PlanTable, buses_of, cell_at, frame_of, groups_of, order_of, outputs_of}
 
@@ -22,3 +25,11 @@ pub record IsSamePlan (p q : PlanTable) : Type 0 where
 -- no two plans of a table differ
 abbrev pub PlansAreUnique : Type 0
 PlansAreUnique = (e : TableRecord) (p q : PlanTable) → IsPlanOf e p → IsPlanOf e q → IsSamePlan p q
+
+-- nor do two faults of a table, want of memory apart
+abbrev pub FaultsAreUnique : Type 0
+FaultsAreUnique = (e : TableRecord) (f g : PlanFault) → IsFaultOf e f → IsFaultOf e g → f ≢ NoMemory → g ≢ NoMemory → f ≡ g
+
+-- a table that has a plan has no fault
+abbrev pub PlansHaveNoFault : Type 0
+PlansHaveNoFault = (e : TableRecord) (p : PlanTable) (f : PlanFault) → IsPlanOf e p → IsFaultOf e f → f ≡ NoMemory

@@ -3,7 +3,7 @@ ghost use Rattle.std.specs.Prelude.{◌≡◌, [], ◌⊎◌, ℕ, List, false};
 ghost use Rattle.a429_slots.specs.Tables.{GroupTable};
 ghost use Rattle.a429_slots.specs.Holding.{HoldsAreKept};
 ghost use Rattle.a429_slots.specs.Spacing.{CellsOfOnePlanAreApart, EmptyCellsAreFirst, EmptyCellsFollowWords, OpeningPlanEmptiesNone, PlannedTablesAreSpaced, PlansInForceAreSpaced, WordsAreApart};
-ghost use Rattle.a429_slots.specs.OnePlan.{PlansAreUnique};
+ghost use Rattle.a429_slots.specs.OnePlan.{FaultsAreUnique, PlansAreUnique, PlansHaveNoFault};
 ghost use Rattle.a429_slots.specs.Events.{Event};
 ghost use Rattle.a429_slots.specs.History.{Opening, OpensWith};
 ghost use Rattle.a429_slots.specs.Recalling.{Recalls, RecentCountsSends, RecentDecides, RecentPassesOtherCells, never};
@@ -13,10 +13,13 @@ use a429_pack::laws::{
     fewest_by_demand, layout_orders_are_unique, none_is_above_the_greatest, orders_name_each_once,
 };
 
-/// A table has one plan: two plans of it have the same output in every cell of every group, on the same buses, with
-/// the same frames, places, limits and layout order.
+/// A table has one plan or one fault. Two plans of it have the same output in every cell of every group, on the same
+/// buses, with the same frames, places, limits and layout order; and want of memory apart, no two faults of it differ,
+/// and a table that has a plan has none.
 pub fn plans_are_unique()
-    ensures { PlansAreUnique }
+    ensures plan { PlansAreUnique }
+    ensures fault { FaultsAreUnique }
+    ensures either { PlansHaveNoFault }
 {
     fewest_by_demand();
     layout_orders_are_unique();
