@@ -12,7 +12,8 @@ use Rattle.a429_cert.specs.Spelling.{Heading, Listing, Bounding, when, says_more
 use Rattle.a429_cert.specs.Reading.{output_line}
 use Rattle.a429_cert.specs.Lines.{lines_of, line_at}
 use Rattle.a429_cert.specs.Faults.{group_fault, output_fault, hold_of, says_other_rate, same_limit, says_other_hold, frame, is_listed, shares, has_bad_place, output_faults, first_no, group_faults, bound_fault, bound_holds, demand, buses_of}
-use Rattle.a429_cert.specs.Checked.{Stated, IsChecked, IsPlaced, AreApart, EachPair}
+use Rattle.a429_cert.specs.Checked.{Stated, AreApart, EachPair}
+use Rattle.a429_cert.proofs.DuePlans.{IsCheckedAsDue, IsPlacedAsDue}
 use Rattle.a429_cert.proofs.LineLaws.{group_again, output_again, bound_again}
 use Rattle.a429_cert.proofs.CheckedPlans.{HeadingHolds, ListingHolds, same_bytes, buses_said}
 use Rattle.a429_cert.proofs.Groups.{pass_front}
@@ -139,15 +140,15 @@ new_again : (earlier : List Listing) (l : Listing) → AllByRecursion (λ k. k.s
 new_again [] l h = refl
 new_again (k ∷ ks) l h = rw (differ_again k.source l.source h.0, new_again ks l h.1) refl
 
-alone_again : (version : ℕ) (g : DueGroup) (buses : ℕ) (earlier : List Listing) (l : Listing) → AllByRecursion (IsPlaced version g buses) earlier → IsPlaced version g buses l → AllByRecursion (λ k. AreApart k l) earlier → list_any (shares l) earlier ≡ false
+alone_again : (version : ℕ) (g : DueGroup) (buses : ℕ) (earlier : List Listing) (l : Listing) → AllByRecursion (IsPlacedAsDue version g buses) earlier → IsPlacedAsDue version g buses l → AllByRecursion (λ k. AreApart k l) earlier → list_any (shares l) earlier ≡ false
 alone_again version g buses [] l placed pl h = refl
 alone_again version g buses (k ∷ ks) l placed pl h = either_false (shares l k) (list_any (shares l) ks) (apart_passes k l placed.0.offset pl.offset h.0) (alone_again version g buses ks l placed.1 pl h.1)
 
-placed_push : (version : ℕ) (g : DueGroup) (buses : ℕ) (xs : List Listing) (y : Listing) → AllByRecursion (IsPlaced version g buses) xs → IsPlaced version g buses y → AllByRecursion (IsPlaced version g buses) (xs ++ y ∷ [])
+placed_push : (version : ℕ) (g : DueGroup) (buses : ℕ) (xs : List Listing) (y : Listing) → AllByRecursion (IsPlacedAsDue version g buses) xs → IsPlacedAsDue version g buses y → AllByRecursion (IsPlacedAsDue version g buses) (xs ++ y ∷ [])
 placed_push version g buses [] y h p = (p, tt)
 placed_push version g buses (x ∷ xs) y h p = (h.0, placed_push version g buses xs y h.1 p)
 
-pub each_holds : (version : ℕ) (g : DueGroup) (buses : ℕ) (earlier todo : List Listing) → AllByRecursion (IsPlaced version g buses) earlier → AllByRecursion (IsPlaced version g buses) todo
+pub each_holds : (version : ℕ) (g : DueGroup) (buses : ℕ) (earlier todo : List Listing) → AllByRecursion (IsPlacedAsDue version g buses) earlier → AllByRecursion (IsPlacedAsDue version g buses) todo
     → EachPair (λ k l. k.source ≢ l.source) (earlier ++ todo) → EachPair AreApart (earlier ++ todo) → EachHolds version g buses earlier todo
 each_holds version g buses earlier [] pe pt once apart = tt
 each_holds version g buses earlier (l ∷ ls) pe pt once apart =
@@ -185,7 +186,7 @@ pub record FitsStated (version : ℕ) (s : Stated) : Type 0 where
   pub outputs : AllByRecursion (FitsListing version) s.outputs
   pub bound : FitsBounding s.bound
 
-pub group_passes_again : (version : ℕ) (g : DueGroup) (number : ℕ) (s : Stated) (more : List (List ℕ)) → FitsStated version s → IsChecked version g s → StatesBound g s.heading.buses s.bound
+pub group_passes_again : (version : ℕ) (g : DueGroup) (number : ℕ) (s : Stated) (more : List (List ℕ)) → FitsStated version s → IsCheckedAsDue version g s → StatesBound g s.heading.buses s.bound
     → first_no number (group_faults version g (group_text s.heading ∷ (map output_text s.outputs ++ bound_text s.bound ∷ more))) ≡ None
 group_passes_again version g number s more fits checked bound =
     let holds : HeadingHolds version g s.heading = record { name = checked.name; rate = checked.rate; greatest = checked.greatest; some_bus = checked.some_bus; few_buses = checked.few_buses } in

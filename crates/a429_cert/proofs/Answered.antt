@@ -7,7 +7,8 @@ use Rattle.a429_cert.specs.declared.due.DueGroup.{DueGroup}
 use Rattle.a429_cert.specs.Spelling.{group_text, output_text, bound_text}
 use Rattle.a429_cert.specs.Lines.{lines_of}
 use Rattle.a429_cert.specs.Faults.{group_faults, groups_faults, first_no}
-use Rattle.a429_cert.specs.Checked.{Stated, stated_text, IsChecked}
+use Rattle.a429_cert.specs.Checked.{Stated, stated_text}
+use Rattle.a429_cert.proofs.DuePlans.{IsCheckedAsDue}
 use Rattle.a429_cert.proofs.Groups.{pass_front}
 use Rattle.a429_cert.proofs.Again.{FitsStated, StatesBound, group_passes_again}
 use Rattle.a429_cert.proofs.LinesOfText.{group_lines}
@@ -15,7 +16,7 @@ use Rattle.a429_cert.proofs.LinesOfText.{group_lines}
 -- each group has its checked plan
 pub record Matches (version : ℕ) (g : DueGroup) (s : Stated) : Type 0 where
   pub fits : FitsStated version s
-  pub checked : IsChecked version g s
+  pub checked : IsCheckedAsDue version g s
   pub bound : StatesBound g s.heading.buses s.bound
 
 abbrev pub EachMatches : ℕ → List DueGroup → List Stated → Type 0

@@ -15,7 +15,8 @@ use Rattle.a429_cert.specs.Spelling.{Heading, Listing, Bounding, says_more, said
 use Rattle.a429_cert.specs.Reading.{group_line, output_line, bound_line}
 use Rattle.a429_cert.specs.Lines.{line_at, lines_of, lines_of_groups}
 use Rattle.a429_cert.specs.Faults.{first_reason, of_form, group_fault, output_fault, output_faults, bound_fault, bound_holds, group_faults, groups_faults, end_fault, faults, plan_fault, rate_fault, rate_faults, first_no, frame, demand, period_of, hold_of, says_other_rate, same_limit, says_other_hold, is_listed, shares, has_bad_place, buses_of}
-use Rattle.a429_cert.specs.Checked.{Stated, Fills, AreApart, IsPlaced, EachPair, PeriodsNest, StatesPlan, StatePlans}
+use Rattle.a429_cert.specs.Checked.{Stated, Fills, AreApart, EachPair}
+use Rattle.a429_cert.proofs.DuePlans.{IsPlacedAsDue, PeriodsNest, StatesAsDue, StateAsDue}
 use Rattle.a429_cert.proofs.LineLaws.{group_takes, output_takes}
 use Rattle.a429_cert.proofs.Walk.{listed_more}
 
@@ -111,7 +112,7 @@ heading_holds version g line e =
     )
 
 pub record ListingHolds (version : ℕ) (g : DueGroup) (buses : ℕ) (earlier : List Listing) (l : Listing) : Type 0 where
-  pub placed : IsPlaced version g buses l
+  pub placed : IsPlacedAsDue version g buses l
   pub new : is_listed earlier l.source ≡ false
   pub alone : list_any (shares l) earlier ≡ false
 
@@ -154,7 +155,7 @@ new_among (k ∷ ks) l e =
     (apart, new_among ks l p.1)
 
 pub record ListingsHold (version : ℕ) (g : DueGroup) (buses : ℕ) (ls : List Listing) : Type 0 where
-  pub placed : AllByRecursion (IsPlaced version g buses) ls
+  pub placed : AllByRecursion (IsPlacedAsDue version g buses) ls
   pub once : EachPair (λ k l. k.source ≢ l.source) ls
   pub apart : EachPair AreApart ls
 
@@ -176,7 +177,7 @@ tied k l bus slot m c d m-is e f pl pk at-k at-l h =
     ap (λ (n : ℕ). n % m) (sym at-l.at_offset) ∙ residue slot m l.period c e pl ∙ sym (residue slot m k.period d f pk) ∙ ap (λ (n : ℕ). n % m) at-k.at_offset in
     share_from l.bus k.bus (l.offset % min l.period k.period) (k.offset % min l.period k.period) same-bus (rw m-is at same-rest) h
 
-pub apart_one : (version : ℕ) (g : DueGroup) (buses : ℕ) (k l : Listing) → PeriodsNest g → IsPlaced version g buses k → IsPlaced version g buses l → shares l k ≡ false → AreApart k l
+pub apart_one : (version : ℕ) (g : DueGroup) (buses : ℕ) (k l : Listing) → PeriodsNest g → IsPlacedAsDue version g buses k → IsPlacedAsDue version g buses l → shares l k ≡ false → AreApart k l
 apart_one version g buses k l nest pk pl h bus slot at-k at-l =
     let k-pos : 0 < k.period = omega (arith, pk.offset) in
     let l-pos : 0 < l.period = omega (arith, pl.offset) in
@@ -193,7 +194,7 @@ apart_one version g buses k l nest pk pl h bus slot at-k at-l =
           tied k l bus slot l.period 1 n.0 m-is one n.1 l-pos k-pos at-k at-l h
     ]
 
-apart_among : (version : ℕ) (g : DueGroup) (buses : ℕ) (earlier : List Listing) (l : Listing) → PeriodsNest g → AllByRecursion (IsPlaced version g buses) earlier → IsPlaced version g buses l → list_any (shares l) earlier ≡ false → AllByRecursion (λ k. AreApart k l) earlier
+apart_among : (version : ℕ) (g : DueGroup) (buses : ℕ) (earlier : List Listing) (l : Listing) → PeriodsNest g → AllByRecursion (IsPlacedAsDue version g buses) earlier → IsPlacedAsDue version g buses l → list_any (shares l) earlier ≡ false → AllByRecursion (λ k. AreApart k l) earlier
 apart_among version g buses [] l nest placed pl e = tt
 apart_among version g buses (k ∷ ks) l nest placed pl e =
     let p = neither _ _ e in
@@ -201,7 +202,7 @@ apart_among version g buses (k ∷ ks) l nest placed pl e =
 
 listing_more : (version : ℕ) (g : DueGroup) (buses : ℕ) (ls : List Listing) (l : Listing) → PeriodsNest g → ListingsHold version g buses ls → ListingHolds version g buses ls l → ListingsHold version g buses (ls ++ l ∷ [])
 listing_more version g buses ls l nest h one = record {
-  placed = all_push (IsPlaced version g buses) ls l h.placed one.placed;
+  placed = all_push (IsPlacedAsDue version g buses) ls l h.placed one.placed;
   once = pair_push (λ k l. k.source ≢ l.source) ls l h.once (new_among ls l one.new);
   apart = pair_push AreApart ls l h.apart (apart_among version g buses ls l nest h.placed one.placed one.alone);
 }
@@ -220,7 +221,8 @@ listings_hold version g buses number j (suc n) lines nest h count e =
 
 -- ---- a group
 
-bound_parts : (d e f m b h k x : ℕ) → (eqb d e && eqb f m && eqb b h && ltb (f * b) d && leb d (k * b)) ≡ true → (m * h < e) × (e ≤ k * h)
+bound_parts : (d e f m b h k x : ℕ) → (eqb d e && eqb f m && eqb b h && ltb (f * b) d && leb d (k * b)) ≡ true
+    → (m * h < e) × (e ≤ k * h) × ((d ≡ e) × (f ≡ m) × (b ≡ h))
 bound_parts d e f m b h k x t =
     let t1 = and_parts _ _ t in
     let t2 = and_parts _ _ t1.0 in
@@ -231,25 +233,34 @@ bound_parts d e f m b h k x t =
     let bh = eqb-true b h t3.1 in
     let above = ltb-true (f * b) d t2.1 in
     let within = leb-true d (k * b) t1.1 in
-    (rw (← de, ← fm, ← bh) above, rw (← de, ← bh) within)
+    (rw (← de, ← fm, ← bh) above, rw (← de, ← bh) within, (de, fm, bh))
+
+bound_parted : (b : Bounding) (d f h : ℕ) → b.demand ≡ d → b.full_buses ≡ f → b.frame ≡ h → b ≡ record { demand = d; full_buses = f; frame = h }
+bound_parted b d f h de fm bh =
+    ap (λ (x : ℕ). said x b.full_buses b.frame) de ∙ ap (λ (x : ℕ). said d x b.frame) fm ∙ ap (λ (x : ℕ). said d f x) bh
+  where
+    said : ℕ → ℕ → ℕ → Bounding
+    said x y z = record { demand = x; full_buses = y; frame = z }
 
 one_fine : (a : Bool) (p : Reason) → first_reason ((a, p) ∷ []) ≡ None → a ≡ false
 one_fine false p e = refl
 one_fine true p e = absurd cc
 
 bound_says : (g : DueGroup) (buses : ℕ) (line : List ℕ) → bound_fault g buses line ≡ None → (b : Bounding) × (bound_line line ≡ Some b) × ((buses - 1) * frame g < demand g) × (demand g ≤ buses * frame g)
+    × (b ≡ record { demand = demand g; full_buses = buses - 1; frame = frame g })
 unfolding bound_fault
 bound_says g buses line e =
     let a = formed (bound_line line) _ e in
     let t = not_false _ (one_fine (not (bound_holds g buses a.0)) _ a.2) in
     let p = bound_parts a.0.demand (demand g) a.0.full_buses (buses - 1) a.0.frame (frame g) buses 0 t in
-    (a.0, a.1, p.0, p.1)
+    let (de, fm, bh) = p.2 in
+    (a.0, a.1, p.0, p.1, bound_parted a.0 (demand g) (buses - 1) (frame g) de fm bh)
 
 pub buses_said : (version : ℕ) (line : List ℕ) (h : Heading) → group_line version line ≡ Some h → buses_of version line ≡ h.buses
 unfolding buses_of
 buses_said version line h e = rw e refl
 
-pub group_states : (version : ℕ) (g : DueGroup) (number : ℕ) (lines : List (List ℕ)) → PeriodsNest g → first_no number (group_faults version g lines) ≡ None → StatesPlan version g lines
+pub group_states : (version : ℕ) (g : DueGroup) (number : ℕ) (lines : List (List ℕ)) → PeriodsNest g → first_no number (group_faults version g lines) ≡ None → StatesAsDue version g lines
 group_states version g number lines nest e =
     let a = none_head number _ _ e in
     let b = none_parts (number + 1) (output_faults version g (buses_of version (line_at lines 0)) (drop 1 lines) 0 (length g.outputs.items)) _ a.1 in
@@ -280,20 +291,24 @@ group_states version g number lines nest e =
         above = rw (h.2.greatest, ← buses-are) d.2;
         within = rw (h.2.greatest, ← buses-are) d.3;
       };
+      states = d.4 ∙ ap (λ (buses : ℕ). bounding (demand g) (buses - 1) (frame g)) buses-are;
     }
+  where
+    bounding : ℕ → ℕ → ℕ → Bounding
+    bounding x y z = record { demand = x; full_buses = y; frame = z }
 
 no_line_left : (number : ℕ) (lines : List (List ℕ)) → first_no number (end_fault lines ∷ []) ≡ None → lines ≡ []
 no_line_left number [] e = refl
 no_line_left number (l ∷ ls) e = absurd cc
 
-pub groups_state : (version : ℕ) (gs : List DueGroup) (number : ℕ) (lines : List (List ℕ)) → AllByRecursion PeriodsNest gs → first_no number (groups_faults version gs lines) ≡ None → StatePlans version gs lines
+pub groups_state : (version : ℕ) (gs : List DueGroup) (number : ℕ) (lines : List (List ℕ)) → AllByRecursion PeriodsNest gs → first_no number (groups_faults version gs lines) ≡ None → StateAsDue version gs lines
 groups_state version [] number lines nest e = no_line_left number lines e
 groups_state version (g ∷ gs) number lines nest e =
     let p = none_parts number (group_faults version g lines) _ e in
     (group_states version g number lines nest.0 p.0, groups_state version gs (number + length (group_faults version g lines)) (drop (length g.outputs.items + 2) lines) nest.1 p.1)
 
 behind_head : (version : ℕ) (rate : Option ℕ) (gs : List DueGroup) (lines : List (List ℕ)) → AllByRecursion PeriodsNest gs
-    → first_no 2 (rate_faults rate (line_at lines 1) ++ groups_faults version gs (lines_of_groups rate lines)) ≡ None → StatePlans version gs (lines_of_groups rate lines)
+    → first_no 2 (rate_faults rate (line_at lines 1) ++ groups_faults version gs (lines_of_groups rate lines)) ≡ None → StateAsDue version gs (lines_of_groups rate lines)
 behind_head version None gs lines nest e = groups_state version gs 2 (drop 1 lines) nest e
 behind_head version (Some rate) gs lines nest e =
     let a = none_head 2 (rate_fault rate (line_at lines 1)) (groups_faults version gs (drop 2 lines)) e in
@@ -301,7 +316,7 @@ behind_head version (Some rate) gs lines nest e =
 
 -- a text without a fault
 pub fewest_states : (t : DueTable) (text : List ℕ) → AllByRecursion PeriodsNest t.groups.items → first_no 1 (faults t (lines_of text)) ≡ None
-    → StatePlans t.version t.groups.items (lines_of_groups t.rate (lines_of text))
+    → StateAsDue t.version t.groups.items (lines_of_groups t.rate (lines_of text))
 fewest_states t text nest e =
     let a = none_head 1 (plan_fault t.version (line_at (lines_of text) 0)) _ e in
     behind_head t.version t.rate t.groups.items (lines_of text) nest a.1

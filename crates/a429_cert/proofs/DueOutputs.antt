@@ -50,7 +50,7 @@ zipped_at R (x ∷ xs) (y ∷ ys) (suc i) d e below all = zipped_at R xs ys i d 
 
 -- ---- the periods
 
-grid_same : (a b r p q : ℕ) → IsGridPeriod a b r p → IsGridPeriod a b r q → p ≡ q
+pub grid_same : (a b r p q : ℕ) → IsGridPeriod a b r p → IsGridPeriod a b r q → p ≡ q
 grid_same a b r p q h k = omega (arith, h.2 q k.0 k.1, k.2 p h.0 h.1)
 
 pub periods_same : (e : TableRecord) (rate : ℕ) (rows : List OutputRow) (ps : List Placed) (os : List DueOutput) → AllZip (IsServed rate) rows ps → AllZip (IsDueOutput e rate) rows os

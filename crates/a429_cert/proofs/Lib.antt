@@ -6,6 +6,7 @@ pub mod TextLines
 pub mod Listed
 pub mod Walk
 pub mod Groups
+pub mod DuePlans
 pub mod CheckedPlans
 pub mod Again
 pub mod LinesOfText
@@ -14,7 +15,9 @@ pub mod Arranged
 pub mod DueOutputs
 pub mod OwnGroups
 pub mod OwnText
+pub mod OneText
 pub mod PlanLines
 pub mod Gathered
 pub mod OnGrid
+pub mod RowPlans
 mod Shown

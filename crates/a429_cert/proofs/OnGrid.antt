@@ -10,22 +10,20 @@ use Rattle.std.proofs.lemmas.Slice.Zip.{AllZip-long, length-zip}
 use Rattle.std.proofs.lemmas.Option.{same_Some, none-some}
 use Rattle.std.proofs.lemmas.Nat.{pow_pos, pow_below, pow-add}
 use Rattle.std.proofs.Math.Nat.{div-le_self, pow-le-pow_right}
-use Rattle.a429_grid.specs.Grid.{IsPeriod}
+use Rattle.a429_grid.specs.Grid.{IsPeriod, IsGridPeriod}
 use Rattle.a429_pack.specs.Demands.{greatest}
-use Rattle.a429_pack.specs.Demanded.{demand_of, IsBusCount}
-use Rattle.a429_pack.specs.Schedules.{IsFewest}
+use Rattle.a429_pack.specs.Demanded.{demand_of, AreFewestBuses, IsBusCount}
 use Rattle.a429_equipment.specs.TableRecord.{TableRecord}
 use Rattle.a429_equipment.specs.Sound.{IsSound}
 use Rattle.a429_equipment.specs.declared.rows.GroupRow.{GroupRow}
 use Rattle.a429_equipment.specs.declared.rows.OutputRow.{OutputRow}
-use Rattle.a429_slots.specs.Planned.{rated_outputs}
+use Rattle.a429_slots.specs.Planned.{HasPeriod, AreFewestBusesFor, rated_outputs}
 use Rattle.a429_cert.specs.declared.due.DueOutput.{DueOutput}
 use Rattle.a429_cert.specs.declared.due.DueGroup.{DueGroup}
 use Rattle.a429_cert.specs.declared.due.DueTable.{DueTable}
 use Rattle.a429_cert.specs.Due.{IsDueOutput, IsDueGroup, IsDue}
 use Rattle.a429_cert.specs.Faults.{IsModest, frame, demand, due}
-use Rattle.a429_cert.specs.Checked.{PeriodsNest, StatesPlan, StatePlans}
-use Rattle.a429_cert.specs.Judged.{periods_of, StatesFewest, StateFewest}
+use Rattle.a429_cert.proofs.DuePlans.{PeriodsNest}
 
 abbrev pub HavePeriods : List DueOutput → Type 0
 HavePeriods = AllByRecursion (λ o. IsPeriod o.period)
@@ -43,10 +41,10 @@ have_periods e rate [] (o ∷ os) h = absurd h
 have_periods e rate (r ∷ rs) [] h = absurd h
 have_periods e rate (r ∷ rs) (o ∷ os) h = (h.0.period.0, have_periods e rate rs os h.1)
 
-abbrev IsShortList : List OutputRow → Type 0
+abbrev pub IsShortList : List OutputRow → Type 0
 IsShortList os = (1 ≤ length os) × (length os ≤ 128)
 
-group_on_grid : (e : TableRecord) (rate : ℕ) (rows : List OutputRow) (g : DueGroup) → IsShortList rows → IsDueGroup e (rate, rows) g → IsOnGrid g
+pub group_on_grid : (e : TableRecord) (rate : ℕ) (rows : List OutputRow) (g : DueGroup) → IsShortList rows → IsDueGroup e (rate, rows) g → IsOnGrid g
 group_on_grid e rate rows g short d =
     let long : length g.outputs.items ≡ length rows = AllZip-long (IsDueOutput e rate) rows g.outputs.items d.outputs in
     record { periods = have_periods e rate rows g.outputs.items d.outputs; some = omega (arith, short.0, long); few = omega (arith, short.1, long) }
@@ -71,7 +69,7 @@ few_slots k few = let two : 0 < 2 = omega arith in pow-le-pow_right {n = 2} two 
 period_few : (p : ℕ) → IsPeriod p → p ≤ 8192
 period_few p h = subst (λ (q : ℕ). q ≤ 8192) (sym h.2) (few_slots h.0 h.1)
 
-period_some : (p : ℕ) → IsPeriod p → 0 < p
+pub period_some : (p : ℕ) → IsPeriod p → 0 < p
 period_some p h = subst (λ (q : ℕ). 0 < q) (sym h.2) (pow_pos h.0)
 
 all_some : (os : List DueOutput) → HavePeriods os → AllByRecursion (λ o. 0 < o.period) os
@@ -158,10 +156,6 @@ abbrev exponents_of : (os : List DueOutput) → HavePeriods os → List ℕ
 exponents_of [] h = []
 exponents_of (o ∷ os) h = h.0.0 ∷ exponents_of os h.1
 
-powers : (os : List DueOutput) (h : HavePeriods os) → map (λ k. 2 ^ k) (exponents_of os h) ≡ map (λ o. o.period) os
-powers [] h = refl
-powers (o ∷ os) h = ap (λ (n : ℕ). n ∷ map (λ k. 2 ^ k) (exponents_of os h.1)) (sym h.0.2) ∙ ap (λ (ns : List ℕ). o.period ∷ ns) (powers os h.1)
-
 length-exponents : (os : List DueOutput) (h : HavePeriods os) → length (exponents_of os h) ≡ length os
 length-exponents [] h = refl
 length-exponents (o ∷ os) h = ap suc (length-exponents os h.1)
@@ -194,32 +188,28 @@ cells_same f (o ∷ os) h = ap (λ (n : ℕ). f / n ∷ map (λ o. f / o.period)
 
 -- that so many buses carry the demand and one fewer do not makes them the fewest
 abbrev pub FewestByDemand : Type 0
-FewestByDemand = (exponents : List ℕ) (buses : ℕ) → 1 ≤ length exponents → IsBusCount exponents buses → IsFewest (2 ^ greatest exponents) (map (λ k. 2 ^ k) exponents) buses
+FewestByDemand = (exponents : List ℕ) (buses : ℕ) → 1 ≤ length exponents → IsBusCount exponents buses → AreFewestBuses exponents buses
 
-pub fewest : (g : DueGroup) (buses : ℕ) → FewestByDemand → IsOnGrid g → (buses - 1) * frame g < demand g → demand g ≤ buses * frame g → IsFewest (frame g) (periods_of g) buses
-fewest g buses by_demand on above within =
+-- each is that of a row
+rows_fit : (e : TableRecord) (rate : ℕ) (rows : List OutputRow) (os : List DueOutput) (h : HavePeriods os) → AllZip (IsDueOutput e rate) rows os → AllZip (HasPeriod rate) rows (exponents_of os h)
+rows_fit e rate [] [] h due = tt
+rows_fit e rate [] (o ∷ os) h due = absurd due
+rows_fit e rate (r ∷ rows) [] h due = absurd due
+rows_fit e rate (r ∷ rows) (o ∷ os) h due = (subst (IsGridPeriod r.min_us r.max_us rate) h.0.2 due.0.period, rows_fit e rate rows os h.1 due.1)
+
+pub fewest : (e : TableRecord) (rate : ℕ) (rows : List OutputRow) (g : DueGroup) (buses : ℕ) → FewestByDemand → IsOnGrid g → AllZip (IsDueOutput e rate) rows g.outputs.items
+    → (buses - 1) * frame g < demand g → demand g ≤ buses * frame g → AreFewestBusesFor rate rows buses
+fewest e rate rows g buses by_demand on due above within =
     let os : List DueOutput = g.outputs.items in
     let ks : List ℕ = exponents_of os on.periods in
     let top : frame g ≡ 2 ^ greatest ks = frame_power os on.periods on.some in
     let cells : demand g ≡ demand_of ks
     = sym (sum-map (λ o. frame g / o.period) os) ∙ ap sum (cells_same (frame g) os on.periods) ∙ ap (λ (f : ℕ). sum (map (λ k. f / 2 ^ k) ks)) top in
-    let carried : IsFewest (2 ^ greatest ks) (map (λ k. 2 ^ k) ks) buses
-    = by_demand ks buses (subst (λ (n : ℕ). 1 ≤ n) (sym (length-exponents os on.periods)) on.some) (record {
-      within = subst (λ (f : ℕ). demand_of ks ≤ buses * f) top (subst (λ (d : ℕ). d ≤ buses * frame g) cells within);
-      above = subst (λ (f : ℕ). (buses - 1) * f < demand_of ks) top (subst (λ (d : ℕ). (buses - 1) * frame g < d) cells above);
-    }) in
-    subst (λ (f : ℕ). IsFewest f (periods_of g) buses) (sym top) (subst (λ (ps : List ℕ). IsFewest (2 ^ greatest ks) ps buses) (powers os on.periods) carried)
-
-states_fewest : (version : ℕ) (g : DueGroup) (lines : List (List ℕ)) → FewestByDemand → IsOnGrid g → StatesPlan version g lines → StatesFewest version g lines
-states_fewest version g lines by_demand on plan =
-    let c = plan.checked in
     record {
-      plan = plan;
-      fewest = fewest g plan.stated.heading.buses by_demand on
-          (subst (λ (f : ℕ). (plan.stated.heading.buses - 1) * f < demand g) c.greatest c.above)
-          (subst (λ (f : ℕ). demand g ≤ plan.stated.heading.buses * f) c.greatest c.within);
+      exponents = ks;
+      fit = rows_fit e rate rows os on.periods due;
+      fewest = by_demand ks buses (subst (λ (n : ℕ). 1 ≤ n) (sym (length-exponents os on.periods)) on.some) (record {
+        within = subst (λ (f : ℕ). demand_of ks ≤ buses * f) top (subst (λ (d : ℕ). d ≤ buses * frame g) cells within);
+        above = subst (λ (f : ℕ). (buses - 1) * f < demand_of ks) top (subst (λ (d : ℕ). (buses - 1) * frame g < d) cells above);
+      });
     }
-
-pub state_fewest : (version : ℕ) (gs : List DueGroup) (lines : List (List ℕ)) → FewestByDemand → AllByRecursion IsOnGrid gs → StatePlans version gs lines → StateFewest version gs lines
-state_fewest version [] lines by_demand on plans = plans
-state_fewest version (g ∷ gs) lines by_demand on plans = (states_fewest version g lines by_demand on.0 plans.0, state_fewest version gs _ by_demand on.1 plans.1)

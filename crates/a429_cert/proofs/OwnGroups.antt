@@ -1,18 +1,18 @@
 -- What the text of a plan states for a group is a checked plan.
-use Rattle.std.proofs.Common.{◌≡◌, ◌≢◌, ℕ, zero, suc, ◌-◌, ◌*◌, ◌/◌, ◌^◌, ◌<◌, ◌≤◌, true, false, leb, List, [], ◌∷◌, length, get_or, map, Option, Some, None, inl, inr, refl, sym, ap, subst, ◌∙◌, arith}
+use Rattle.std.proofs.Common.{◌≡◌, ◌≢◌, ℕ, zero, suc, ◌-◌, ◌*◌, ◌/◌, ◌^◌, ◌<◌, ◌≤◌, true, false, leb, List, [], ◌∷◌, length, get_or, map, Option, Some, None, inl, inr, refl, sym, ap, ap₂, subst, ◌∙◌, arith}
 use Rattle.std.specs.Prelude.{slice_get, sum, IfSome}
 use Rattle.std.specs.Option.{option_map_or}
 use Rattle.std.specs.List.{AllZip, AllByRecursion, sum_by, range_with_len, list_all}
 use Rattle.std.specs.List.Sorted.{IsPermutation}
 use Rattle.std.proofs.Math.Nat.{pow-le-pow_right, mul-le-mul}
-use Rattle.std.proofs.lemmas.Bool.{and_parts, leb-true}
+use Rattle.std.proofs.lemmas.Bool.{and_parts, cases_lt, leb-true}
 use Rattle.std.proofs.lemmas.Bool.Decides.{nat_tests}
 use Rattle.std.proofs.lemmas.List.{length-map, get_or-map, get_or-take}
 use Rattle.std.proofs.lemmas.List.FromFn.{get_or-map-range_with_len, length-range_with_len}
 use Rattle.std.proofs.lemmas.List.Sorted.{length_permutation, sum_by-IsPermutation}
 use Rattle.std.proofs.lemmas.List.Elements.{All-from_recursion}
 use Rattle.std.proofs.lemmas.List.Sums.{sum-map, sum_by_more_le}
-use Rattle.std.proofs.lemmas.Nat.{div_below, le-div, pow_pos}
+use Rattle.std.proofs.lemmas.Nat.{div_below, le-div, pow_below, pow_pos}
 use Rattle.std.proofs.lemmas.Simd.{map-map}
 use Rattle.a429_equipment.specs.TableRecord.{TableRecord}
 use Rattle.a429_equipment.specs.declared.rows.GroupRow.{GroupRow}
@@ -20,28 +20,28 @@ use Rattle.a429_equipment.specs.declared.rows.OutputRow.{OutputRow}
 use Rattle.a429_equipment.specs.declared.rows.SourceRow.{SourceRow}
 use Rattle.a429_equipment.specs.Sound.{HaveOwn, HaveOwnSources, IsRate, IsHold, IsSourceRow, IsGroupRow}
 use Rattle.a429_equipment.specs.Texts.{is_name, is_name_byte}
-use Rattle.a429_pack.specs.Demanded.{demand_of, IsBusCount}
-use Rattle.a429_pack.specs.Demands.{greatest, exponent_of, periods_of}
-use Rattle.a429_pack.specs.Schedules.{IsFewest}
+use Rattle.a429_pack.specs.Demanded.{demand_of, AreFewestBuses, IsBusCount}
+use Rattle.a429_pack.specs.Demands.{greatest, exponent_of}
 use Rattle.a429_pack.specs.Sums.{start_of}
 use Rattle.a429_slots.specs.Tables.{Placed, GroupTable, placed_at, outputs_of, order_of, frame_of, buses_of, cell_at}
 use Rattle.a429_slots.specs.Kept.{StandsJustAt}
-use Rattle.a429_slots.specs.Planned.{IsPlannedFor, asked_by, asked_of}
+use Rattle.a429_slots.specs.Planned.{HasPeriod, IsServed, IsPlannedFor, asked_by, asked_of}
 use Rattle.a429_cert.specs.declared.due.DueGroup.{DueGroup}
 use Rattle.a429_cert.specs.Due.{IsDueOutput}
 use Rattle.a429_cert.specs.Spelling.{IsWord, IsShort, IsShortLimit, is_break, said_in, FitsListing}
-use Rattle.a429_cert.specs.Checked.{AreApart, IsPlaced, EachPair}
+use Rattle.a429_cert.specs.Checked.{AreApart, EachPair}
+use Rattle.a429_cert.proofs.DuePlans.{IsPlacedAsDue}
 use Rattle.a429_cert.specs.PlanText.{source_name, listing_of, stated_of}
 use Rattle.a429_cert.proofs.Again.{FitsStated, StatesBound}
 use Rattle.a429_cert.proofs.Answered.{Matches}
 use Rattle.a429_cert.proofs.Arranged.{order_below, order_once, each_pair, each_placed}
-use Rattle.a429_cert.proofs.DueOutputs.{AreSame, exponents_of, length-outputs, counts, periods_same, frame_is, demand_is, due_here, source_there, period_due, row_at, row_hold, hold_due, names_differ}
+use Rattle.a429_cert.proofs.DueOutputs.{AreSame, exponents_of, grid_same, length-outputs, counts, periods_same, frame_is, demand_is, due_here, source_there, period_due, row_at, row_hold, hold_due, names_differ}
 use Rattle.a429_cert.proofs.Gathered.{blank}
 use Rattle.a429_cert.proofs.Parts.{part_said}
 
 -- the fewest buses of a schedule carry the demand, and one fewer do not
 abbrev pub FewestCarry : Type 0
-FewestCarry = (exponents : List ℕ) (buses : ℕ) → 1 ≤ length exponents → IsFewest (2 ^ greatest exponents) (map (λ k. 2 ^ k) exponents) buses → IsBusCount exponents buses
+FewestCarry = (exponents : List ℕ) (buses : ℕ) → 1 ≤ length exponents → AreFewestBuses exponents buses → IsBusCount exponents buses
 
 -- a group of the table with its plan and what is due for it
 pub record IsOwnGroup (e : TableRecord) (row : GroupRow) (rows : List OutputRow) (t : GroupTable) (g : DueGroup) : Type 0 where
@@ -94,14 +94,30 @@ length-exponents t = length-map (outputs_of t) (λ p. p.place.period) ∙ length
 frame_greatest : (e : TableRecord) (rate : ℕ) (rows : List OutputRow) (t : GroupTable) → IsPlannedFor rate e.sources rows t → frame_of t ≡ 2 ^ greatest (exponents_of t)
 frame_greatest e rate rows t p = ap (λ (k : ℕ). 2 ^ k) (p.layout.frame ∙ ap greatest (asked_exponents e.sources t))
 
-asked_periods : (sources : List SourceRow) (t : GroupTable) → periods_of (asked_of sources t) ≡ map (λ k. 2 ^ k) (exponents_of t)
-asked_periods sources t = sym (map-map (λ (k : ℕ). 2 ^ k) exponent_of (asked_of sources t)) ∙ ap (map (λ k. 2 ^ k)) (asked_exponents sources t)
+same_power : (i j : ℕ) → 2 ^ i ≡ 2 ^ j → i ≡ j
+same_power i j same = elim (cases_lt i j) [
+  | inl less ↦ absurd (omega (arith, pow_below i j less, same))
+  | inr most ↦ elim (cases_lt j i) [
+    | inl more ↦ absurd (omega (arith, pow_below j i more, same))
+    | inr equal ↦ omega (arith, most, equal)
+  ]
+]
+
+-- rows have one grid period each
+same_exponents : (rate : ℕ) (rows : List OutputRow) (ks : List ℕ) (os : List Placed) → AllZip (HasPeriod rate) rows ks → AllZip (IsServed rate) rows os → ks ≡ map (λ o. o.place.period) os
+same_exponents rate [] [] [] fit served = refl
+same_exponents rate [] [] (o ∷ os) fit served = absurd served
+same_exponents rate [] (k ∷ ks) os fit served = absurd fit
+same_exponents rate (r ∷ rows) [] os fit served = absurd fit
+same_exponents rate (r ∷ rows) (k ∷ ks) [] fit served = absurd served
+same_exponents rate (r ∷ rows) (k ∷ ks) (o ∷ os) fit served =
+    let one : k ≡ o.place.period = same_power k o.place.period (grid_same r.min_us r.max_us rate (2 ^ k) (2 ^ o.place.period) fit.0 served.0.1) in
+    ap₂ (λ x xs. x ∷ xs) one (same_exponents rate rows ks os fit.1 served.1)
 
 carried : (e : TableRecord) (rate : ℕ) (rows : List OutputRow) (t : GroupTable) → FewestCarry → IsPlannedFor rate e.sources rows t → 1 ≤ length t.demands → IsBusCount (exponents_of t) (buses_of t)
 carried e rate rows t law p some =
     law (exponents_of t) (buses_of t) (omega (arith, length-exponents t))
-    (subst (λ (h : ℕ). IsFewest h (map (λ k. 2 ^ k) (exponents_of t)) (buses_of t)) (frame_greatest e rate rows t p)
-    (subst (λ (ps : List ℕ). IsFewest (frame_of t) ps (buses_of t)) (asked_periods e.sources t) p.layout.fewest))
+    (subst (λ (ks : List ℕ). AreFewestBuses ks (buses_of t)) (same_exponents rate rows p.fewest.exponents (outputs_of t) p.fewest.fit p.served) p.fewest.fewest)
 
 exponent_at : (t : GroupTable) (o : ℕ) → o < length t.demands → get_or (exponents_of t) o 0 ≡ (placed_at t o).place.period
 exponent_at t o below =
@@ -125,7 +141,7 @@ period_within e rate rows t p o below =
 
 -- ---- the order and the demands
 
-order_moved : (e : TableRecord) (rate : ℕ) (rows : List OutputRow) (t : GroupTable) → IsPlannedFor rate e.sources rows t → IsPermutation (range_with_len 0 (length t.demands)) (order_of t)
+pub order_moved : (e : TableRecord) (rate : ℕ) (rows : List OutputRow) (t : GroupTable) → IsPlannedFor rate e.sources rows t → IsPermutation (range_with_len 0 (length t.demands)) (order_of t)
 order_moved e rate rows t p =
     let many : length (asked_of e.sources t) ≡ length t.demands = length-map (outputs_of t) (asked_by e.sources) ∙ length-outputs t in
     subst (λ (n : ℕ). IsPermutation (range_with_len 0 n) (order_of t)) many p.layout.order.all
@@ -205,11 +221,11 @@ own_bus e row rows t g law o k below =
     let many = (counts e row.rate rows t g (same_outputs e row rows t g o)).0 in
     bus_within e row.rate rows t law o.planned (omega (arith, many, o.some)) k (omega (arith, length-order e row.rate rows t o.planned)) (ordered_below e row.rate rows t o.planned k below)
 
-own_placed : (e : TableRecord) (row : GroupRow) (rows : List OutputRow) (t : GroupTable) (g : DueGroup) → FewestCarry → IsOwnGroup e row rows t g → AllByRecursion (IsPlaced e.version g (buses_of t)) (stated_of e.version e.sources row t).outputs
+own_placed : (e : TableRecord) (row : GroupRow) (rows : List OutputRow) (t : GroupTable) (g : DueGroup) → FewestCarry → IsOwnGroup e row rows t g → AllByRecursion (IsPlacedAsDue e.version g (buses_of t)) (stated_of e.version e.sources row t).outputs
 own_placed e row rows t g law o =
     let s = same_outputs e row rows t g o in
     let many = (counts e row.rate rows t g s).0 in
-    each_placed (IsPlaced e.version g (buses_of t)) (listing_of e.version e.sources t) (order_of t) (λ k below.
+    each_placed (IsPlacedAsDue e.version g (buses_of t)) (listing_of e.version e.sources t) (order_of t) (λ k below.
     let n : ℕ = get_or (order_of t) k 0 in
     let known : n < length t.demands = ordered_below e row.rate rows t o.planned k below in
     record {

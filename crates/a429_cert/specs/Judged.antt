@@ -1,45 +1,38 @@
 -- What a verdict says, and when there is none.
-use Rattle.std.specs.Prelude.{◌≡◌, ◌+◌, ℕ, List, [], ◌∷◌, map, drop, length, slice_get, ⊤, Some, Ok, Err}
-use Rattle.a429_pack.specs.Schedules.{IsFewest}
+use Rattle.std.specs.Prelude.{◌≡◌, ◌+◌, ℕ, List, [], ◌∷◌, drop, length, slice_get, ⊤, Some, Ok, Err}
+use Rattle.std.specs.List.{zip}
 use Rattle.a429_equipment.specs.TableRecord.{TableRecord}
 use Rattle.a429_equipment.specs.Reading.{reading}
 use Rattle.a429_equipment.specs.declared.fault.TableFault.{TableFault}
 use Rattle.a429_equipment.specs.declared.fault.TableFault.TheVariants as table
+use Rattle.a429_equipment.specs.declared.rows.GroupRow.{GroupRow}
 use Rattle.a429_equipment.specs.declared.rows.OutputRow.{OutputRow}
-use Rattle.a429_slots.specs.Planned.{IsFirstUnfit}
-use Rattle.a429_cert.specs.declared.due.DueGroup.{DueGroup}
-use Rattle.a429_cert.specs.declared.due.DueTable.{DueTable}
+use Rattle.a429_slots.specs.Planned.{AreFewestBusesFor, IsFirstUnfit}
 use Rattle.a429_cert.specs.declared.judging.NoVerdict.{NoVerdict}
 use Rattle.a429_cert.specs.declared.judging.NoVerdict.TheVariants as judge
 use Rattle.a429_cert.specs.declared.checking.CheckFault.{CheckFault}
 use Rattle.a429_cert.specs.declared.checking.CheckFault.TheVariants as check
-use Rattle.a429_cert.specs.Due.{IsDue, IsFirstUnfitOf}
+use Rattle.a429_cert.specs.Due.{IsFirstUnfitOf}
 use Rattle.a429_cert.specs.Lines.{lines_of, lines_of_groups}
-use Rattle.a429_cert.specs.Faults.{frame}
 use Rattle.a429_cert.specs.Checked.{StatesPlan}
 
--- the periods of a group's outputs
-abbrev pub periods_of : DueGroup → List ℕ
-periods_of g = map (λ o. o.period) g.outputs.items
-
 -- the lines of a group state a checked plan, and no schedule that serves the group has fewer buses than they state
-pub record StatesFewest (version : ℕ) (g : DueGroup) (lines : List (List ℕ)) : Type 0 where
-  pub plan : StatesPlan version g lines
-  pub fewest : IsFewest (frame g) (periods_of g) plan.stated.heading.buses
+pub record StatesFewest (e : TableRecord) (group : GroupRow) (rows : List OutputRow) (lines : List (List ℕ)) : Type 0 where
+  pub plan : StatesPlan e group rows lines
+  pub fewest : AreFewestBusesFor group.rate rows plan.stated.heading.buses
 
--- the same group by group, and nothing stands behind the last
-abbrev pub StateFewest : ℕ → List DueGroup → List (List ℕ) → Type 0
-StateFewest version [] lines = lines ≡ []
-StateFewest version (g ∷ gs) lines = StatesFewest version g lines × StateFewest version gs (drop (length g.outputs.items + 2) lines)
+-- the same group by group, each with its outputs, and nothing stands behind the last
+abbrev pub StateFewest : TableRecord → List (GroupRow × List OutputRow) → List (List ℕ) → Type 0
+StateFewest e [] lines = lines ≡ []
+StateFewest e (g ∷ gs) lines = StatesFewest e g.0 g.1 lines × StateFewest e gs (drop (length g.1 + 2) lines)
 
--- from the first group on a text states for each group a checked plan on the fewest buses, and nothing else
-abbrev pub ShowsFewest : DueTable → List ℕ → Type 0
-ShowsFewest t text = StateFewest t.version t.groups.items (lines_of_groups t.rate (lines_of text))
+-- from the first group on a text states for each group of the table a checked plan on the fewest buses, and nothing else
+abbrev pub ShowsFewest : TableRecord → List ℕ → Type 0
+ShowsFewest e text = StateFewest e (zip e.groups e.outputs) (lines_of_groups e.rate (lines_of text))
 
--- the bytes state a table, and the text shows the fewest buses of what the table asks
+-- the bytes state a table, and the text shows the fewest buses of each of its groups
 abbrev pub ShowsFewestOfBytes : List ℕ → List ℕ → Type 0
-ShowsFewestOfBytes table text =
-    (e : TableRecord) × (t : DueTable) × (reading table ≡ Ok e) × IsDue e t × ShowsFewest t text
+ShowsFewestOfBytes table text = (e : TableRecord) × (reading table ≡ Ok e) × ShowsFewest e text
 
 -- the fault stands in the table, unless memory ran out
 abbrev pub IsNoVerdict : TableRecord → NoVerdict → Type 0

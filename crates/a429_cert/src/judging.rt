@@ -56,7 +56,7 @@ pub fn judge(alloc: Global, equipment: &Equipment, text: &[u8]) -> Result<Verdic
     // The first line that fails, with its first reason.
     ensures answer { IfOk result (λ v. (t : Due) × IsDue equipment.now t × (v ≡ verdict t text.now)) }
     // Of each group the text states a plan, and no schedule that serves the group has fewer buses.
-    ensures fewest { IfOk result (λ v. v ≡ Verdict.Fewest → (t : Due) × IsDue equipment.now t × ShowsFewest t text.now) }
+    ensures fewest { IfOk result (λ v. v ≡ Verdict.Fewest → ShowsFewest equipment.now text.now) }
     ensures fault { IfErr result (IsNoVerdict equipment.now) }
 {
     fewest_by_demand();

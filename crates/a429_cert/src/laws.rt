@@ -14,6 +14,7 @@ ghost use Rattle.a429_cert.specs.PlanText.{plan_text_of};
 ghost use Rattle.a429_cert.specs.Verdicts.{verdict};
 
 use a429_pack::laws::fewest_by_demand;
+use a429_slots::laws::plans_are_unique;
 
 /// A first line that is read is spelled so, and one that is spelled so is read (profile: plan text).
 pub fn plan_lines()
@@ -45,6 +46,13 @@ pub fn bound_lines()
     ensures only { (b : Bounding) → FitsBounding b → bound_line (bound_text b) ≡ Some b }
 {}
 
+/// A table has one plan text: that of any plan of it.
+pub fn plan_texts_are_unique()
+    ensures { (e : TableRecord) (p q : PlanTable) → IsPlanOf e p → IsPlanOf e q → plan_text_of e p ≡ plan_text_of e q }
+{
+    plans_are_unique();
+}
+
 /// The text of a table's own plan is answered by `fewest`: the text that `plan_text` gives of a proposal, checked against
 /// the table of its equipment.
 pub fn own_text_is_fewest()
@@ -55,7 +63,7 @@ pub fn own_text_is_fewest()
 
 /// A text that is answered by `fewest` states a plan of every group, and no schedule that serves the group has fewer buses.
 pub fn fewest_is_shown()
-    ensures { (e : TableRecord) (t : DueTable) (text : List ℕ) → IsSound e → IsDue e t → verdict t text ≡ Fewest → ShowsFewest t text }
+    ensures { (e : TableRecord) (t : DueTable) (text : List ℕ) → IsSound e → IsDue e t → verdict t text ≡ Fewest → ShowsFewest e text }
 {
     fewest_by_demand();
 }

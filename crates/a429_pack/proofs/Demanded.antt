@@ -12,7 +12,7 @@ use Rattle.std.proofs.Math.Nat.{le-max_left, le-max_right, mul-le-mul_right}
 use Rattle.a429_grid.specs.Blocks.{HasPeriodicBlocks}
 use Rattle.a429_pack.specs.declared.demands.Demand.{Demand}
 use Rattle.a429_pack.specs.Demanded.{demand_of, IsBusCount}
-use Rattle.a429_pack.specs.Demands.{demand_at, exponent_of, frame_of, greatest, periods_of}
+use Rattle.a429_pack.specs.Demands.{demand_at, exponent_of, exponents_of, frame_of, greatest}
 use Rattle.a429_pack.specs.Schedules.{IsFewest}
 use Rattle.a429_pack.proofs.Arranging.{Arranged, arranged}
 use Rattle.a429_pack.proofs.Packings.{Packing, all_but_last, asked, ceil_fits, demand_over, fewest, packing_by}
@@ -24,11 +24,11 @@ output_of k = record { period = Some k; label = 0; sdi = None }
 abbrev outputs_of : List ℕ → List Demand
 outputs_of exponents = map output_of exponents
 
-frame_is : (exponents : List ℕ) → frame_of (outputs_of exponents) ≡ greatest exponents
-frame_is exponents = ap greatest (map-map exponent_of output_of exponents ∙ map-id exponents)
+exponents_are : (exponents : List ℕ) → exponents_of (outputs_of exponents) ≡ exponents
+exponents_are exponents = map-map exponent_of output_of exponents ∙ map-id exponents
 
-periods_are : (exponents : List ℕ) → periods_of (outputs_of exponents) ≡ map (λ k. 2 ^ k) exponents
-periods_are exponents = map-map (λ (d : Demand). 2 ^ exponent_of d) output_of exponents
+frame_is : (exponents : List ℕ) → frame_of (outputs_of exponents) ≡ greatest exponents
+frame_is exponents = ap greatest (exponents_are exponents)
 
 -- what the outputs ask for, one after another
 asked_from : (h s : ℕ) (before exponents : List ℕ) → ((k : ℕ) → exponent_of (demand_at (outputs_of before) (s + k)) ≡ get_or exponents k 0)
@@ -77,7 +77,7 @@ ceiling_is_fewest blocks exponents buses is =
     let packing : Packing h (length ds) ds order demands =
     packing_by h ds order demands (blocks h) (sym (frame_is exponents)) (order_of exponents).moved
     (λ i below. (order_of exponents).rising i (i + 1) 0 (omega arith) below) refl in
-    subst (λ (periods : List ℕ). IsFewest (2 ^ h) periods buses) (periods_are exponents)
+    subst (λ (ks : List ℕ). IsFewest (2 ^ h) (map (λ k. 2 ^ k) ks) buses) (exponents_are exponents)
     (fewest h (length ds) ds order demands buses packing (is ∙ ap (λ t. div_ceil t (2 ^ h)) (sym (total_is exponents))))
 
 -- so many buses are the quotient rounded up

@@ -26,3 +26,17 @@ few_probes p k digits most below =
           absurd (omega (arith, pow-suc 2 digits, grown))
       | inr few ↦ few
     ]
+
+-- and at least half: so many demands take so many probes
+pub spread_again : (wide half p k : ℕ) → wide ≤ 2 * half + 1 → k < (wide + 1) * 2 ^ p → k < (half + 1) * 2 ^ (p + 1)
+spread_again wide half p k most h =
+    let more : p + 1 ≡ suc p = omega arith in
+    let twice : 2 ^ (p + 1) ≡ 2 ^ p * 2 = ap (λ z. 2 ^ z) more ∙ pow-suc 2 p in
+    let product : (half + 1) * 2 ^ (p + 1) ≡ 2 * (half + 1) * 2 ^ p = ap (λ z. (half + 1) * z) twice ∙ omega arith in
+    omega (arith, h, product, mul-le-mul_right {m = wide + 1} {n = 2 * (half + 1)} (2 ^ p) (omega arith))
+
+pub some_probes : (wide p k : ℕ) → wide ≤ 1 → k < (wide + 1) * 2 ^ p → k < 2 ^ (p + 1)
+some_probes wide p k most h =
+    let more : p + 1 ≡ suc p = omega arith in
+    let twice : 2 ^ (p + 1) ≡ 2 ^ p * 2 = ap (λ z. 2 ^ z) more ∙ pow-suc 2 p in
+    omega (arith, h, twice, mul-le-mul_right {m = wide + 1} {n = 2} (2 ^ p) (omega arith))

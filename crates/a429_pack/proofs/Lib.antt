@@ -9,3 +9,4 @@ pub mod Orders
 pub mod Packings
 pub mod Stretches
 pub mod Tables
+pub mod OneOrder

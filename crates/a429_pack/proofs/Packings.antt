@@ -12,7 +12,7 @@ use Rattle.a429_grid.specs.Blocks.{HasPeriodicBlocks}
 use Rattle.a429_grid.specs.Reversal.{reversed}
 use Rattle.a429_pack.specs.declared.demands.Demand.{Demand}
 use Rattle.a429_pack.specs.declared.entry.Entry.{Entry}
-use Rattle.a429_pack.specs.Demands.{demand_at, exponent_of, frame_of, period_of, periods_of}
+use Rattle.a429_pack.specs.Demands.{demand_at, exponent_of, exponents_of, frame_of, period_of}
 use Rattle.a429_pack.specs.Entries.{AreInOrder, entry_of, inputs_of, demands_of}
 use Rattle.a429_pack.specs.Kept.{padded}
 use Rattle.a429_pack.specs.Layout.{IsLaidOut}
@@ -120,14 +120,14 @@ ceil_fits h total frame buses is-frame is =
 whole_sum : (demands : List ℕ) (n : ℕ) → length demands ≡ n → start_of demands n ≡ sum demands
 whole_sum demands n long = ap sum (take_all n demands (omega arith))
 
-pub fewest : (h n : ℕ) (ds : List Demand) (is demands : List ℕ) (buses : ℕ) → Packing h n ds is demands → buses ≡ div_ceil (sum demands) (2 ^ h)
-    → IsFewest (2 ^ h) (periods_of ds) buses
-fewest h n ds is demands buses p is-buses =
-    let many : n ≡ length (periods_of ds) = sym (length-map ds period_of ∙ p.many) in
+fewest_periods : (h n : ℕ) (ds : List Demand) (is demands : List ℕ) (buses : ℕ) → Packing h n ds is demands → buses ≡ div_ceil (sum demands) (2 ^ h)
+    → IsFewest (2 ^ h) (map period_of ds) buses
+fewest_periods h n ds is demands buses p is-buses =
+    let many : n ≡ length (map period_of ds) = sym (length-map ds period_of ∙ p.many) in
     let fits : (sum demands ≤ buses * 2 ^ h) × (buses * 2 ^ h < sum demands + 2 ^ h) = ceil_fits h (sum demands) (2 ^ h) buses refl is-buses in
     let k : ℕ → ℕ = λ i. h - exponent_of (demand_at ds (get_or is i 0)) in
-    let end : start_of demands (length (periods_of ds)) ≡ sum demands = ap (start_of demands) (sym many) ∙ whole_sum demands n p.long in
-    layout_is_fewest h buses (periods_of ds) (λ i. get_or is i 0) k (start_of demands)
+    let end : start_of demands (length (map period_of ds)) ≡ sum demands = ap (start_of demands) (sym many) ∙ whole_sum demands n p.long in
+    layout_is_fewest h buses (map period_of ds) (λ i. get_or is i 0) k (start_of demands)
     (record {
       stretches = subst (λ (m : ℕ). Stretches h m k (start_of demands)) many p.stretches;
       orders = subst (λ (m : ℕ). Orders m (λ i. get_or is i 0)) many p.orders;
@@ -137,6 +137,12 @@ fewest h n ds is demands buses p is-buses =
           get_or-map period_of ds (get_or is i 0) (record { period = None; label = 0; sdi = None }) 0 inside ∙ ap (λ z. 2 ^ z) (sym back);
     })
     (omega (arith, fits.0, end)) (omega (arith, fits.1, end))
+
+pub fewest : (h n : ℕ) (ds : List Demand) (is demands : List ℕ) (buses : ℕ) → Packing h n ds is demands → buses ≡ div_ceil (sum demands) (2 ^ h)
+    → IsFewest (2 ^ h) (map (λ k. 2 ^ k) (exponents_of ds)) buses
+fewest h n ds is demands buses p is-buses =
+    let powers : map period_of ds ≡ map (λ k. 2 ^ k) (exponents_of ds) = sym (map-map (λ (k : ℕ). 2 ^ k) exponent_of ds) in
+    subst (λ (ps : List ℕ). IsFewest (2 ^ h) ps buses) powers (fewest_periods h n ds is demands buses p is-buses)
 
 -- ---- a sound layout
 

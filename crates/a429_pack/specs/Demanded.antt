@@ -12,6 +12,7 @@ pub record IsBusCount (exponents : List ℕ) (buses : ℕ) : Type 0 where
   pub within : demand_of exponents ≤ buses * 2 ^ greatest exponents
   pub above : (buses - 1) * 2 ^ greatest exponents < demand_of exponents
 
--- so many buses are the fewest of any schedule that serves outputs of these periods' exponents
+-- So many buses are the fewest for outputs of these periods' exponents, of all schedules that are at least as long as the greatest of the
+-- periods: in one with so many rows each output recurs within its period, and in none with fewer rows.
 abbrev pub AreFewestBuses : List ℕ → ℕ → Type 0
 AreFewestBuses exponents buses = IsFewest (2 ^ greatest exponents) (map (λ k. 2 ^ k) exponents) buses

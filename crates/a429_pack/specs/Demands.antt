@@ -20,9 +20,9 @@ exponent_of d = unwrap_or d.period 0
 abbrev pub period_of : Demand → ℕ
 period_of d = 2 ^ exponent_of d
 
--- the periods of a group's outputs, in slots
-abbrev pub periods_of : List Demand → List ℕ
-periods_of demands = map period_of demands
+-- the exponents of the periods of a group's outputs
+abbrev pub exponents_of : List Demand → List ℕ
+exponents_of demands = map exponent_of demands
 
 -- each output has a grid period
 abbrev pub AreFit : List Demand → Type 0
@@ -41,7 +41,7 @@ greatest (x ∷ xs) = max x (greatest xs)
 
 -- the frame of a group is its greatest period: its exponent
 abbrev pub frame_of : List Demand → ℕ
-frame_of demands = greatest (map exponent_of demands)
+frame_of demands = greatest (exponents_of demands)
 
 -- by period, then label as a number, then SDI with any before 0, then place in the table
 abbrev pub layout_cmp : List Demand → ℕ → ℕ → Ordering

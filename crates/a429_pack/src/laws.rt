@@ -3,7 +3,8 @@ ghost use Rattle.std.specs.Prelude.{◌≡◌, ℕ, ◌<◌, ◌≤◌, List, le
 ghost use Rattle.std.specs.List.{range_with_len};
 ghost use Rattle.std.specs.List.Sorted.{IsPermutation};
 ghost use Rattle.a429_pack.specs.Demanded.{AreFewestBuses, IsBusCount};
-ghost use Rattle.a429_pack.specs.Demands.{greatest};
+ghost use Rattle.a429_pack.specs.declared.demands.Demand.{Demand};
+ghost use Rattle.a429_pack.specs.Demands.{IsLayoutOrder, greatest};
 ghost use Rattle.a429_pack.specs.Orders.{NamesEachOnce};
 ghost use Rattle.a429_pack.specs.Sums.{Holds};
 
@@ -11,12 +12,14 @@ use a429_grid::laws::blocks_are_periodic;
 
 /// The fewest buses that any schedule of a group needs are those that carry its demand in one frame, where one
 /// fewer do not. The group is given by its outputs' periods in slots, as exponents of two, and a frame is the
-/// greatest of them (profile: layout).
+/// greatest of them (profile: layout). No other number of buses is the fewest.
 pub fn fewest_by_demand()
     ensures carried { (exponents : List ℕ) (buses : ℕ) → 1 ≤ length exponents → IsBusCount exponents buses
         → AreFewestBuses exponents buses }
     ensures only { (exponents : List ℕ) (buses : ℕ) → 1 ≤ length exponents
         → AreFewestBuses exponents buses → IsBusCount exponents buses }
+    ensures one { (exponents : List ℕ) (buses others : ℕ) → AreFewestBuses exponents buses → AreFewestBuses exponents others
+        → buses ≡ others }
 {
     blocks_are_periodic();
 }
@@ -36,4 +39,10 @@ pub fn orders_name_each_once()
 pub fn stretches_are_apart()
     ensures apart { (demands : List ℕ) (x i j : ℕ) → Holds demands x i → Holds demands x j → i ≡ j }
     ensures within { (demands : List ℕ) (x i : ℕ) → Holds demands x i → x < sum demands }
+{}
+
+/// A group has one layout order: no two lists of its outputs are in it.
+pub fn layout_orders_are_unique()
+    ensures { (demands : List Demand) (inputs others : List ℕ) → IsLayoutOrder demands inputs → IsLayoutOrder demands others
+        → inputs ≡ others }
 {}

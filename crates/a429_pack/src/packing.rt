@@ -2,10 +2,10 @@
 ghost use Rattle.std.specs.Prelude.{◌≡◌, ℕ, ◌<◌, ◌≤◌, ◌/◌, ◌^◌, List, length, map, sum, IfOk, IfErr, MatchResult};
 ghost use Rattle.std.specs.List.{All};
 ghost use Rattle.std.specs.Int.{div_ceil};
-ghost use Rattle.a429_pack.specs.Demands.{AreFit, IsLayoutOrder, demand_at, frame_of, period_of, periods_of};
+ghost use Rattle.a429_pack.specs.Demands.{AreFit, IsLayoutOrder, demand_at, exponents_of, frame_of, period_of};
 ghost use Rattle.a429_pack.specs.Entries.{AreInOrder, demands_of, entries_from, inputs_of};
 ghost use Rattle.a429_pack.specs.Faults.{IsFaultOf};
-ghost use Rattle.a429_pack.specs.Schedules.{IsFewest};
+ghost use Rattle.a429_pack.specs.Demanded.{AreFewestBuses};
 ghost use Rattle.a429_pack.specs.Kept.{padded};
 
 use crate::demands::{BUSES, Demand, PackFault};
@@ -120,7 +120,7 @@ pub fn pack<const N: usize>(alloc: Global, demands: &[Demand]) -> Result<Packed<
     ensures frame { IfOk result (λ p. p.frame ≡ frame_of demands.now) }
     ensures order { IfOk result (λ p. IsLayoutOrder demands.now p.inputs) }
     ensures demands { IfOk result (λ p. p.demands ≡ map (λ i. 2 ^ p.frame / period_of (demand_at demands.now i)) p.inputs) }
-    ensures fewest { IfOk result (λ p. IsFewest (2 ^ p.frame) (periods_of demands.now) p.buses) }
+    ensures fewest { IfOk result (λ p. AreFewestBuses (exponents_of demands.now) p.buses) }
     ensures few { IfOk result (λ p. p.buses ≤ 16) }
     ensures fault { IfErr result (IsFaultOf demands.now) }
 {

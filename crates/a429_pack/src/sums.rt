@@ -95,12 +95,15 @@ impl<const N: usize> SumTable<N> {
     }
 
     /// The demand whose stretch has `x`, none where `x` is not below the total; and how many running sums were
-    /// read to find it, at most as many as the number of demands has binary digits.
+    /// read to find it. As the search halves the demands, it reads at most as many as their number has binary
+    /// digits, and at least one fewer; where `x` is not below the total it reads none.
     pub fn find_counted(&self, x: u32) -> (Option<usize>, u32)
         ensures found { IfSome result.0 (Holds self.now x) }
         ensures only { (i : ℕ) → Holds self.now x i → result.0 ≡ Some i }
         ensures none { (result.0 ≡ None) ↔ (sum self.now ≤ x) }
         ensures probes { (digits : ℕ) → length self.now < 2 ^ digits → result.1 ≤ digits }
+        ensures least { IfSome result.0 (λ _. length self.now < 2 ^ (result.1 + 1)) }
+        ensures outside { result.0 ≡ None → result.1 ≡ 0 }
     {
         if x >= self.total() {
             return (None, 0);

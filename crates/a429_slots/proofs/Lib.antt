@@ -15,3 +15,5 @@ pub mod Following
 pub mod SamePlan
 pub mod SpacedTables
 pub mod SpacedPlans
+pub mod OnePlan
+pub mod OneFault

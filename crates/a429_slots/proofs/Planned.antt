@@ -6,17 +6,16 @@ use Rattle.std.specs.Option.{option_map_or}
 use Rattle.std.proofs.Math.Nat.{pow-le-pow_right}
 use Rattle.std.proofs.lemmas.Bool.{false≢true}
 use Rattle.std.proofs.lemmas.List.{length-map, get_or-map, get_or-take}
-use Rattle.std.proofs.lemmas.Simd.{map-map}
 use Rattle.std.proofs.lemmas.Slice.Zip.{AllZip-long}
 use Rattle.a429_grid.specs.Grid.{HasNoGridPeriod, IsLeastSpacing, least_spacing}
 use Rattle.a429_pack.specs.declared.demands.Demand.{Demand}
 use Rattle.a429_pack.specs.declared.demands.PackFault.{PackFault}
 use Rattle.a429_pack.specs.declared.demands.PackFault.TheVariants as pack
-use Rattle.a429_pack.specs.Demands.{AreFit, IsLayoutOrder, demand_at, exponent_of, period_of, periods_of, greatest}
+use Rattle.a429_pack.specs.Demands.{AreFit, IsLayoutOrder, demand_at, exponent_of, exponents_of, period_of, greatest}
 use Rattle.a429_pack.specs.Demands as demands
 use Rattle.a429_pack.specs.Faults as faults
 use Rattle.a429_pack.specs.Layout.{Layout}
-use Rattle.a429_pack.specs.Schedules.{IsFewest}
+use Rattle.a429_pack.specs.Demanded.{AreFewestBuses}
 use Rattle.a429_pack.specs.Orders.{NamesEachOnce}
 use Rattle.a429_equipment.specs.declared.rows.OutputRow.{OutputRow}
 use Rattle.a429_equipment.specs.declared.rows.SourceRow.{SourceRow}
@@ -24,7 +23,7 @@ use Rattle.a429_slots.specs.declared.group_plan.SendLimits.{SendLimits}
 use Rattle.a429_slots.specs.Tables.{Placed, GroupTable, placed_at, outputs_of, order_of, frame_of, buses_of}
 use Rattle.a429_slots.specs.Kept.{IsTable}
 use Rattle.a429_slots.specs.Asked.{IsAsked, IsTableOf, limits_at}
-use Rattle.a429_slots.specs.Planned.{HasPeriod, IsServed, IsLayout, IsPlannedFor, NeedsBuses, CanBePlanned, asked_by, asked_of}
+use Rattle.a429_slots.specs.Planned.{HasPeriod, IsServed, IsLayout, IsPlannedFor, AreFewestBusesFor, asked_by, asked_of}
 use Rattle.a429_slots.specs.Faults.{IsGroupFault}
 use Rattle.a429_slots.proofs.Cells.{HasEach, AreApart, length-outputs, output_at, stands_just_at}
 use Rattle.a429_slots.proofs.Tabled.{limits_read}
@@ -36,14 +35,14 @@ zip_by R [] (y ∷ ys) d e same all = absurd (omega arith)
 zip_by R (x ∷ xs) [] d e same all = absurd (omega arith)
 zip_by R (x ∷ xs) (y ∷ ys) d e same all = (all 0 (omega arith), zip_by R xs ys d e (omega arith) (λ i below. all (suc i) (omega arith)))
 
-same_lists : {A : Type 0} (xs ys : List A) (d : A) → length xs ≡ length ys → ((i : ℕ) → i < length ys → get_or xs i d ≡ get_or ys i d) → xs ≡ ys
+pub same_lists : {A : Type 0} (xs ys : List A) (d : A) → length xs ≡ length ys → ((i : ℕ) → i < length ys → get_or xs i d ≡ get_or ys i d) → xs ≡ ys
 same_lists [] [] d same all = refl
 same_lists [] (y ∷ ys) d same all = absurd (omega arith)
 same_lists (x ∷ xs) [] d same all = absurd (omega arith)
 same_lists (x ∷ xs) (y ∷ ys) d same all =
     ap (λ z. z ∷ xs) (all 0 (omega arith)) ∙ ap (λ zs. y ∷ zs) (same_lists xs ys d (omega arith) (λ i below. all (suc i) (omega arith)))
 
-map_where : (f g : ℕ → ℕ) (xs : List ℕ) → ((k : ℕ) → k < length xs → f (get_or xs k 0) ≡ g (get_or xs k 0)) → map f xs ≡ map g xs
+pub map_where : (f g : ℕ → ℕ) (xs : List ℕ) → ((k : ℕ) → k < length xs → f (get_or xs k 0) ≡ g (get_or xs k 0)) → map f xs ≡ map g xs
 map_where f g [] same = refl
 map_where f g (x ∷ xs) same = ap (λ z. z ∷ map f xs) (same 0 (omega arith)) ∙ ap (λ zs. g x ∷ zs) (map_where f g xs (λ k below. same (suc k) (omega arith)))
 
@@ -54,7 +53,7 @@ pub record IsMade (n rate : ℕ) (sources : List SourceRow) (rows : List OutputR
   pub frame : l.frame ≡ demands.frame_of ds
   pub order : IsLayoutOrder ds l.inputs
   pub shares : l.demands ≡ map (λ i. 2 ^ l.frame / period_of (demand_at ds i)) l.inputs
-  pub fewest : IsFewest (2 ^ l.frame) (periods_of ds) l.buses
+  pub fewest : AreFewestBuses (exponents_of ds) l.buses
   pub few : l.buses ≤ 16
   pub table : IsTableOf rate l rows ds t
   pub least : (min_us rate : ℕ) → IsLeastSpacing min_us rate (least_spacing min_us rate)
@@ -146,37 +145,25 @@ layout n rate sources rows ds l t m =
       order = subst (λ (xs : List Demand). IsLayoutOrder xs (order_of t)) back (subst (IsLayoutOrder ds) (sym m.table.order) m.order);
       demands = shares n rate sources rows ds l t m;
       places = m.table.places;
-      fewest = subst (λ (xs : List Demand). IsFewest (frame_of t) (periods_of xs) (buses_of t)) back
-          (subst (λ (h : ℕ). IsFewest (2 ^ h) (periods_of ds) (buses_of t)) (sym m.table.frame) (subst (IsFewest (2 ^ l.frame) (periods_of ds)) (sym m.table.buses) m.fewest));
     }
+
+-- ---- how many buses
+
+fewest_for : (rate : ℕ) (sources : List SourceRow) (rows : List OutputRow) (ds : List Demand) (buses : ℕ) → AllZip (IsAsked rate sources) rows ds → AreFit ds
+    → AreFewestBuses (exponents_of ds) buses → AreFewestBusesFor rate rows buses
+fewest_for rate sources rows ds buses asked fit fewest = record { exponents = exponents_of ds; fit = have_periods rate sources rows ds asked fit; fewest = fewest }
 
 pub planned : (n rate : ℕ) (sources : List SourceRow) (rows : List OutputRow) (ds : List Demand) (l : Layout) (t : GroupTable) → IsMade n rate sources rows ds l t → IsPlannedFor rate sources rows t
 planned n rate sources rows ds l t m = record {
   served = served n rate sources rows ds l t m;
   layout = layout n rate sources rows ds l t m;
   periodic = λ o below. stands_just_at n t m.sound m.each m.apart o (omega (arith, length-outputs t));
+  fewest = fewest_for rate sources rows ds (buses_of t) m.asked m.fit (subst (AreFewestBuses (exponents_of ds)) (sym m.table.buses) m.fewest);
   few_buses = m.sound.few;
   few_slots = let one : 0 < 2 = omega arith in pow-le-pow_right {n = 2} one {i = t.frame} {j = 13} m.sound.frame;
 }
 
--- ---- how many buses
-
-periods_same : (ds : List Demand) → periods_of ds ≡ map (λ k. 2 ^ k) (map exponent_of ds)
-periods_same ds = sym (map-map (λ (k : ℕ). 2 ^ k) exponent_of ds)
-
-needs : (rate : ℕ) (sources : List SourceRow) (rows : List OutputRow) (ds : List Demand) (needed : ℕ) → AllZip (IsAsked rate sources) rows ds → AreFit ds
-    → IsFewest (2 ^ demands.frame_of ds) (periods_of ds) needed → NeedsBuses rate rows needed
-needs rate sources rows ds needed asked fit fewest = record {
-  exponents = map exponent_of ds;
-  fit = have_periods rate sources rows ds asked fit;
-  fewest = subst (λ (ps : List ℕ). IsFewest (2 ^ demands.frame_of ds) ps needed) (periods_same ds) fewest;
-}
-
-pub can_be : (n rate : ℕ) (sources : List SourceRow) (rows : List OutputRow) (ds : List Demand) (l : Layout) (t : GroupTable) → IsMade n rate sources rows ds l t → CanBePlanned rate rows
-can_be n rate sources rows ds l t m =
-    (l.buses, needs rate sources rows ds l.buses m.asked m.fit (subst (λ (h : ℕ). IsFewest (2 ^ h) (periods_of ds) l.buses) m.frame m.fewest), m.few)
-
 pub group_fault : (rate : ℕ) (sources : List SourceRow) (rows : List OutputRow) (ds : List Demand) (fault : PackFault) → AllZip (IsAsked rate sources) rows ds → faults.IsFaultOf ds fault → IsGroupFault rate rows fault
 group_fault rate sources rows ds (pack.Unfit o) asked first = first_unfit rate sources rows ds o asked first
-group_fault rate sources rows ds (pack.TooManyBuses needed) asked many = (needs rate sources rows ds needed asked many.0 many.2, many.1)
+group_fault rate sources rows ds (pack.TooManyBuses needed) asked many = (fewest_for rate sources rows ds needed asked many.0 many.2, many.1)
 group_fault rate sources rows ds pack.NoMemory asked none = tt

@@ -7,11 +7,13 @@ use Rattle.std.proofs.lemmas.Slice.Zip.{all_zipped_more, AllZip-long, length-zip
 use Rattle.std.proofs.lemmas.Option.{get_or_from_slice_get, slice_get_within, slice_get-map, same_Some, none-some}
 use Rattle.a429_equipment.specs.declared.rows.GroupRow.{GroupRow}
 use Rattle.a429_equipment.specs.declared.rows.OutputRow.{OutputRow}
+use Rattle.a429_equipment.specs.declared.rows.SourceRow.{SourceRow}
 use Rattle.a429_equipment.specs.Sound.{IsRate, IsGroupRow, IsSound}
 use Rattle.a429_equipment.specs.TableRecord.{TableRecord}
 use Rattle.a429_pack.specs.declared.demands.PackFault.{PackFault}
 use Rattle.a429_pack.specs.declared.demands.PackFault.TheVariants as group
-use Rattle.a429_slots.specs.Planned.{CanBePlannedAt, rated_outputs}
+use Rattle.a429_slots.specs.Planned.{IsPlannedFor, CanBePlanned, CanBePlannedAt, rated_outputs}
+use Rattle.a429_slots.specs.Tables.{GroupTable, buses_of}
 use Rattle.a429_slots.specs.Faults.{IsFaultOf, IsGroupFault, of_group}
 
 rate_within : (rate : ℕ) → IsRate rate → (1 ≤ rate) × (rate ≤ 100000)
@@ -43,6 +45,10 @@ zip_next {A} {B} R xs ys i x y h old new =
 
 pub length-zipped : {A B : Type 0} (R : A → B → Type 0) (xs : List A) (ys : List B) (i : ℕ) → i ≤ length xs → AllZip R (take i xs) ys → length ys ≡ i
 length-zipped R xs ys i h z = AllZip-long R (take i xs) ys z ∙ omega (arith, length-take i xs)
+
+-- a group that has a plan can be planned
+pub could_be : (rate : ℕ) (sources : List SourceRow) (rows : List OutputRow) (t : GroupTable) → IsPlannedFor rate sources rows t → CanBePlanned rate rows
+could_be rate sources rows t p = (buses_of t, p.fewest, p.few_buses)
 
 -- the fault of a group, as that of the station
 pub fault_in : (e : TableRecord) (g rate : ℕ) (rows : List OutputRow) (fault : PackFault) → slice_get (rated_outputs e) g ≡ Some (rate, rows) → AllByRecursion CanBePlannedAt (take g (rated_outputs e))

@@ -8,7 +8,7 @@ use Rattle.std.proofs.lemmas.Option.{slice_get-get_or, none-some}
 use Rattle.std.proofs.lemmas.Bool.{false≢true}
 use Rattle.a429_grid.specs.Grid.{HasNoGridPeriod}
 use Rattle.a429_pack.specs.declared.demands.Demand.{Demand}
-use Rattle.a429_pack.specs.Demands.{AreFit, demand_at, exponent_of, period_of, periods_of, greatest}
+use Rattle.a429_pack.specs.Demands.{AreFit, demand_at, exponent_of, period_of, greatest}
 use Rattle.a429_pack.specs.Demands as pack
 use Rattle.a429_equipment.specs.declared.rows.OutputRow.{OutputRow}
 use Rattle.a429_equipment.specs.declared.rows.SourceRow.{SourceRow}

@@ -5,14 +5,12 @@ use Rattle.std.specs.List.{zip}
 use Rattle.std.proofs.lemmas.List.{take-append-drop}
 use Rattle.std.proofs.lemmas.Option.{none-some, slice_get_cases}
 use Rattle.a429_pack.specs.Demands.{greatest}
-use Rattle.a429_equipment.specs.declared.rows.OutputRow.{OutputRow}
 use Rattle.a429_equipment.specs.Sound.{HaveOwnSources}
 use Rattle.a429_slots.specs.Tables.{GroupTable, groups_of}
 use Rattle.a429_slots.specs.Planned.{IsPlannedAt, rated_outputs}
 use Rattle.a429_slots.specs.Proposed.{Proposed}
 use Rattle.a429_slots.specs.Events.{Event, Publish}
 use Rattle.a429_slots.specs.History.{Opening, OpensWith}
-use Rattle.a429_slots.specs.TakenFrames.{HasOpening, HasPublished}
 use Rattle.a429_slots.specs.Spacing.{IsSpacedTable, IsOwnPlan, HaveOwnPlans, HasSpacedTable}
 use Rattle.a429_slots.proofs.Planning.{all_at}
 use Rattle.a429_slots.proofs.Published.{came_from}

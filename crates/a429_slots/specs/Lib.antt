@@ -1,6 +1,7 @@
 pub mod Tables
 pub mod Kept
 pub mod Planned
+pub mod OnePlan
 pub mod Changes
 pub mod Asked
 pub mod Faults

@@ -5,8 +5,7 @@ use Rattle.std.specs.Option.{option_map_or}
 use Rattle.a429_grid.specs.Grid.{IsGridPeriod, HasNoGridPeriod, IsLeastSpacing}
 use Rattle.a429_pack.specs.declared.demands.Demand.{Demand}
 use Rattle.a429_pack.specs.Demanded.{AreFewestBuses}
-use Rattle.a429_pack.specs.Demands.{IsLayoutOrder, greatest, exponent_of, periods_of}
-use Rattle.a429_pack.specs.Schedules.{IsFewest}
+use Rattle.a429_pack.specs.Demands.{IsLayoutOrder, greatest, exponents_of}
 use Rattle.a429_pack.specs.Sums.{start_of}
 use Rattle.a429_equipment.specs.TableRecord.{TableRecord}
 use Rattle.a429_equipment.specs.declared.rows.OutputRow.{OutputRow}
@@ -36,21 +35,27 @@ abbrev pub asked_of : List SourceRow → GroupTable → List Demand
 asked_of sources t = map (asked_by sources) (outputs_of t)
 
 -- The layout: the frame is the greatest period, and the outputs follow one another by period, then label as a number, then SDI with any
--- before 0, then place in the table. An output has as many places as slots of a frame, and begins where those before it end. The buses
--- are as few as those of any schedule that has each output within its period.
+-- before 0, then place in the table. An output has as many places as slots of a frame, and begins where those before it end.
 pub record IsLayout (sources : List SourceRow) (t : GroupTable) : Type 0 where
-  pub frame : t.frame ≡ greatest (map exponent_of (asked_of sources t))
+  pub frame : t.frame ≡ greatest (exponents_of (asked_of sources t))
   pub order : IsLayoutOrder (asked_of sources t) (order_of t)
   pub demands : t.demands ≡ map (λ o. frame_of t / 2 ^ slice_index t.periods o) (order_of t)
   pub places : (k : ℕ) → k < length t.demands → BeginsAt t (slice_index t.order k) (start_of t.demands k)
-  pub fewest : IsFewest (frame_of t) (periods_of (asked_of sources t)) (buses_of t)
 
--- the outputs of a group, each as its row of the equipment table asks, in cells of its own
+-- So many buses are the fewest for these rows: each has a grid period at this rate, in some schedule of so many buses each output recurs
+-- within its own, and in none of fewer. A schedule is of any form, and at least as long as the greatest of the periods.
+pub record AreFewestBusesFor (rate : ℕ) (rows : List OutputRow) (buses : ℕ) : Type 0 where
+  pub exponents : List ℕ
+  pub fit : AllZip (HasPeriod rate) rows exponents
+  pub fewest : AreFewestBuses exponents buses
+
+-- the outputs of a group, each as its row of the equipment table asks, in cells of its own on the fewest buses
 pub record IsPlannedFor (rate : ℕ) (sources : List SourceRow) (rows : List OutputRow) (t : GroupTable) : Type 0 where
   pub served : AllZip (IsServed rate) rows (outputs_of t)
   pub layout : IsLayout sources t
   pub periodic : (o : ℕ) → o < length (outputs_of t)
       → StandsJustAt t o (placed_at t o).place.bus (placed_at t o).place.offset (2 ^ (placed_at t o).place.period)
+  pub fewest : AreFewestBusesFor rate rows (buses_of t)
   pub few_buses : buses_of t ≤ 16
   pub few_slots : frame_of t ≤ 8192
 
@@ -89,23 +94,13 @@ pub record IsFirstUnfit (rate : ℕ) (rows : List OutputRow) (o : ℕ) : Type 0 
   pub unfit : HasNoGridPeriod row.min_us row.max_us rate
   pub earlier : AllByRecursion (IsFit rate) (take o rows)
 
--- each output has a grid period, and the fewest buses on which each recurs within its own are this many
-pub record NeedsBuses (rate : ℕ) (rows : List OutputRow) (needed : ℕ) : Type 0 where
-  pub exponents : List ℕ
-  pub fit : AllZip (HasPeriod rate) rows exponents
-  pub fewest : AreFewestBuses exponents needed
-
--- more than a group can have
+-- each output has a grid period, and the fewest buses are more than a group can have
 abbrev pub NeedsTooMany : ℕ → List OutputRow → ℕ → Type 0
-NeedsTooMany rate rows needed = NeedsBuses rate rows needed × (16 < needed)
+NeedsTooMany rate rows needed = AreFewestBusesFor rate rows needed × (16 < needed)
 
--- neither of the two
+-- each has one, and they are not
 abbrev pub CanBePlanned : ℕ → List OutputRow → Type 0
-CanBePlanned rate rows = (needed : ℕ) × NeedsBuses rate rows needed × (needed ≤ 16)
-
--- the group can be planned, and this is its slot table
-abbrev pub IsPlanOfGroup : ℕ → List SourceRow → List OutputRow → GroupTable → Type 0
-IsPlanOfGroup rate sources rows t = IsPlannedFor rate sources rows t × CanBePlanned rate rows
+CanBePlanned rate rows = (needed : ℕ) × AreFewestBusesFor rate rows needed × (needed ≤ 16)
 
 -- the same of outputs with the rate beside them
 abbrev pub CanBePlannedAt : ℕ × List OutputRow → Type 0

@@ -3,12 +3,28 @@ ghost use Rattle.std.specs.Prelude.{◌≡◌, [], ◌⊎◌, ℕ, List, false};
 ghost use Rattle.a429_slots.specs.Tables.{GroupTable};
 ghost use Rattle.a429_slots.specs.Holding.{HoldsAreKept};
 ghost use Rattle.a429_slots.specs.Spacing.{CellsOfOnePlanAreApart, EmptyCellsAreFirst, EmptyCellsFollowWords, OpeningPlanEmptiesNone, PlannedTablesAreSpaced, PlansInForceAreSpaced, WordsAreApart};
+ghost use Rattle.a429_slots.specs.OnePlan.{FaultsAreUnique, PlansAreUnique, PlansHaveNoFault};
 ghost use Rattle.a429_slots.specs.Events.{Event};
 ghost use Rattle.a429_slots.specs.History.{Opening, OpensWith};
 ghost use Rattle.a429_slots.specs.Recalling.{Recalls, RecentCountsSends, RecentDecides, RecentPassesOtherCells, never};
 ghost use Rattle.a429_slots.specs.TakenFrames.{AreTaken, FramesFollowTakenOnes, HasOpeningOrPublished, IsOpeningPlan, IsPublishedPlan, LeavesFrame, TakenFramesAreUnique, is_taken_after, is_taken_at};
 
-use a429_pack::laws::none_is_above_the_greatest;
+use a429_pack::laws::{
+    fewest_by_demand, layout_orders_are_unique, none_is_above_the_greatest, orders_name_each_once,
+};
+
+/// A table has one plan or one fault. Two plans of it have the same output in every cell of every group, on the same
+/// buses, with the same frames, places, limits and layout order; and want of memory apart, no two faults of it differ,
+/// and a table that has a plan has none.
+pub fn plans_are_unique()
+    ensures plan { PlansAreUnique }
+    ensures fault { FaultsAreUnique }
+    ensures either { PlansHaveNoFault }
+{
+    fewest_by_demand();
+    layout_orders_are_unique();
+    orders_name_each_once();
+}
 
 /// A Frame is taken just where all cells of the plan in force were asked for since the last taken one, or
 /// since the opening, and 64 bits can count the slots of the frame that follows. The plan in force is the

@@ -2,7 +2,7 @@
 ghost use Rattle.std.specs.Prelude.{◌≡◌, ◌≤◌, length, IfOk, IfErr, MatchResult};
 ghost use Rattle.std.specs.List.{AllByRecursion, AllZip};
 ghost use Rattle.a429_equipment.specs.Sound.{IsInterval};
-ghost use Rattle.a429_slots.specs.Planned.{IsPlanOf, IsPlanOfGroup, HaveRoom, HaveSources};
+ghost use Rattle.a429_slots.specs.Planned.{IsPlanOf, IsPlannedFor, HaveRoom, HaveSources};
 ghost use Rattle.a429_slots.specs.Asked.{IsAsked};
 ghost use Rattle.a429_slots.specs.Faults.{IsFaultOf, IsGroupFault, of_group};
 
@@ -77,7 +77,7 @@ fn group_plan<const N: usize>(
     requires known { HaveSources sources.now outputs.now }
     requires intervals { AllByRecursion IsInterval outputs.now }
     requires rate { (1 ≤ rate) × (rate ≤ 100000) }
-    ensures { MatchResult result (IsPlanOfGroup rate sources.now outputs.now) (IsGroupFault rate outputs.now) }
+    ensures { MatchResult result (IsPlannedFor rate sources.now outputs.now) (IsGroupFault rate outputs.now) }
 {
     orders_name_each_once();
     stretches_are_apart();

@@ -1,5 +1,5 @@
 //! A station's equipment with its own plan.
-ghost use Rattle.std.specs.Prelude.{◌≡◌, ◌≤◌, MatchResult};
+ghost use Rattle.std.specs.Prelude.{◌≡◌, ◌≤◌, IfOk, IfErr};
 
 use crate::planner::{PlanFault, plan};
 use crate::plans::Plan;
@@ -45,7 +45,8 @@ impl<const N: usize> Proposal<N> {
         requires room { HaveRoom N equipment.outputs }
         // A plan of so many outputs fits in memory.
         requires size { N ≤ 65536 }
-        ensures { MatchResult result (λ p. p.station ≡ equipment) (λ none. (none.equipment ≡ equipment) × IsFaultOf equipment none.fault) }
+        ensures planned { IfOk result (λ p. (p.station ≡ equipment) × IsPlanOf equipment p.plan) }
+        ensures fault { IfErr result (λ none. (none.equipment ≡ equipment) × IsFaultOf equipment none.fault) }
     {
         match plan(alloc, &equipment) {
             Ok(plan) => match Box::new(alloc, plan) {

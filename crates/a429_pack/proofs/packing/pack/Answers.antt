@@ -3,7 +3,7 @@ use Rattle.std.specs.Int.{div_ceil}
 use Rattle.std.specs.List.{All}
 use Rattle.a429_pack.specs.declared.demands.Demand.{Demand}
 use Rattle.a429_pack.specs.declared.entry.Entry.{Entry}
-use Rattle.a429_pack.specs.Demands.{demand_at, period_of, periods_of}
+use Rattle.a429_pack.specs.Demands.{demand_at, exponents_of, period_of}
 use Rattle.a429_pack.specs.Entries.{inputs_of, demands_of}
 use Rattle.a429_pack.specs.Kept.{padded}
 use Rattle.a429_pack.specs.Layout.{IsLaidOut}
@@ -27,7 +27,7 @@ returns-then-needed-gt-BUSES-clause-fault g c =
     let p = packing_of h ds es (c.blocks_are_periodic.ensures h) c.in_ok-entries.ensures c.greatest_period-frame.ensures.value in (
       c.in_ok-entries.ensures.fit,
       c.if-needed-gt-BUSES.true,
-      subst (λ (k : ℕ). IsFewest (2 ^ k) (periods_of ds) c.buses_needed-needed.result) c.greatest_period-frame.ensures.value
+      subst (λ (k : ℕ). IsFewest (2 ^ k) (map (λ j. 2 ^ j) (exponents_of ds)) c.buses_needed-needed.result) c.greatest_period-frame.ensures.value
           (fewest h (length ds) ds (inputs_of es) (demands_of h es) c.buses_needed-needed.result p needed),
     )
 
@@ -88,4 +88,5 @@ returns-clause-fewest g c =
     let h : ℕ = c.greatest_period-frame.result in
     let needed : c.buses_needed-needed.result ≡ div_ceil (sum (demands_of h es)) (2 ^ h) =
     c.buses_needed-needed.ensures ∙ ap (λ (xs : List Entry). div_ceil (sum (demands_of h xs)) (2 ^ h)) c.deref.ensures.value in
-    fewest h (length ds) ds (inputs_of es) (demands_of h es) c.buses_needed-needed.result (packing_of h ds es (c.blocks_are_periodic.ensures h) c.in_ok-entries.ensures c.greatest_period-frame.ensures.value) needed
+    subst (λ (k : ℕ). IsFewest (2 ^ k) (map (λ j. 2 ^ j) (exponents_of ds)) c.buses_needed-needed.result) c.greatest_period-frame.ensures.value
+    (fewest h (length ds) ds (inputs_of es) (demands_of h es) c.buses_needed-needed.result (packing_of h ds es (c.blocks_are_periodic.ensures h) c.in_ok-entries.ensures c.greatest_period-frame.ensures.value) needed)

@@ -4,14 +4,14 @@ use Rattle.std.specs.List.{AllZip}
 use Rattle.std.proofs.lemmas.Result.{err_from_is_err_and}
 use Rattle.std.proofs.lemmas.Slice.Zip.{AllZip-long}
 use Rattle.a429_pack.specs.declared.demands.Demand.{Demand}
-use Rattle.a429_pack.specs.Demands.{AreFit, IsLayoutOrder, demand_at, frame_of, period_of, periods_of}
+use Rattle.a429_pack.specs.Demands.{AreFit, IsLayoutOrder, demand_at, exponents_of, frame_of, period_of}
 use Rattle.a429_pack.specs.Layout.{Layout}
-use Rattle.a429_pack.specs.Schedules.{IsFewest}
+use Rattle.a429_pack.specs.Demanded.{AreFewestBuses}
 use Rattle.a429_slots.specs.Asked.{IsAsked}
 use Rattle.a429_slots.specs.Faults.{IsGroupFault}
-use Rattle.a429_slots.specs.Planned.{IsPlannedFor, CanBePlanned}
+use Rattle.a429_slots.specs.Planned.{IsPlannedFor}
 use Rattle.a429_slots.specs.Tables.{order_of}
-use Rattle.a429_slots.proofs.Planned.{IsMade, planned, can_be, group_fault}
+use Rattle.a429_slots.proofs.Planned.{IsMade, planned, group_fault}
 use Rattle.a429_slots.proofs.planner.group_plan.Goals as goal
 
 pub pack-requires : goal.pack-requires
@@ -24,7 +24,7 @@ returns-in_err-packed g c =
     let asked : AllZip (IsAsked c.args.rate c.args.sources.now) c.args.outputs.now c.deref.result.now =
     subst (λ (ds : List Demand). AllZip (IsAsked c.args.rate c.args.sources.now) c.args.outputs.now ds) (sym c.deref.ensures.value) c.in-Ok.ensures in
     let (fault, is, same) = err_from_is_err_and c.from_residual.result c.from_residual.ensures.1 in
-    subst (λ r. MatchResult r (λ table. IsPlannedFor c.args.rate c.args.sources.now c.args.outputs.now table × CanBePlanned c.args.rate c.args.outputs.now) (IsGroupFault c.args.rate c.args.outputs.now)) (sym is)
+    subst (λ r. MatchResult r (IsPlannedFor c.args.rate c.args.sources.now c.args.outputs.now) (IsGroupFault c.args.rate c.args.outputs.now)) (sym is)
     (subst (IsGroupFault c.args.rate c.args.outputs.now) (sym same) (group_fault c.args.rate c.args.sources.now c.args.outputs.now c.deref.result.now c.in_err-packed.field-0.0 asked c.in_err-packed.ensures.fault))
 
 pub of-requires : goal.of-requires
@@ -71,7 +71,7 @@ returns g c =
       frame = p.frame ∙ ap frame_of same;
       order = subst (λ (ds : List Demand). IsLayoutOrder ds l.inputs) same p.order;
       shares = p.demands ∙ ap (λ (ds : List Demand). map (λ i. 2 ^ l.frame / period_of (demand_at ds i)) l.inputs) same;
-      fewest = subst (λ (ds : List Demand). IsFewest (2 ^ l.frame) (periods_of ds) l.buses) same p.fewest;
+      fewest = subst (λ (ds : List Demand). AreFewestBuses (exponents_of ds) l.buses) same p.fewest;
       few = p.few;
       table = c.of.ensures.table;
       least = c.spacings_are_least.ensures.least;
@@ -79,7 +79,5 @@ returns g c =
       inputs = c.orders_name_each_once.ensures (length c.deref-2.result.now) l.inputs (subst (λ (ds : List Demand). IsLayoutOrder ds l.inputs) same p.order).all;
       each = c.orders_name_each_once.ensures (length c.of.result.demands) (order_of c.of.result) c.of.ensures.sound.order;
       apart = c.stretches_are_apart.ensures.apart c.of.result.demands;
-    } in (
-      planned g.row.N c.args.rate c.args.sources.now c.args.outputs.now c.deref-2.result.now l c.of.result made,
-      can_be g.row.N c.args.rate c.args.sources.now c.args.outputs.now c.deref-2.result.now l c.of.result made,
-    )
+    } in
+    planned g.row.N c.args.rate c.args.sources.now c.args.outputs.now c.deref-2.result.now l c.of.result made

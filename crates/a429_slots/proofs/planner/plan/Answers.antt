@@ -9,7 +9,7 @@ use Rattle.a429_slots.specs.Planned.{IsPlannedAt, CanBePlannedAt, rated_outputs}
 use Rattle.a429_equipment.specs.declared.rows.OutputRow.{OutputRow}
 use Rattle.a429_equipment.specs.declared.rows.SourceRow.{SourceRow}
 use Rattle.a429_slots.specs.Faults.{IsFaultOf}
-use Rattle.a429_slots.proofs.Planning.{rate_in_group, all_at, all_next, zip_next, length-zipped, length-rated, rated_at, fault_in}
+use Rattle.a429_slots.proofs.Planning.{rate_in_group, all_at, all_next, could_be, zip_next, length-zipped, length-rated, rated_at, fault_in}
 use Rattle.a429_slots.proofs.planner.plan.Goals as goal
 
 pub group_plan-requires : goal.group_plan-requires
@@ -61,8 +61,8 @@ loop-group-preserved g c =
     rated_at e c.loop-group.group c.group_rate-rate.result c.outputs.result.now c.group_rate-rate.ensures.rate c.outputs.ensures.rows in
     record {
       planned = subst (λ (ts : List GroupTable). AllZip (IsPlannedAt c.sources-sources.result.now) (take (c.loop-group.group + 1) (rated_outputs e)) ts) (sym c.push.ensures.groups)
-          (zip_next (IsPlannedAt c.sources-sources.result.now) (rated_outputs e) (groups_of c.loop-group.plan) c.loop-group.group _ c.in-Ok.table there c.loop-group.invariant.planned c.in-Ok.ensures.0);
-      could = all_next CanBePlannedAt (rated_outputs e) c.loop-group.group _ there c.loop-group.invariant.could c.in-Ok.ensures.1;
+          (zip_next (IsPlannedAt c.sources-sources.result.now) (rated_outputs e) (groups_of c.loop-group.plan) c.loop-group.group _ c.in-Ok.table there c.loop-group.invariant.planned c.in-Ok.ensures);
+      could = all_next CanBePlannedAt (rated_outputs e) c.loop-group.group _ there c.loop-group.invariant.could (could_be _ _ _ _ c.in-Ok.ensures);
       number = c.push.ensures.number ∙ c.loop-group.invariant.number;
     }
 

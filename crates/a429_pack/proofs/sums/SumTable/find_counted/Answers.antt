@@ -1,6 +1,6 @@
 use Rattle.std.proofs.Common.{◌≡◌, ℕ, ◌+◌, ◌-◌, ◌/◌, ◌≤◌, List, Some, length, arith, ap}
 use Rattle.a429_pack.specs.Sums.{start_of, Holds}
-use Rattle.a429_pack.proofs.Halving.{halved_again, one_probe_more, few_probes}
+use Rattle.a429_pack.proofs.Halving.{halved_again, one_probe_more, few_probes, spread_again, some_probes}
 use Rattle.a429_pack.proofs.Tables.{start_more, stretches_apart}
 use Rattle.a429_pack.proofs.sums.SumTable.find_counted.Goals as goal
 
@@ -23,6 +23,7 @@ loop-high-preserved-then-start-x g c =
       below = omega arith;
       halved = halved_again (high - middle - 1) left c.loop-high.probes count (omega arith) c.loop-high.invariant.halved;
       few = one_probe_more left c.loop-high.probes count (omega arith) c.loop-high.invariant.halved;
+      spread = spread_again (high - low) (high - middle) c.loop-high.probes count (omega arith) c.loop-high.invariant.spread;
     }
 
 pub loop-high-preserved : goal.loop-high-preserved
@@ -39,6 +40,7 @@ loop-high-preserved g c =
       below = omega (arith, c.start.ensures);
       halved = halved_again (middle - low - 1) left c.loop-high.probes count (omega arith) c.loop-high.invariant.halved;
       few = one_probe_more left c.loop-high.probes count (omega arith) c.loop-high.invariant.halved;
+      spread = spread_again (high - low) (middle - low) c.loop-high.probes count (omega arith) c.loop-high.invariant.spread;
     }
 
 pub returns-clause-only : goal.returns-clause-only
@@ -51,3 +53,6 @@ returns-clause-only g c i holds =
 
 pub returns-clause-probes : goal.returns-clause-probes
 returns-clause-probes g c digits below = few_probes c.loop-high.probes (length c.args.self.now) digits c.loop-high.invariant.few below
+
+pub returns-clause-least : goal.returns-clause-least
+returns-clause-least g c = some_probes (c.loop-high.high - c.loop-high.low) c.loop-high.probes (length c.args.self.now) (omega arith) c.loop-high.invariant.spread

@@ -1,4 +1,4 @@
-use Rattle.std.proofs.Common.{◌≡◌, ◌<◌, ◌∙◌, ℕ, None, Some, ap, arith, length, sym, subst}
+use Rattle.std.proofs.Common.{◌≡◌, ◌+◌, ◌^◌, ◌<◌, ◌∙◌, ℕ, None, Some, ap, arith, length, sym, subst}
 use Rattle.std.specs.Prelude.{Option, IfSome}
 use Rattle.std.proofs.lemmas.Option.{none-some}
 use Rattle.a429_pack.specs.Sums.{Holds}
@@ -42,6 +42,13 @@ pub returns-in-Some-clause-probes : goal.returns-in-Some-clause-probes
 returns-in-Some-clause-probes g c digits below =
     let many : length c.self.inside.sums ≡ length c.args.self.now.demands = ap (λ (t : GroupTable). length t.demands) c.self.view_is in
     c.find_counted-found.ensures.probes digits (omega (arith, many, length-outputs c.args.self.now, below))
+
+pub returns-in-Some-clause-least : goal.returns-in-Some-clause-least
+returns-in-Some-clause-least g c =
+    let many : length c.self.inside.sums ≡ length c.args.self.now.demands = ap (λ (t : GroupTable). length t.demands) c.self.view_is in
+    let least : length c.self.inside.sums < 2 ^ (c.find_counted-found.result.1 + 1) =
+    subst (λ (r : Option ℕ). IfSome r (λ _. length c.self.inside.sums < 2 ^ (c.find_counted-found.result.1 + 1))) c.in-Some.is c.find_counted-found.ensures.least in
+    omega (arith, least, many, length-outputs c.args.self.now)
 
 pub returns-in-None-clause-cell : goal.returns-in-None-clause-cell
 returns-in-None-clause-cell g c =
