@@ -1,16 +1,43 @@
 //! The program `a429`: an ARINC 429 data concentrator.
 #![tactic(auto)]
 
+ghost use Rattle.std.specs.Prelude.{◌≡◌, ◌≢◌, ◌≤◌, IsTrue};
+
 use a429_cli::{CountedWriter, DiskFiles, Output, command};
 use std::alloc::{AllocError, Global};
+use std::env::{Env, FillError};
 use std::io::{ErrorKind, Write};
 use std::process::ExitCode;
-use std::rt::Env;
+use std::rt::Files;
 use std::{env, io};
+
+/// The environment of a runtime, with the arguments that follow the first: that is the path of the program, and
+/// may be any bytes.
+#[derive(Drop)]
+struct BehindName<'a, R> {
+    rt: &'a R,
+}
+
+impl<R: Env> Env for BehindName<'_, R> {
+    fn arg(&self, i: usize, buf: &mut [u8]) -> Result<usize, FillError> {
+        match i.checked_add(1) {
+            Some(next) => self.rt.arg(next, buf),
+            None => Err(FillError::NotPresent),
+        }
+    }
+
+    fn var(&self, name: &str, buf: &mut [u8]) -> Result<usize, FillError> {
+        self.rt.var(name, buf)
+    }
+
+    fn var_at(&self, i: usize, buf: &mut [u8]) -> Result<usize, FillError> {
+        self.rt.var_at(i, buf)
+    }
+}
 
 /// The words of the command line, without the program's name.
 fn given_words<R: Env + AllocGlobal>(rt: &R) -> io::Result<Vec<String>> {
-    Ok(env::args(rt)?.skip(1).collect(rt.alloc())?)
+    Ok(env::args(&(BehindName { rt }, rt.alloc()))?.collect(rt.alloc())?)
 }
 
 fn texts(alloc: Global, words: &[String]) -> Result<Vec<&str>, AllocError> {
@@ -19,10 +46,15 @@ fn texts(alloc: Global, words: &[String]) -> Result<Vec<&str>, AllocError> {
 
 /// Tells why the words cannot be read, and gives the status: 1 where memory was refused, and 2 where a word
 /// is no UTF-8, which is a usage fault.
-fn without_words<O: Output, V: Write>(out: &mut O, err: &mut V, error: &io::Error) -> u8 {
+fn without_words<O: Output, V: Write>(out: &mut O, err: &mut V, error: &io::Error) -> u8
+    ensures status { result ≤ 2 }
+    ensures undone { result ≢ 0 }
+    ensures silent { result ≡ 2 → O.contents out.new ≡ O.contents out.old }
+{
     match error.kind() {
         ErrorKind::OutOfMemory => {
             let _ = out.put(b"refused memory\n");
+            let _ = out.flush();
             1
         }
         _ => {
@@ -32,20 +64,27 @@ fn without_words<O: Output, V: Write>(out: &mut O, err: &mut V, error: &io::Erro
     }
 }
 
-fn main(rt: HostRuntime) -> ExitCode {
-    let mut out = CountedWriter::new(rt.stdout());
-    let mut err = rt.stderr();
-    let words = match given_words(&rt) {
+/// Does the command of the words that the program was given. The status is the one that `command` answers, or
+/// where the words cannot be read that of a refusal or of a usage fault.
+fn run<R: Env + Files + AllocGlobal, O: Output, V: Write>(rt: &R, out: &mut O, err: &mut V) -> u8
+    ensures status { result ≤ 2 }
+    ensures quiet { result ≡ 0 → V.contents err.new ≡ V.contents err.old }
+    ensures silent { result ≡ 2 → O.contents out.new ≡ O.contents out.old }
+    ensures flushed { result ≡ 0 → IsTrue (O.is_flushed out.new) }
+{
+    let words = match given_words(rt) {
         Ok(words) => words,
-        Err(error) => return ExitCode::from(without_words(&mut out, &mut err, &error)),
+        Err(error) => return without_words(out, err, &error),
     };
     let words = match texts(rt.alloc(), &words) {
         Ok(words) => words,
-        Err(error) => {
-            let error = io::Error::from(error);
-            return ExitCode::from(without_words(&mut out, &mut err, &error));
-        }
+        Err(error) => return without_words(out, err, &io::Error::from(error)),
     };
-    let mut files = DiskFiles::new(&rt);
-    ExitCode::from(command(rt.alloc(), &words, &mut files, &mut out, &mut err))
+    command(rt.alloc(), &words, &mut DiskFiles::new(rt), out, err)
+}
+
+fn main(rt: HostRuntime) -> ExitCode {
+    let mut out = CountedWriter::new(rt.stdout());
+    let mut err = rt.stderr();
+    ExitCode::from(run(&rt, &mut out, &mut err))
 }

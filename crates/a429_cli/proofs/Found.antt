@@ -39,6 +39,10 @@ pub matched_weaker : {X E : Type 0} (result : Result X E) (P Q : X → Type 0) (
 matched_weaker (Ok x) P Q F more p = more x p
 matched_weaker (Err e) P Q F more p = p
 
+pub weaker_at_both : {X E : Type 0} (result : Result X E) (P Q : X → Type 0) (F G : E → Type 0) → ((x : X) → P x → Q x) → ((e : E) → F e → G e) → MatchResult result P F → MatchResult result Q G
+weaker_at_both (Ok x) P Q F G more other p = more x p
+weaker_at_both (Err e) P Q F G more other p = other e p
+
 pub word_is : (rows : List Row) (t : Text) (r : RequestBytes) → Some t ≡ first_of (codes "HEX") rows → word_request rows ≡ Some r → Word t ≡ r
 word_is rows t r at asked = same_Some (Word t) r (ap (option_map Word) at ∙ asked)
 

@@ -4,6 +4,7 @@ pub mod ManyWords
 pub mod RequestWords
 pub mod Found
 pub mod Refused
+pub mod KindReplies
 pub mod Numbered
 pub mod ScriptLines
 pub mod PlayedLines

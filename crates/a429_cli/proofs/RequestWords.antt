@@ -3,7 +3,7 @@ use Rattle.std.proofs.Common.{◌≡◌, ◌∙◌, ap, ap₂, refl, codes, true
 use Rattle.std.specs.Prelude.{Some, Bool, ◌&&◌, is_some, option_and_then}
 use Rattle.std.specs.List.{list_all}
 use Rattle.std.specs.List.{AllByRecursion}
-use Rattle.clap.specs.Words.{Row, Shape, Text, is_simple, subcommand_of, takes}
+use Rattle.clap.specs.Words.{Row, Shape, Text, is_simple, is_simple_and_free, subcommand_of, takes}
 use Rattle.clap.specs.Walk.{Held, Names, Walk, idle, positional, value, walk, walked, walk_from, nothing_held, finished, stop_after, to_positional, arg_by_index}
 use Rattle.clap.specs.Simple.{built, built_leaf, entered, inherited, names_of}
 use Rattle.clap.specs.Takes.{default_passes, entered_passes, is_valid, level_passes, settle_passes, step_passes, walk_passes}
@@ -18,6 +18,10 @@ use Rattle.a429_cli.proofs.ManyWords.{TakesMany, row_of_words, rows_of_many, hel
 pub is_simple_here : is_simple command_line ≡ true
 unfolding command_line clap_on_literals
 is_simple_here = refl
+
+pub is_free_here : is_simple_and_free command_line ≡ true
+unfolding command_line clap_on_literals
+is_free_here = refl
 
 -- the subcommands as they are built
 abbrev word_leaf : Shape

@@ -31,7 +31,7 @@ abbrev pub replay_app : App
 replay_app = with_rule (with_rule (with_rule (new_app (codes "replay")) (required_rule (codes "TABLE"))) (required_rule (codes "SCRIPT"))) (many_rule (codes "FURTHER"))
 
 abbrev pub top_shape : Shape
-top_shape = record ((new_app (codes "a429")).top) { no_binary_name = true; subcommand_required = true }
+top_shape = record ((new_app (codes "a429")).top) { has_version = true; no_binary_name = true; subcommand_required = true }
 
 -- the command line without its commands
 abbrev pub bare_line : App

@@ -1,4 +1,5 @@
 pub mod CommandLine
+pub mod Usage
 pub mod MemoryFile
 pub mod Files
 pub mod Names

@@ -1,13 +1,15 @@
 //! Commands, from words and files to bytes.
-ghost use Rattle.std.specs.Prelude.{◌≡◌, ◌≤◌, ◌+◌, ◌⊎◌, IfOk, IsTrue};
+ghost use Rattle.std.specs.Prelude.{◌≡◌, ◌≢◌, ◌≤◌, ◌+◌, ◌⊎◌, IfOk, IsTrue, OnOk};
+ghost use Rattle.clap.specs.Words.{kind_of};
 ghost use Rattle.a429_cli.specs.Files.{texts_of};
-ghost use Rattle.a429_cli.specs.Outputs.{CountsFault, IsPut, NoneFailed};
+ghost use Rattle.a429_cli.specs.Outputs.{CountsFault, IsPut, NoneFailed, OrNoMemory};
 ghost use Rattle.a429_cli.specs.Requests.{AsksFor, IsReplyOrMemory, RequestBytes, request_of};
+ghost use Rattle.a429_cli.specs.Usage.{AsksForHelp, IsHelpReply, IsNoRequest, IsReplyOfKind, IsUsageFault, IsUsageReply};
 
 use crate::arguments::requests::{Request, parse};
 use crate::files::FileReader;
 use crate::lines::tell_lines;
-use crate::output::endings::refuse_memory;
+use crate::output::endings::{finish, refuse_memory};
 use crate::output::{Output, OutputFault};
 use crate::plan_texts::{print_plan, print_verdict};
 use crate::replay::replay;
@@ -18,10 +20,10 @@ use std::alloc::Global;
 use std::io;
 use std::io::Write;
 
-/// Does a command: `words` are those of the command line without the program's name, answers and refusals
-/// go to `out`, usage and help texts to `err`. The status is 0 where the command was done, 1 where it was
-/// refused, and 2 where the words ask for none. Where the output or `err` fails, the status is 1 and nothing
-/// more is put or written.
+/// Does a command: `words` are those of the command line without the program's name; answers, refusals and help
+/// that is asked for go to `out`, the text of a usage fault to `err`. The status is 0 where the command was done,
+/// 1 where it was refused, and 2 where the words are a mistake. Where the output fails, the status is 1 and
+/// nothing more is put; where `err` fails, nothing more is written to it and the status stays.
 pub fn command<'a, F: FileReader, O: Output, V: Write>(
     alloc: Global,
     words: &'a [&'a str],
@@ -33,16 +35,30 @@ pub fn command<'a, F: FileReader, O: Output, V: Write>(
     ensures replied { (r : RequestBytes) → AsksFor (texts_of words.entry.now) r → IsTrue (F.tells files.old)
         → NoneFailed (O.failures out.old) (O.failures out.new)
         → IsPut (IsReplyOrMemory (F.file files.old) r) (O.contents out.old) (O.contents out.new) result }
+    // Words that ask for help get a text, with status 0, unless memory is refused.
+    ensures helped { AsksForHelp (texts_of words.entry.now) → NoneFailed (O.failures out.old) (O.failures out.new)
+        → IsPut (OrNoMemory IsHelpReply) (O.contents out.old) (O.contents out.new) result }
+    // Of a mistake nothing is put, with status 2, unless memory is refused.
+    ensures mistaken { IsUsageFault (texts_of words.entry.now) → NoneFailed (O.failures out.old) (O.failures out.new)
+        → IsPut (OrNoMemory IsUsageReply) (O.contents out.old) (O.contents out.new) result }
     // Where a call of the output failed, the status is 1.
     ensures failed { (result ≡ 1) ⊎ (O.failures out.new ≡ O.failures out.old) }
-    // After a call that failed there is no further one that fails.
+    // After a call that failed there is no further one: it would fail too.
     ensures once { O.failures out.new ≤ O.failures out.old + 1 }
-    ensures asked { (r : RequestBytes) → AsksFor (texts_of words.entry.now) r → result ≤ 1 }
     ensures status { result ≤ 2 }
+    ensures asked { (r : RequestBytes) → AsksFor (texts_of words.entry.now) r → result ≤ 1 }
+    ensures usage { IsUsageFault (texts_of words.entry.now) → result ≢ 0 }
+    // Status 2 stands only where the words ask for no command.
+    ensures unasked { result ≡ 2 → IsNoRequest (texts_of words.entry.now) }
+    // Where the command was done, nothing was written to `err`.
+    ensures quiet { result ≡ 0 → V.contents err.new ≡ V.contents err.old }
     // Words that ask for something leave `err` alone.
-    ensures quiet { (r : RequestBytes) → AsksFor (texts_of words.entry.now) r → V.contents err.new ≡ V.contents err.old }
-    // Where the words ask for nothing, nothing is put.
+    ensures aside { (r : RequestBytes) → AsksFor (texts_of words.entry.now) r → V.contents err.new ≡ V.contents err.old }
+    // Where the status is 2, nothing was put.
     ensures silent { result ≡ 2 → O.contents out.new ≡ O.contents out.old }
+    // Where the command was done, all that was put was passed on; so is a refusal where no call failed.
+    ensures flushed { result ≡ 0 → IsTrue (O.is_flushed out.new) }
+    ensures told { result ≡ 1 → NoneFailed (O.failures out.old) (O.failures out.new) → IsTrue (O.is_flushed out.new) }
 {
     match run(alloc, words, files, out, err) {
         Ok(status) => status,
@@ -60,18 +76,23 @@ fn run<'a, F: FileReader, O: Output, V: Write>(
 ) -> Result<u8, OutputFault>
     ensures replied { (r : RequestBytes) → AsksFor (texts_of words.entry.now) r → IsTrue (F.tells files.old)
         → IfOk result (IsPut (IsReplyOrMemory (F.file files.old) r) (O.contents out.old) (O.contents out.new)) }
+    ensures helped { AsksForHelp (texts_of words.entry.now)
+        → IfOk result (IsPut (OrNoMemory IsHelpReply) (O.contents out.old) (O.contents out.new)) }
+    ensures mistaken { IsUsageFault (texts_of words.entry.now)
+        → IfOk result (IsPut (OrNoMemory IsUsageReply) (O.contents out.old) (O.contents out.new)) }
     ensures asked { (r : RequestBytes) → AsksFor (texts_of words.entry.now) r → IfOk result (λ status. status ≤ 1) }
     ensures status { IfOk result (λ status. status ≤ 2) }
+    ensures usage { IsUsageFault (texts_of words.entry.now) → IfOk result (λ status. status ≢ 0) }
+    ensures unasked { IfOk result (λ status. status ≡ 2 → IsNoRequest (texts_of words.entry.now)) }
+    ensures flushed { IfOk result (λ status. status ≤ 1 → IsTrue (O.is_flushed out.new)) }
     ensures faults { CountsFault result (O.failures out.old) (O.failures out.new) }
-    ensures quiet { (r : RequestBytes) → AsksFor (texts_of words.entry.now) r → V.contents err.new ≡ V.contents err.old }
+    ensures quiet { IfOk result (λ status. status ≤ 1 → V.contents err.new ≡ V.contents err.old) }
+    ensures aside { (r : RequestBytes) → AsksFor (texts_of words.entry.now) r → V.contents err.new ≡ V.contents err.old }
     ensures silent { IfOk result (λ status. status ≡ 2 → O.contents out.new ≡ O.contents out.old) }
 {
     match parse(alloc, words) {
         Ok(request) => answer(alloc, &request, files, out),
-        Err(error) => match error.kind() {
-            ErrorKind::OutOfMemory => refuse_memory(out),
-            _ => Ok(explain(&error, err)),
-        },
+        Err(error) => explain(alloc, &error, out, err),
     }
 }
 
@@ -85,6 +106,7 @@ fn answer<F: FileReader, O: Output>(
     ensures replied { IsTrue (F.tells files.old) → IfOk result
         (IsPut (IsReplyOrMemory (F.file files.old) (request_of request.now)) (O.contents out.old) (O.contents out.new)) }
     ensures status { IfOk result (λ status. status ≤ 1) }
+    ensures flushed { OnOk result (IsTrue (O.is_flushed out.new)) }
     ensures faults { CountsFault result (O.failures out.old) (O.failures out.new) }
 {
     match request {
@@ -100,13 +122,43 @@ fn answer<F: FileReader, O: Output>(
     }
 }
 
-/// Writes the usage or help text of an error. The status is 2, or 1 where the writer fails.
-fn explain<V: Write>(error: &Error, err: &mut V) -> u8
-    ensures { result ≤ 2 }
+/// Answers words that are no request, by the error that their parser gave. Help that was asked for is put, with
+/// status 0; the text of a mistake is written to `err`, as far as it takes it, with status 2.
+fn explain<O: Output, V: Write>(
+    alloc: Global,
+    error: &Error,
+    out: &mut O,
+    err: &mut V,
+) -> Result<u8, OutputFault>
+    ensures replied { IfOk result (IsPut (IsReplyOfKind (kind_of error.now)) (O.contents out.old) (O.contents out.new)) }
+    ensures flushed { IfOk result (λ status. status ≤ 1 → IsTrue (O.is_flushed out.new)) }
+    ensures faults { CountsFault result (O.failures out.old) (O.failures out.new) }
+    ensures quiet { IfOk result (λ status. status ≤ 1 → V.contents err.new ≡ V.contents err.old) }
+    ensures silent { IfOk result (λ status. status ≡ 2 → O.contents out.new ≡ O.contents out.old) }
+    ensures memory { kind_of error.now ≡ ErrorKind.OutOfMemory → V.contents err.new ≡ V.contents err.old }
 {
-    match write_text(error, err) {
-        Ok(()) => 2,
-        Err(_) => 1,
+    match error.kind() {
+        ErrorKind::OutOfMemory => refuse_memory(out),
+        ErrorKind::DisplayHelp | ErrorKind::DisplayVersion => put_help(alloc, error, out),
+        _ => {
+            // the status says what the words are, also where nobody can be told
+            let _ = write_text(error, err);
+            Ok(2)
+        }
+    }
+}
+
+/// Puts the text of help that was asked for. The status is 0, or 1 where memory for the text is refused.
+fn put_help<O: Output>(alloc: Global, help: &Error, out: &mut O) -> Result<u8, OutputFault>
+    ensures replied { IfOk result (IsPut (OrNoMemory IsHelpReply) (O.contents out.old) (O.contents out.new)) }
+    ensures status { IfOk result (λ status. status ≤ 1) }
+    ensures flushed { OnOk result (IsTrue (O.is_flushed out.new)) }
+    ensures faults { CountsFault result (O.failures out.old) (O.failures out.new) }
+{
+    let mut text = Vec::new(alloc);
+    match write!(text, "{help}") {
+        Ok(()) => finish(&text, true, out),
+        Err(_) => refuse_memory(out),
     }
 }
 

@@ -1,5 +1,5 @@
 //! The command `lines`.
-ghost use Rattle.std.specs.Prelude.{◌≡◌, ◌==◌, ◌||◌, ◌≤◌, ◌++◌, ◌∷◌, [], Some, IfOk, IsTrue, MatchResult, is_none, length, not};
+ghost use Rattle.std.specs.Prelude.{◌≡◌, ◌==◌, ◌||◌, ◌≤◌, ◌++◌, ◌∷◌, [], Some, IfOk, IsTrue, MatchResult, is_none, length, not, OnOk};
 ghost use Rattle.std.specs.Io.KnownBytes.{append_known};
 ghost use Rattle.a429_filter.specs.Filters.{filters_of};
 ghost use Rattle.a429_equipment.specs.Stated.{filter_of};
@@ -98,6 +98,7 @@ fn print_line<O: Output>(line: &Line, lines: &mut Pending, out: &mut O) -> Resul
 fn tell_line<O: Output>(alloc: Global, line: &Line, out: &mut O) -> Result<u8, OutputFault>
     ensures told { IfOk result (IsPut (IsLineTold line.now) (O.contents out.old) (O.contents out.new)) }
     ensures status { IfOk result (λ status. status ≤ 1) }
+    ensures flushed { OnOk result (IsTrue (O.is_flushed out.new)) }
     ensures faults { CountsFault result (O.failures out.old) (O.failures out.new) }
 {
     let mut lines = Pending::new(alloc);
@@ -120,6 +121,7 @@ pub fn tell_lines<F: FileReader, O: Output>(
     ensures told { IsTrue (F.tells files.old) → IfOk result
         (IsPut (IsLinesReply (F.file files.old) name.now (texts_of filters.now)) (O.contents out.old) (O.contents out.new)) }
     ensures status { IfOk result (λ status. status ≤ 1) }
+    ensures flushed { OnOk result (IsTrue (O.is_flushed out.new)) }
     ensures faults { CountsFault result (O.failures out.old) (O.failures out.new) }
 {
     match read_line(alloc, files, name, filters) {

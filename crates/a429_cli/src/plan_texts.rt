@@ -41,6 +41,7 @@ pub fn print_plan<F: FileReader, O: Output>(
     ensures planned { IsTrue (F.tells files.old) → IfOk result
         (IsPut (IsPlanReply (F.file files.old) name.now) (O.contents out.old) (O.contents out.new)) }
     ensures status { IfOk result (λ status. status ≤ 1) }
+    ensures flushed { OnOk result (IsTrue (O.is_flushed out.new)) }
     ensures faults { CountsFault result (O.failures out.old) (O.failures out.new) }
 {
     match planned(alloc, files, name) {
@@ -98,6 +99,7 @@ fn status_of(verdict: Verdict) -> u8
 fn tell_verdict<O: Output>(alloc: Global, verdict: Verdict, out: &mut O) -> Result<u8, OutputFault>
     ensures told { IfOk result (IsPut (OrNoMemory (IsVerdictReply verdict)) (O.contents out.old) (O.contents out.new)) }
     ensures status { IfOk result (λ status. status ≤ 1) }
+    ensures flushed { OnOk result (IsTrue (O.is_flushed out.new)) }
     ensures faults { CountsFault result (O.failures out.old) (O.failures out.new) }
 {
     let mut line = Vec::new(alloc);
@@ -121,6 +123,7 @@ pub fn print_verdict<F: FileReader, O: Output>(
     ensures judged { IsTrue (F.tells files.old) → IfOk result
         (IsPut (IsCheckReply (F.file files.old) table.now plan.now) (O.contents out.old) (O.contents out.new)) }
     ensures status { IfOk result (λ status. status ≤ 1) }
+    ensures flushed { OnOk result (IsTrue (O.is_flushed out.new)) }
     ensures faults { CountsFault result (O.failures out.old) (O.failures out.new) }
 {
     match judged_files(alloc, files, table, plan) {

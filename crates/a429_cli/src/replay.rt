@@ -1,5 +1,5 @@
 //! The command `replay`.
-ghost use Rattle.std.specs.Prelude.{◌≤◌, IfOk, IsTrue, MatchResult, length};
+ghost use Rattle.std.specs.Prelude.{◌≤◌, IfOk, IsTrue, MatchResult, length, OnOk};
 ghost use Rattle.std.specs.List.{AllByRecursion};
 ghost use Rattle.a429_cli.specs.Files.{bytes_of, texts_of};
 ghost use Rattle.a429_cli.specs.Outputs.{CountsFault, IsPut};
@@ -81,6 +81,7 @@ fn play_prepared<O: Output>(
     requires { AllByRecursion (HasTable (length further.now)) prepared.events.items }
     ensures played { IfOk result (IsOutcomePut (bytes_of further.now) prepared (O.contents out.old) (O.contents out.new)) }
     ensures status { IfOk result (λ status. status ≤ 1) }
+    ensures flushed { OnOk result (IsTrue (O.is_flushed out.new)) }
     ensures faults { CountsFault result (O.failures out.old) (O.failures out.new) }
 {
     let Prepared { station, events } = prepared;
@@ -103,6 +104,7 @@ pub fn replay<F: FileReader, O: Output>(
     ensures replayed { IsTrue (F.tells files.old) → IfOk result
         (IsPut (IsReplay (F.file files.old) table.now script.now (texts_of further.now)) (O.contents out.old) (O.contents out.new)) }
     ensures status { IfOk result (λ status. status ≤ 1) }
+    ensures flushed { OnOk result (IsTrue (O.is_flushed out.new)) }
     ensures faults { CountsFault result (O.failures out.old) (O.failures out.new) }
 {
     let input = match read_input(alloc, files, table, script, further) {

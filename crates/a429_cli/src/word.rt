@@ -1,5 +1,5 @@
 //! The command `word`.
-ghost use Rattle.std.specs.Prelude.{◌≤◌, IfOk, OnOk};
+ghost use Rattle.std.specs.Prelude.{◌≤◌, IfOk, OnOk, IsTrue};
 ghost use Rattle.std.specs.List.{flat_map};
 ghost use Rattle.a429_word.specs.Bits.{bcd_of};
 ghost use Rattle.std.specs.Fmt.{decimal};
@@ -99,6 +99,7 @@ fn write_word<W: Write>(out: &mut W, word: Word) -> io::Result<()>
 pub fn tell_word<O: Output>(alloc: Global, text: &str, out: &mut O) -> Result<u8, OutputFault>
     ensures replied { IfOk result (IsPut (OrNoMemory (IsWordReply text.now)) (O.contents out.old) (O.contents out.new)) }
     ensures status { IfOk result (λ status. status ≤ 1) }
+    ensures flushed { OnOk result (IsTrue (O.is_flushed out.new)) }
     ensures faults { CountsFault result (O.failures out.old) (O.failures out.new) }
 {
     let Some(raw) = raw_word(text.as_bytes()) else {

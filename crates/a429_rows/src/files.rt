@@ -138,6 +138,7 @@ fn cut_short(
     let CountedWriter {
         writer: out,
         failures,
+        ..
     } = out;
     Ok(CutShort {
         status,
@@ -192,11 +193,29 @@ fn a_writer_may_fail_at_any_call(rt: HostRuntime) -> Result<(), Fail> {
             );
         }
     }
+    Ok(())
+}
+
+#[test]
+fn help_ends_where_the_output_fails(rt: HostRuntime) -> Result<(), Fail> {
     let whole = cut_short(&rt, &["--help"], "", 64, usize::MAX)?;
-    for good_calls in 0..whole.err.calls {
+    assert!(rt; whole.status == 0 && whole.err.calls == 0);
+    for good_calls in 0..whole.out.calls {
         let cut = cut_short(&rt, &["--help"], "", 64, good_calls)?;
-        assert!(rt; cut.status == 1 && cut.out.calls == 0, "help, {good_calls}");
-        assert!(rt; cut.err.calls == good_calls + 1, "help, {good_calls}");
+        assert!(rt; cut.status == 1 && cut.err.calls == 0, "{good_calls}");
+        assert!(rt; cut.out.calls == good_calls + 1, "{good_calls}");
+    }
+    Ok(())
+}
+
+#[test]
+fn a_mistake_is_one_where_nobody_can_be_told(rt: HostRuntime) -> Result<(), Fail> {
+    let whole = cut_short(&rt, &["odd"], "", 64, usize::MAX)?;
+    assert!(rt; whole.status == 2 && whole.out.calls == 0);
+    for good_calls in 0..whole.err.calls {
+        let cut = cut_short(&rt, &["odd"], "", 64, good_calls)?;
+        assert!(rt; cut.status == 2 && cut.out.calls == 0, "{good_calls}");
+        assert!(rt; cut.err.calls == good_calls + 1, "{good_calls}");
     }
     Ok(())
 }

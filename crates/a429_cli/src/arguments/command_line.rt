@@ -9,6 +9,8 @@ use std::alloc::{AllocError, Global};
 const PROGRAM: &str =
     "ARINC 429 data concentrator: takes in words, and sends them on by planned slots";
 
+const VERSION: &str = "0.1.0";
+
 const WORD: &str = "Tell what a word of 32 bits says: its fields, and its data as BNR and as BCD";
 
 const HEX: &str = "The word, as eight hexadecimal digits";
@@ -97,8 +99,8 @@ fn top_command<'a>(alloc: Global) -> Result<Command<'a>, AllocError>
     ensures { IfOk result (λ c. app_of c ≡ bare_line) }
 {
     let named = Command::new(alloc, "a429").bin_name("a429")?;
-    let told = named.about(PROGRAM).no_binary_name(true);
-    Ok(told.subcommand_required(true))
+    let told = named.about(PROGRAM).version(VERSION);
+    Ok(told.no_binary_name(true).subcommand_required(true))
 }
 
 /// The command line of the program.

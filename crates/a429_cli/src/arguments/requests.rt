@@ -1,9 +1,10 @@
 //! What the words of the command line ask for.
 ghost use Rattle.std.specs.Prelude.{◌≡◌, MatchResult};
-ghost use Rattle.clap.specs.Words.{found_of, kind_of, rows_of, subcommand_rows_of};
+ghost use Rattle.clap.specs.Words.{FailsBy, found_of, kind_of, rows_of, subcommand_rows_of};
 ghost use Rattle.a429_cli.specs.Files.{texts_of};
 ghost use Rattle.a429_cli.specs.Requests.{AsksFor, IsReadOf, RequestBytes, request_of};
 ghost use Rattle.a429_cli.specs.RequestRows.{check_request, lines_request, plan_request, replay_request, request_found, word_request};
+ghost use Rattle.a429_cli.specs.Usage.{kinds_of_words};
 
 use crate::arguments::command_line::build_command;
 use clap::error::ErrorKind;
@@ -45,6 +46,8 @@ pub fn parse<'a>(alloc: Global, words: &'a [&'a str]) -> Result<Request<'a>, Err
     // Words of a command ask for it, and are refused for want of memory alone.
     ensures asked { (r : RequestBytes) → AsksFor (texts_of words.entry.now) r
         → MatchResult result (λ request. request_of request ≡ r) (λ e. kind_of e ≡ ErrorKind.OutOfMemory) }
+    // What is answered in their place is of a kind that the rules of the command line give, or memory was refused.
+    ensures kinds { FailsBy (kinds_of_words (texts_of words.entry.now)) result }
 {
     let command = build_command(alloc)?;
     let matches = command.try_get_matches_from(words)?;

@@ -1,5 +1,5 @@
 //! How commands end.
-ghost use Rattle.std.specs.Prelude.{◌≡◌, ◌++◌, ◌∷◌, [], codes, IfOk, OnOk};
+ghost use Rattle.std.specs.Prelude.{◌≡◌, ◌++◌, ◌∷◌, [], codes, IfOk, OnOk, IsTrue};
 ghost use Rattle.std.specs.Io.KnownBytes.{Appends};
 ghost use Rattle.a429_cli.specs.Outputs.{CountsFault, ending, status_of};
 ghost use Rattle.a429_cli.specs.RefusalText.{IsRefusalPut};
@@ -16,6 +16,7 @@ const MEMORY_REFUSED: &[u8] = b"refused memory\n";
 fn put_refused<O: Output>(line: &[u8], out: &mut O) -> Result<u8, OutputFault>
     ensures status { IfOk result (λ status. status ≡ 1) }
     ensures line { OnOk result (Appends (O.contents out.old) (O.contents out.new) line.now) }
+    ensures flushed { OnOk result (IsTrue (O.is_flushed out.new)) }
     ensures faults { CountsFault result (O.failures out.old) (O.failures out.new) }
 {
     out.put(line)?;
@@ -27,6 +28,7 @@ fn put_refused<O: Output>(line: &[u8], out: &mut O) -> Result<u8, OutputFault>
 pub fn refuse_memory<O: Output>(out: &mut O) -> Result<u8, OutputFault>
     ensures status { IfOk result (λ status. status ≡ 1) }
     ensures line { OnOk result (Appends (O.contents out.old) (O.contents out.new) (codes "refused memory" ++ 10 ∷ [])) }
+    ensures flushed { OnOk result (IsTrue (O.is_flushed out.new)) }
     ensures faults { CountsFault result (O.failures out.old) (O.failures out.new) }
 {
     put_refused(MEMORY_REFUSED, out)
@@ -40,6 +42,7 @@ pub fn refuse<O: Output>(
 ) -> Result<u8, OutputFault>
     ensures status { IfOk result (λ status. status ≡ 1) }
     ensures line { OnOk result (IsRefusalPut refusal.now (O.contents out.old) (O.contents out.new)) }
+    ensures flushed { OnOk result (IsTrue (O.is_flushed out.new)) }
     ensures faults { CountsFault result (O.failures out.old) (O.failures out.new) }
 {
     let mut lines = Pending::new(alloc);
@@ -54,6 +57,7 @@ pub fn refuse<O: Output>(
 pub fn finish<O: Output>(left: &[u8], sufficed: bool, out: &mut O) -> Result<u8, OutputFault>
     ensures status { IfOk result (λ status. status ≡ status_of sufficed) }
     ensures put { OnOk result (Appends (O.contents out.old) (O.contents out.new) (left.now ++ ending sufficed)) }
+    ensures flushed { OnOk result (IsTrue (O.is_flushed out.new)) }
     ensures faults { CountsFault result (O.failures out.old) (O.failures out.new) }
 {
     out.put(left)?;
