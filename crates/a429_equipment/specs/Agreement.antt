@@ -1,7 +1,7 @@
 -- What a receiver accepted, what a transmitter loaded, and when the two agree. An accepted word is a pair of its source's number and the word.
 use Rattle.std.specs.Prelude.{◌≡◌, ◌==◌, ◌&&◌, ◌-◌, ◌≤◌, ℕ, zero, suc, Bool, true, false, List, [], ◌∷◌, Option, Some, None, if◌then◌else◌, nat_le, length, take, map, filter, slice_get}
 use Rattle.std.specs.Option.{option_map_or}
-use Rattle.std.specs.List.{range_with_len}
+use Rattle.std.specs.List.{range_with_len, AllByRecursion}
 use Rattle.a429_equipment.specs.declared.loads.Load.{Load}
 use Rattle.a429_equipment.specs.TableRecord.{TableRecord}
 
@@ -31,6 +31,10 @@ load_after s A = record { source = s; count = length (words_of s A); word = last
 -- the loads of each source of receiver r, where it accepted these words
 abbrev pub loads_of_all : TableRecord → ℕ → List (ℕ × ℕ) → List Load
 loads_of_all t r A = map (λ s. load_after s A) (sources_of t r)
+
+-- none of the loads found more words of the source than this one: a count never goes back
+abbrev pub CountsNoLess : List Load → Load → Type 0
+CountsNoLess loads l = AllByRecursion (λ m. m.source ≡ l.source → m.count ≤ l.count) loads
 
 -- ---- agreement
 

@@ -1,8 +1,10 @@
--- Cuts stay where a list grows, and one more load has a cut of its own.
-use Rattle.std.proofs.Common.{ℕ, ◌≤◌, List, [], ◌∷◌, ◌++◌, length, Bool, true, false, refl, sym, ap, ◌∙◌, subst, arith, length-append}
+-- Cuts stay where a list grows, one more load has a cut of its own, and no count goes back.
+use Rattle.std.proofs.Common.{◌≡◌, ℕ, zero, suc, ◌≤◌, eqb, List, [], ◌∷◌, ◌++◌, length, take, map, cond, Bool, true, false, refl, sym, ap, ◌∙◌, subst, arith, zero-le, le_refl, length-append}
+use Rattle.std.specs.Prelude.{filter}
+use lib.Seq.{take-length}
 use Rattle.std.proofs.lemmas.List.{take-append-le}
 use Rattle.a429_equipment.specs.declared.loads.Load.{Load}
-use Rattle.a429_equipment.specs.Agreement.{load_after, IsCut, Cuts}
+use Rattle.a429_equipment.specs.Agreement.{words_of, load_after, CountsNoLess, IsCut, Cuts}
 
 cut_grows : (b : Bool) (A more : List (ℕ × ℕ)) (before : ℕ) (l : Load) (cut : ℕ) → IsCut b A before l cut → IsCut b (A ++ more) before l cut
 cut_grows true A more before l cut h = (h.0, omega (arith, length-append A more, h.1), h.2 ∙ ap (load_after l.source) (sym (take-append-le cut A more h.1)))
@@ -35,3 +37,29 @@ cut_within false A before l cut le h = omega (arith, h)
 pub cuts_within : (mine : ℕ → Bool) (A : List (ℕ × ℕ)) (before : ℕ) (ls : List Load) (last : ℕ) → before ≤ length A → Cuts mine A before ls last → last ≤ length A
 cuts_within mine A before [] last le h = omega (arith, h)
 cuts_within mine A before (l ∷ ls) last le h = cuts_within mine A h.0 ls last (cut_within (mine l.source) A before l h.0 le h.1) h.2
+
+-- the words of a list that begins with e, where the test of e gave b
+abbrev pub words_from : ℕ → ℕ × ℕ → Bool → List (ℕ × ℕ) → List ℕ
+words_from s e b A = map (λ (x : ℕ × ℕ). x.1) (cond b (e ∷ filter (λ (x : ℕ × ℕ). eqb x.0 s) A) (filter (λ (x : ℕ × ℕ). eqb x.0 s) A))
+
+pub count_up : (s a b : ℕ) (A : List (ℕ × ℕ)) → a ≤ b → length (words_of s (take a A)) ≤ length (words_of s (take b A))
+count_up s zero b A le = zero-le
+count_up s (suc a) zero A le = absurd (omega arith)
+count_up s (suc a) (suc b) [] le = le_refl 0
+count_up s (suc a) (suc b) (e ∷ A) le = go (eqb e.0 s) (count_up s a b A (omega arith))
+  where
+    go : (c : Bool) → length (words_of s (take a A)) ≤ length (words_of s (take b A)) → length (words_from s e c (take a A)) ≤ length (words_from s e c (take b A))
+    go true h = omega (arith, h)
+    go false h = h
+
+-- no load of a source that has a cut found more than the load after all that was accepted
+pub none_above : (mine : ℕ → Bool) (A : List (ℕ × ℕ)) (s before : ℕ) (ls : List Load) (last : ℕ) → mine s ≡ true → Cuts mine A before ls last → CountsNoLess ls (load_after s A)
+none_above mine A s before [] last own h = tt
+none_above mine A s before (l ∷ ls) last own h = (here, none_above mine A s h.0 ls last own h.2)
+  where
+    here : l.source ≡ s → l.count ≤ length (words_of s A)
+    here is =
+        let cut : IsCut true A before l h.0 = subst (λ (b : Bool). IsCut b A before l h.0) (ap mine is ∙ own) h.1 in
+        let count : l.count ≡ length (words_of s (take h.0 A)) = ap (λ (m : Load). m.count) cut.2 ∙ ap (λ (k : ℕ). length (words_of k (take h.0 A))) is in
+        let up : length (words_of s (take h.0 A)) ≤ length (words_of s (take (length A) A)) = count_up s h.0 (length A) A cut.1 in
+        omega (arith, count, up, ap (λ (B : List (ℕ × ℕ)). length (words_of s B)) (take-length A))

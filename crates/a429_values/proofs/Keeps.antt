@@ -21,8 +21,8 @@ use Rattle.a429_values.specs.declared.view.View.{View}
 use Rattle.a429_values.specs.Words.{IsCounted}
 use Rattle.a429_values.specs.Views.{spent, desk, dealt, dealt_transmitter, receiver, transmitter, both_of, transmitting, receiving, with_accepted, with_load, found_by, seen}
 use Rattle.a429_values.specs.Rule.{number_of, Fits, Sends, Kept}
-use Rattle.a429_values.proofs.Counted.{load_same, load_other, of_row, all_push, load_counted, is_of_row, row_at}
-use Rattle.a429_values.proofs.Cutting.{cuts_grow, cuts_more, cuts_within}
+use Rattle.a429_values.proofs.Counted.{load_same, load_other, of_row, all_push, load_counted, is_of_row, is_of_yes, row_at}
+use Rattle.a429_values.proofs.Cutting.{cuts_grow, cuts_more, cuts_within, none_above}
 
 -- xs at r, and f elsewhere
 abbrev put : ℕ → List (ℕ × ℕ) → (ℕ → List (ℕ × ℕ)) → ℕ → List (ℕ × ℕ)
@@ -248,6 +248,7 @@ module _ {S : Type 0} (t : TableRecord) where
                   stands = number;
                   counted = subst (λ (y : SourceRow). IsCounted y.label l.count l.word) same (load_counted t row.0.receiver s row.0 (k.accepted row.0.receiver) row.1 (k.valid row.0.receiver));
                 };
+            no_less = let q = row.0.receiver in let h = f.transmits sends q in none_above (is_of t q) (k.accepted q) s 0 v.loads h.0 (is_of_yes t q s row.0 row.1 refl) h.1;
             agrees = λ on _. let g = f.receives on in
                 let Q : TableRecord → List (ℕ × ℕ) → Type 0 = λ y es. (last : ℕ) × AgreesTo y v.number es (v.loads ++ l ∷ []) last × (is_of y v.number s ≡ true → (last ≡ length es) × (l ≡ load_after s es)) in
                 subst (λ (y : TableRecord). Q y v.accepted) (sym st) (subst (Q t) g.1 (more v.number));

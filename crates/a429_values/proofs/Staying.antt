@@ -1,5 +1,5 @@
 -- A meeting's last cut stays the whole of what was accepted.
-use Rattle.std.proofs.Common.{◌≡◌, ◌≢◌, ℕ, zero, suc, ◌+◌, ◌<◌, ◌≤◌, eqb, List, [], ◌∷◌, ◌++◌, length, take, map, cond, Bool, true, false, refl, sym, ap, ◌∙◌, subst, arith, zero-le, le_refl, append_assoc, append-nil, eq-eqb, inl, inr}
+use Rattle.std.proofs.Common.{◌≡◌, ◌≢◌, ℕ, zero, suc, ◌+◌, ◌<◌, ◌≤◌, eqb, List, [], ◌∷◌, ◌++◌, length, take, map, cond, Bool, true, false, refl, sym, ap, ◌∙◌, subst, arith, zero-le, append_assoc, append-nil, eq-eqb, inl, inr}
 use Rattle.std.specs.Prelude.{filter}
 use Rattle.std.specs.List.{range_with_len}
 use Rattle.std.proofs.lemmas.Bool.{cases_eq, cases_lt}
@@ -10,7 +10,7 @@ use Rattle.a429_equipment.specs.Agreement.{words_of, load_after, is_of, loads_of
 use Rattle.a429_equipment.specs.Receiving.{IsAccepted, AreAccepted}
 use Rattle.a429_values.specs.Later.{StaysWhole}
 use Rattle.a429_values.proofs.Counted.{of_row, is_of_yes, is_of_row, is_of_not, is_of_inside, row_at}
-use Rattle.a429_values.proofs.Cutting.{cuts_more, cut_in_two, cuts_up}
+use Rattle.a429_values.proofs.Cutting.{cuts_more, cut_in_two, cuts_up, words_from, count_up}
 
 -- a source's load was made at a cut
 record LoadedAt (B A : List (ℕ × ℕ)) (s to : ℕ) : Type 0 where
@@ -50,10 +50,6 @@ record Lacks (t : TableRecord) (r m : ℕ) (A : List (ℕ × ℕ)) : Type 0 wher
 own_source : (t : TableRecord) (r : ℕ) (e : ℕ × ℕ) → IsAccepted t r e → is_of t r e.0 ≡ true
 own_source t r e h = is_of_yes t r e.0 h.row h.there (of_row t r e.0 e.1 h.row h h.there).receiver
 
--- the words of a list that begins with e, where the test of e gave b
-abbrev words_from : ℕ → ℕ × ℕ → Bool → List (ℕ × ℕ) → List ℕ
-words_from s e b A = map (λ (x : ℕ × ℕ). x.1) (cond b (e ∷ filter (λ (x : ℕ × ℕ). eqb x.0 s) A) (filter (λ (x : ℕ × ℕ). eqb x.0 s) A))
-
 lacks : (t : TableRecord) (r m : ℕ) (A : List (ℕ × ℕ)) → AreAccepted t r A → m < length A → Lacks t r m A
 lacks t r m [] all lt = absurd (omega arith)
 lacks t r zero (e ∷ A) all lt =
@@ -66,16 +62,6 @@ lacks t r (suc m) (e ∷ A) all lt =
     go : (b : Bool) (s : ℕ) → length (words_of s (take m A)) < length (words_of s A) → length (words_from s e b (take m A)) < length (words_from s e b A)
     go true s less = omega (arith, less)
     go false s less = less
-
-count_up : (s a b : ℕ) (A : List (ℕ × ℕ)) → a ≤ b → length (words_of s (take a A)) ≤ length (words_of s (take b A))
-count_up s zero b A le = zero-le
-count_up s (suc a) zero A le = absurd (omega arith)
-count_up s (suc a) (suc b) [] le = le_refl 0
-count_up s (suc a) (suc b) (e ∷ A) le = go (eqb e.0 s) (count_up s a b A (omega arith))
-  where
-    go : (c : Bool) → length (words_of s (take a A)) ≤ length (words_of s (take b A)) → length (words_from s e c (take a A)) ≤ length (words_from s e c (take b A))
-    go true h = omega (arith, h)
-    go false h = h
 
 pub stays_whole : (t : TableRecord) (r : ℕ) (A : List (ℕ × ℕ)) (before : List Load) → AreAccepted t r A → StaysWhole t r A (before ++ loads_of_all t r A)
 stays_whole t r A before all more later last h =

@@ -5,7 +5,7 @@ use Rattle.atomic_table.specs.Table.{Me, Step}
 use Rattle.a429_equipment.specs.declared.loads.Load.{Load}
 use Rattle.a429_equipment.specs.declared.rows.SourceRow.{SourceRow}
 use Rattle.a429_equipment.specs.TableRecord.{TableRecord}
-use Rattle.a429_equipment.specs.Agreement.{is_of, load_after, loads_of_all, words_of, Agrees, AgreesTo}
+use Rattle.a429_equipment.specs.Agreement.{is_of, load_after, loads_of_all, words_of, CountsNoLess, Agrees, AgreesTo}
 use Rattle.a429_values.specs.declared.view.View.{View}
 use Rattle.a429_values.specs.Words.{Tells}
 
@@ -84,12 +84,13 @@ IsNextCount v source count = (count ≡ length (words_of source v.accepted) + 1)
 
 -- ---- what the steps tell
 
--- a load that found the number: its loads agree with the list of the receiver whose seat this is too, and it is the load after all of it
--- where its source is one of that receiver's
+-- a load that found the number, and no earlier one of its source found more words. The loads agree with the list of the receiver whose seat
+-- this is too, and it is the load after all of that list where its source is one of that receiver's
 pub record Found (v : View) (s number : ℕ) (w : View) : Type 0 where
   pub load : Load
   pub view : w ≡ with_load v load
   pub tells : (row : SourceRow) → slice_get v.station.sources s ≡ Some row → Tells s row.label number load
+  pub no_less : CountsNoLess v.loads load
   pub agrees : v.receives ≡ true → v.transmits ≡ true
       → (last : ℕ) × AgreesTo v.station v.number v.accepted w.loads last × (is_of v.station v.number s ≡ true → (last ≡ length v.accepted) × (load ≡ load_after s v.accepted))
 

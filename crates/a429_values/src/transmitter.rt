@@ -1,7 +1,7 @@
 //! A transmitter's end of a hub.
 ghost use Rattle.std.specs.Prelude.{◌≡◌, ◌<◌, ◌∷◌, [], length, ℕ, true};
 ghost use Rattle.a429_equipment.specs.declared.loads.Load.{Load};
-ghost use Rattle.a429_equipment.specs.Agreement.{loads_of_all, AgreesToTheEnd};
+ghost use Rattle.a429_equipment.specs.Agreement.{loads_of_all, AgreesToTheEnd, CountsNoLess};
 ghost use Rattle.a429_values.specs.Ends.{with_loads};
 ghost use Rattle.a429_values.specs.Later.{OthersStayAgreed, StaysWhole};
 ghost use Rattle.a429_values.specs.Seats.{IsAt, Stays};
@@ -83,10 +83,12 @@ impl Transmitter {
     }
 
     /// The last accepted word of the source, with its number among the source's accepted words, counted
-    /// from 1, by one load; none where no word was accepted. This takes no memory and waits for nobody.
+    /// from 1, by one load; none where no word was accepted. That number is no less than in any load of the
+    /// source before. This takes no memory and waits for nobody.
     pub fn load_numbered(&mut self, source: usize) -> Option<(u64, Word)>
         requires { source < length self.old.at.station.sources }
-        ensures { self.new ≡ with_loads self.old (load_of source result ∷ []) }
+        ensures load { self.new ≡ with_loads self.old (load_of source result ∷ []) }
+        ensures no_less { CountsNoLess self.old.loads (load_of source result) }
     {
         let Transmitter { wired, seat, .. } = self;
         let label = wired.equipment.sources()[source].label;
@@ -97,7 +99,8 @@ impl Transmitter {
     /// memory and waits for nobody.
     pub fn load(&mut self, source: usize) -> Option<Word>
         requires { source < length self.old.at.station.sources }
-        ensures { (count : ℕ) × (self.new ≡ with_loads self.old (record { source = source; count = count; word = result } ∷ [])) }
+        ensures load { (count : ℕ) × (self.new ≡ with_loads self.old (record { source = source; count = count; word = result } ∷ [])) }
+        ensures no_less { (l : Load) → self.new ≡ with_loads self.old (l ∷ []) → CountsNoLess self.old.loads l }
     {
         self.load_numbered(source).map(|found| found.1)
     }
