@@ -2,7 +2,6 @@
 use Rattle.std.specs.Prelude.{◌≡◌, ◌+◌, ◌==◌, ◌<◌, ◌≤◌, ◌-◌, ◌^◌, ◌∷◌, [], ℕ, Bool, true, false, List, Option, Some, None, IsTrue, map, filter, filter_map, length, slice_get}
 use Rattle.std.specs.List.{AllByRecursion, zip}
 use mathlib.Core.List.{IsPrefix}
-use Rattle.a429_equipment.specs.declared.loads.Load.{Load}
 use Rattle.a429_equipment.specs.TableRecord.{TableRecord}
 use Rattle.a429_equipment.specs.Arrivals.{AcceptApart}
 use Rattle.a429_equipment.specs.Receiving.{IsReceived}
@@ -53,7 +52,7 @@ pub record IsWorking (C : ℕ) (o : Opening) (g : ℕ) (p : GroupTable) (later :
   pub lawful : AreLawful g p (before_calls o.proposal.plan p o.first) calls
   pub seen : IsPrefix (led_to o g p calls).seen (plans_of o later)
   pub known : AllByRecursion (λ l. l.source < length o.proposal.station.sources) (loads_of calls)
-  pub heard : AreHeard C o.proposal.station heard
+  pub accepted : AreHeard C o.proposal.station heard
   pub agree : (r : ℕ) → r < length o.proposal.station.receivers → Agrees o.proposal.station r (heard r) (loads_of calls)
 
 -- ---- what follows

@@ -1,0 +1,4 @@
+mod Answering
+mod Beginning
+mod Calling
+mod Changing
