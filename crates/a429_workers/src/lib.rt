@@ -2,7 +2,11 @@
 #![tactic(auto)]
 
 mod cells;
+mod gates;
+mod sinks;
 mod transmit;
 
 pub use cells::{ChangeFault, FrameEnd, OpenFault, Sent};
+pub use gates::{Gate, GateFault, OpenGate, Point};
+pub use sinks::{BusSink, CountSink, MemorySink, SinkFault};
 pub use transmit::Transmit;
