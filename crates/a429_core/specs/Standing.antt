@@ -7,7 +7,7 @@ use Rattle.a429_equipment.specs.TableRecord.{TableRecord}
 use Rattle.a429_equipment.specs.Arrivals.{AreApart, sorted}
 use Rattle.a429_equipment.specs.SameStation.{same_station}
 use Rattle.a429_slots.specs.Tables.{GroupTable, PlanTable, groups_of, cells_of, frame_of, buses_of, output_in}
-use Rattle.a429_slots.specs.Recalling.{Recent, Recalls, may_send, recent_after}
+use Rattle.a429_slots.specs.Recalling.{Recent, Recalls, source_sends, source_after}
 use Rattle.a429_slots.specs.Proposed.{Proposed}
 use Rattle.a429_slots.specs.Events.{Event, Arrive, Cell, Frame, Publish}
 use Rattle.a429_slots.specs.History.{Opening, OpensWith, current, cells_since, accepted_in, accepted_by, answered_cells, last_of, newest_number, newest_plan}
@@ -114,14 +114,7 @@ asked_cell groups g = option_and_then (λ s. placed_cell s (next_cell s)) (slice
 abbrev pub after_asked : List Sending → ℕ → List Sending
 after_asked groups g = option_map_or (λ s. slice_set groups g (after_cell s)) (slice_get groups g) groups
 
--- a word of a source may be sent, and what is kept of the group's sends then
-abbrev pub source_sends : List Recent → ℕ → ℕ → Due → Bool
-source_sends rs slot count due = option_map_or (λ r. may_send r slot count due.limits.hold due.limits.spacing) (slice_get rs due.source) false
-
-abbrev pub source_after : List Recent → ℕ → ℕ → Due → List Recent
-source_after rs slot count due =
-    option_map_or (λ r. slice_set rs due.source (recent_after r slot count due.limits.hold due.limits.spacing)) (slice_get rs due.source) rs
-
+-- a word of a source may be sent, and what is kept of each group's sends then
 abbrev pub group_sends : List (List Recent) → ℕ → ℕ → ℕ → Due → Bool
 group_sends sends g slot count due = option_map_or (λ rs. source_sends rs slot count due) (slice_get sends g) false
 

@@ -10,11 +10,11 @@ ghost use Rattle.a429_slots.specs.Sending.{begun, all_fit};
 ghost use Rattle.a429_core.specs.Standing.{AnswerEvents, GoesOnBy, StandsFor, IsWhole, IsWholeEvent, word_at, arrived, cell_asked, frame_asked, publish_asked, asked_cell, after_asked, frame_at, stepped};
 
 use crate::events::Event;
-use crate::sends::{GroupSends, send_word, sends_of};
+use crate::sends::{send_word, sends_of};
 use crate::sources::{Kept, keep};
 use a429_equipment::Equipment;
 use a429_slots::laws::sends_are_recalled;
-use a429_slots::{Answer, Due, OUTPUTS, Plan, Proposal, Refusal, Sender};
+use a429_slots::{Answer, Due, GroupSends, OUTPUTS, Plan, Proposal, Refusal, Sender};
 use a429_word::Word;
 use std::alloc::{AllocError, Global};
 use std::marker::Model;

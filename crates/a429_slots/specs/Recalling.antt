@@ -1,6 +1,7 @@
 -- What has to be kept of a group's earlier cells to tell the word that is sent in the next one.
-use Rattle.std.specs.Prelude.{◌≡◌, ◌==◌, ◌&&◌, ◌+◌, ◌<◌, ◌≤◌, ◌++◌, ◌∷◌, [], ℕ, Bool, List, Option, Some, None, false, not, if◌then◌else◌, nat_lt, nat_le}
+use Rattle.std.specs.Prelude.{◌≡◌, ◌==◌, ◌&&◌, ◌+◌, ◌<◌, ◌≤◌, ◌++◌, ◌∷◌, [], ℕ, Bool, List, Option, Some, None, false, not, if◌then◌else◌, nat_lt, nat_le, slice_get, slice_set}
 use Rattle.std.specs.Option.{option_map_or}
+use Rattle.a429_slots.specs.declared.senders.Due.{Due}
 use Rattle.a429_slots.specs.History.{AnsweredCell, has_sent, sent_word, times_sent, is_too_close}
 
 -- the word of a source that the group sent last: its number among the accepted words, how often it was sent, and the slot of the last
@@ -28,6 +29,14 @@ sent_again r slot count = record { count = count; times = times_of r count + 1; 
 -- what is kept after the cell, where it was asked for
 abbrev pub recent_after : Recent → ℕ → ℕ → Option ℕ → ℕ → Recent
 recent_after r slot count hold q = if may_send r slot count hold q then sent_again r slot count else r
+
+-- by what is kept of each source, a word of an output's source may be sent, and what is kept then
+abbrev pub source_sends : List Recent → ℕ → ℕ → Due → Bool
+source_sends rs slot count due = option_map_or (λ r. may_send r slot count due.limits.hold due.limits.spacing) (slice_get rs due.source) false
+
+abbrev pub source_after : List Recent → ℕ → ℕ → Due → List Recent
+source_after rs slot count due =
+    option_map_or (λ r. slice_set rs due.source (recent_after r slot count due.limits.hold due.limits.spacing)) (slice_get rs due.source) rs
 
 -- this is what is kept of these earlier cells for a source
 pub record Recalls (earlier : List AnsweredCell) (source : ℕ) (r : Recent) : Type 0 where

@@ -4,6 +4,7 @@
 mod answers;
 mod changes;
 mod group_plan;
+mod group_sends;
 pub mod laws;
 mod layout;
 mod limits;
@@ -18,6 +19,7 @@ pub use a429_pack::BUSES;
 pub use answers::{Answer, Refusal};
 pub use changes::gap;
 pub use group_plan::{GroupPlan, OUTPUTS, SendLimits, SlotPlace};
+pub use group_sends::GroupSends;
 pub use outputs::OutputId;
 pub use planner::{PlanFault, plan};
 pub use plans::{GROUPS, Plan};

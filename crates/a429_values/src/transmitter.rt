@@ -82,6 +82,13 @@ impl Transmitter {
         self.number
     }
 
+    /// How many sources the station has.
+    pub fn sources(&self) -> usize
+        ensures { result ≡ length self.now.at.station.sources }
+    {
+        self.wired.equipment.sources().len()
+    }
+
     /// The last accepted word of the source, with its number among the source's accepted words, counted
     /// from 1, by one load; none where no word was accepted. That number is no less than in any load of the
     /// source before. This takes no memory and waits for nobody.

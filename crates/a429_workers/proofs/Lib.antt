@@ -5,3 +5,7 @@ mod Steps
 mod Order
 mod Growing
 mod Sends
+mod Answering
+mod Beginning
+mod Calling
+mod Changing

@@ -1,4 +1,13 @@
 //! Transmitters over shared values and published plans, and the loops of a running station.
 #![tactic(auto)]
 
+mod cells;
+mod gates;
 pub mod laws;
+mod sinks;
+mod transmit;
+
+pub use cells::{ChangeFault, FrameEnd, OpenFault, Sent};
+pub use gates::{Gate, GateFault, OpenGate, Point};
+pub use sinks::{BusSink, CountSink, MemorySink, SinkFault};
+pub use transmit::Transmit;

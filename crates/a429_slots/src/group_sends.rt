@@ -1,0 +1,64 @@
+//! What a group keeps of its sends, source by source.
+ghost use Rattle.std.specs.Prelude.{◌≡◌, ◌≤◌, ◌+◌, ◌<◌, ◌^◌, IfOk, length, replicate};
+ghost use Rattle.a429_slots.specs.Recalling.{never, source_sends, source_after};
+
+use crate::senders::Due;
+use crate::sends::LastSend;
+use std::alloc::{AllocError, Global};
+use std::marker::Model;
+
+/// The last sends of a group, by the numbers of the sources.
+#[derive(Drop)]
+pub struct GroupSends {
+    sources: Vec<LastSend>,
+}
+
+impl Model for GroupSends {
+    ghost use Rattle.std.specs.Prelude.{List};
+    ghost use Rattle.a429_slots.specs.Recalling.{Recent};
+
+    ghost Value = { List Recent };
+
+    ghost view = { λ s. s.sources.items };
+}
+
+fn send_source(sources: &mut Vec<LastSend>, slot: u64, count: u64, due: Due) -> bool
+    requires some { 1 ≤ due.limits.spacing }
+    requires room { slot + 1 < 2 ^ 64 }
+    ensures sent { result ≡ source_sends sources.old.items slot count due }
+    ensures after { sources.new.items ≡ source_after sources.old.items slot count due }
+{
+    if due.source >= sources.len() {
+        return false;
+    }
+    sources[due.source].send(slot, count, due.limits)
+}
+
+impl GroupSends {
+    /// Nothing was sent of so many sources. All the memory that is ever needed is taken here.
+    pub fn open(alloc: Global, sources: usize) -> Result<GroupSends, AllocError>
+        ensures { IfOk result (λ sends. sends ≡ replicate sources never) }
+    {
+        Ok(GroupSends {
+            sources: vec![in alloc; LastSend::never(); sources]?,
+        })
+    }
+
+    /// Of how many sources sends are kept.
+    pub fn sources(&self) -> usize
+        ensures { result ≡ length self.now }
+    {
+        self.sources.len()
+    }
+
+    /// Sends the accepted word of this number of an output's source, where the output's limits and what was sent
+    /// before let it. Answers whether it is sent; a source of which no sends are kept sends nothing.
+    pub fn send(&mut self, slot: u64, count: u64, due: Due) -> bool
+        requires some { 1 ≤ due.limits.spacing }
+        requires room { slot + 1 < 2 ^ 64 }
+        ensures sent { result ≡ source_sends self.old slot count due }
+        ensures after { self.new ≡ source_after self.old slot count due }
+    {
+        send_source(&mut self.sources, slot, count, due)
+    }
+}

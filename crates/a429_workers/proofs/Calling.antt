@@ -1,0 +1,118 @@
+-- One call more, over every list of calls that a transmitter stands for.
+use Rattle.std.proofs.Common.{◌≡◌, ℕ, zero, suc, ◌+◌, ◌*◌, ◌/◌, ◌%◌, ◌<◌, ◌≤◌, Bool, true, false, List, [], ◌∷◌, ◌++◌, length, ◌∙◌, sym, ap, subst, refl, inl, inr, arith, append-nil, append_assoc}
+use Rattle.std.specs.Prelude.{Some, None, if◌then◌else◌, nat_lt}
+use Rattle.std.specs.List.{AllByRecursion}
+use Rattle.std.proofs.Math.Nat.{div-mul-le_self, div-zero, div-lt_iff_lt-mul, mul_comm}
+use Rattle.std.proofs.lemmas.Nat.{le-div}
+use Rattle.std.proofs.lemmas.Option.{none-some, cond_some}
+use Rattle.std.proofs.lemmas.Bool.{cases_Bool, ltb-true}
+use Rattle.std.proofs.lemmas.Grind.{flat_map-append}
+use Rattle.a429_equipment.specs.declared.loads.Load.{Load}
+use Rattle.a429_slots.specs.Tables.{GroupTable, cells_of, buses_of, frame_of}
+use Rattle.a429_slots.specs.Sending.{Sending, next_cell, after_cell, fits_next, turned}
+use Rattle.a429_workers.specs.Calls.{Call, Standing, loads_in, loads_of, AreLawful, IsLawful, before_calls, after, standing_after}
+use Rattle.a429_workers.specs.Transmitting.{Transmitting, Outset, IsSameGroup, IsReached, IsAt, HasMade, led_by}
+use Rattle.a429_workers.proofs.Beginning.{all_append}
+
+-- ---- one call more
+
+lawful_push : (g : ℕ) (p : GroupTable) (s : Standing) (calls : List Call) (c : Call) → AreLawful g p s calls → IsLawful g p (standing_after g p s calls) c → AreLawful g p s (calls ++ c ∷ [])
+lawful_push g p s [] c all is = (is, tt)
+lawful_push g p s (d ∷ calls) c all is = (all.0, lawful_push g p (after g p s d) calls c all.1 is)
+
+standing_push : (g : ℕ) (p : GroupTable) (s : Standing) (calls : List Call) (c : Call) → standing_after g p s (calls ++ c ∷ []) ≡ after g p (standing_after g p s calls) c
+standing_push g p s [] c = refl
+standing_push g p s (d ∷ calls) c = standing_push g p (after g p s d) calls c
+
+loads_push : (calls : List Call) (c : Call) → loads_of (calls ++ c ∷ []) ≡ loads_of calls ++ loads_in c
+loads_push calls c = flat_map-append loads_in calls (c ∷ []) ∙ ap (λ (ls : List Load). loads_of calls ++ ls) (append-nil (loads_in c))
+
+-- each load is of a source of the hub's station
+abbrev pub AreKnown : Transmitting → List Load → Type 0
+AreKnown v loads = AllByRecursion (λ l. l.source < length v.transmitter.at.station.sources) loads
+
+-- a call was made: these loads were made in it, and it leads there
+pub record IsMade (b : Outset) (calls : List Call) (v w : Transmitting) (c : Call) : Type 0 where
+  pub same : IsSameGroup v w
+  pub lawful : IsLawful b.group b.table (led_by b calls) c
+  pub loads : w.transmitter.loads ≡ v.transmitter.loads ++ loads_in c
+  pub known : AreKnown v (loads_in c)
+  pub at : IsAt b (after b.group b.table (led_by b calls) c) w
+
+pub one_more : (b : Outset) (calls : List Call) (v w : Transmitting) (c : Call) → HasMade b calls v → IsMade b calls v w c → HasMade b (calls ++ c ∷ []) w
+one_more b calls v w c M N = record {
+  opens = M.opens;
+  lawful = lawful_push b.group b.table (before_calls b.opened b.table b.first) calls c M.lawful N.lawful;
+  loads = N.loads
+      ∙ (ap (λ (ls : List Load). ls ++ loads_in c) M.loads
+      ∙ (append_assoc b.before (loads_of calls) (loads_in c) ∙ ap (λ (ls : List Load). b.before ++ ls) (sym (loads_push calls c))));
+  known = subst (AreKnown w) (sym (loads_push calls c))
+      (subst (λ (n : ℕ). AllByRecursion (λ l. l.source < n) (loads_of calls ++ loads_in c)) (ap (λ at. length at.station.sources) (sym N.same.hub))
+      (all_append (λ (l : Load). l.source < length v.transmitter.at.station.sources) (loads_of calls) (loads_in c) M.known N.known));
+  at = subst (λ (s : Standing). IsAt b s w) (sym (standing_push b.group b.table (before_calls b.opened b.table b.first) calls c)) N.at;
+}
+
+-- ---- slots go on
+
+div_more : (c m : ℕ) → c / m ≤ (c + 1) / m
+div_more c zero = omega (arith, div-zero c)
+div_more c (suc m) = le-div (c / suc m) (c + 1) (suc m) (omega arith) (omega (arith, div-mul-le_self c (suc m)))
+
+pub reached_cell : (f : Sending) (slot : ℕ) → IsReached f slot → IsReached (after_cell f) slot
+reached_cell f slot R = go (nat_lt f.sent (cells_of f.table))
+  where
+    go : (b : Bool) → IsReached (if b then record f { sent = f.sent + 1 } else f) slot
+    go true = record { passed = omega (arith, R.passed, div_more f.sent (buses_of f.table)); in_frame = R.in_frame }
+    go false = R
+
+pub reached_turn : (f : Sending) (t : GroupTable) (slot : ℕ) → IsReached f slot → IsReached (turned f t) slot
+reached_turn f t slot R = go (fits_next f t)
+  where
+    go : (b : Bool) → IsReached (if b then record { table = t; first = f.first + frame_of f.table; sent = 0 } else f) slot
+    go true = record { passed = omega (arith, R.in_frame); in_frame = omega (arith, R.in_frame) }
+    go false = R
+
+positive : (k m H : ℕ) → k < m * H → 0 < m
+positive k zero H lt = let none : zero * H ≡ zero = omega arith in absurd (omega (arith, lt, none))
+positive k (suc m) H lt = omega arith
+
+in_frame : (k m H : ℕ) → k < m * H → k / m < H
+in_frame k m H lt = (div-lt_iff_lt-mul (positive k m H lt)).1 (subst (λ (n : ℕ). k < n) (mul_comm m H) lt)
+
+-- a cell that is due: cells are left, and this is its place
+pub record IsDue (f : Sending) (cell : ℕ × ℕ) : Type 0 where
+  pub left : nat_lt f.sent (cells_of f.table) ≡ true
+  pub place : (f.sent % buses_of f.table, f.sent / buses_of f.table) ≡ cell
+
+pub due_is : (f : Sending) (cell : ℕ × ℕ) → next_cell f ≡ Some cell → IsDue f cell
+due_is f cell is =
+    let both = cond_some (nat_lt f.sent (cells_of f.table)) (f.sent % buses_of f.table, f.sent / buses_of f.table) cell is in
+    record { left = both.0; place = both.1 }
+
+pub none_due : (f : Sending) → next_cell f ≡ None → nat_lt f.sent (cells_of f.table) ≡ false
+none_due f none = elim (cases_Bool (nat_lt f.sent (cells_of f.table))) [
+  | inl lt ↦
+      let some : next_cell f ≡ Some (f.sent % buses_of f.table, f.sent / buses_of f.table) = rw lt refl in
+      absurd (none-some (f.sent % buses_of f.table, f.sent / buses_of f.table) (sym none ∙ some))
+  | inr ge ↦ ge
+]
+
+-- the slot of a due cell is not before what was reached, and it is reached once the cell is answered
+pub slot_after : (f : Sending) (cell : ℕ × ℕ) (slot : ℕ) → next_cell f ≡ Some cell → IsReached f slot → slot ≤ f.first + cell.1
+slot_after f cell slot is R =
+    let at : f.sent / buses_of f.table ≡ cell.1 = ap (λ (x : ℕ × ℕ). x.1) (due_is f cell is).place in
+    omega (arith, at, R.passed)
+
+pub reached_own : (f : Sending) (cell : ℕ × ℕ) → next_cell f ≡ Some cell → IsReached (after_cell f) (f.first + cell.1)
+reached_own f cell is =
+    let D = due_is f cell is in
+    let at : f.sent / buses_of f.table ≡ cell.1 = ap (λ (x : ℕ × ℕ). x.1) D.place in
+    let low = in_frame f.sent (buses_of f.table) (frame_of f.table) (ltb-true f.sent (cells_of f.table) D.left) in
+    reached_cell f (f.first + cell.1) (record { passed = omega (arith, at); in_frame = omega (arith, at, low) })
+
+pub same_table : (f : Sending) → (after_cell f).table ≡ f.table
+same_table f = go (nat_lt f.sent (cells_of f.table))
+  where
+    go : (b : Bool) → (if b then record f { sent = f.sent + 1 } else f).table ≡ f.table
+    go true = refl
+    go false = refl
