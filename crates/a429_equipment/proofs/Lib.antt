@@ -16,3 +16,4 @@ pub mod Ranges
 pub mod Cutting
 pub mod Receiving
 pub mod KeyPairs
+pub mod Labels
