@@ -17,3 +17,4 @@ pub mod Cutting
 pub mod Receiving
 pub mod KeyPairs
 pub mod Labels
+pub mod Stations
