@@ -17,3 +17,5 @@ pub mod Cutting
 pub mod Lasting
 pub mod Receiving
 pub mod KeyPairs
+pub mod Labels
+pub mod Stations

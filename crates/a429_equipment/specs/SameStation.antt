@@ -1,6 +1,6 @@
 -- Two equipments of one station: equal receivers with their filters as written, sources, and names and rates of groups, each in order (profile).
 -- Neither the versions nor the rates of the roots are compared: a table of version 1 and one of version 2 may be of one station.
-use Rattle.std.specs.Prelude.{◌==◌, ◌&&◌, ℕ, Bool, true, false, List, Option, Some, None, length}
+use Rattle.std.specs.Prelude.{◌≡◌, ◌==◌, ◌&&◌, ℕ, Bool, true, false, List, Option, Some, None, length}
 use Rattle.std.specs.List.{list_all, zip}
 use Rattle.std.specs.Str.{bytes_eq}
 use Rattle.a429_filter.specs.declared.filters.Filter.{Filter}
@@ -38,3 +38,7 @@ same_group a b = bytes_eq a.name b.name && a.rate == b.rate
 unfoldable pub same_station : TableRecord → TableRecord → Bool
 same_station a b =
     all_agree same_receiver a.receivers b.receivers && (all_agree same_source a.sources b.sources && all_agree same_group a.groups b.groups)
+
+-- equal receivers, sources and groups, which is what the comparison comes to
+abbrev pub HaveOneStation : TableRecord → TableRecord → Type 0
+HaveOneStation a b = (a.receivers ≡ b.receivers) × (a.sources ≡ b.sources) × (a.groups ≡ b.groups)

@@ -4,7 +4,7 @@ ghost use Rattle.std.specs.Prelude.{◌≡◌, map, not, Some, codes};
 ghost use Rattle.std.specs.List.{list_any};
 ghost use Rattle.toml.specs.Data.{get};
 ghost use Rattle.toml.specs.View.{view};
-ghost use Rattle.a429_equipment.specs.Texts.{is_name_byte, is_name, is_octal, label_value, is_filter};
+ghost use Rattle.a429_equipment.specs.Texts.{is_name_byte, is_name, label_value, is_filter};
 ghost use Rattle.a429_equipment.specs.Tree.{text_of};
 ghost use Rattle.a429_equipment.specs.Faults.{is_sdi, is_within, is_rate, is_interval, is_hold, is_named, has_wrong_rate, has_too_many, has_bad_name, has_bad_label, has_bad_sdi, has_bad_interval, has_bad_hold, is_empty_group};
 
@@ -12,6 +12,8 @@ use crate::fault::TablePlace;
 use crate::tree::{get_integer, integer_at, rows_at, text_at, text_of};
 use crate::version::TableVersion;
 use crate::walk::Stop;
+use a429_word::Label;
+use std::str;
 use toml::Value;
 
 /// Whether a number lies from `low` to `high`.
@@ -89,15 +91,16 @@ pub fn has_bad_name(stop: &Stop) -> bool
     is_named(stop.place) && !is_name(text_at(stop.value, "name"))
 }
 
-#[tactic(auto, unfolding(crate::specs::Texts::label_value))]
+/// The value of three octal digits, `000` to `377`, and none of any other text.
 pub fn label_value(text: &[u8]) -> Option<u8>
     ensures { result ≡ label_value text.now }
 {
-    match text {
-        [a @ b'0'..=b'3', b @ b'0'..=b'7', c @ b'0'..=b'7'] => {
-            Some(64 * (*a - b'0') + 8 * (*b - b'0') + (*c - b'0'))
-        }
-        _ => None,
+    let Ok(text) = str::from_utf8(text) else {
+        return None;
+    };
+    match Label::parse(text) {
+        Ok(label) => Some(label.value()),
+        Err(_) => None,
     }
 }
 
