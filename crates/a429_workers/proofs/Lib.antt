@@ -5,3 +5,4 @@ mod Steps
 mod Order
 mod Growing
 mod Sends
+mod Example

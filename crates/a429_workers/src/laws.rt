@@ -4,6 +4,7 @@ ghost use Rattle.a429_slots.specs.Tables.{GroupTable};
 ghost use Rattle.a429_slots.specs.Proposed.{Proposed};
 ghost use Rattle.a429_slots.specs.History.{Opening};
 ghost use Rattle.a429_workers.specs.Calls.{Call};
+ghost use Rattle.a429_workers.specs.Example as example;
 ghost use Rattle.a429_workers.specs.MoreCalls.{LastCallLeads, LastCallLoads, LawfulCallsGrow};
 ghost use Rattle.a429_workers.specs.Runs.{IsWorking, HasRun};
 ghost use Rattle.a429_workers.specs.Sends.{HoldsAreKept, WordsAreApart};
@@ -20,6 +21,11 @@ pub fn one_run()
 {
     tables_receive_for_sources();
 }
+
+/// The premises of one run can be met, where a word is held back and the plan changes.
+pub fn one_run_applies()
+    ensures { IsWorking 2 example.opening 0 example.table example.later example.calls example.heard }
+{}
 
 /// Calls that are lawful stay lawful with one more that is lawful where they led.
 pub fn lawful_calls_grow()
