@@ -1,6 +1,5 @@
 mod Lists
 mod Heard
-mod Histories
 mod Steps
 mod Order
 mod Growing

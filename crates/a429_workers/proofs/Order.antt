@@ -8,7 +8,6 @@ use Rattle.std.proofs.lemmas.Bool.{cases_eq, eq-eqb, ne_eqb}
 use mathlib.Core.List.{IsPrefix}
 use Rattle.a429_equipment.specs.declared.loads.Load.{Load}
 use Rattle.a429_equipment.specs.Agreement.{IsCut, Cuts, is_of, words_of}
-use Rattle.a429_equipment.specs.Receiving.{ReceiversAcceptForSources, ReceiversAcceptInPieces}
 use Rattle.a429_slots.specs.Tables.{GroupTable, PlanTable, cells_of}
 use Rattle.a429_slots.specs.Proposed.{Proposed}
 use Rattle.a429_slots.specs.Events.{Event, Arrive, Cell, Frame, Publish}
@@ -20,7 +19,7 @@ use Rattle.a429_slots.specs.Answers.{answer, answers}
 use Rattle.a429_workers.specs.Calls.{Call, Turn, Asks, Turns, Meets, Takes, StaysMid, StaysSpent, Standing, AreLawful, turn, after_turn, after, standing_after, before_calls, loads_of}
 use Rattle.a429_workers.specs.Runs.{IsWorking, HasRun, answered, is_sending, comes_to, is_publish, event_of, turn_answer}
 use Rattle.a429_workers.proofs.Lists.{get_within, all_parts, drop_next, newly_seen, prefix_itself, prefix_on}
-use Rattle.a429_workers.proofs.Steps.{Given, IsAt, IsLatest, bump, accepted_here, arrival_answer, arrival_step, publish_answer_is, publish_step, end_answer, end_step, cell_answer_is, cell_step, turn_step}
+use Rattle.a429_workers.proofs.Steps.{Below, Given, IsAt, IsLatest, bump, accepted_here, arrival_answer, arrival_step, publish_answer_is, publish_step, end_answer, end_step, cell_answer_is, cell_step, turn_step}
 use Rattle.a429_workers.proofs.Steps
 
 -- ---- events with their answers
@@ -271,10 +270,9 @@ starts C o g p later heard =
     let none : min 0 (cells_of p) ≡ 0 = omega arith in
     record { arrivals = λ r. refl; seen = refl; left = refl; frame = rw none refl; earlier = refl }
 
-pub has_run : (C : ℕ) (o : Opening) (g : ℕ) (p : GroupTable) (later : List Proposed) (calls : List Call) (heard : ℕ → List (ℕ × ℕ)) → ReceiversAcceptForSources o.proposal.station → ReceiversAcceptInPieces o.proposal.station
-    → IsWorking C o g p later calls heard → HasRun C o g later calls heard
-has_run C o g p later calls heard words pieces H =
-    let W : Given C o g p later heard = record { words = words; pieces = pieces; known = H.wired.received; opens = H.opens; plans = H.published; accepted = H.accepted } in
+pub has_run : (C : ℕ) (o : Opening) (g : ℕ) (p : GroupTable) (later : List Proposed) (calls : List Call) (heard : ℕ → List (ℕ × ℕ)) → Below o.proposal.station → IsWorking C o g p later calls heard → HasRun C o g later calls heard
+has_run C o g p later calls heard below H =
+    let W : Given C o g p later heard = record { below = below; known = H.wired.received; opens = H.opens; plans = H.published; accepted = H.accepted } in
     let first = before_calls o.proposal.plan p o.first in
     let N = goes C o g p later heard W calls [] (λ r. 0) first later (record { at = starts C o g p later heard; within = λ r. omega arith; agree = H.agree }) H.lawful H.seen H.known in
     let so : answered C o (map (λ x. x.0) N.events) ≡ N.events = told_so C o [] N.events N.so in
