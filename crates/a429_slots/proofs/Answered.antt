@@ -21,7 +21,7 @@ more_cells earlier next = earlier ++ option_map_or (λ c. c ∷ []) next []
 abbrev next_of : ℕ → Opening → ℕ → GroupTable → List Event → Option AnsweredCell
 next_of C o g p E = next_answered C o E g (current o g p E) (answered_cells C o g p E)
 
-answered_push : (C : ℕ) (o : Opening) (g : ℕ) (p : GroupTable) (E : List Event) (e : Event)
+pub answered_push : (C : ℕ) (o : Opening) (g : ℕ) (p : GroupTable) (E : List Event) (e : Event)
     → answered_cells C o g p (E ++ e ∷ []) ≡ (if is_cell g e then more_cells (answered_cells C o g p E) (next_of C o g p E) else answered_cells C o g p E)
 answered_push C o g p E e = ap (answered_after C o g p) (reverse-append E (e ∷ []))
     ∙ ap (λ (F : List Event). if is_cell g e then more_cells (answered_cells C o g p E) (next_answered C o F g (current o g p E) (answered_cells C o g p E)) else answered_cells C o g p E) (reverse-reverse E)

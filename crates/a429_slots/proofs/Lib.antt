@@ -10,6 +10,7 @@ pub mod Taking
 pub mod Published
 pub mod Remembering
 pub mod Answered
+pub mod GoingOn
 pub mod Numbers
 pub mod Following
 pub mod SamePlan

@@ -13,4 +13,5 @@ pub mod Recalling
 pub mod Spacing
 pub mod Answers
 pub mod Sending
+pub mod GoingOn
 pub mod Holding

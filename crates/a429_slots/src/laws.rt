@@ -1,6 +1,7 @@
 //! What follows from the definitions of histories.
 ghost use Rattle.std.specs.Prelude.{◌≡◌, [], ◌⊎◌, ℕ, List, false};
 ghost use Rattle.a429_slots.specs.Tables.{GroupTable};
+ghost use Rattle.a429_slots.specs.GoingOn.{AnsweredCellsGrow, CellsCount, FramesTurn, OthersPass, TellsFrameAnswer, TellsNextCell};
 ghost use Rattle.a429_slots.specs.Holding.{HoldsAreKept};
 ghost use Rattle.a429_slots.specs.Spacing.{CellsOfOnePlanAreApart, EmptyCellsAreFirst, EmptyCellsFollowWords, OpeningPlanEmptiesNone, PlannedTablesAreSpaced, PlansInForceAreSpaced, WordsAreApart};
 ghost use Rattle.a429_slots.specs.OnePlan.{FaultsAreUnique, PlansAreUnique, PlansHaveNoFault};
@@ -52,6 +53,21 @@ pub fn plan_was_published()
 pub fn plan_changes_at_taken_frames()
     ensures { (o : Opening) (g : ℕ) (p : GroupTable) (E : List Event) (e : Event) → is_taken_after o g p E e ≡ false
         → LeavesFrame o g p E e }
+{}
+
+/// Where a group stands in its frame goes on by its own Cells and Frames alone, and tells its next cell and the
+/// answer to a Frame.
+pub fn frames_go_on()
+    ensures cell { CellsCount }
+    ensures frame { FramesTurn }
+    ensures other { OthersPass }
+    ensures next { TellsNextCell }
+    ensures answer { TellsFrameAnswer }
+{}
+
+/// The cells that a group has answered go on by its own Cells alone.
+pub fn answered_cells_grow()
+    ensures { AnsweredCellsGrow }
 {}
 
 /// What a group keeps of its sends of a source tells the word that is sent in a cell, whatever cells came before, as

@@ -1,6 +1,5 @@
 mod Lists
 mod Heard
-mod Histories
 mod Steps
 mod Order
 mod Growing
@@ -9,3 +8,4 @@ mod Answering
 mod Beginning
 mod Calling
 mod Changing
+mod Example

@@ -54,14 +54,14 @@ pub same_back : {X : Type 0} (xs ys zs : List X) → xs ++ ys ≡ xs ++ zs → y
 same_back {X} xs ys zs h = sym (drop-append_seam xs ys) ∙ (ap (λ (l : List X). drop (length xs) l) h ∙ drop-append_seam xs zs)
 
 -- a mapped list that is two lists in a row is of two lists in a row
-pub record IsSplit {X Y : Type 0} (f : X → Y) (xs : List X) (ys zs : List Y) : Type 0 where
+record IsSplit {X Y : Type 0} (f : X → Y) (xs : List X) (ys zs : List Y) : Type 0 where
   pub front : List X
   pub back : List X
   pub whole : xs ≡ front ++ back
   pub of_front : map f front ≡ ys
   pub of_back : map f back ≡ zs
 
-pub split_map : {X Y : Type 0} (f : X → Y) (xs : List X) (ys zs : List Y) → map f xs ≡ ys ++ zs → IsSplit f xs ys zs
+split_map : {X Y : Type 0} (f : X → Y) (xs : List X) (ys zs : List Y) → map f xs ≡ ys ++ zs → IsSplit f xs ys zs
 split_map f xs [] zs h = record { front = []; back = xs; whole = refl; of_front = refl; of_back = h }
 split_map f [] (y ∷ ys) zs h = absurd (cc h)
 split_map {X} {Y} f (x ∷ xs) (y ∷ ys) zs h =
@@ -80,6 +80,22 @@ prefix_itself xs = ([], append-nil xs)
 
 pub prefix_on : {X : Type 0} (xs ys zs : List X) → IsPrefix xs ys → IsPrefix ys zs → IsPrefix xs zs
 prefix_on {X} xs ys zs p q = (p.0 ++ q.0, sym (append_assoc xs p.0 q.0) ∙ (ap (λ (l : List X). l ++ q.0) p.1 ∙ q.1))
+
+-- what of a list is newly seen, where `plans` were seen in place of `seen`, and `end` are seen in the end
+pub record IsNewlySeen {X Y : Type 0} (f : X → Y) (seen plans end : List Y) (rest : List X) : Type 0 where
+  pub front : List X
+  pub back : List X
+  pub whole : rest ≡ front ++ back
+  pub grown : seen ++ map f front ≡ plans
+  pub still : IsPrefix end (plans ++ map f back)
+
+pub newly_seen : {X Y : Type 0} (f : X → Y) (seen plans end : List Y) (rest : List X) → IsPrefix seen plans → IsPrefix plans end → IsPrefix end (seen ++ map f rest) → IsNewlySeen f seen plans end rest
+newly_seen {X} {Y} f seen plans end rest more some all =
+    let left = prefix_on plans end (seen ++ map f rest) some all in
+    let parts : seen ++ map f rest ≡ seen ++ (more.0 ++ left.0) = sym left.1 ∙ (ap (λ (l : List Y). l ++ left.0) (sym more.1) ∙ append_assoc seen more.0 left.0) in
+    let S = split_map f rest more.0 left.0 (same_back seen (map f rest) (more.0 ++ left.0) parts) in
+    let same : plans ++ map f S.back ≡ seen ++ map f rest = ap (λ (l : List Y). plans ++ l) S.of_back ∙ left.1 in
+    record { front = S.front; back = S.back; whole = S.whole; grown = ap (λ (l : List Y). seen ++ l) S.of_front ∙ more.1; still = subst (IsPrefix end) (sym same) all }
 
 -- ---- the last element
 

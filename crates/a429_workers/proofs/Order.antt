@@ -8,7 +8,6 @@ use Rattle.std.proofs.lemmas.Bool.{cases_eq, eq-eqb, ne_eqb}
 use mathlib.Core.List.{IsPrefix}
 use Rattle.a429_equipment.specs.declared.loads.Load.{Load}
 use Rattle.a429_equipment.specs.Agreement.{IsCut, Cuts, is_of, words_of}
-use Rattle.a429_equipment.specs.Receiving.{ReceiversAcceptForSources, ReceiversAcceptInPieces}
 use Rattle.a429_slots.specs.Tables.{GroupTable, PlanTable, cells_of}
 use Rattle.a429_slots.specs.Proposed.{Proposed}
 use Rattle.a429_slots.specs.Events.{Event, Arrive, Cell, Frame, Publish}
@@ -19,8 +18,8 @@ use Rattle.a429_slots.specs.declared.answers.Refusal.TheVariants.{FrameEnd}
 use Rattle.a429_slots.specs.Answers.{answer, answers}
 use Rattle.a429_workers.specs.Calls.{Call, Turn, Asks, Turns, Meets, Takes, StaysMid, StaysSpent, Standing, AreLawful, turn, after_turn, after, standing_after, before_calls, loads_of}
 use Rattle.a429_workers.specs.Runs.{IsWorking, HasRun, answered, is_sending, comes_to, is_publish, event_of, turn_answer}
-use Rattle.a429_workers.proofs.Lists.{get_within, all_parts, drop_next, same_back, split_map, prefix_itself, prefix_on}
-use Rattle.a429_workers.proofs.Steps.{Given, IsAt, IsLatest, bump, accepted_here, arrival_answer, arrival_step, publish_answer_is, publish_step, end_answer, end_step, cell_answer_is, cell_step, turn_step}
+use Rattle.a429_workers.proofs.Lists.{get_within, all_parts, drop_next, newly_seen, prefix_itself, prefix_on}
+use Rattle.a429_workers.proofs.Steps.{Below, Given, IsAt, IsLatest, bump, accepted_here, arrival_answer, arrival_step, publish_answer_is, publish_step, end_answer, end_step, cell_answer_is, cell_step, turn_step}
 use Rattle.a429_workers.proofs.Steps
 
 -- ---- events with their answers
@@ -258,29 +257,22 @@ module _ (C : ℕ) (o : Opening) (g : ℕ) (p : GroupTable) (later : List Propos
   goes (Turns plans t ∷ calls) E cut s rest On lawful seen known =
       let s' = after_turn g p s plans t in
       let end = standing_after g p s' calls in
-      let first : IsPrefix plans end.seen = subst (λ (qs : List PlanTable). IsPrefix qs end.seen) (turned_seen g p s plans t) (seen_on g p s' calls lawful.1) in
-      let whole = prefix_on plans end.seen (s.seen ++ map (λ q. q.plan) rest) first seen in
-      let grown = lawful.0.0 in
-      let parts : s.seen ++ map (λ q. q.plan) rest ≡ s.seen ++ (grown.0 ++ whole.0) =
-      sym whole.1 ∙ (ap (λ (qs : List PlanTable). qs ++ whole.0) (sym grown.1) ∙ append_assoc s.seen grown.0 whole.0) in
-      let S = split_map (λ (q : Proposed). q.plan) rest grown.0 whole.0 (same_back s.seen (map (λ q. q.plan) rest) (grown.0 ++ whole.0) parts) in
-      let same : s'.seen ++ map (λ q. q.plan) S.back ≡ plans ++ whole.0 =
-      ap (λ (qs : List PlanTable). qs ++ map (λ q. q.plan) S.back) (turned_seen g p s plans t) ∙ ap (λ (qs : List PlanTable). plans ++ qs) S.of_back in
-      let all : s'.seen ++ map (λ q. q.plan) S.back ≡ s.seen ++ map (λ q. q.plan) rest = same ∙ whole.1 in
-      let seen' : IsPrefix end.seen (s'.seen ++ map (λ q. q.plan) S.back) = subst (IsPrefix end.seen) (sym all) seen in
-      subst (Next E cut (Turns plans t ∷ calls)) (sym S.whole)
-      (change_goes E cut s S.front S.back plans t calls (ap (λ (qs : List PlanTable). s.seen ++ qs) S.of_front ∙ grown.1) lawful.0.1 (subst (At E cut s) S.whole On.at)
-      (λ F B. goes calls F cut s' S.back (on_from E F cut s s' rest S.back (loads_of calls) On B) lawful.1 seen' known))
+      let now : s'.seen ≡ plans = turned_seen g p s plans t in
+      let S = newly_seen (λ (q : Proposed). q.plan) s.seen plans end.seen rest lawful.0.0 (subst (λ (qs : List PlanTable). IsPrefix qs end.seen) now (seen_on g p s' calls lawful.1)) seen in
+      let still = subst (λ (qs : List PlanTable). IsPrefix end.seen (qs ++ map (λ q. q.plan) S.back)) (sym now) S.still in
+      let whole : rest ≡ S.front ++ S.back = S.whole in
+      subst (Next E cut (Turns plans t ∷ calls)) (sym whole)
+      (change_goes E cut s S.front S.back plans t calls S.grown lawful.0.1 (subst (At E cut s) whole On.at)
+      (λ F B. goes calls F cut s' S.back (on_from E F cut s s' rest S.back (loads_of calls) On B) lawful.1 still known))
 
 starts : (C : ℕ) (o : Opening) (g : ℕ) (p : GroupTable) (later : List Proposed) (heard : ℕ → List (ℕ × ℕ)) → IsAt C o g p later heard [] (λ r. 0) (before_calls o.proposal.plan p o.first) later
 starts C o g p later heard =
     let none : min 0 (cells_of p) ≡ 0 = omega arith in
     record { arrivals = λ r. refl; seen = refl; left = refl; frame = rw none refl; earlier = refl }
 
-pub has_run : (C : ℕ) (o : Opening) (g : ℕ) (p : GroupTable) (later : List Proposed) (calls : List Call) (heard : ℕ → List (ℕ × ℕ)) → ReceiversAcceptForSources o.proposal.station → ReceiversAcceptInPieces o.proposal.station
-    → IsWorking C o g p later calls heard → HasRun C o g later calls heard
-has_run C o g p later calls heard words pieces H =
-    let W : Given C o g p later heard = record { words = words; pieces = pieces; known = H.wired.received; opens = H.opens; plans = H.published; accepted = H.accepted } in
+pub has_run : (C : ℕ) (o : Opening) (g : ℕ) (p : GroupTable) (later : List Proposed) (calls : List Call) (heard : ℕ → List (ℕ × ℕ)) → Below o.proposal.station → IsWorking C o g p later calls heard → HasRun C o g later calls heard
+has_run C o g p later calls heard below H =
+    let W : Given C o g p later heard = record { below = below; known = H.wired.received; opens = H.opens; plans = H.published; accepted = H.accepted } in
     let first = before_calls o.proposal.plan p o.first in
     let N = goes C o g p later heard W calls [] (λ r. 0) first later (record { at = starts C o g p later heard; within = λ r. omega arith; agree = H.agree }) H.lawful H.seen H.known in
     let so : answered C o (map (λ x. x.0) N.events) ≡ N.events = told_so C o [] N.events N.so in

@@ -1,14 +1,15 @@
 -- One event of a run: what it is answered, and where it leads.
-use Rattle.std.proofs.Common.{◌≡◌, ℕ, suc, ◌+◌, ◌-◌, ◌^◌, ◌<◌, ◌≤◌, ◌/◌, ◌%◌, true, List, [], ◌∷◌, ◌++◌, length, take, map, ◌∙◌, sym, ap, subst, refl, inl, inr, arith, append-nil, append_assoc}
-use Rattle.std.specs.Prelude.{Option, Some, None, Result, Ok, IsTrue, if◌then◌else◌, ◌==◌, filter, filter_map, slice_get, unwrap_or, option_map, option_and_then}
+use Rattle.std.proofs.Common.{◌≡◌, ℕ, suc, ◌+◌, ◌-◌, ◌^◌, ◌<◌, ◌≤◌, ◌/◌, ◌%◌, Bool, true, false, List, [], ◌∷◌, ◌++◌, length, take, map, ◌∙◌, sym, ap, subst, refl, inl, inr, arith, append-nil, append_assoc}
+use Rattle.std.specs.Prelude.{Option, Some, None, Result, Ok, IsTrue, if◌then◌else◌, ◌==◌, filter, filter_map, nat_lt, slice_get, unwrap_or, option_map, option_and_then, option_to_list}
 use Rattle.std.specs.Option.{option_map_or}
 use Rattle.std.proofs.lemmas.List.{take_all, length-append, map-append}
 use Rattle.std.proofs.lemmas.List.Elements.{filter-append, filter_map-append}
 use Rattle.std.proofs.lemmas.Option.{none-some, same_Some}
-use Rattle.std.proofs.lemmas.Bool.{cases_lt, cases_eq, lt-ltb, le-ltb, lt-leb, eq-eqb, ne_eqb}
+use Rattle.std.proofs.lemmas.Bool.{cases_Bool, cases_lt, cases_eq, lt-ltb, le-ltb, lt-leb, eq-eqb, ne_eqb}
 use Rattle.a429_equipment.specs.declared.loads.Load.{Load}
 use Rattle.a429_equipment.specs.declared.rows.SourceRow.{SourceRow}
 use Rattle.a429_equipment.specs.declared.arrivals.ArrivalRefusal.{ArrivalRefusal}
+use Rattle.a429_equipment.specs.TableRecord.{TableRecord}
 use Rattle.a429_equipment.specs.Agreement.{words_of}
 use Rattle.a429_equipment.specs.Arrivals.{sorted}
 use Rattle.a429_equipment.specs.Receiving.{IsReceived, ReceiversAcceptForSources, ReceiversAcceptInPieces}
@@ -18,21 +19,31 @@ use Rattle.a429_slots.specs.Tables.{Placed, GroupTable, PlanTable, groups_of, bu
 use Rattle.a429_slots.specs.Proposed.{Proposed}
 use Rattle.a429_slots.specs.Events.{Event, Arrive, Cell, Frame, Publish}
 use Rattle.a429_slots.specs.History.{Opening, OpensWith, AnsweredCell, current, last_of, accepted_in, accepted_by, latest_by, sent_word, answered_cell, answered_cells, proposal_for, published, numbers_left, newest_number, newest_plan, newest_table}
-use Rattle.a429_slots.specs.Sending.{Sending, sending_of, next_cell, after_cell}
+use Rattle.a429_slots.specs.Sending.{Sending, sending_of, next_cell, after_cell, fits_next}
+use Rattle.a429_slots.specs.GoingOn.{AnsweredCellsGrow, CellsCount, FramesTurn, OthersPass, TellsFrameAnswer, TellsNextCell, after_frame, frame_reply}
 use Rattle.a429_slots.specs.declared.answers.Answer.{Answer}
-use Rattle.a429_slots.specs.declared.answers.Answer.TheVariants.{Accepted, Sent, Published, Refused}
-use Rattle.a429_slots.specs.declared.answers.Refusal.TheVariants.{NoSuch, FrameEnd}
+use Rattle.a429_slots.specs.declared.answers.Answer.TheVariants.{Accepted, Sent, Changed, Published, Refused}
+use Rattle.a429_slots.specs.declared.answers.Refusal.TheVariants.{NoSuch, FrameEnd, MidFrame, SlotsSpent}
 use Rattle.a429_slots.specs.Answers.{answer, source_answer, cell_answer, frame_answer}
 use Rattle.a429_workers.specs.Calls.{Carried, Turn, Takes, StaysMid, StaysSpent, Standing, IsAnswered, word_of, answered_by, number_of, table_of, turn, after_turn}
 use Rattle.a429_workers.specs.Runs.{AreHeard, ArePublished, plans_of, turn_answer}
 use Rattle.a429_workers.proofs.Lists.{take_next, get_front, get_seam, all_get, last_get, last_from}
 use Rattle.a429_workers.proofs.Heard.{beginning, next_word, word_at, words_at, accepted_of, none_of_others}
-use Rattle.a429_workers.proofs.Histories.{answered_push, due_is, frame_other, frame_cell, turn_to, frame_after_turn, Turned, frame_turn}
+
+-- what laws of the crates below say
+pub record Below (t : TableRecord) : Type 0 where
+  pub words : ReceiversAcceptForSources t
+  pub pieces : ReceiversAcceptInPieces t
+  pub cell : CellsCount
+  pub frame : FramesTurn
+  pub other : OthersPass
+  pub next : TellsNextCell
+  pub answer : TellsFrameAnswer
+  pub answered : AnsweredCellsGrow
 
 -- what does not change along a run
 pub record Given (C : ℕ) (o : Opening) (g : ℕ) (p : GroupTable) (later : List Proposed) (heard : ℕ → List (ℕ × ℕ)) : Type 0 where
-  pub words : ReceiversAcceptForSources o.proposal.station
-  pub pieces : ReceiversAcceptInPieces o.proposal.station
+  pub below : Below o.proposal.station
   pub known : OfEach (λ s. s.receiver < length o.proposal.station.receivers) o.proposal.station.sources
   pub opens : OpensWith o g p
   pub plans : ArePublished o later
@@ -58,7 +69,7 @@ abbrev word_after : ℕ → Opening → List Event → List AnsweredCell → ℕ
 word_after C o E earlier slot x = option_and_then (λ output. (answered_cell C o E earlier slot output).word) x
 
 abbrev cell_after : ℕ → Opening → List Event → List AnsweredCell → ℕ → Option Placed → List AnsweredCell
-cell_after C o E earlier slot x = option_map_or (λ c. c ∷ []) (option_map (answered_cell C o E earlier slot) x) []
+cell_after C o E earlier slot x = option_to_list (option_map (answered_cell C o E earlier slot) x)
 
 abbrev cell_with : ℕ → Option Load → Option ℕ → List AnsweredCell
 cell_with slot load word = option_map_or (λ l. record { slot = slot; source = l.source; count = l.count; word = word } ∷ []) load []
@@ -67,8 +78,7 @@ abbrev reply : ℕ → Opening → List Event → Sending → List AnsweredCell 
 reply C o E s earlier due = option_map_or (λ c. Sent c.0 (s.first + c.1) (word_after C o E earlier (s.first + c.1) (output_in s.table c.0 c.1))) due (Refused FrameEnd)
 
 abbrev cells_next : ℕ → Opening → List Event → Sending → List AnsweredCell → Option (ℕ × ℕ) → List AnsweredCell
-cells_next C o E s earlier due =
-    option_map_or (λ c. c ∷ []) (option_and_then (λ cell. option_map (answered_cell C o E earlier (s.first + cell.1)) (output_in s.table cell.0 cell.1)) due) []
+cells_next C o E s earlier due = option_to_list (option_and_then (λ cell. option_map (answered_cell C o E earlier (s.first + cell.1)) (output_in s.table cell.0 cell.1)) due)
 
 -- the cell of an output is the machine's where the load tells the latest
 pub record IsSame (C : ℕ) (o : Opening) (E : List Event) (earlier : List AnsweredCell) (slot : ℕ) (x : Option Placed) (y : Option Load) : Type 0 where
@@ -109,12 +119,12 @@ module _ (C : ℕ) (o : Opening) (g : ℕ) (p : GroupTable) (later : List Propos
     ]
 
     so_far : (r k : ℕ) → IsReceived (2 ^ C - 1) o.proposal.station r (take k (heard r))
-    so_far r k = beginning (2 ^ C - 1) o.proposal.station r W.pieces (heard r) (received r) k
+    so_far r k = beginning (2 ^ C - 1) o.proposal.station r W.below.pieces (heard r) (received r) k
 
     pub accepted_here : (E : List Event) (cut : ℕ → ℕ) (s : Standing) (rest : List Proposed) (i r : ℕ) (row : SourceRow) → IsAt E cut s rest → slice_get o.proposal.station.sources i ≡ Some row → row.receiver ≡ r
         → accepted_by C o i E ≡ words_of i (take (cut r) (heard r))
     accepted_here E cut s rest i r row A there its = subst (λ (q : ℕ). accepted_by C o i E ≡ words_of i (take (cut q) (heard q))) its
-        (accepted_of C o W.words i row E (take (cut row.receiver) (heard row.receiver)) there (so_far row.receiver (cut row.receiver)) (A.arrivals row.receiver))
+        (accepted_of C o W.below.words i row E (take (cut row.receiver) (heard row.receiver)) there (so_far row.receiver (cut row.receiver)) (A.arrivals row.receiver))
 
     -- a source that a receiver accepted a word for is one of its own
     own_source : (r k : ℕ) (a : ℕ × ℕ) (row : SourceRow) → slice_get (heard r) k ≡ Some a → slice_get o.proposal.station.sources a.0 ≡ Some row → row.receiver ≡ r
@@ -122,7 +132,7 @@ module _ (C : ℕ) (o : Opening) (g : ℕ) (p : GroupTable) (later : List Propos
       | inl same ↦ sym same
       | inr other ↦
           let xs = take k (heard r) in
-          let none : words_of a.0 (xs ++ a ∷ []) ≡ [] = ap (words_of a.0) (sym (take_next (heard r) k a there)) ∙ none_of_others C o W.words a.0 r row (take (suc k) (heard r)) known (so_far r (suc k)) other in
+          let none : words_of a.0 (xs ++ a ∷ []) ≡ [] = ap (words_of a.0) (sym (take_next (heard r) k a there)) ∙ none_of_others C o W.below.words a.0 r row (take (suc k) (heard r)) known (so_far r (suc k)) other in
           let more = ap (map (λ (e : ℕ × ℕ). e.1)) (filter-append (λ (e : ℕ × ℕ). e.0 == a.0) xs (a ∷ [])) ∙ map-append (λ (e : ℕ × ℕ). e.1) (filter (λ (e : ℕ × ℕ). e.0 == a.0) xs) (filter (λ (e : ℕ × ℕ). e.0 == a.0) (a ∷ [])) in
           let own : words_of a.0 (a ∷ []) ≡ a.1 ∷ [] = rw (eq-eqb a.0 a.0 refl) refl in
           absurd (omega (arith, ap (λ (ws : List ℕ). length ws) (sym more ∙ none), length-append (words_of a.0 xs) (words_of a.0 (a ∷ [])), ap (λ (ws : List ℕ). length ws) own))
@@ -146,7 +156,7 @@ module _ (C : ℕ) (o : Opening) (g : ℕ) (p : GroupTable) (later : List Propos
         → answer C o E (Arrive r a.1) ≡ Accepted a.0
     arrival_answer E cut s rest r a A there =
         let t = o.proposal.station in
-        let next = next_word (2 ^ C - 1) t r W.pieces (heard r) (received r) (cut r) a there in
+        let next = next_word (2 ^ C - 1) t r W.below.pieces (heard r) (received r) (cut r) a there in
         let known : answer C o E (Arrive r a.1) ≡ source_answer C o E (sorted t r a.1) = rw (lt-leb (length t.receivers) r (some_receiver r (cut r) a there)) refl in
         let counted : source_answer C o E (Ok a.0) ≡ Accepted a.0 = rw (lt-ltb (length (accepted_by C o a.0 E)) (2 ^ C - 1) (few_words E cut s rest r a A there next.room)) refl in
         known ∙ (ap (λ (x : Result ℕ ArrivalRefusal). source_answer C o E x) next.source ∙ counted)
@@ -169,8 +179,8 @@ module _ (C : ℕ) (o : Opening) (g : ℕ) (p : GroupTable) (later : List Propos
           arrivals = λ q. arrived_at E cut r a there q (A.arrivals q);
           seen = A.seen ∙ ap (plans_of o) (sym same);
           left = A.left ∙ ap (λ (qs : List Proposed). qs ++ rest) (sym same);
-          frame = frame_other o g p E (Arrive r a.1) refl refl ∙ A.frame;
-          earlier = answered_push C o g p E (Arrive r a.1) ∙ A.earlier;
+          frame = W.below.other o g p E (Arrive r a.1) refl refl ∙ A.frame;
+          earlier = W.below.answered C o g p E (Arrive r a.1) ∙ A.earlier;
         }
 
     none_came : (E : List Event) (cut : ℕ → ℕ) (e : Event) → ((r : ℕ) → word_at r e ≡ None) → ((r : ℕ) → words_at r E ≡ map (λ a. a.1) (take (cut r) (heard r)))
@@ -212,8 +222,8 @@ module _ (C : ℕ) (o : Opening) (g : ℕ) (p : GroupTable) (later : List Propos
           seen = ap (λ (l : List PlanTable). l ++ q.plan ∷ []) A.seen
               ∙ (ap (λ (l : List PlanTable). o.proposal.plan ∷ l) (sym (map-append (λ (x : Proposed). x.plan) qs (q ∷ []))) ∙ ap (plans_of o) (sym more));
           left = A.left ∙ (sym (append_assoc qs (q ∷ []) rest) ∙ ap (λ (l : List Proposed). l ++ rest) (sym more));
-          frame = frame_other o g p E (Publish q) refl refl ∙ A.frame;
-          earlier = answered_push C o g p E (Publish q) ∙ A.earlier;
+          frame = W.below.other o g p E (Publish q) refl refl ∙ A.frame;
+          earlier = W.below.answered C o g p E (Publish q) ∙ A.earlier;
         }
 
     -- ---- the group's own events
@@ -235,7 +245,7 @@ module _ (C : ℕ) (o : Opening) (g : ℕ) (p : GroupTable) (later : List Propos
     cell_reply E cut s rest A =
         let f = current o g p E in
         ap (λ (x : Option GroupTable). option_map_or (λ t. cell_answer C o E g (answered_cells C o g t E) (current o g t E)) x (Refused NoSuch)) W.opens
-        ∙ (ap (reply C o E (sending_of g f) (answered_cells C o g p E)) (due_is g f)
+        ∙ (ap (reply C o E (sending_of g f) (answered_cells C o g p E)) (W.below.next g f)
         ∙ (ap (λ (z : Sending). reply C o E z (answered_cells C o g p E) (next_cell z)) A.frame ∙ ap (λ (cs : List AnsweredCell). reply C o E s.frame cs (next_cell s.frame)) A.earlier))
 
     cells_grow : (E : List Event) (cut : ℕ → ℕ) (s : Standing) (rest : List Proposed) → IsAt E cut s rest
@@ -243,12 +253,12 @@ module _ (C : ℕ) (o : Opening) (g : ℕ) (p : GroupTable) (later : List Propos
     cells_grow E cut s rest A =
         let f = current o g p E in
         let cs = answered_cells C o g p E in
-        answered_push C o g p E (Cell g) ∙ rw (eq-eqb g g refl)
-        (ap (λ (x : Option (ℕ × ℕ)). cs ++ cells_next C o E (sending_of g f) cs x) (due_is g f)
+        W.below.answered C o g p E (Cell g) ∙ rw (eq-eqb g g refl)
+        (ap (λ (x : Option (ℕ × ℕ)). cs ++ cells_next C o E (sending_of g f) cs x) (W.below.next g f)
         ∙ (ap (λ (z : Sending). cs ++ cells_next C o E z cs (next_cell z)) A.frame ∙ ap (λ (l : List AnsweredCell). l ++ cells_next C o E s.frame l (next_cell s.frame)) A.earlier))
 
     frame_next : (E : List Event) (cut : ℕ → ℕ) (s : Standing) (rest : List Proposed) → IsAt E cut s rest → sending_of g (current o g p (E ++ Cell g ∷ [])) ≡ after_cell s.frame
-    frame_next E cut s rest A = frame_cell o g p E ∙ ap (λ (z : Sending). after_cell z) A.frame
+    frame_next E cut s rest A = W.below.cell o g p E ∙ ap (λ (z : Sending). after_cell z) A.frame
 
     pub end_answer : (E : List Event) (cut : ℕ → ℕ) (s : Standing) (rest : List Proposed) → IsAt E cut s rest → next_cell s.frame ≡ None → answer C o E (Cell g) ≡ Refused FrameEnd
     end_answer E cut s rest A none = cell_reply E cut s rest A ∙ ap (reply C o E s.frame s.earlier) none
@@ -322,28 +332,41 @@ module _ (C : ℕ) (o : Opening) (g : ℕ) (p : GroupTable) (later : List Propos
 
     pub turn_step : (E : List Event) (cut : ℕ → ℕ) (s : Standing) (rest : List Proposed) → IsAt E cut s rest → IsTurned E cut s rest (turn g p s s.seen)
     turn_step E cut s rest A =
-        let t = turn g p s s.seen in
-        let z = sending_of g (current o g p E) in
+        let f = current o g p E in
+        let n = newest_number o E in
         let now = newest_table o g p E in
-        let same : turn_to z (newest_number o E) now ≡ t = ap (λ (n : ℕ). turn_to z n now) (number_is E cut s rest A)
-        ∙ (ap (λ (x : GroupTable). turn_to z (number_of s.seen) x) (table_is E cut s rest A) ∙ ap (λ (y : Sending). turn_to y (number_of s.seen) (table_of g p s.seen)) A.frame) in
-        let T : Turned o g p E t = subst (Turned o g p E) same (frame_turn o g p E) in
+        let t = turn g p s s.seen in
         record {
-          answer = ap (λ (x : Option GroupTable). option_map_or (λ p. frame_answer g (newest_number o E) (newest_table o g p E) (current o g p E)) x (Refused NoSuch)) W.opens ∙ T.answer;
+          answer = ap (λ (x : Option GroupTable). option_map_or (λ p. frame_answer g n (newest_table o g p E) (current o g p E)) x (Refused NoSuch)) W.opens
+              ∙ (W.below.answer g n now f
+              ∙ (ap (λ (z : Sending). frame_reply z n now) A.frame
+              ∙ (ap (λ (m : ℕ). frame_reply s.frame m now) (number_is E cut s rest A) ∙ (ap (frame_reply s.frame (number_of s.seen)) (table_is E cut s rest A) ∙ replied))));
           after = own_event E cut s (after_turn g p s s.seen t) rest (Frame g) (λ r. refl) refl A (seen_turned t)
-              (T.after ∙ (ap (λ (x : GroupTable). frame_after_turn z x t) (table_is E cut s rest A) ∙ (ap (λ (y : Sending). frame_after_turn y (table_of g p s.seen) t) A.frame ∙ frame_turned t)))
-              (answered_push C o g p E (Frame g) ∙ (A.earlier ∙ earlier_turned t));
+              (W.below.frame o g p E ∙ (ap (λ (z : Sending). after_frame z now) A.frame ∙ (ap (after_frame s.frame) (table_is E cut s rest A) ∙ led)))
+              (W.below.answered C o g p E (Frame g) ∙ (A.earlier ∙ earlier_turned t));
         }
       where
+        replied : frame_reply s.frame (number_of s.seen) (table_of g p s.seen) ≡ turn_answer (turn g p s s.seen)
+        replied = by (nat_lt s.frame.sent (cells_of s.frame.table)) (fits_next s.frame (table_of g p s.seen))
+          where
+            by : (mid fits : Bool) → (if mid then Refused MidFrame else (if fits then Changed (number_of s.seen) else Refused SlotsSpent)) ≡ turn_answer (if mid then StaysMid else (if fits then Takes (number_of s.seen) else StaysSpent))
+            by true fits = refl
+            by false true = refl
+            by false false = refl
+
+        led : after_frame s.frame (table_of g p s.seen) ≡ (after_turn g p s s.seen (turn g p s s.seen)).frame
+        led = elim (cases_Bool (nat_lt s.frame.sent (cells_of s.frame.table))) [
+          | inl mid ↦ rw mid refl
+          | inr over ↦ elim (cases_Bool (fits_next s.frame (table_of g p s.seen))) [
+            | inl fits ↦ rw (over, fits) (rw fits refl)
+            | inr full ↦ rw (over, full) refl
+          ]
+        ]
+
         seen_turned : (t : Turn) → (after_turn g p s s.seen t).seen ≡ s.seen
         seen_turned (Takes n) = refl
         seen_turned StaysMid = refl
         seen_turned StaysSpent = refl
-
-        frame_turned : (t : Turn) → frame_after_turn s.frame (table_of g p s.seen) t ≡ (after_turn g p s s.seen t).frame
-        frame_turned (Takes n) = refl
-        frame_turned StaysMid = refl
-        frame_turned StaysSpent = refl
 
         earlier_turned : (t : Turn) → s.earlier ≡ (after_turn g p s s.seen t).earlier
         earlier_turned (Takes n) = refl

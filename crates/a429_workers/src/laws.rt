@@ -4,11 +4,13 @@ ghost use Rattle.a429_slots.specs.Tables.{GroupTable};
 ghost use Rattle.a429_slots.specs.Proposed.{Proposed};
 ghost use Rattle.a429_slots.specs.History.{Opening};
 ghost use Rattle.a429_workers.specs.Calls.{Call};
+ghost use Rattle.a429_workers.specs.Example as example;
 ghost use Rattle.a429_workers.specs.MoreCalls.{LastCallLeads, LastCallLoads, LawfulCallsGrow};
 ghost use Rattle.a429_workers.specs.Runs.{IsWorking, HasRun};
 ghost use Rattle.a429_workers.specs.Sends.{HoldsAreKept, WordsAreApart};
 
 use a429_equipment::laws::tables_receive_for_sources;
+use a429_slots::laws::{answered_cells_grow, frames_go_on};
 
 /// One run: the lawful calls of a group's transmitter, whose loads agree with what each receiver of the station
 /// accepted, are answered as one list of events of the station is by the machine. Its cells and frames are the
@@ -19,7 +21,14 @@ pub fn one_run()
         → IsWorking C o g p later calls heard → HasRun C o g later calls heard }
 {
     tables_receive_for_sources();
+    frames_go_on();
+    answered_cells_grow();
 }
+
+/// The premises of one run can be met, where a word is held back and the plan changes.
+pub fn one_run_applies()
+    ensures { IsWorking 2 example.opening 0 example.table example.later example.calls example.heard }
+{}
 
 /// Calls that are lawful stay lawful with one more that is lawful where they led.
 pub fn lawful_calls_grow()
