@@ -2,7 +2,7 @@
 use Rattle.std.proofs.Common.{◌≡◌, ℕ, zero, suc, ◌+◌, ◌≤◌, ◌∷◌, [], ◌++◌, List, length, map, take, arith, ap, ap₂, ◌∙◌, sym, subst, inl, inr}
 use Rattle.std.specs.Prelude.{Some, slice_get, option_map}
 use Rattle.std.specs.List.{AllZip, AllByRecursion, zip}
-use Rattle.std.proofs.lemmas.List.{length-map, length-take, take_more}
+use Rattle.std.proofs.lemmas.List.{length-map, length-take, take_all, take_more}
 use Rattle.std.proofs.lemmas.Slice.Zip.{all_zipped_more, AllZip-long, length-zip}
 use Rattle.std.proofs.lemmas.Option.{get_or_from_slice_get, slice_get_within, slice_get-map, same_Some, none-some}
 use Rattle.a429_equipment.specs.declared.rows.GroupRow.{GroupRow}
@@ -12,8 +12,8 @@ use Rattle.a429_equipment.specs.Sound.{IsRate, IsGroupRow, IsSound}
 use Rattle.a429_equipment.specs.TableRecord.{TableRecord}
 use Rattle.a429_pack.specs.declared.demands.PackFault.{PackFault}
 use Rattle.a429_pack.specs.declared.demands.PackFault.TheVariants as group
-use Rattle.a429_slots.specs.Planned.{IsPlannedFor, CanBePlanned, CanBePlannedAt, rated_outputs}
-use Rattle.a429_slots.specs.Tables.{GroupTable, buses_of}
+use Rattle.a429_slots.specs.Planned.{IsPlannedFor, CanBePlanned, CanBePlannedAt, IsPlannedAt, IsPlanOf, rated_outputs}
+use Rattle.a429_slots.specs.Tables.{GroupTable, PlanTable, buses_of, groups_of}
 use Rattle.a429_slots.specs.Faults.{IsFaultOf, IsGroupFault, of_group}
 
 rate_within : (rate : ℕ) → IsRate rate → (1 ≤ rate) × (rate ≤ 100000)
@@ -76,3 +76,32 @@ rated_at e g rate rows here there = zip_at (map (λ row. row.rate) e.groups) e.o
 pub rate_in_group : (e : TableRecord) (g rate : ℕ) → IsSound e → option_map (λ row. row.rate) (slice_get e.groups g) ≡ Some rate → (1 ≤ rate) × (rate ≤ 100000)
 rate_in_group e g rate sound here =
     all_at (λ r. (1 ≤ r) × (r ≤ 100000)) (map (λ row. row.rate) e.groups) g rate (rates_within e.groups sound.group_rows) (slice_get-map (λ row. row.rate) e.groups g ∙ here)
+
+-- one group more is planned
+pub planned_next : (e : TableRecord) (sources : List SourceRow) (g rate : ℕ) (rows : List OutputRow) (ts us : List GroupTable) (t : GroupTable) → us ≡ ts ++ t ∷ []
+    → option_map (λ row. row.rate) (slice_get e.groups g) ≡ Some rate → slice_get e.outputs g ≡ Some rows → AllZip (IsPlannedAt sources) (take g (rated_outputs e)) ts → IsPlannedFor rate sources rows t
+    → AllZip (IsPlannedAt sources) (take (g + 1) (rated_outputs e)) us
+planned_next e sources g rate rows ts us t more here there planned new =
+    subst (λ (us : List GroupTable). AllZip (IsPlannedAt sources) (take (g + 1) (rated_outputs e)) us) (sym more)
+    (zip_next (IsPlannedAt sources) (rated_outputs e) ts g (rate, rows) t (rated_at e g rate rows here there) planned new)
+
+pub could_next : (e : TableRecord) (sources : List SourceRow) (g rate : ℕ) (rows : List OutputRow) (t : GroupTable)
+    → option_map (λ row. row.rate) (slice_get e.groups g) ≡ Some rate → slice_get e.outputs g ≡ Some rows → AllByRecursion CanBePlannedAt (take g (rated_outputs e)) → IsPlannedFor rate sources rows t
+    → AllByRecursion CanBePlannedAt (take (g + 1) (rated_outputs e))
+could_next e sources g rate rows t here there could new =
+    all_next CanBePlannedAt (rated_outputs e) g (rate, rows) (rated_at e g rate rows here there) could (could_be rate sources rows t new)
+
+-- and all of them, once as many are planned as the station has groups
+pub all_planned : (e : TableRecord) (sources : List SourceRow) (rows : List GroupRow) (g : ℕ) (p : PlanTable) → IsSound e → sources ≡ e.sources → rows ≡ e.groups → length rows ≤ g → p.number ≡ 0
+    → AllZip (IsPlannedAt sources) (take g (rated_outputs e)) (groups_of p) → IsPlanOf e p
+all_planned e sources rows g p sound same-sources same-rows ended number planned =
+    let long : length (rated_outputs e) ≡ length e.outputs = length-rated e sound.outputs_of_groups in
+    let all : take g (rated_outputs e) ≡ rated_outputs e = take_all g (rated_outputs e) (omega (arith, long, sound.outputs_of_groups, ended, ap length same-rows)) in
+    let zipped : AllZip (IsPlannedAt e.sources) (rated_outputs e) (groups_of p) =
+    subst (λ (ss : List SourceRow). AllZip (IsPlannedAt ss) (rated_outputs e) (groups_of p)) same-sources
+    (subst (λ (os : List (ℕ × List OutputRow)). AllZip (IsPlannedAt sources) os (groups_of p)) all planned) in
+    record {
+      number = number;
+      count = AllZip-long (IsPlannedAt e.sources) (rated_outputs e) (groups_of p) zipped ∙ (long ∙ sound.outputs_of_groups);
+      groups = zipped;
+    }

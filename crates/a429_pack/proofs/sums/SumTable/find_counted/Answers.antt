@@ -1,6 +1,6 @@
 use Rattle.std.proofs.Common.{◌≡◌, ℕ, ◌+◌, ◌-◌, ◌/◌, ◌≤◌, List, Some, length, arith, ap}
 use Rattle.a429_pack.specs.Sums.{start_of, Holds}
-use Rattle.a429_pack.proofs.Halving.{halved_again, one_probe_more, few_probes, spread_again, some_probes}
+use Rattle.a429_pack.proofs.Halving.{halved_again, one_probe_more, few_probes, spread_again}
 use Rattle.a429_pack.proofs.Tables.{start_more, stretches_apart}
 use Rattle.a429_pack.proofs.sums.SumTable.find_counted.Goals as goal
 
@@ -50,9 +50,3 @@ returns-clause-only g c i holds =
     let next : c.loop-high.high ≡ low + 1 = omega arith in
     let there : Holds ds c.args.x low = (omega arith, omega arith, omega (arith, ap (start_of ds) next, start_more ds low (omega arith))) in
     ap Some (stretches_apart ds c.args.x low i there holds)
-
-pub returns-clause-probes : goal.returns-clause-probes
-returns-clause-probes g c digits below = few_probes c.loop-high.probes (length c.args.self.now) digits c.loop-high.invariant.few below
-
-pub returns-clause-least : goal.returns-clause-least
-returns-clause-least g c = some_probes (c.loop-high.high - c.loop-high.low) c.loop-high.probes (length c.args.self.now) (omega arith) c.loop-high.invariant.spread
