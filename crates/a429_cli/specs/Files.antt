@@ -1,5 +1,6 @@
 -- Files as a command reads them, by their names.
-use Rattle.std.specs.Prelude.{◌≡◌, ◌∷◌, [], ◌⊎◌, ℕ, List, Option, Some, None, Result, MatchResult, if◌then◌else◌, nat_le, length, map, string_bytes}
+use Rattle.std.specs.Prelude.{◌≡◌, ◌∷◌, [], ◌⊎◌, ℕ, List, Option, Some, None, Result, MatchResult, if◌then◌else◌, nat_le, length, map, string_bytes, chars, encode_utf8_all}
+use Rattle.std.specs.Char.{is_control}
 use Rattle.std.specs.List.{AllZip}
 use Rattle.std.specs.Borrow.{Bor}
 use Rattle.std.specs.declared.vec.Vec.{Vec}
@@ -25,9 +26,17 @@ readable (Some bytes) = if nat_le (length bytes) 16777216 then Some bytes else N
 abbrev pub AreRead : (List ℕ → Option (List ℕ)) → List (List ℕ) → List (List ℕ) → Type 0
 AreRead file names contents = AllZip (λ name bytes. readable (file name) ≡ Some bytes) names contents
 
+-- a character as a refusal tells it: a control character, such as a line feed, as `?`
+abbrev pub shown_char : ℕ → ℕ
+shown_char c = if is_control c then 63 else c
+
+-- a name as a refusal tells it, in one line
+unfoldable pub shown_name : List ℕ → List ℕ
+shown_name name = encode_utf8_all (map shown_char (chars name))
+
 -- the file of this name cannot be read
 abbrev pub IsFileRefusal : (List ℕ → Option (List ℕ)) → List ℕ → CommandRefusal → Type 0
-IsFileRefusal file name (refused.File told) = (string_bytes told ≡ name) × (readable (file name) ≡ None)
+IsFileRefusal file name (refused.File told) = (string_bytes told ≡ shown_name name) × (readable (file name) ≡ None)
 IsFileRefusal file name _ = ⊥
 
 -- of these files the first that cannot be read

@@ -88,3 +88,26 @@ fn slots_hold_a_gap_and_the_word_bit_1_first(rt: HostRuntime) -> Result<(), Fail
     assert_eq!(rt; write_slot(None), [Symbol::Null; 36]);
     Ok(())
 }
+
+/// So many slots with the word of the examples, one behind another.
+fn slots(rt: &HostRuntime, count: usize) -> Result<Vec<Symbol>, Fail> {
+    let slot = line(rt, SENT_SLOT)?;
+    let mut symbols = Vec::new(rt.alloc());
+    for _ in 0..count {
+        symbols.extend_from_slice(&slot)?;
+    }
+    Ok(symbols)
+}
+
+#[test]
+fn a_piece_may_have_100000_symbols(rt: HostRuntime) -> Result<(), Fail> {
+    let symbols = slots(&rt, 2800)?;
+    assert_eq!(rt; symbols.len(), 100_800);
+    let mut reader = LineReader::new();
+    let mut found = Vec::new(rt.alloc());
+    reader.feed(&symbols, &mut found)?;
+    assert_eq!(rt; (found.len(), reader.rest()), (2799, 32));
+    let word = Found::Word(word()?);
+    assert!(rt; found.iter().all(|report| *report == word));
+    Ok(())
+}

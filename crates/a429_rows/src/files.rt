@@ -62,6 +62,31 @@ fn a_reader_may_refuse_any_file(rt: HostRuntime) -> Result<(), Fail> {
     Ok(())
 }
 
+#[test]
+fn each_file_is_read_once(rt: HostRuntime) -> Result<(), Fail> {
+    let commands: [(&[&str], usize); 5] = [
+        (&["word", "600000c1"], 0),
+        (&["lines", "t"], 1),
+        (&["plan", "t"], 1),
+        (&["check", "t", "u"], 2),
+        (&["replay", "t", "s", "u", "u"], 4),
+    ];
+    for (words, reads) in commands {
+        let mut files = Refusing {
+            alloc: rt.alloc(),
+            given: usize::MAX,
+            fault: FileFault::Refused,
+            reads: 0,
+        };
+        let mut out = CountedWriter::new(Vec::new(rt.alloc()));
+        let mut err = Vec::new(rt.alloc());
+        let status = command(rt.alloc(), words, &mut files, &mut out, &mut err);
+        assert!(rt; status <= 1, "{words:?}");
+        assert_eq!(rt; files.reads, reads, "{words:?}");
+    }
+    Ok(())
+}
+
 /// Takes so many bytes in one call, and fails at the call, a flush too, that comes after so many.
 #[derive(Drop)]
 struct Failing {

@@ -9,6 +9,8 @@ mod files;
 #[cfg(test)]
 mod grid;
 #[cfg(test)]
+mod lines;
+#[cfg(test)]
 mod machine;
 #[cfg(test)]
 mod plans;

@@ -1,10 +1,25 @@
 //! Files as the commands read them.
-ghost use Rattle.std.specs.Prelude.{◌≡◌, List, ℕ, IsTrue};
-ghost use Rattle.a429_cli.specs.Files.{AreReadings, IsReading, texts_of};
+ghost use Rattle.std.specs.Prelude.{◌≡◌, List, ℕ, IfOk, IsTrue, string_bytes};
+ghost use Rattle.a429_cli.specs.Files.{AreReadings, IsReading, shown_char, shown_name, texts_of};
 
 use crate::files::{FileFault, FileReader, LARGEST_FILE};
 use crate::output::refusals::CommandRefusal;
-use std::alloc::Global;
+use std::alloc::{AllocError, Global};
+
+/// A character as a refusal tells it: a control character, such as a line feed, as `?`.
+fn shown_char(c: char) -> char
+    ensures { result ≡ shown_char c }
+{
+    if c.is_control() { '?' } else { c }
+}
+
+/// A name as a refusal tells it, in one line.
+#[tactic(auto, unfolding(crate::specs::Files::shown_name))]
+pub fn shown_name(alloc: Global, name: &str) -> Result<String, AllocError>
+    ensures { IfOk result (λ shown. string_bytes shown ≡ shown_name name.now) }
+{
+    name.chars().map(|c| shown_char(c)).collect(alloc)
+}
 
 /// The bytes of a file, at most 16 MiB.
 pub fn read_file<F: FileReader>(
@@ -18,7 +33,7 @@ pub fn read_file<F: FileReader>(
 {
     match files.read(name) {
         Ok(bytes) if bytes.len() <= LARGEST_FILE => Ok(bytes),
-        Ok(_) | Err(FileFault::Refused) => match String::from_str(alloc, name) {
+        Ok(_) | Err(FileFault::Refused) => match shown_name(alloc, name) {
             Ok(name) => Err(CommandRefusal::File(name)),
             Err(_) => Err(CommandRefusal::Memory),
         },
