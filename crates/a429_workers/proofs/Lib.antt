@@ -2,3 +2,4 @@ mod Answering
 mod Beginning
 mod Calling
 mod Changing
+mod Hearing

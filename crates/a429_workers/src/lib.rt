@@ -3,10 +3,12 @@
 
 mod cells;
 mod gates;
+mod receiving;
 mod sinks;
 mod transmit;
 
 pub use cells::{ChangeFault, FrameEnd, OpenFault, Sent};
 pub use gates::{Gate, GateFault, OpenGate, Point};
+pub use receiving::{ReceiveFault, ReceiveTotals, WORDS, receive_all};
 pub use sinks::{BusSink, CountSink, MemorySink, SinkFault};
 pub use transmit::Transmit;
