@@ -1,6 +1,6 @@
 -- Words that come in at a receiver one after another, and how many are answered how.
 use Rattle.std.proofs.Common.{◌≡◌, ℕ, ◌+◌, ◌≤◌, ◌<◌, Bool, true, false, List, [], ◌∷◌, ◌++◌, length, take, ◌∙◌, sym, ap, subst, refl, inl, inr, arith, append_assoc, append-nil}
-use Rattle.std.specs.Prelude.{◌⊎◌, Option, Some, None, Result, Ok, Err, cond, count_by, if◌then◌else◌}
+use Rattle.std.specs.Prelude.{◌⊎◌, Err, cond, count_by, if◌then◌else◌}
 use Rattle.std.proofs.lemmas.List.{length_push, take_all, take-append-le}
 use Rattle.std.proofs.lemmas.List.Sums.{sum_by-append, sum_by-cons}
 use Rattle.a429_equipment.specs.TableRecord.{TableRecord}
@@ -11,7 +11,7 @@ use Rattle.a429_values.specs.declared.receiver.Accept.{Accept}
 use Rattle.a429_values.specs.declared.receiver.Accept.TheVariants.{Accepted, Parity, Filtered, NoSource, CountSpent}
 use Rattle.a429_workers.specs.declared.receiving.ReceiveTotals.{ReceiveTotals}
 use Rattle.a429_workers.specs.declared.receiving.ReceiveFault.TheVariants.{Gate, TooMuch}
-use Rattle.a429_workers.specs.Receives.{AreAtMost, AreTaken, after_words, answers_to, counted, is_accepted, is_filtered, is_no_source, is_parity, is_spent, totals_of}
+use Rattle.a429_workers.specs.Receives.{AreAtMost, AreTaken, IsSameReceiver, after_words, answers_to, counted, is_accepted, is_filtered, is_no_source, is_parity, is_spent, totals_of}
 
 -- ---- in pieces
 
@@ -67,6 +67,9 @@ pub totals_small : (xs : List Accept) → AreAtMost (length xs) (totals_of xs)
 totals_small xs = record { accepted = few is_accepted xs; parity = few is_parity xs; filtered = few is_filtered xs; no_source = few is_no_source xs; spent = few is_spent xs }
 
 -- ---- the loop
+
+pub same_receiver : (a b c : Receiving) → IsSameReceiver a b → IsSameReceiver b c → IsSameReceiver a c
+same_receiver a b c p q = q ∙ ap (λ (r : Receiving). record r { accepted = c.accepted }) p
 
 -- the line gave these words since, and the receiver took them all
 pub record SoFar (before now : List ℕ) (old new : Receiving) (totals : ReceiveTotals) (n : ℕ) : Type 0 where

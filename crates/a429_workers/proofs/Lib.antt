@@ -3,3 +3,4 @@ mod Beginning
 mod Calling
 mod Changing
 mod Hearing
+mod Stretching

@@ -9,6 +9,10 @@ use Rattle.a429_workers.specs.declared.receiving.ReceiveTotals.{ReceiveTotals}
 use Rattle.a429_workers.specs.declared.receiving.ReceiveFault.{ReceiveFault}
 use Rattle.a429_workers.specs.declared.receiving.ReceiveFault.TheVariants.{Source, Gate, TooMuch}
 
+-- hub and number stay the same, and how many words of a source it accepts
+abbrev pub IsSameReceiver : Receiving → Receiving → Type 0
+IsSameReceiver old new = new ≡ record old { accepted = new.accepted }
+
 -- the receiver after these raw words came in
 abbrev pub after_words : Receiving → List ℕ → Receiving
 after_words r raws = record r { accepted = accepted_after r.limit r.at.station r.number r.accepted raws }

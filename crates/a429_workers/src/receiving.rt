@@ -1,7 +1,7 @@
 //! The loop of a receiver.
 ghost use Rattle.std.specs.Prelude.{◌≡◌, ◌≤◌, ◌+◌, ◌<◌, ◌++◌, ◌∷◌, [], ◌⊎◌, ℕ, List, true, OnOk, MatchResult};
 ghost use Rattle.a429_values.specs.Ends.{accept_answer};
-ghost use Rattle.a429_workers.specs.Receives.{AreAtMost, AreTaken, after_words, counted, source_failures};
+ghost use Rattle.a429_workers.specs.Receives.{AreAtMost, AreTaken, IsSameReceiver, after_words, counted, source_failures};
 
 use crate::gates::{Gate, GateFault, Point};
 use a429_filter::LineSource;
@@ -61,6 +61,7 @@ fn receive<G: Gate>(
     requires room { AreAtMost place totals.old × (place < 1000000) }
     ensures ok { OnOk result (receiver.new ≡ after_words receiver.old (raw ∷ [])) }
     ensures totals { OnOk result (totals.new ≡ counted totals.old (accept_answer receiver.old raw)) }
+    ensures same { IsSameReceiver receiver.old receiver.new }
     ensures either { (receiver.new ≡ receiver.old) ⊎ (receiver.new ≡ after_words receiver.old (raw ∷ [])) }
 {
     gate.pass(Point::BeforeAccept(number, place))?;
@@ -80,6 +81,7 @@ pub fn receive_all<L: LineSource, G: Gate>(
     gate: &G,
 ) -> Result<ReceiveTotals, ReceiveFault>
     ensures taken { (given : List ℕ) × (L.given line.new ≡ L.given line.old ++ given) × AreTaken given result receiver.old receiver.new }
+    ensures same { IsSameReceiver receiver.old receiver.new }
     ensures ended { OnOk result (L.ended line.new ≡ true) }
     ensures failed { L.failed line.new ≡ source_failures (L.failed line.old) result }
 {
