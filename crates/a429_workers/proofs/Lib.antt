@@ -9,3 +9,5 @@ mod Beginning
 mod Calling
 mod Changing
 mod Example
+mod Hearing
+mod Stretching

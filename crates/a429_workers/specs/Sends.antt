@@ -1,48 +1,119 @@
--- The words that a transmitter sends, by the places of its calls: how far apart they are, and how often one accepted word is sent. A place is
--- how many calls come before it.
-use Rattle.std.specs.Prelude.{◌≡◌, ◌+◌, ◌<◌, ◌≤◌, [], ℕ, List, Option, Some, None, take, slice_get, flat_map, option_and_then}
-use Rattle.a429_equipment.specs.declared.loads.Load.{Load}
-use Rattle.a429_slots.specs.Tables.{Placed, GroupTable, output_in}
-use Rattle.a429_slots.specs.History.{AnsweredCell, times_sent}
-use Rattle.a429_slots.specs.Sending.{next_cell}
-use Rattle.a429_workers.specs.Calls.{Call, Asks, Turns, Meets, Carried, Standing, AreLawful, standing_after, answered_by}
+-- What a group's transmitter sent in a stretch of calls, and what its sink took.
+use Rattle.std.specs.Prelude.{◌≡◌, ◌+◌, ◌<◌, ◌++◌, ◌∷◌, [], ◌⊎◌, ℕ, zero, suc, Bool, true, false, List, Option, Some, None, Result, Ok, Err, IsTrue, is_some, length, count_by, filter_map, option_map}
+use Rattle.std.specs.List.{AllByRecursion}
+use Rattle.a429_slots.specs.Tables.{PlanTable, cells_of}
+use Rattle.a429_slots.specs.Sending.{Sending, after_cell}
+use Rattle.a429_workers.specs.Calls.{Call, Carried, Asks, Turns, Meets, Takes, StaysMid, StaysSpent}
+use Rattle.a429_workers.specs.Sinks.{failures_by}
+use Rattle.a429_workers.specs.Transmitting.{Transmitting, GoesOnBy, IsSameGroup}
+use Rattle.a429_workers.specs.declared.cells.Sent.{Sent}
+use Rattle.a429_workers.specs.declared.sending.SendTotals.{SendTotals}
+use Rattle.a429_workers.specs.declared.sending.SendFault.{SendFault}
+use Rattle.a429_workers.specs.declared.sending.SendFault.TheVariants.{Gate, Sink, Change}
 
--- where the calls before this place led
-abbrev pub standing_at : ℕ → GroupTable → Standing → List Call → ℕ → Standing
-standing_at g p s calls k = standing_after g p s (take k calls)
+-- the cells that were answered in calls, in order
+abbrev pub sent_of : Call → Option Sent
+sent_of (Asks (Some c)) = Some (record { bus = c.bus; slot = c.slot; word = c.word })
+sent_of (Asks None) = None
+sent_of (Turns plans t) = None
+sent_of (Meets loads) = None
 
--- the output that stands in the next cell, by the plan in force
-abbrev pub output_due : Standing → Option Placed
-output_due s = option_and_then (λ cell. output_in s.frame.table cell.0 cell.1) (next_cell s.frame)
+abbrev pub sent_in : List Call → List Sent
+sent_in calls = filter_map sent_of calls
 
--- at this place a cell is answered in which a word goes out, by this load
-pub record SendsAt (calls : List Call) (k : ℕ) (c : Carried) (l : Load) : Type 0 where
-  pub asked : slice_get calls k ≡ Some (Asks (Some c))
-  pub load : c.load ≡ Some l
-  pub word : ℕ
-  pub sent : c.word ≡ Some word
+abbrev pub has_word : Sent → Bool
+has_word s = is_some s.word
 
--- the cells of outputs that calls answered
-abbrev pub cells_in : Call → List AnsweredCell
-cells_in (Asks (Some c)) = answered_by c
-cells_in (Asks None) = []
-cells_in (Turns plans t) = []
-cells_in (Meets loads) = []
+-- a next frame was taken
+abbrev pub is_taken : Call → Bool
+is_taken (Turns plans (Takes n)) = true
+is_taken (Turns plans StaysMid) = false
+is_taken (Turns plans StaysSpent) = false
+is_taken (Asks c) = false
+is_taken (Meets loads) = false
 
-abbrev pub cells_of : List Call → List AnsweredCell
-cells_of calls = flat_map cells_in calls
+-- a cell was answered, or a next frame taken
+abbrev pub is_send : Call → Bool
+is_send (Asks (Some c)) = true
+is_send (Asks None) = false
+is_send (Turns plans (Takes n)) = true
+is_send (Turns plans StaysMid) = false
+is_send (Turns plans StaysSpent) = false
+is_send (Meets loads) = false
 
--- two words of one source that a transmitter sends are as far apart as the plan in force at the second asks
-abbrev pub WordsAreApart : Type 0
-WordsAreApart =
-    (g : ℕ) (p : GroupTable) (s : Standing) (calls : List Call) (j k : ℕ) (c d : Carried) (l m : Load) (output : Placed)
-    → AreLawful g p s calls → j < k → SendsAt calls j c l → SendsAt calls k d m → l.source ≡ m.source
-    → output_due (standing_at g p s calls k) ≡ Some output → c.slot + output.limits.spacing ≤ d.slot
+-- what a sink has then, where it tells what it took
+abbrev pub with_cells : Option (List Sent) → List Sent → Option (List Sent)
+with_cells taken cells = option_map (λ before. before ++ cells) taken
 
--- an accepted word, which is known by its source and its number, goes out only where it did so fewer times before, by whatever plans, than the
--- plan in force allows
-abbrev pub HoldsAreKept : Type 0
-HoldsAreKept =
-    (g : ℕ) (p : GroupTable) (s : Standing) (calls : List Call) (k : ℕ) (d : Carried) (m : Load) (output : Placed) (hold : ℕ)
-    → AreLawful g p s calls → SendsAt calls k d m → output_due (standing_at g p s calls k) ≡ Some output
-    → output.limits.hold ≡ Some hold → times_sent (cells_of (take k calls)) m.source m.count < hold
+-- The transmitter answered these calls, each a cell or a next frame that was taken, and then the last; the sink took the cells of the former.
+pub record HasSent (old new : Transmitting) (before after : Option (List Sent)) (calls last : List Call) : Type 0 where
+  pub stands : GoesOnBy old (calls ++ last) new
+  pub same : IsSameGroup old new
+  pub sends : AllByRecursion (λ c. IsTrue (is_send c)) calls
+  pub took : after ≡ with_cells before (sent_in calls)
+
+-- the call that ended the loop: a cell that the sink did not take, or a frame that was not taken; at the gate there is none
+abbrev pub IsLast : SendFault → List Call → Type 0
+IsLast Gate last = last ≡ []
+IsLast Sink last = (c : Carried) × (last ≡ Asks (Some c) ∷ [])
+IsLast Change last = (plans : List PlanTable) × (last ≡ Turns plans StaysSpent ∷ [])
+
+-- the calls are so many whole frames: a next one is taken between two, and all cells of the last one are sent
+abbrev pub AreWhole : ℕ → List Call → Sending → Type 0
+AreWhole zero calls frame = calls ≡ []
+AreWhole (suc n) calls frame = (count_by is_taken calls ≡ n) × (frame.sent ≡ cells_of frame.table)
+
+abbrev pub totals_of : List Sent → ℕ → SendTotals
+totals_of cells plan = record { cells = length cells; words = count_by has_word cells; plan = plan }
+
+-- so many frames were sent from the beginning of a frame on, or fewer where the loop ended before
+abbrev pub AreSent : ℕ → Transmitting → Transmitting → Option (List Sent) → Option (List Sent) → Result SendTotals SendFault → Type 0
+AreSent frames old new before after (Ok totals) =
+    (calls : List Call) × HasSent old new before after calls [] × (totals ≡ totals_of (sent_in calls) new.number) × AreWhole frames calls new.frame
+AreSent frames old new before after (Err fault) =
+    (calls : List Call) × (last : List Call) × HasSent old new before after calls last × IsLast fault last × (count_by is_taken calls < frames)
+
+-- the count of failures of the sink: it rises by one where the sink failed
+abbrev pub sink_failures : {A : Type 0} → ℕ → Result A SendFault → ℕ
+sink_failures n (Ok done) = n
+sink_failures n (Err Sink) = failures_by {A = ℕ} {E = SendFault} n (Err Sink)
+sink_failures n (Err Gate) = n
+sink_failures n (Err Change) = n
+
+-- ---- one cell, one frame
+
+-- these cells are counted
+pub record IsTallied (start totals : SendTotals) (sent : List Sent) : Type 0 where
+  pub cells : totals.cells ≡ start.cells + length sent
+  pub words : totals.words ≡ start.words + count_by has_word sent
+
+-- a cell was answered
+pub record IsCellMade (old new : Transmitting) (c : Carried) : Type 0 where
+  pub stands : GoesOnBy old (Asks (Some c) ∷ []) new
+  pub same : IsSameGroup old new
+  pub frame : new.frame ≡ after_cell old.frame
+  pub number : new.number ≡ old.number
+
+-- a cell was answered and its sink took it; or the gate ended the loop before or after that, or the sink did not take it
+abbrev pub IsCell : Transmitting → Transmitting → Option (List Sent) → Option (List Sent) → SendTotals → SendTotals → Result (Unit {0}) SendFault → Type 0
+IsCell old new before after start totals (Ok done) =
+    (c : Carried) × IsCellMade old new c × (after ≡ with_cells before (sent_in (Asks (Some c) ∷ []))) × IsTallied start totals (sent_in (Asks (Some c) ∷ []))
+IsCell old new before after start totals (Err Gate) =
+    ((new ≡ old) × (after ≡ before)) ⊎ ((c : Carried) × IsCellMade old new c × (after ≡ with_cells before (sent_in (Asks (Some c) ∷ []))))
+IsCell old new before after start totals (Err Sink) = (c : Carried) × IsCellMade old new c × (after ≡ with_cells before [])
+IsCell old new before after start totals (Err Change) = ⊥
+
+-- all cells of a frame were sent from its beginning on, or fewer where the loop ended before
+abbrev pub IsFrame : Transmitting → Transmitting → Option (List Sent) → Option (List Sent) → SendTotals → SendTotals → Result (Unit {0}) SendFault → Type 0
+IsFrame old new before after start totals (Ok done) =
+    (calls : List Call) × HasSent old new before after calls [] × IsTallied start totals (sent_in calls) × (count_by is_taken calls ≡ 0) × (new.frame.sent ≡ cells_of new.frame.table)
+IsFrame old new before after start totals (Err fault) =
+    (calls : List Call) × (last : List Call) × HasSent old new before after calls last × IsLast fault last × (count_by is_taken calls ≡ 0)
+
+-- the next frame was taken, or its slots cannot be counted
+abbrev pub IsTurn : Transmitting → Transmitting → Result (Unit {0}) SendFault → Type 0
+IsTurn old new (Ok done) =
+    (plans : List PlanTable) × (n : ℕ) × GoesOnBy old (Turns plans (Takes n) ∷ []) new × IsSameGroup old new × (new.frame.sent ≡ 0)
+IsTurn old new (Err Change) = (plans : List PlanTable) × GoesOnBy old (Turns plans StaysSpent ∷ []) new × IsSameGroup old new
+IsTurn old new (Err Gate) = ⊥
+IsTurn old new (Err Sink) = ⊥
