@@ -3,5 +3,5 @@ mod Heard
 mod Steps
 mod Order
 mod Growing
-mod Sends
+mod SentWords
 mod Example
