@@ -3,11 +3,11 @@ mod Heard
 mod Steps
 mod Order
 mod Growing
-mod Sends
 mod Answering
 mod Beginning
 mod Calling
 mod Changing
+mod SentWords
 mod Example
 mod Hearing
 mod Stretching

@@ -7,7 +7,7 @@ ghost use Rattle.a429_workers.specs.Calls.{Call};
 ghost use Rattle.a429_workers.specs.Example as example;
 ghost use Rattle.a429_workers.specs.MoreCalls.{LastCallLeads, LastCallLoads, LawfulCallsGrow};
 ghost use Rattle.a429_workers.specs.Runs.{IsWorking, HasRun};
-ghost use Rattle.a429_workers.specs.SpacedCalls.{HoldsAreKept, WordsAreApart};
+ghost use Rattle.a429_workers.specs.SentWords.{HoldsAreKept, WordsAreApart};
 
 use a429_equipment::laws::tables_receive_for_sources;
 use a429_slots::laws::{answered_cells_grow, frames_go_on};

@@ -10,7 +10,7 @@ use Rattle.a429_equipment.specs.declared.loads.Load.{Load}
 use Rattle.a429_slots.specs.Tables.{Placed, GroupTable, PlanTable, output_in}
 use Rattle.a429_slots.specs.History.{AnsweredCell, has_sent, is_held, is_too_close, times_sent}
 use Rattle.a429_workers.specs.Calls.{Call, Asks, Turns, Meets, Turn, Takes, StaysMid, StaysSpent, Carried, Standing, IsAnswered, IsLawful, AreLawful, after, after_turn, standing_after, word_of, answered_by}
-use Rattle.a429_workers.specs.SpacedCalls.{SendsAt, standing_at, output_due, cells_in, cells_of}
+use Rattle.a429_workers.specs.SentWords.{SendsAt, standing_at, output_due, cells_in, cells_of}
 
 -- ---- what went out before
 
