@@ -3,7 +3,7 @@ use Rattle.std.proofs.Common.{◌≡◌, ℕ, zero, suc, ◌+◌, ◌<◌, false
 use Rattle.std.specs.List.{find, flat_map, enumerate_from, AllByRecursion, slice_get}
 use Rattle.toml.specs.Data.{Data}
 use Rattle.a429_equipment.specs.declared.fault.FaultKind.{FaultKind}
-use Rattle.a429_equipment.specs.declared.fault.FaultKind.TheVariants.{Rate, TooMany, Name, DuplicateName, Label, Sdi, Interval, UnknownName, DuplicateSource, DuplicateOutput, EmptyGroup, Hold}
+use Rattle.a429_equipment.specs.declared.fault.FaultKind.TheVariants.{Version, MissingKey, WrongKind, Rate, TooMany, Name, DuplicateName, Label, Sdi, Interval, UnknownName, DuplicateSource, DuplicateOutput, EmptyGroup, Hold}
 use Rattle.a429_equipment.specs.declared.fault.TablePlace.TheVariants.{Root, Group}
 use Rattle.a429_equipment.specs.declared.walk.Rows.{Rows}
 use Rattle.a429_equipment.specs.declared.walk.Rows.TheVariants.{Receivers, Sources, Outputs}
@@ -27,6 +27,9 @@ none_stand root (k ∷ ks) h = let n = nowhere_at root k ks (find (stands root k
 
 -- of a table without faults, the kinds that its record rests on
 pub record IsFaultless (root : Data) : Type 0 where
+  pub version : StandsAtNone root (walk root) Version
+  pub missing_key : StandsAtNone root (walk root) MissingKey
+  pub wrong_kind : StandsAtNone root (walk root) WrongKind
   pub rate : StandsAtNone root (walk root) Rate
   pub too_many : StandsAtNone root (walk root) TooMany
   pub name : StandsAtNone root (walk root) Name
@@ -45,6 +48,9 @@ unfolding faults kinds
 is_faultless root h =
     let n = none_stand root kinds h in
     record {
+      version = n.0;
+      missing_key = n.1.1.0;
+      wrong_kind = n.1.1.1.0;
       rate = n.1.1.1.1.0;
       too_many = n.1.1.1.1.1.0;
       name = n.1.1.1.1.1.1.0;

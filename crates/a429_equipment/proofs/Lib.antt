@@ -19,3 +19,5 @@ pub mod Receiving
 pub mod KeyPairs
 pub mod Labels
 pub mod Stations
+pub mod Standing
+pub mod Written

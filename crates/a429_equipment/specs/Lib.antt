@@ -21,3 +21,4 @@ pub mod Reading
 pub mod Printed
 pub mod Agreement
 pub mod Receiving
+pub mod AsWritten
