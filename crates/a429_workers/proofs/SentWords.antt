@@ -1,16 +1,17 @@
 -- The words that lawful calls send: what went out before each of them, and what follows where one goes out.
-use Rattle.std.proofs.Common.{◌≡◌, ℕ, zero, suc, ◌+◌, ◌<◌, ◌≤◌, Bool, true, false, true≢false, List, [], ◌∷◌, ◌++◌, take, ◌∙◌, sym, ap, subst, refl, inl, inr, arith, append-nil, append_assoc}
-use Rattle.std.specs.Prelude.{Option, Some, None, ◌==◌, ◌&&◌, ◌||◌, cond, if◌then◌else◌, nat_lt, slice_get, option_map, option_and_then}
+use Rattle.std.proofs.Common.{◌≡◌, ℕ, zero, suc, ◌+◌, ◌<◌, ◌≤◌, Bool, true, false, true≢false, List, [], ◌∷◌, ◌++◌, take, ◌∙◌, sym, ap, subst, refl, inl, inr, ◌⊎◌, arith, append-nil, append_assoc}
+use Rattle.std.specs.Prelude.{Option, Some, None, ◌==◌, ◌&&◌, ◌||◌, cond, if◌then◌else◌, nat_lt, is_some, slice_get, option_map, option_and_then}
 use Rattle.std.specs.List.{list_any}
+use Rattle.std.specs.Option.{option_map_or}
 use Rattle.std.proofs.lemmas.List.Sums.{sum_by-append}
 use Rattle.std.proofs.lemmas.List.Folds.{list_any-append}
 use Rattle.std.proofs.lemmas.Option.{none-some, same_Some}
-use Rattle.std.proofs.lemmas.Bool.{cases_lt, lt-ltb, leb-false, eq-eqb}
+use Rattle.std.proofs.lemmas.Bool.{cases_Bool, cases_lt, lt-ltb, ltb-true, lt-leb, leb-false, eq-eqb, eqb-true, and_parts}
 use Rattle.a429_equipment.specs.declared.loads.Load.{Load}
 use Rattle.a429_slots.specs.Tables.{Placed, GroupTable, PlanTable, output_in}
 use Rattle.a429_slots.specs.History.{AnsweredCell, has_sent, is_held, is_too_close, times_sent}
 use Rattle.a429_workers.specs.Calls.{Call, Asks, Turns, Meets, Turn, Takes, StaysMid, StaysSpent, Carried, Standing, IsAnswered, IsLawful, AreLawful, after, after_turn, standing_after, word_of, answered_by}
-use Rattle.a429_workers.specs.SentWords.{SendsAt, standing_at, output_due, cells_in, cells_of}
+use Rattle.a429_workers.specs.SentWords.{MayGoOut, SendsAt, standing_at, output_due, cells_in, cells_of}
 
 -- ---- what went out before
 
@@ -66,17 +67,24 @@ free true close x word h = absurd (none-some word h)
 free false true x word h = absurd (none-some word h)
 free false false x word h = (refl, refl)
 
+-- the output of an answered cell, and the source of its load
+stands_there : (now : Standing) (c : Carried) (output : Placed) (A : IsAnswered now c) → output_due now ≡ Some output → output_in now.frame.table A.cell.0 A.cell.1 ≡ Some output
+stands_there now c output A due = sym (ap (λ (x : Option (ℕ × ℕ)). option_and_then (λ cell. output_in now.frame.table cell.0 cell.1) x) A.due) ∙ due
+
+own_source : (now : Standing) (c : Carried) (l : Load) (output : Placed) (A : IsAnswered now c) → c.load ≡ Some l → output_in now.frame.table A.cell.0 A.cell.1 ≡ Some output → l.source ≡ output.source
+own_source now c l output A load stands =
+    same_Some l.source output.source (ap (λ (x : Option Load). option_map (λ l. l.source) x) (sym load) ∙ (A.load ∙ ap (λ (x : Option Placed). option_map (λ o. o.source) x) stands))
+
 is_free : (g : ℕ) (p : GroupTable) (s : Standing) (calls : List Call) (k : ℕ) (c : Carried) (l : Load) (output : Placed) → AreLawful g p s calls → SendsAt calls k c l → output_due (standing_at g p s calls k) ≡ Some output
     → IsFree (standing_at g p s calls k).earlier c.slot output l
 is_free g p s calls k c l output all S due =
     let now = standing_at g p s calls k in
     let A : IsAnswered now c = lawful_at g p s calls k (Asks (Some c)) all S.asked in
-    let stands : output_in now.frame.table A.cell.0 A.cell.1 ≡ Some output = sym (ap (λ (x : Option (ℕ × ℕ)). option_and_then (λ cell. output_in now.frame.table cell.0 cell.1) x) A.due) ∙ due in
-    let sources = ap (λ (x : Option Load). option_map (λ l. l.source) x) (sym S.load) ∙ (A.load ∙ ap (λ (x : Option Placed). option_map (λ o. o.source) x) stands) in
+    let stands = stands_there now c output A due in
     let word = ap (λ (x : Option Placed). word_of now.earlier c.slot x c.load) (sym stands) ∙ (sym A.word ∙ S.sent) in
     let goes = ap (word_of now.earlier c.slot (Some output)) (sym S.load) ∙ word in
     let both = free (is_held now.earlier output.source output.limits.hold l.count) (is_too_close now.earlier c.slot output.source output.limits.spacing) l.word S.word goes in
-    record { source = same_Some l.source output.source sources; held = both.0; close = both.1 }
+    record { source = own_source now c l output A S.load stands; held = both.0; close = both.1 }
 
 pub words_apart : (g : ℕ) (p : GroupTable) (s : Standing) (calls : List Call) (j k : ℕ) (c d : Carried) (l m : Load) (output : Placed) → AreLawful g p s calls → j < k → SendsAt calls j c l → SendsAt calls k d m
     → l.source ≡ m.source → output_due (standing_at g p s calls k) ≡ Some output → c.slot + output.limits.spacing ≤ d.slot
@@ -106,3 +114,79 @@ holds_kept g p s calls k d m output hold all T due limited =
     let parts : times_sent earlier output.source m.count ≡ times_sent s.earlier output.source m.count + times_sent (cells_of (take k calls)) output.source m.count =
     ap (λ (cs : List AnsweredCell). times_sent cs output.source m.count) (earlier_is g p s (take k calls)) ∙ sum_by-append test s.earlier (cells_of (take k calls)) in
     subst (λ (i : ℕ). times_sent (cells_of (take k calls)) i m.count < hold) (sym F.source) (omega (arith, below, parts))
+
+-- ---- where a word may go out
+
+or_parts : (a b : Bool) → (a || b) ≡ true → (a ≡ true) ⊎ (b ≡ true)
+or_parts true b h = inl refl
+or_parts false b h = inr h
+
+-- an earlier call in whose cell a test passes
+record IsFound (test : AnsweredCell → Bool) (calls : List Call) (k : ℕ) : Type 0 where
+  pub place : ℕ
+  pub call : Call
+  pub before : place < k
+  pub there : slice_get calls place ≡ Some call
+  pub passes : list_any test (cells_in call) ≡ true
+
+find_call : (test : AnsweredCell → Bool) (calls : List Call) (k : ℕ) → list_any test (cells_of (take k calls)) ≡ true → IsFound test calls k
+find_call test calls zero h = absurd (true≢false (sym h))
+find_call test [] (suc k) h = absurd (true≢false (sym h))
+find_call test (c ∷ calls) (suc k) h = elim (or_parts (list_any test (cells_in c)) (list_any test (cells_of (take k calls))) (sym (list_any-append test (cells_in c) (cells_of (take k calls))) ∙ h)) [
+  | inl here ↦ record { place = 0; call = c; before = omega arith; there = refl; passes = here }
+  | inr on ↦ let F = find_call test calls k on in record { place = suc F.place; call = F.call; before = omega (arith, F.before); there = F.there; passes = F.passes }
+]
+
+-- it is a cell in which a word of the source went out too closely
+record IsNear (calls : List Call) (j source slot q : ℕ) : Type 0 where
+  pub cell : Carried
+  pub load : Load
+  pub sends : SendsAt calls j cell load
+  pub same : load.source ≡ source
+  pub near : slot < cell.slot + q
+
+of_one : (b : Bool) → (b || false) ≡ true → b ≡ true
+of_one true h = refl
+of_one false h = h
+
+some_word : (x : Option ℕ) → is_some x ≡ true → (w : ℕ) × (x ≡ Some w)
+some_word None h = absurd (true≢false (sym h))
+some_word (Some w) h = (w, refl)
+
+is_near : (calls : List Call) (j source slot q : ℕ) (c : Call) → slice_get calls j ≡ Some c → list_any (λ x. has_sent source x && nat_lt slot (x.slot + q)) (cells_in c) ≡ true → IsNear calls j source slot q
+is_near calls j source slot q (Asks None) there h = absurd (true≢false (sym h))
+is_near calls j source slot q (Turns plans t) there h = absurd (true≢false (sym h))
+is_near calls j source slot q (Meets loads) there h = absurd (true≢false (sym h))
+is_near calls j source slot q (Asks (Some c)) there h = by c.load refl h
+  where
+    by : (x : Option Load) → c.load ≡ x → list_any (λ y. has_sent source y && nat_lt slot (y.slot + q)) (option_map_or (λ l. record { slot = c.slot; source = l.source; count = l.count; word = c.word } ∷ []) x []) ≡ true → IsNear calls j source slot q
+    by None is pass = absurd (true≢false (sym pass))
+    by (Some l) is pass =
+        let own = of_one ((is_some c.word && l.source == source) && nat_lt slot (c.slot + q)) pass in
+        let (sent, near) = and_parts (is_some c.word && l.source == source) (nat_lt slot (c.slot + q)) own in
+        let (some, same) = and_parts (is_some c.word) (l.source == source) sent in
+        let (w, word) = some_word c.word some in
+        record { cell = c; load = l; sends = record { asked = there; load = is; word = w; sent = word }; same = eqb-true l.source source same; near = ltb-true slot (c.slot + q) near }
+
+pub goes_out : (g : ℕ) (p : GroupTable) (s : Standing) (calls : List Call) (k : ℕ) (d : Carried) (m : Load) (output : Placed) → s.earlier ≡ [] → AreLawful g p s calls → slice_get calls k ≡ Some (Asks (Some d)) → d.load ≡ Some m
+    → output_due (standing_at g p s calls k) ≡ Some output → MayGoOut calls k output d m → d.word ≡ m.word
+goes_out g p s calls k d m output none all asked load due M =
+    let now = standing_at g p s calls k in
+    let A : IsAnswered now d = lawful_at g p s calls k (Asks (Some d)) all asked in
+    let stands = stands_there now d output A due in
+    let source = own_source now d m output A load stands in
+    let cells : now.earlier ≡ cells_of (take k calls) = earlier_is g p s (take k calls) ∙ ap (λ (cs : List AnsweredCell). cs ++ cells_of (take k calls)) none in
+    let held : is_held now.earlier output.source output.limits.hold m.count ≡ false = not_held output.limits.hold (λ hold is. subst (λ (i : ℕ). times_sent now.earlier i m.count < hold) source (subst (λ (cs : List AnsweredCell). times_sent cs m.source m.count < hold) (sym cells) (M.held hold is))) in
+    let close : is_too_close now.earlier d.slot output.source output.limits.spacing ≡ false = elim (cases_Bool (is_too_close now.earlier d.slot output.source output.limits.spacing)) [
+      | inl near ↦
+          let test : AnsweredCell → Bool = λ x. has_sent output.source x && nat_lt d.slot (x.slot + output.limits.spacing) in
+          let F = find_call test calls k (ap (list_any test) (sym cells) ∙ near) in
+          let N = is_near calls F.place output.source d.slot output.limits.spacing F.call F.there F.passes in
+          absurd (omega (arith, N.near, M.apart F.place N.cell N.load F.before N.sends (N.same ∙ sym source)))
+      | inr far ↦ far
+    ] in
+    A.word ∙ (ap (λ (x : Option Placed). word_of now.earlier d.slot x d.load) stands ∙ (ap (word_of now.earlier d.slot (Some output)) load ∙ rw (held, close) refl))
+  where
+    not_held : (x : Option ℕ) → ((hold : ℕ) → x ≡ Some hold → times_sent (standing_at g p s calls k).earlier output.source m.count < hold) → is_held (standing_at g p s calls k).earlier output.source x m.count ≡ false
+    not_held None below = refl
+    not_held (Some hold) below = lt-leb hold (times_sent (standing_at g p s calls k).earlier output.source m.count) (below hold refl)

@@ -46,3 +46,15 @@ HoldsAreKept =
     (g : ℕ) (p : GroupTable) (s : Standing) (calls : List Call) (k : ℕ) (d : Carried) (m : Load) (output : Placed) (hold : ℕ)
     → AreLawful g p s calls → SendsAt calls k d m → output_due (standing_at g p s calls k) ≡ Some output
     → output.limits.hold ≡ Some hold → times_sent (cells_of (take k calls)) m.source m.count < hold
+
+-- neither the hold of the output nor its least spacing keeps the load's word back in this cell
+pub record MayGoOut (calls : List Call) (k : ℕ) (output : Placed) (d : Carried) (m : Load) : Type 0 where
+  pub held : (hold : ℕ) → output.limits.hold ≡ Some hold → times_sent (cells_of (take k calls)) m.source m.count < hold
+  pub apart : (j : ℕ) (c : Carried) (l : Load) → j < k → SendsAt calls j c l → l.source ≡ m.source → c.slot + output.limits.spacing ≤ d.slot
+
+-- then it goes out: what the load found is what is sent
+abbrev pub OtherWordsGoOut : Type 0
+OtherWordsGoOut =
+    (g : ℕ) (p : GroupTable) (s : Standing) (calls : List Call) (k : ℕ) (d : Carried) (m : Load) (output : Placed)
+    → s.earlier ≡ [] → AreLawful g p s calls → slice_get calls k ≡ Some (Asks (Some d)) → d.load ≡ Some m
+    → output_due (standing_at g p s calls k) ≡ Some output → MayGoOut calls k output d m → d.word ≡ m.word

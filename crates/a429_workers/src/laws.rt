@@ -7,7 +7,7 @@ ghost use Rattle.a429_workers.specs.Calls.{Call};
 ghost use Rattle.a429_workers.specs.Example as example;
 ghost use Rattle.a429_workers.specs.MoreCalls.{LastCallLeads, LastCallLoads, LawfulCallsGrow};
 ghost use Rattle.a429_workers.specs.Runs.{IsWorking, HasRun};
-ghost use Rattle.a429_workers.specs.SentWords.{HoldsAreKept, WordsAreApart};
+ghost use Rattle.a429_workers.specs.SentWords.{HoldsAreKept, OtherWordsGoOut, WordsAreApart};
 
 use a429_equipment::laws::tables_receive_for_sources;
 use a429_slots::laws::{answered_cells_grow, frames_go_on};
@@ -48,4 +48,10 @@ pub fn words_are_spaced()
 /// is accepted again is another.
 pub fn holds_are_kept()
     ensures { HoldsAreKept }
+{}
+
+/// Where neither the output's hold nor its least spacing forbids it, the word that a cell's load found goes out; so
+/// no word is kept back but for these. The transmitter had answered no cell before the first call.
+pub fn other_words_go_out()
+    ensures { OtherWordsGoOut }
 {}
