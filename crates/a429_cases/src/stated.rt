@@ -123,7 +123,8 @@ pub struct Case<'a> {
     words: Vec<&'a str>,
     files: MemoryFiles,
     wanted: Wanted,
-    /// Texts, one a line, that stand in what is written to standard error. None where nothing is written there.
+    /// Texts, one a line, that stand in what is written to standard error. None where hints are all that may be
+    /// written there, and only behind a refusal.
     err: Option<Vec<u8>>,
 }
 
@@ -175,11 +176,17 @@ impl<'a> Case<'a> {
 
     fn has_told(&self, err: &[u8]) -> bool {
         let Some(texts) = &self.err else {
-            return err.is_empty();
+            return err.is_empty() || self.wanted.status == 1 && are_hints(err);
         };
         !err.is_empty()
             && texts
                 .split(|byte| *byte == b'\n')
                 .all(|text| text.is_empty() || cut_around(err, text).is_some())
     }
+}
+
+/// Whether each line is a hint.
+fn are_hints(err: &[u8]) -> bool {
+    err.split(|byte| *byte == b'\n')
+        .all(|line| line.is_empty() || line.starts_with(b"a429: "))
 }

@@ -8,6 +8,7 @@ ghost use Rattle.a429_cli.specs.Usage.{AsksForHelp, IsHelpReply, IsNoRequest, Is
 
 use crate::arguments::requests::{Request, parse};
 use crate::files::FileReader;
+use crate::hints::{tell_failed_output, tell_hint};
 use crate::lines::tell_lines;
 use crate::output::endings::{finish, refuse_memory};
 use crate::output::{Output, OutputFault};
@@ -21,7 +22,7 @@ use std::io;
 use std::io::Write;
 
 /// Does a command: `words` are those of the command line without the program's name; answers, refusals and help
-/// that is asked for go to `out`, the text of a usage fault to `err`. The status is 0 where the command was done,
+/// that is asked for go to `out`, the text of a usage fault and hints about a refusal to `err`. The status is 0 where the command was done,
 /// 1 where it was refused, and 2 where the words are a mistake. Where the output fails, the status is 1 and
 /// nothing more is put; where `err` fails, nothing more is written to it and the status stays.
 pub fn command<'a, F: FileReader, O: Output, V: Write>(
@@ -52,8 +53,6 @@ pub fn command<'a, F: FileReader, O: Output, V: Write>(
     ensures unasked { result ≡ 2 → IsNoRequest (texts_of words.entry.now) }
     // Where the command was done, nothing was written to `err`.
     ensures quiet { result ≡ 0 → V.contents err.new ≡ V.contents err.old }
-    // Words that ask for something leave `err` alone.
-    ensures aside { (r : RequestBytes) → AsksFor (texts_of words.entry.now) r → V.contents err.new ≡ V.contents err.old }
     // Where the status is 2, nothing was put.
     ensures silent { result ≡ 2 → O.contents out.new ≡ O.contents out.old }
     // Where the command was done, all that was put was passed on; so is a refusal where no call failed.
@@ -62,7 +61,10 @@ pub fn command<'a, F: FileReader, O: Output, V: Write>(
 {
     match run(alloc, words, files, out, err) {
         Ok(status) => status,
-        Err(OutputFault) => 1,
+        Err(OutputFault) => {
+            let _ = tell_failed_output(err);
+            1
+        }
     }
 }
 
@@ -86,14 +88,36 @@ fn run<'a, F: FileReader, O: Output, V: Write>(
     ensures unasked { IfOk result (λ status. status ≡ 2 → IsNoRequest (texts_of words.entry.now)) }
     ensures flushed { IfOk result (λ status. status ≤ 1 → IsTrue (O.is_flushed out.new)) }
     ensures faults { CountsFault result (O.failures out.old) (O.failures out.new) }
-    ensures quiet { IfOk result (λ status. status ≤ 1 → V.contents err.new ≡ V.contents err.old) }
-    ensures aside { (r : RequestBytes) → AsksFor (texts_of words.entry.now) r → V.contents err.new ≡ V.contents err.old }
+    ensures quiet { IfOk result (λ status. status ≡ 0 → V.contents err.new ≡ V.contents err.old) }
     ensures silent { IfOk result (λ status. status ≡ 2 → O.contents out.new ≡ O.contents out.old) }
 {
     match parse(alloc, words) {
-        Ok(request) => answer(alloc, &request, files, out),
+        Ok(request) => answer_with_hint(alloc, &request, files, out, err),
         Err(error) => explain(alloc, &error, out, err),
     }
+}
+
+/// Answers a request, and behind a refusal tells on `err` what can be done about it.
+fn answer_with_hint<F: FileReader, O: Output, V: Write>(
+    alloc: Global,
+    request: &Request,
+    files: &mut F,
+    out: &mut O,
+    err: &mut V,
+) -> Result<u8, OutputFault>
+    ensures replied { IsTrue (F.tells files.old) → IfOk result
+        (IsPut (IsReplyOrMemory (F.file files.old) (request_of request.now)) (O.contents out.old) (O.contents out.new)) }
+    ensures status { IfOk result (λ status. status ≤ 1) }
+    ensures flushed { OnOk result (IsTrue (O.is_flushed out.new)) }
+    ensures faults { CountsFault result (O.failures out.old) (O.failures out.new) }
+    ensures quiet { IfOk result (λ status. status ≡ 0 → V.contents err.new ≡ V.contents err.old) }
+{
+    let result = answer(alloc, request, files, out);
+    if let Ok(1) = result {
+        // a hint that cannot be told changes nothing
+        let _ = tell_hint(alloc, request, files, err);
+    }
+    result
 }
 
 /// Answers a request. The status is 0 where it was done, and 1 where it was refused.
@@ -135,7 +159,6 @@ fn explain<O: Output, V: Write>(
     ensures faults { CountsFault result (O.failures out.old) (O.failures out.new) }
     ensures quiet { IfOk result (λ status. status ≤ 1 → V.contents err.new ≡ V.contents err.old) }
     ensures silent { IfOk result (λ status. status ≡ 2 → O.contents out.new ≡ O.contents out.old) }
-    ensures memory { kind_of error.now ≡ ErrorKind.OutOfMemory → V.contents err.new ≡ V.contents err.old }
 {
     match error.kind() {
         ErrorKind::OutOfMemory => refuse_memory(out),

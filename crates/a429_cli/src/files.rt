@@ -21,6 +21,21 @@ pub enum FileFault {
     NoMemory,
 }
 
+/// Why a file cannot be read, for a person.
+#[derive(Clone, Copy, Debug, PartialEq, Eq)]
+pub enum FileTrouble {
+    /// There is none of this name.
+    Missing,
+    /// The name is that of a folder.
+    Folder,
+    /// It is there, and may not be read.
+    Forbidden,
+    /// It has more bytes than a file may have.
+    TooLarge,
+    /// Another cause, or one that the reader does not tell.
+    Unknown,
+}
+
 /// What gives the bytes of files by their names.
 pub trait FileReader {
     /// Whether it tells what it has.
@@ -35,4 +50,9 @@ pub trait FileReader {
         ensures refused { IsTrue (tells self.old) → result ≡ Err FileFault.Refused → file self.old name.now ≡ None }
         ensures tells { tells self.new ≡ tells self.old }
         ensures keeps { (other : List ℕ) → file self.new other ≡ file self.old other };
+
+    /// The bytes of a file once more, or why there are none: for a hint to a person, and no contract rests on it.
+    fn look(&mut self, _name: &str) -> Result<Vec<u8>, FileTrouble> {
+        Err(FileTrouble::Unknown)
+    }
 }

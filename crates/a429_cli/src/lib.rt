@@ -4,6 +4,7 @@
 mod arguments;
 mod commands;
 mod files;
+mod hints;
 mod lines;
 mod output;
 mod plan_texts;
@@ -15,6 +16,6 @@ pub use arguments::requests::Request;
 pub use commands::command;
 pub use files::disk::DiskFiles;
 pub use files::memory::MemoryFiles;
-pub use files::{FileFault, FileReader, LARGEST_FILE};
+pub use files::{FileFault, FileReader, FileTrouble, LARGEST_FILE};
 pub use output::refusals::CommandRefusal;
 pub use output::{CountedWriter, Output, OutputFault};

@@ -173,6 +173,9 @@ fn cut_short(
     })
 }
 
+/// What is told on standard error of an output that failed.
+const OUTPUT_FAILED: &[u8] = b"a429: standard output failed\n";
+
 /// Commands, scripts, how many bytes a writer takes in one call, and what is written.
 const WRITTEN: &[(&[&str], &str, usize, &str)] = &[
     (
@@ -203,8 +206,9 @@ fn a_writer_may_fail_at_any_call(rt: HostRuntime) -> Result<(), Fail> {
         assert!(rt; whole.failures == 0, "for {words:?}");
         for good_calls in 0..whole.out.calls {
             let cut = cut_short(&rt, words, script, *piece, good_calls)?;
+            assert!(rt; cut.status == 1, "for {words:?}, {good_calls}");
             assert!(rt;
-                cut.status == 1 && cut.err.calls == 0,
+                OUTPUT_FAILED.starts_with(&cut.err.taken),
                 "for {words:?}, {good_calls}"
             );
             assert!(rt;
@@ -227,7 +231,8 @@ fn help_ends_where_the_output_fails(rt: HostRuntime) -> Result<(), Fail> {
     assert!(rt; whole.status == 0 && whole.err.calls == 0);
     for good_calls in 0..whole.out.calls {
         let cut = cut_short(&rt, &["--help"], "", 64, good_calls)?;
-        assert!(rt; cut.status == 1 && cut.err.calls == 0, "{good_calls}");
+        assert!(rt; cut.status == 1, "{good_calls}");
+        assert!(rt; OUTPUT_FAILED.starts_with(&cut.err.taken), "{good_calls}");
         assert!(rt; cut.out.calls == good_calls + 1, "{good_calls}");
     }
     Ok(())
@@ -242,6 +247,24 @@ fn a_mistake_is_one_where_nobody_can_be_told(rt: HostRuntime) -> Result<(), Fail
         assert!(rt; cut.status == 2 && cut.out.calls == 0, "{good_calls}");
         assert!(rt; cut.err.calls == good_calls + 1, "{good_calls}");
     }
+    Ok(())
+}
+
+#[test]
+fn an_output_that_failed_is_told(rt: HostRuntime) -> Result<(), Fail> {
+    let cut = cut_short(&rt, &["word", "600000c1"], "", usize::MAX, 1)?;
+    assert!(rt; cut.status == 1 && cut.failures == 1);
+    assert!(rt; cut.err.taken.as_slice() == OUTPUT_FAILED);
+    Ok(())
+}
+
+#[test]
+fn a_refusal_is_one_line_whatever_the_name(rt: HostRuntime) -> Result<(), Fail> {
+    let words = ["plan", "a\nb\u{1b}[2J\u{7f}\u{85}\u{e9} ?\r"];
+    let whole = cut_short(&rt, &words, "", usize::MAX, usize::MAX)?;
+    assert!(rt; whole.status == 1);
+    let line = "refused file a?b?[2J??\u{e9} ??\n".as_bytes();
+    assert!(rt; whole.out.taken.as_slice() == line);
     Ok(())
 }
 

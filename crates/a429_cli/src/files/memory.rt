@@ -2,7 +2,7 @@
 ghost use Rattle.std.specs.Prelude.{◌≡◌, option_map};
 ghost use Rattle.a429_cli.specs.MemoryFile.{file_of};
 
-use crate::files::{FileFault, FileReader};
+use crate::files::{FileFault, FileReader, FileTrouble, LARGEST_FILE};
 
 /// Files by name, of which the first of a name is the one that is read.
 #[derive(Drop)]
@@ -25,6 +25,14 @@ impl FileReader for MemoryFiles {
                 Ok(bytes) => Ok(bytes),
                 Err(_) => Err(FileFault::NoMemory),
             },
+        }
+    }
+
+    fn look(&mut self, name: &str) -> Result<Vec<u8>, FileTrouble> {
+        match found(&self.files, name) {
+            None => Err(FileTrouble::Missing),
+            Some(bytes) if bytes.len() > LARGEST_FILE => Err(FileTrouble::TooLarge),
+            Some(bytes) => bytes.clone().map_err(|_| FileTrouble::Unknown),
         }
     }
 }
