@@ -20,4 +20,5 @@ pub mod PlanLines
 pub mod Gathered
 pub mod OnGrid
 pub mod RowPlans
+pub mod CheckedFewest
 mod Shown

@@ -1,23 +1,22 @@
 -- The groups of a table that is due: few outputs, each with a power of two for its period.
-use Rattle.std.proofs.Common.{◌≡◌, ℕ, suc, ◌+◌, ◌-◌, ◌*◌, ◌/◌, ◌^◌, ◌<◌, ◌≤◌, max, Bool, true, false, cond, List, [], ◌∷◌, length, map, Option, Some, arith, refl, sym, ap, subst, ◌∙◌, inl, inr, All, sum}
+use Rattle.std.proofs.Common.{◌≡◌, ℕ, ◌+◌, ◌-◌, ◌*◌, ◌/◌, ◌^◌, ◌<◌, ◌≤◌, max, Bool, true, false, cond, List, [], ◌∷◌, length, map, Option, Some, arith, sym, ap, subst, ◌∙◌, inl, inr, All}
 use Rattle.std.specs.Prelude.{option_map}
 use Rattle.std.specs.List.{AllZip, AllByRecursion, fold, find, zip}
 use Rattle.std.specs.Str.{bytes_eq}
 use Rattle.std.proofs.lemmas.Bool.{cases_lt}
 use Rattle.std.proofs.lemmas.List.Elements.{All-from_recursion}
-use Rattle.std.proofs.lemmas.List.Sums.{sum_by-le, sum-map}
+use Rattle.std.proofs.lemmas.List.Sums.{sum_by-le}
 use Rattle.std.proofs.lemmas.Slice.Zip.{AllZip-long, length-zip}
 use Rattle.std.proofs.lemmas.Option.{same_Some, none-some}
 use Rattle.std.proofs.lemmas.Nat.{pow_pos, pow_below, pow-add}
 use Rattle.std.proofs.Math.Nat.{div-le_self, pow-le-pow_right}
-use Rattle.a429_grid.specs.Grid.{IsPeriod, IsGridPeriod}
-use Rattle.a429_pack.specs.Demands.{greatest}
-use Rattle.a429_pack.specs.Demanded.{demand_of, AreFewestBuses, IsBusCount}
+use Rattle.a429_grid.specs.Grid.{IsPeriod}
+use Rattle.a429_pack.specs.Demanded.{AreFewestBuses, IsBusCount}
 use Rattle.a429_equipment.specs.TableRecord.{TableRecord}
 use Rattle.a429_equipment.specs.Sound.{IsSound}
 use Rattle.a429_equipment.specs.declared.rows.GroupRow.{GroupRow}
 use Rattle.a429_equipment.specs.declared.rows.OutputRow.{OutputRow}
-use Rattle.a429_slots.specs.Planned.{HasPeriod, AreFewestBusesFor, rated_outputs}
+use Rattle.a429_slots.specs.Planned.{rated_outputs}
 use Rattle.a429_cert.specs.declared.due.DueOutput.{DueOutput}
 use Rattle.a429_cert.specs.declared.due.DueGroup.{DueGroup}
 use Rattle.a429_cert.specs.declared.due.DueTable.{DueTable}
@@ -150,66 +149,8 @@ pub all_nest : (gs : List DueGroup) → AllByRecursion IsOnGrid gs → AllByRecu
 all_nest [] on = tt
 all_nest (g ∷ gs) on = (nest g on.0, all_nest gs on.1)
 
--- ---- the fewest buses, by the periods' exponents
-
-abbrev exponents_of : (os : List DueOutput) → HavePeriods os → List ℕ
-exponents_of [] h = []
-exponents_of (o ∷ os) h = h.0.0 ∷ exponents_of os h.1
-
-length-exponents : (os : List DueOutput) (h : HavePeriods os) → length (exponents_of os h) ≡ length os
-length-exponents [] h = refl
-length-exponents (o ∷ os) h = ap suc (length-exponents os h.1)
-
-greater_power : (i j : ℕ) → max (2 ^ i) (2 ^ j) ≡ 2 ^ max i j
-greater_power i j =
-    let two : 0 < 2 = omega arith in
-    elim (cases_lt i j) [
-      | inl lt ↦ let greater : max i j ≡ j = omega arith in let below = pow_below i j lt in rw greater (omega arith)
-      | inr le ↦ let greater : max i j ≡ i = omega arith in let below = pow-le-pow_right {n = 2} two {i = j} {j = i} le in rw greater (omega arith)
-    ]
-
-fold_power : (os : List DueOutput) (h : HavePeriods os) (i : ℕ) → fold (λ a o. max a o.period) (2 ^ i) os ≡ 2 ^ max i (greatest (exponents_of os h))
-fold_power [] h i = let none : i ≡ max i 0 = omega arith in ap (λ (k : ℕ). 2 ^ k) none
-fold_power (o ∷ os) h i =
-    let k : ℕ = h.0.0 in
-    let here : max (2 ^ i) o.period ≡ 2 ^ max i k = ap (max (2 ^ i)) h.0.2 ∙ greater_power i k in
-    let grouped : max (max i k) (greatest (exponents_of os h.1)) ≡ max i (max k (greatest (exponents_of os h.1))) = omega arith in
-    ap (λ (a : ℕ). fold (λ a o. max a o.period) a os) here ∙ fold_power os h.1 (max i k) ∙ ap (λ (k : ℕ). 2 ^ k) grouped
-
-frame_power : (os : List DueOutput) (h : HavePeriods os) → 1 ≤ length os → fold (λ a o. max a o.period) 0 os ≡ 2 ^ greatest (exponents_of os h)
-frame_power [] h some = absurd (omega arith)
-frame_power (o ∷ os) h some =
-    let first : max 0 o.period ≡ o.period = omega arith in
-    ap (λ (a : ℕ). fold (λ a o. max a o.period) a os) (first ∙ h.0.2) ∙ fold_power os h.1 h.0.0
-
-cells_same : (f : ℕ) (os : List DueOutput) (h : HavePeriods os) → map (λ o. f / o.period) os ≡ map (λ k. f / 2 ^ k) (exponents_of os h)
-cells_same f [] h = refl
-cells_same f (o ∷ os) h = ap (λ (n : ℕ). f / n ∷ map (λ o. f / o.period) os) h.0.2 ∙ ap (λ (ns : List ℕ). f / 2 ^ h.0.0 ∷ ns) (cells_same f os h.1)
+-- ---- the fewest buses
 
 -- that so many buses carry the demand and one fewer do not makes them the fewest
 abbrev pub FewestByDemand : Type 0
 FewestByDemand = (exponents : List ℕ) (buses : ℕ) → 1 ≤ length exponents → IsBusCount exponents buses → AreFewestBuses exponents buses
-
--- each is that of a row
-rows_fit : (e : TableRecord) (rate : ℕ) (rows : List OutputRow) (os : List DueOutput) (h : HavePeriods os) → AllZip (IsDueOutput e rate) rows os → AllZip (HasPeriod rate) rows (exponents_of os h)
-rows_fit e rate [] [] h due = tt
-rows_fit e rate [] (o ∷ os) h due = absurd due
-rows_fit e rate (r ∷ rows) [] h due = absurd due
-rows_fit e rate (r ∷ rows) (o ∷ os) h due = (subst (IsGridPeriod r.min_us r.max_us rate) h.0.2 due.0.period, rows_fit e rate rows os h.1 due.1)
-
-pub fewest : (e : TableRecord) (rate : ℕ) (rows : List OutputRow) (g : DueGroup) (buses : ℕ) → FewestByDemand → IsOnGrid g → AllZip (IsDueOutput e rate) rows g.outputs.items
-    → (buses - 1) * frame g < demand g → demand g ≤ buses * frame g → AreFewestBusesFor rate rows buses
-fewest e rate rows g buses by_demand on due above within =
-    let os : List DueOutput = g.outputs.items in
-    let ks : List ℕ = exponents_of os on.periods in
-    let top : frame g ≡ 2 ^ greatest ks = frame_power os on.periods on.some in
-    let cells : demand g ≡ demand_of ks
-    = sym (sum-map (λ o. frame g / o.period) os) ∙ ap sum (cells_same (frame g) os on.periods) ∙ ap (λ (f : ℕ). sum (map (λ k. f / 2 ^ k) ks)) top in
-    record {
-      exponents = ks;
-      fit = rows_fit e rate rows os on.periods due;
-      fewest = by_demand ks buses (subst (λ (n : ℕ). 1 ≤ n) (sym (length-exponents os on.periods)) on.some) (record {
-        within = subst (λ (f : ℕ). demand_of ks ≤ buses * f) top (subst (λ (d : ℕ). d ≤ buses * frame g) cells within);
-        above = subst (λ (f : ℕ). (buses - 1) * f < demand_of ks) top (subst (λ (d : ℕ). (buses - 1) * frame g < d) cells above);
-      });
-    }

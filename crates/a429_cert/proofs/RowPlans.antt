@@ -22,10 +22,11 @@ use Rattle.a429_cert.specs.Reading.{output_line, bound_line}
 use Rattle.a429_cert.specs.Spelling.{Listing, Bounding, said_in}
 use Rattle.a429_cert.specs.Checked.{EachPair, IsGreatestPeriod, IsPlaced, StatesPlan, stated_demand}
 use Rattle.a429_cert.specs.Judged.{StatesFewest, StateFewest, ShowsFewest}
+use Rattle.a429_cert.proofs.CheckedFewest.{checked_is_fewest}
 use Rattle.a429_cert.proofs.CheckedPlans.{same_bytes}
 use Rattle.a429_cert.proofs.DueOutputs.{grid_same}
 use Rattle.a429_cert.proofs.DuePlans.{IsPlacedAsDue, StatesAsDue, StateAsDue}
-use Rattle.a429_cert.proofs.OnGrid.{FewestByDemand, IsOnGrid, IsShortList, fewest, group_on_grid, period_some}
+use Rattle.a429_cert.proofs.OnGrid.{FewestByDemand, IsOnGrid, IsShortList, group_on_grid, period_some}
 
 -- ---- the greatest of the periods
 
@@ -265,16 +266,9 @@ states e group rows g lines on due named plan =
 
 states_fewest : (e : TableRecord) (group : GroupRow) (rows : List OutputRow) (g : DueGroup) (lines : List (List ℕ)) → FewestByDemand → IsOnGrid g → IsDueGroup e (group.rate, rows) g
     → g.name ≡ group.name → StatesAsDue e.version g lines → StatesFewest e group rows lines
-unfolding states
 states_fewest e group rows g lines by_demand on due named plan =
-    let c = plan.checked in
-    let buses : ℕ = plan.stated.heading.buses in
-    record {
-      plan = states e group rows g lines on due named plan;
-      fewest = fewest e group.rate rows g buses by_demand on due.outputs
-          (subst (λ (f : ℕ). (buses - 1) * f < demand g) c.greatest c.above)
-          (subst (λ (f : ℕ). demand g ≤ buses * f) c.greatest c.within);
-    }
+    let shown : StatesPlan e group rows lines = states e group rows g lines on due named plan in
+    record { plan = shown; fewest = checked_is_fewest by_demand e group rows shown.stated shown.checked }
 
 -- ---- group by group
 

@@ -12,6 +12,7 @@ use Rattle.a429_grid.specs.Blocks.{HasPeriodicBlocks}
 use Rattle.a429_grid.specs.Reversal.{reversed}
 use Rattle.a429_pack.specs.declared.demands.Demand.{Demand}
 use Rattle.a429_pack.specs.declared.entry.Entry.{Entry}
+use Rattle.a429_pack.specs.Demanded.{AreFewestBuses}
 use Rattle.a429_pack.specs.Demands.{demand_at, exponent_of, exponents_of, frame_of, period_of}
 use Rattle.a429_pack.specs.Entries.{AreInOrder, entry_of, inputs_of, demands_of}
 use Rattle.a429_pack.specs.Kept.{padded}
@@ -143,6 +144,14 @@ pub fewest : (h n : ℕ) (ds : List Demand) (is demands : List ℕ) (buses : ℕ
 fewest h n ds is demands buses p is-buses =
     let powers : map period_of ds ≡ map (λ k. 2 ^ k) (exponents_of ds) = sym (map-map (λ (k : ℕ). 2 ^ k) exponent_of ds) in
     subst (λ (ps : List ℕ). IsFewest (2 ^ h) ps buses) powers (fewest_periods h n ds is demands buses p is-buses)
+
+-- as many as have room for the demands of all entries
+pub fewest_needed : (h : ℕ) (ds : List Demand) (es xs : List Entry) (needed : ℕ) → h ≡ frame_of ds → AreInOrder ds es → xs ≡ es → needed ≡ div_ceil (sum (demands_of h xs)) (2 ^ h)
+    → ((k : ℕ) → HasPeriodicBlocks k) → AreFewestBuses (exponents_of ds) needed
+fewest_needed h ds es xs needed frame order same is blocks =
+    let here : needed ≡ div_ceil (sum (demands_of h es)) (2 ^ h) = is ∙ ap (λ (ys : List Entry). div_ceil (sum (demands_of h ys)) (2 ^ h)) same in
+    subst (λ (k : ℕ). IsFewest (2 ^ k) (map (λ j. 2 ^ j) (exponents_of ds)) needed) frame
+    (fewest h (length ds) ds (inputs_of es) (demands_of h es) needed (packing_of h ds es (blocks h) order frame) here)
 
 -- ---- a sound layout
 

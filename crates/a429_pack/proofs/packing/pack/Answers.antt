@@ -3,12 +3,11 @@ use Rattle.std.specs.Int.{div_ceil}
 use Rattle.std.specs.List.{All}
 use Rattle.a429_pack.specs.declared.demands.Demand.{Demand}
 use Rattle.a429_pack.specs.declared.entry.Entry.{Entry}
-use Rattle.a429_pack.specs.Demands.{demand_at, exponents_of, period_of}
+use Rattle.a429_pack.specs.Demands.{demand_at, period_of}
 use Rattle.a429_pack.specs.Entries.{inputs_of, demands_of}
 use Rattle.a429_pack.specs.Kept.{padded}
 use Rattle.a429_pack.specs.Layout.{IsLaidOut}
-use Rattle.a429_pack.specs.Schedules.{IsFewest}
-use Rattle.a429_pack.proofs.Packings.{packing_of, within, quotients, fewest, sound, kept_in, sum_small, length-order}
+use Rattle.a429_pack.proofs.Packings.{fewest_needed, packing_of, within, quotients, sound, kept_in, sum_small, length-order}
 use Rattle.a429_pack.proofs.packing.pack.Goals as goal
 
 pub buses_needed-needed-requires : goal.buses_needed-needed-requires
@@ -18,18 +17,11 @@ buses_needed-needed-requires g c =
     (within h c.args.demands.now c.in_ok-entries.entries.items c.in_ok-entries.ensures c.greatest_period-frame.ensures.value)
 
 pub returns-then-needed-gt-BUSES-clause-fault : goal.returns-then-needed-gt-BUSES-clause-fault
-returns-then-needed-gt-BUSES-clause-fault g c =
-    let ds : List Demand = c.args.demands.now in
-    let es : List Entry = c.in_ok-entries.entries.items in
-    let h : ℕ = c.greatest_period-frame.result in
-    let needed : c.buses_needed-needed.result ≡ div_ceil (sum (demands_of h es)) (2 ^ h) =
-    c.buses_needed-needed.ensures ∙ ap (λ (xs : List Entry). div_ceil (sum (demands_of h xs)) (2 ^ h)) c.deref.ensures.value in
-    let p = packing_of h ds es (c.blocks_are_periodic.ensures h) c.in_ok-entries.ensures c.greatest_period-frame.ensures.value in (
-      c.in_ok-entries.ensures.fit,
-      c.if-needed-gt-BUSES.true,
-      subst (λ (k : ℕ). IsFewest (2 ^ k) (map (λ j. 2 ^ j) (exponents_of ds)) c.buses_needed-needed.result) c.greatest_period-frame.ensures.value
-          (fewest h (length ds) ds (inputs_of es) (demands_of h es) c.buses_needed-needed.result p needed),
-    )
+returns-then-needed-gt-BUSES-clause-fault g c = (
+  c.in_ok-entries.ensures.fit,
+  c.if-needed-gt-BUSES.true,
+  fewest_needed _ _ _ _ _ c.greatest_period-frame.ensures.value c.in_ok-entries.ensures c.deref.ensures.value c.buses_needed-needed.ensures c.blocks_are_periodic.ensures,
+)
 
 pub sums_of-requires : goal.sums_of-requires
 sums_of-requires g c =
@@ -83,10 +75,4 @@ returns-clause-demands g c =
 
 pub returns-clause-fewest : goal.returns-clause-fewest
 returns-clause-fewest g c =
-    let ds : List Demand = c.args.demands.now in
-    let es : List Entry = c.in_ok-entries.entries.items in
-    let h : ℕ = c.greatest_period-frame.result in
-    let needed : c.buses_needed-needed.result ≡ div_ceil (sum (demands_of h es)) (2 ^ h) =
-    c.buses_needed-needed.ensures ∙ ap (λ (xs : List Entry). div_ceil (sum (demands_of h xs)) (2 ^ h)) c.deref.ensures.value in
-    subst (λ (k : ℕ). IsFewest (2 ^ k) (map (λ j. 2 ^ j) (exponents_of ds)) c.buses_needed-needed.result) c.greatest_period-frame.ensures.value
-    (fewest h (length ds) ds (inputs_of es) (demands_of h es) c.buses_needed-needed.result (packing_of h ds es (c.blocks_are_periodic.ensures h) c.in_ok-entries.ensures c.greatest_period-frame.ensures.value) needed)
+    fewest_needed _ _ _ _ _ c.greatest_period-frame.ensures.value c.in_ok-entries.ensures c.deref.ensures.value c.buses_needed-needed.ensures c.blocks_are_periodic.ensures
