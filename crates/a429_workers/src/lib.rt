@@ -6,6 +6,8 @@ mod gates;
 mod receiving;
 mod sending;
 mod sinks;
+#[cfg(test)]
+mod tests;
 mod transmit;
 
 pub use cells::{ChangeFault, FrameEnd, OpenFault, Sent};
