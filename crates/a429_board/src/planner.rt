@@ -63,6 +63,21 @@ fn show<R: Wait>(rt: &R, writer: PlanWriter, front: &Front) -> PlanWriter
     writer.publish_as::<Learns, R>(rt).0
 }
 
+// Shows the front by a writer that has shown all. It is refused where memory is, and the writer is gone then.
+fn shown<R: Wait>(rt: &R, mut writer: PlanWriter, front: &Front) -> Result<PlanWriter, AllocError>
+    requires pending { drop writer.behind writer.log.items ≡ [] }
+    requires book { writer.desk.shown.value.front.book ≡ front.now.book }
+    ensures pending { IfOk result (λ w. drop w.behind w.log.items ≡ []) }
+    ensures shown { IfOk result (λ w. w.desk.shown.value.front ≡ front.now) }
+    ensures view { IfOk result (λ w. w.desk.place.me.0.client ≡ knower front.now.book) }
+{
+    if let Err(_) = writer.append(front.again()) {
+        writer.take(rt);
+        return Err(AllocError);
+    }
+    Ok(show(rt, writer, front))
+}
+
 impl Planner {
     /// The planner of a board that begins with this plan and has room for so many watchers.
     pub(crate) fn begin<R: Wait>(
@@ -82,14 +97,13 @@ impl Planner {
         let second = Shown {
             front: front.again(),
         };
-        let mut writer: PlanWriter = Writer::new(alloc, first, second, watchers as usize)?;
-        // The log of the writer gets its room here, so that no later call grows it.
-        if let Err(_) = writer.append(front.again()) {
-            writer.take(rt);
-            return Err(AllocError);
-        }
+        let writer: PlanWriter = Writer::new(alloc, first, second, watchers as usize)?;
+        // The log of the writer gets its room here, so that no later call grows it: beside the next plan it
+        // keeps the one that was shown last.
+        let writer = shown(rt, writer, &front)?;
+        let writer = shown(rt, writer, &front)?;
         Ok(Planner {
-            writer: show(rt, writer, &front),
+            writer,
             head,
             pen,
             front,
