@@ -7,6 +7,7 @@ use Rattle.a429_equipment.specs.Arrivals.{AcceptApart}
 use Rattle.a429_equipment.specs.Receiving.{IsReceived}
 use Rattle.a429_equipment.specs.Agreement.{Agrees}
 use Rattle.a429_equipment.specs.SameStation.{same_station}
+use Rattle.a429_equipment.specs.Sound.{OfEach}
 use Rattle.a429_slots.specs.Tables.{GroupTable, PlanTable}
 use Rattle.a429_slots.specs.Proposed.{Proposed}
 use Rattle.a429_slots.specs.Events.{Event, Arrive, Cell, Frame, Publish}
@@ -22,7 +23,7 @@ use Rattle.a429_workers.specs.Calls.{Call, Turn, Asks, Turns, Meets, Takes, Stay
 -- of a station: no word is for two sources, and each source is of one of its receivers
 pub record IsWired (t : TableRecord) : Type 0 where
   pub apart : AcceptApart t
-  pub received : AllByRecursion (λ s. s.receiver < length t.receivers) t.sources
+  pub received : OfEach (λ s. s.receiver < length t.receivers) t.sources
 
 -- what each receiver of a station accepted, as pairs of a source's number and a word, of no source more than C bits can count
 pub record AreHeard (C : ℕ) (t : TableRecord) (heard : ℕ → List (ℕ × ℕ)) : Type 0 where
