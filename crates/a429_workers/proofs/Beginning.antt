@@ -1,10 +1,8 @@
 -- Beginnings of lists, the last of a list, and what holds of each element.
-use Rattle.std.proofs.Common.{◌≡◌, ℕ, zero, suc, ◌+◌, ◌-◌, ◌<◌, List, [], ◌∷◌, ◌++◌, length, ◌∙◌, sym, ap, subst, refl, arith, append_assoc, append-nil}
+use Rattle.std.proofs.Common.{◌≡◌, ℕ, zero, suc, List, [], ◌∷◌, ◌++◌, ◌∙◌, sym, ap, subst, append_assoc, append-nil}
 use Rattle.std.specs.Prelude.{Some, slice_get}
 use Rattle.std.specs.List.{AllByRecursion}
-use Rattle.std.proofs.lemmas.List.{length_push, get_or_push}
-use Rattle.std.proofs.lemmas.Option.{slice_get-get_or, same_Some, none-some}
-use Rattle.a429_slots.specs.History.{last_of}
+use Rattle.std.proofs.lemmas.Option.{same_Some, none-some}
 use mathlib.Core.List.{IsPrefix}
 
 pub prefix_self : {A : Type 0} (xs : List A) → IsPrefix xs xs
@@ -12,13 +10,6 @@ prefix_self xs = ([], append-nil xs)
 
 pub prefix_trans : {A : Type 0} (xs ys zs : List A) → IsPrefix xs ys → IsPrefix ys zs → IsPrefix xs zs
 prefix_trans xs ys zs p q = (p.0 ++ q.0, sym (append_assoc xs p.0 q.0) ∙ ap (λ w. w ++ q.0) p.1 ∙ q.1)
-
-pub last_push : {A : Type 0} (xs : List A) (w : A) → last_of (xs ++ w ∷ []) ≡ Some w
-last_push xs w =
-    let len : length (xs ++ w ∷ []) ≡ length xs + 1 = length_push xs w in
-    let within : length xs < length (xs ++ w ∷ []) = omega arith in
-    let here : length (xs ++ w ∷ []) - 1 ≡ length xs = omega arith in
-    ap (slice_get (xs ++ w ∷ [])) here ∙ (slice_get-get_or (xs ++ w ∷ []) (length xs) w within ∙ ap (λ y. Some y) (get_or_push xs w w (length xs) refl))
 
 -- ---- each element
 

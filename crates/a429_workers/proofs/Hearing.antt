@@ -1,5 +1,5 @@
 -- Words that come in at a receiver one after another, and how many are answered how.
-use Rattle.std.proofs.Common.{◌≡◌, ℕ, ◌+◌, ◌≤◌, ◌<◌, Bool, true, false, List, [], ◌∷◌, ◌++◌, length, take, ◌∙◌, sym, ap, subst, refl, inl, inr, arith, append_assoc, append-nil}
+use Rattle.std.proofs.Common.{◌≡◌, ℕ, ◌+◌, ◌≤◌, ◌<◌, Bool, true, false, List, [], ◌∷◌, ◌++◌, length, take, ◌∙◌, sym, ap, subst, refl, inl, inr, arith, append_assoc}
 use Rattle.std.specs.Prelude.{◌⊎◌, Err, cond, count_by, if◌then◌else◌}
 use Rattle.std.proofs.lemmas.List.{length_push, take_all, take-append-le}
 use Rattle.std.proofs.lemmas.List.Sums.{sum_by-append, sum_by-cons}
@@ -31,9 +31,6 @@ length_answers r [] = refl
 length_answers r (x ∷ xs) = let rest = length_answers (after_words r (x ∷ [])) xs in omega arith
 
 -- ---- totals
-
-one_if : (Accept → Bool) → Accept → ℕ
-one_if p a = if p a then 1 else 0
 
 count_push : (p : Accept → Bool) (xs : List Accept) (a : Accept) → count_by p (xs ++ a ∷ []) ≡ count_by p xs + (if p a then 1 else 0)
 count_push p xs a = sum_by-append (λ (x : Accept). cond (p x) 1 0) xs (a ∷ []) ∙ omega arith
@@ -78,9 +75,6 @@ pub record SoFar (before now : List ℕ) (old new : Receiving) (totals : Receive
   pub many : length came ≡ n
   pub taken : new ≡ after_words old came
   pub counts : totals ≡ totals_of (answers_to old came)
-
-pub nothing_yet : (before : List ℕ) (r : Receiving) → SoFar before before r r (record { accepted = 0; parity = 0; filtered = 0; no_source = 0; spent = 0 }) 0
-nothing_yet before r = record { came = []; given = sym (append-nil before); many = refl; taken = refl; counts = refl }
 
 pub one_more : (before now next : List ℕ) (old mid new : Receiving) (totals later : ReceiveTotals) (n raw : ℕ) → SoFar before now old mid totals n → next ≡ now ++ raw ∷ [] → new ≡ after_words mid (raw ∷ [])
     → later ≡ counted totals (accept_answer mid raw) → SoFar before next old new later (n + 1)

@@ -1,5 +1,5 @@
 -- Stretches of calls, one after another, and what the sink took of them.
-use Rattle.std.proofs.Common.{◌≡◌, ℕ, zero, suc, ◌+◌, ◌*◌, ◌<◌, ◌≤◌, List, [], ◌∷◌, ◌++◌, length, ◌∙◌, sym, ap, subst, refl, inl, inr, arith, append-nil, append_assoc, length-append}
+use Rattle.std.proofs.Common.{◌≡◌, ℕ, ◌+◌, ◌*◌, ◌<◌, ◌≤◌, List, [], ◌∷◌, ◌++◌, ◌∙◌, sym, ap, subst, refl, inl, inr, arith, append-nil, append_assoc, length-append}
 use Rattle.std.specs.Prelude.{Option, Some, None, Ok, Err, IsTrue, cond, count_by}
 use Rattle.std.proofs.lemmas.List.Elements.{filter_map-append}
 use Rattle.std.proofs.lemmas.List.Sums.{sum_by-append}
@@ -8,7 +8,7 @@ use Rattle.a429_slots.specs.Tables.{PlanTable, cells_of}
 use Rattle.a429_slots.specs.Sending.{Sending, after_cell}
 use Rattle.a429_workers.specs.Calls.{Call, Carried, Asks, Turns, Takes, StaysSpent}
 use Rattle.a429_workers.specs.Transmitting.{Transmitting, GoesOnBy, IsSameGroup, StandsFor}
-use Rattle.a429_workers.specs.Sends.{AreSent, AreWhole, HasSent, IsCell, IsCellMade, IsFrame, IsTallied, IsTurn, has_word, is_send, is_taken, sent_in, sent_of, with_cells}
+use Rattle.a429_workers.specs.Sends.{AreSent, HasSent, IsCell, IsCellMade, IsFrame, IsTallied, IsTurn, has_word, is_send, is_taken, sent_in, sent_of, with_cells}
 use Rattle.a429_workers.specs.declared.cells.Sent.{Sent}
 use Rattle.a429_workers.specs.declared.sending.SendTotals.{SendTotals}
 use Rattle.a429_workers.specs.declared.sending.SendFault.{SendFault}
@@ -147,18 +147,6 @@ pub record AreInFrames (old now : Transmitting) (before after : Option (List Sen
   pub words : totals.words ≤ totals.cells
   pub cells : totals.cells ≤ start.cells + n * 131072
 
-pub first_frame : (old now : Transmitting) (a b : Option (List Sent)) (start totals : SendTotals) → IsFrame old now a b start totals (Ok tt) → (totals.words ≤ totals.cells) × (totals.cells ≤ start.cells + 131072)
-    → AreInFrames old now a b start totals 1
-first_frame old now a b start totals F small = record {
-  calls = F.0;
-  sends = F.1;
-  tallied = F.2;
-  turns = omega (arith, F.3);
-  over = F.4;
-  words = small.0;
-  cells = omega (arith, small.1);
-}
-
 turned : (now next : Transmitting) (taken : Option (List Sent)) (plans : List PlanTable) (n : ℕ) → GoesOnBy now (Turns plans (Takes n) ∷ []) next → IsSameGroup now next → HasSent now next taken taken (Turns plans (Takes n) ∷ []) []
 turned now next taken plans n stands same = record { stands = stands; same = same; sends = (refl, tt); took = cells_none taken }
 
@@ -198,21 +186,3 @@ frames_stop old now mid next a b c start totals later n frames fault A low T F =
     let turn = Turns T.0 (Takes T.1) ∷ [] in
     let there : HasSent old mid a b (A.calls ++ turn) [] = further old now mid a b b A.calls turn [] A.sends (turned now mid b T.0 T.1 T.2 T.3) in
     ((A.calls ++ turn) ++ F.0, F.1, further old mid next a b c (A.calls ++ turn) F.0 F.1 there F.2, F.3, omega (arith, taken_append (A.calls ++ turn) F.0, taken_append A.calls turn, A.turns, F.4, low))
-
-whole : (k : ℕ) (calls : List Call) (f : Sending) → count_by is_taken calls + 1 ≡ k → f.sent ≡ cells_of f.table → AreWhole k calls f
-whole zero calls f turns over = absurd (omega arith)
-whole (suc k) calls f turns over = (omega arith, over)
-
-pub frames_over : (old now : Transmitting) (a b : Option (List Sent)) (plan n : ℕ) (totals : SendTotals) (frames : ℕ) → AreInFrames old now a b (record { cells = 0; words = 0; plan = plan }) totals n → n ≡ frames
-    → AreSent frames old now a b (Ok (record totals { plan = now.number }))
-frames_over old now a b plan n totals frames A all =
-    (A.calls, A.sends, counted totals.cells (length (sent_in A.calls)) totals.words (count_by has_word (sent_in A.calls)) A.tallied.cells A.tallied.words, whole frames A.calls now.frame (A.turns ∙ all) A.over)
-  where
-    counted : (c d w x : ℕ) → c ≡ 0 + d → w ≡ 0 + x → ◌≡◌ {A = SendTotals} (record { cells = c; words = w; plan = now.number }) (record { cells = d; words = x; plan = now.number })
-    counted c d w x p q =
-        let p' : c ≡ d = omega arith in
-        let q' : w ≡ x = omega arith in
-        ap (λ (k : ℕ). record { cells = k; words = w; plan = now.number }) p' ∙ ap (λ (k : ℕ). record { cells = d; words = k; plan = now.number }) q'
-
-pub no_frames : (v : Transmitting) (taken : Option (List Sent)) → AreSent 0 v v taken taken (Ok (record { cells = 0; words = 0; plan = v.number }))
-no_frames v taken = ([], nothing_sent v taken, refl, refl)

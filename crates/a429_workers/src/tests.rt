@@ -1,7 +1,6 @@
 //! A transmitter over a hub and a board, and the loops over devices. The words: 600000c1 and 000000c1 have label
 //! 203, 800000c1 is of even parity, 800000c0 has label 003.
-ghost use Rattle.std.specs.Prelude.{◌≡◌, ◌<◌, All, IfOk, IfSome, length};
-ghost use Rattle.a429_slots.specs.Tables.{groups_of};
+ghost use Rattle.std.specs.Prelude.{◌≡◌, All, IfOk, IfSome, length};
 ghost use Rattle.a429_workers.specs.Receives.{IsSameReceiver};
 ghost use Rattle.a429_workers.specs.Transmitting.{IsSameGroup};
 
