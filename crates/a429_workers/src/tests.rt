@@ -259,13 +259,8 @@ fn words_keep_their_least_spacing_across_plans(rt: HostRuntime) -> Result<(), Fa
         &standard(&rt, alloc, (1, 720), (1, 720), (720, 1440))?,
     )?;
     let (mut receiver, transmitter) = ends(&rt, alloc, &equipment)?;
-    let (mut transmit, mut planner) = opened(
-        &rt,
-        alloc,
-        transmitter,
-        planned(alloc, &equipment)?,
-        0,
-    )?;
+    let plan = planned(alloc, &equipment)?;
+    let (mut transmit, mut planner) = opened(&rt, alloc, transmitter, plan, 0)?;
     let accepted = heard(&mut transmit, &mut receiver, 0x800000c0);
     let number = newer(&rt, &mut transmit, &mut planner, next);
     let word = Some(0x800000c0);
