@@ -6,16 +6,16 @@ use Rattle.std.specs.List.{position_or_len}
 use Rattle.std.proofs.lemmas.List.{take-append-le, take_all, length-take}
 use Rattle.std.proofs.lemmas.List.Sums.{fails_before_first}
 use Rattle.std.proofs.lemmas.List.Quantifiers.{position-Some}
-use Rattle.std.proofs.lemmas.Bool.{cases_Bool, cases_eq, cases_lt, lt-ltb, le-ltb, ltb-true, and_from, and_parts}
+use Rattle.std.proofs.lemmas.Bool.{cases_Bool, cases_eq, cases_lt, lt-ltb, le-ltb, ltb-true, and_from}
 use Rattle.std.proofs.lemmas.Option.{none-some, same_Some, cond_some, slice_get_cases, slice_get_within, get_or_from_slice_get}
 use Rattle.a429_word.specs.Bits.{has_odd_parity}
 use Rattle.a429_equipment.specs.declared.rows.SourceRow.{SourceRow}
 use Rattle.a429_equipment.specs.declared.arrivals.ArrivalRefusal.{ArrivalRefusal}
 use Rattle.a429_equipment.specs.declared.arrivals.ArrivalRefusal.TheVariants.{Parity, Filtered, NoSource}
 use Rattle.a429_equipment.specs.TableRecord.{TableRecord}
-use Rattle.a429_equipment.specs.Arrivals.{AreApart, passes_at, is_for, sorted, accepts, accepted}
+use Rattle.a429_equipment.specs.Arrivals.{AcceptApart, passes_at, is_for, sorted, accepts}
 use Rattle.a429_equipment.specs.Agreement.{words_of}
-use Rattle.a429_equipment.specs.Receiving.{with_word, accepted_after, IsAccepted}
+use Rattle.a429_equipment.specs.Receiving.{with_word, accepted_after, IsAccepted, ReceiversAcceptForSources, ReceiversAcceptInPieces}
 use Rattle.a429_equipment.proofs.Cutting.{words_append}
 
 -- ---- the source that a word is for
@@ -110,7 +110,7 @@ words_other s x w A ne = words_append s A ((x, w) ∷ []) ∙ ap (λ (ws : List 
 came : TableRecord → SourceRow → ℕ → ℕ → List ℕ
 came t s r raw = if accepts t s (r, raw) then raw ∷ [] else []
 
-module _ (t : TableRecord) (apart : AreApart t.sources) (limit r i : ℕ) (s : SourceRow) (there : slice_get t.sources i ≡ Some s) where
+module _ (t : TableRecord) (apart : AcceptApart t) (limit r i : ℕ) (s : SourceRow) (there : slice_get t.sources i ≡ Some s) where
   own : (A : List (ℕ × ℕ)) (ws : List ℕ) (raw : ℕ) → accepts t s (r, raw) ≡ true → words_of i A ≡ take limit ws → words_of i (with_word limit A raw (Ok i)) ≡ take limit (ws ++ came t s r raw)
   unfolding came
   own A ws raw mine so_far =
@@ -142,13 +142,10 @@ module _ (t : TableRecord) (apart : AreApart t.sources) (limit r i : ℕ) (s : S
         subst (λ (k : ℕ). words_of i (with_word limit A raw (Ok k)) ≡ take limit (ws ++ came t s r raw)) (sym same)
         (own A ws raw (subst (λ (x : SourceRow). accepts t x (r, raw) ≡ true) row h.2) so_far)
     | inr differs ↦ other A raw j differs ∙ none A ws raw (elim (cases_Bool (accepts t s (r, raw))) [
-      | inl mine ↦ absurd (differs (apart r raw j i h.0 s h.1 there (for_row h.0 raw h.2) (for_row s raw mine)))
+      | inl mine ↦ absurd (differs (apart (r, raw) j i h.0 s h.1 there h.2 mine))
       | inr not_mine ↦ not_mine
     ]) so_far
   ]
-    where
-      for_row : (x : SourceRow) (raw : ℕ) → accepts t x (r, raw) ≡ true → is_for r raw x ≡ true
-      for_row x raw h = (and_parts (passes_at t r raw) (is_for r raw x) (and_parts (has_odd_parity raw) (passes_at t r raw && is_for r raw x) h).1).1
 
   all_came : List ℕ → List ℕ
   all_came raws = map (λ a. a.1) (filter (accepts t s) (map (λ raw. (r, raw)) raws))
@@ -166,10 +163,9 @@ module _ (t : TableRecord) (apart : AreApart t.sources) (limit r i : ℕ) (s : S
   words_after (raw ∷ raws) A ws so_far =
       words_after raws (with_word limit A raw (sorted t r raw)) (ws ++ came t s r raw) (one_word A ws raw (sorted t r raw) (sorts t r raw) so_far) ∙ ap (take limit) (came_first ws raw raws)
 
-pub of_source : (t : TableRecord) (apart : AreApart t.sources) (C r i : ℕ) (s : SourceRow) (raws : List ℕ) → slice_get t.sources i ≡ Some s
-    → words_of i (accepted_after (2 ^ C - 1) t r [] raws) ≡ accepted C t s (map (λ raw. (r, raw)) raws)
+pub of_source : (t : TableRecord) → AcceptApart t → ReceiversAcceptForSources t
 of_source t apart C r i s raws there = words_after t apart (2 ^ C - 1) r i s there raws [] [] (sym (take_all (2 ^ C - 1) [] (omega arith)))
 
-pub in_pieces : (limit : ℕ) (t : TableRecord) (r : ℕ) (A : List (ℕ × ℕ)) (raws more : List ℕ) → accepted_after limit t r A (raws ++ more) ≡ accepted_after limit t r (accepted_after limit t r A raws) more
-in_pieces limit t r A [] more = refl
-in_pieces limit t r A (raw ∷ raws) more = in_pieces limit t r (with_word limit A raw (sorted t r raw)) raws more
+pub in_pieces : (t : TableRecord) → ReceiversAcceptInPieces t
+in_pieces t limit r A [] more = refl
+in_pieces t limit r A (raw ∷ raws) more = in_pieces t limit r (with_word limit A raw (sorted t r raw)) raws more

@@ -2,6 +2,7 @@
 #![tactic(auto)]
 
 mod cells;
+pub mod laws;
 mod transmit;
 
 pub use cells::{ChangeFault, FrameEnd, OpenFault, Sent};

@@ -1,0 +1,292 @@
+-- The events of a run, call by call: before a call comes what its answer shows, at the end comes the rest.
+use Rattle.std.proofs.Common.{◌≡◌, ℕ, zero, suc, ◌+◌, ◌-◌, ◌<◌, ◌≤◌, true, false, List, [], ◌∷◌, ◌++◌, length, take, drop, map, ◌∙◌, sym, ap, subst, refl, inl, inr, arith, append-nil, append_assoc}
+use Rattle.std.specs.Prelude.{Option, Some, None, ⊤, min, filter, filter_map, slice_get, option_to_list}
+use Rattle.std.specs.List.{AllByRecursion, zip}
+use Rattle.std.proofs.lemmas.List.{drop_all}
+use Rattle.std.proofs.lemmas.Option.{none-some, same_Some}
+use Rattle.std.proofs.lemmas.Bool.{cases_eq, eq-eqb, ne_eqb}
+use mathlib.Core.List.{IsPrefix}
+use Rattle.a429_equipment.specs.declared.loads.Load.{Load}
+use Rattle.a429_equipment.specs.Agreement.{IsCut, Cuts, is_of, words_of}
+use Rattle.a429_equipment.specs.Receiving.{ReceiversAcceptForSources, ReceiversAcceptInPieces}
+use Rattle.a429_slots.specs.Tables.{GroupTable, PlanTable, cells_of}
+use Rattle.a429_slots.specs.Proposed.{Proposed}
+use Rattle.a429_slots.specs.Events.{Event, Arrive, Cell, Frame, Publish}
+use Rattle.a429_slots.specs.History.{Opening, accepted_by, last_of}
+use Rattle.a429_slots.specs.declared.answers.Answer.{Answer}
+use Rattle.a429_slots.specs.declared.answers.Answer.TheVariants.{Accepted, Sent, Published, Refused}
+use Rattle.a429_slots.specs.declared.answers.Refusal.TheVariants.{FrameEnd}
+use Rattle.a429_slots.specs.Answers.{answer, answers}
+use Rattle.a429_workers.specs.Calls.{Call, Turn, Asks, Turns, Meets, Takes, StaysMid, StaysSpent, Standing, AreLawful, turn, after_turn, after, standing_after, before_calls, loads_of}
+use Rattle.a429_workers.specs.Runs.{IsWorking, HasRun, answered, is_sending, comes_to, is_publish, event_of, turn_answer}
+use Rattle.a429_workers.proofs.Lists.{get_within, all_get, all_parts, drop_next, same_back, split_map, prefix_itself, prefix_on}
+use Rattle.a429_workers.proofs.Steps.{Given, IsAt, IsLatest, bump, accepted_here, arrival_answer, arrival_step, publish_answer_is, publish_step, end_answer, end_step, cell_answer_is, cell_step, turn_step}
+use Rattle.a429_workers.proofs.Steps
+
+-- ---- events with their answers
+
+-- after these events each of the next is answered so
+abbrev AreTold : ℕ → Opening → List Event → List (Event × Answer) → Type 0
+AreTold C o E [] = ⊤
+AreTold C o E (x ∷ xs) = (answer C o E x.0 ≡ x.1) × AreTold C o (E ++ x.0 ∷ []) xs
+
+told_so : (C : ℕ) (o : Opening) (E : List Event) (xs : List (Event × Answer)) → AreTold C o E xs → zip (map (λ x. x.0) xs) (answers C o E (map (λ x. x.0) xs)) ≡ xs
+told_so C o E [] h = refl
+told_so C o E (x ∷ xs) h =
+    ap (λ (a : Answer). (x.0, a) ∷ zip (map (λ y. y.0) xs) (answers C o (E ++ x.0 ∷ []) (map (λ y. y.0) xs))) h.0
+    ∙ ap (λ (ys : List (Event × Answer)). x ∷ ys) (told_so C o (E ++ x.0 ∷ []) xs h.1)
+
+-- ---- plans that were seen
+
+turned_seen : (g : ℕ) (p : GroupTable) (s : Standing) (plans : List PlanTable) (t : Turn) → (after_turn g p s plans t).seen ≡ plans
+turned_seen g p s plans (Takes n) = refl
+turned_seen g p s plans StaysMid = refl
+turned_seen g p s plans StaysSpent = refl
+
+turned_same : (g : ℕ) (p : GroupTable) (s : Standing) (plans : List PlanTable) (t : Turn) → after_turn g p (record s { seen = plans }) plans t ≡ after_turn g p s plans t
+turned_same g p s plans (Takes n) = refl
+turned_same g p s plans StaysMid = refl
+turned_same g p s plans StaysSpent = refl
+
+-- calls only add to what was seen
+seen_on : (g : ℕ) (p : GroupTable) (s : Standing) (calls : List Call) → AreLawful g p s calls → IsPrefix s.seen (standing_after g p s calls).seen
+seen_on g p s [] h = prefix_itself s.seen
+seen_on g p s (Asks None ∷ calls) h = seen_on g p s calls h.1
+seen_on g p s (Asks (Some c) ∷ calls) h = seen_on g p (after g p s (Asks (Some c))) calls h.1
+seen_on g p s (Meets loads ∷ calls) h = seen_on g p s calls h.1
+seen_on g p s (Turns plans t ∷ calls) h =
+    let end = standing_after g p (after_turn g p s plans t) calls in
+    prefix_on s.seen plans end.seen h.0.0 (subst (λ (qs : List PlanTable). IsPrefix qs end.seen) (turned_seen g p s plans t) (seen_on g p (after_turn g p s plans t) calls h.1))
+
+module _ (C : ℕ) (o : Opening) (g : ℕ) (p : GroupTable) (later : List Proposed) (heard : ℕ → List (ℕ × ℕ)) (W : Given C o g p later heard) where
+  -- the events that come next, with their answers, where these calls are yet to come and these plans to be published
+  record Next (E : List Event) (cut : ℕ → ℕ) (calls : List Call) (rest : List Proposed) : Type 0 where
+    pub events : List (Event × Answer)
+    pub so : AreTold C o E events
+    pub sends : filter (λ x. is_sending x.0) events ≡ filter_map (event_of g) calls
+    pub arrivals : (r : ℕ) → filter (λ x. comes_to r x.0) events ≡ map (λ a. (Arrive r a.1, Accepted a.0)) (drop (cut r) (heard r))
+    pub publications : filter (λ x. is_publish x.0) events ≡ map (λ q. (Publish q, Published q.plan.number)) rest
+
+  abbrev At : List Event → (ℕ → ℕ) → Standing → List Proposed → Type 0
+  At = IsAt C o g p later heard
+
+  -- these loads are yet to be shown
+  record IsOn (E : List Event) (cut : ℕ → ℕ) (s : Standing) (rest : List Proposed) (loads : List Load) : Type 0 where
+    pub at : IsAt C o g p later heard E cut s rest
+    pub within : (r : ℕ) → cut r ≤ length (heard r)
+    pub agree : (r : ℕ) → r < length o.proposal.station.receivers → (last : ℕ) × Cuts (is_of o.proposal.station r) (heard r) (cut r) loads last
+
+  -- ---- one event more
+
+  put_arrival : (E : List Event) (cut : ℕ → ℕ) (s : Standing) (rest : List Proposed) (calls : List Call) (r : ℕ) (a : ℕ × ℕ) → At E cut s rest → slice_get (heard r) (cut r) ≡ Some a
+      → Next (E ++ Arrive r a.1 ∷ []) (bump r cut) calls rest → Next E cut calls rest
+  put_arrival E cut s rest calls r a A there N = record {
+    events = (Arrive r a.1, Accepted a.0) ∷ N.events;
+    so = (arrival_answer C o g p later heard W E cut s rest r a A there, N.so);
+    sends = N.sends;
+    arrivals = λ q. elim (cases_eq r q) [
+      | inl e ↦
+          let here : slice_get (heard q) (cut q) ≡ Some a = subst (λ (k : ℕ). slice_get (heard k) (cut k) ≡ Some a) e there in
+          let on : bump r cut q ≡ suc (cut q) = rw (eq-eqb r q e) refl in
+          rw (eq-eqb r q e) (ap (λ (k : ℕ). (Arrive k a.1, Accepted a.0) ∷ filter (λ x. comes_to q x.0) N.events) e
+          ∙ (ap (λ (ys : List (Event × Answer)). (Arrive q a.1, Accepted a.0) ∷ ys) (N.arrivals q ∙ ap (λ (n : ℕ). map (λ b. (Arrive q b.1, Accepted b.0)) (drop n (heard q))) on)
+          ∙ ap (map (λ (b : ℕ × ℕ). (Arrive q b.1, Accepted b.0))) (sym (drop_next (heard q) (cut q) a here))))
+      | inr n ↦
+          let still : bump r cut q ≡ cut q = rw (ne_eqb r q n) refl in
+          rw (ne_eqb r q n) (N.arrivals q ∙ ap (λ (m : ℕ). map (λ b. (Arrive q b.1, Accepted b.0)) (drop m (heard q))) still)
+    ];
+    publications = N.publications;
+  }
+
+  put_publish : (E : List Event) (cut : ℕ → ℕ) (s : Standing) (q : Proposed) (rest : List Proposed) (calls : List Call) → At E cut s (q ∷ rest)
+      → Next (E ++ Publish q ∷ []) cut calls rest → Next E cut calls (q ∷ rest)
+  put_publish E cut s q rest calls A N = record {
+    events = (Publish q, Published q.plan.number) ∷ N.events;
+    so = (publish_answer_is C o g p later heard W E cut s q rest A, N.so);
+    sends = N.sends;
+    arrivals = N.arrivals;
+    publications = ap (λ (ys : List (Event × Answer)). (Publish q, Published q.plan.number) ∷ ys) N.publications;
+  }
+
+  -- the event of a call
+  put_call : (E : List Event) (cut : ℕ → ℕ) (rest : List Proposed) (call : Call) (calls : List Call) (e : Event) (a : Answer) → is_sending e ≡ true → ((r : ℕ) → comes_to r e ≡ false) → is_publish e ≡ false
+      → event_of g call ≡ Some (e, a) → answer C o E e ≡ a → Next (E ++ e ∷ []) cut calls rest → Next E cut (call ∷ calls) rest
+  put_call E cut rest call calls e a sends unheard unpublished is told N = record {
+    events = (e, a) ∷ N.events;
+    so = (told, N.so);
+    sends = rw (sends, is) (ap (λ (ys : List (Event × Answer)). (e, a) ∷ ys) N.sends);
+    arrivals = λ r. rw (unheard r) (N.arrivals r);
+    publications = rw unpublished N.publications;
+  }
+
+  -- ---- several
+
+  -- only the cut of r was moved, to n
+  record IsMoved (cut to : ℕ → ℕ) (r n : ℕ) : Type 0 where
+    pub here : to r ≡ n
+    pub others : (q : ℕ) → (r ≡ q → ⊥) → to q ≡ cut q
+
+  -- n more words come to receiver r
+  ahead : (n r : ℕ) (E : List Event) (cut : ℕ → ℕ) (s : Standing) (rest : List Proposed) (calls : List Call) → cut r + n ≤ length (heard r) → At E cut s rest
+      → ((F : List Event) (to : ℕ → ℕ) → At F to s rest → IsMoved cut to r (cut r + n) → Next F to calls rest) → Next E cut calls rest
+  ahead zero r E cut s rest calls le A go = go E cut A (record { here = omega arith; others = λ q n. refl })
+  ahead (suc n) r E cut s rest calls le A go =
+      let (a, there) = get_within (heard r) (cut r) (omega (arith, le)) in
+      let on : bump r cut r ≡ suc (cut r) = rw (eq-eqb r r refl) refl in
+      put_arrival E cut s rest calls r a A there
+      (ahead n r (E ++ Arrive r a.1 ∷ []) (bump r cut) s rest calls (omega (arith, on, le)) (arrival_step C o g p later heard W E cut s rest r a A there)
+      (λ F to B M. go F to B (record { here = omega (arith, M.here, on); others = λ q ne. M.others q ne ∙ rw (ne_eqb r q ne) refl })))
+
+  -- all words come to receiver r up to the cut n
+  up_to : (n r : ℕ) (E : List Event) (cut : ℕ → ℕ) (s : Standing) (rest : List Proposed) (calls : List Call) → cut r ≤ n → n ≤ length (heard r) → At E cut s rest
+      → ((F : List Event) (to : ℕ → ℕ) → At F to s rest → IsMoved cut to r n → Next F to calls rest) → Next E cut calls rest
+  up_to n r E cut s rest calls low high A go =
+      ahead (n - cut r) r E cut s rest calls (omega (arith, low, high)) A (λ F to B M. go F to B (record { here = omega (arith, M.here, low); others = M.others }))
+
+  still_within : (cut to : ℕ → ℕ) (r n : ℕ) → IsMoved cut to r n → n ≤ length (heard r) → ((q : ℕ) → cut q ≤ length (heard q)) → (q : ℕ) → to q ≤ length (heard q)
+  still_within cut to r n M high within q = elim (cases_eq r q) [
+    | inl e ↦ subst (λ (k : ℕ). to k ≤ length (heard k)) e (omega (arith, M.here, high))
+    | inr ne ↦ omega (arith, M.others q ne, within q)
+  ]
+
+  -- these plans are published
+  publish_all : (more : List Proposed) (E : List Event) (cut : ℕ → ℕ) (s : Standing) (rest : List Proposed) (calls : List Call) → At E cut s (more ++ rest)
+      → ((F : List Event) → At F cut (record s { seen = s.seen ++ map (λ q. q.plan) more }) rest → Next F cut calls rest) → Next E cut calls (more ++ rest)
+  publish_all [] E cut s rest calls A go = go E (subst (λ (qs : List PlanTable). At E cut (record s { seen = qs }) rest) (sym (append-nil s.seen)) A)
+  publish_all (q ∷ more) E cut s rest calls A go =
+      put_publish E cut s q (more ++ rest) calls A
+      (publish_all more (E ++ Publish q ∷ []) cut (record s { seen = s.seen ++ q.plan ∷ [] }) rest calls (publish_step C o g p later heard W E cut s q (more ++ rest) A)
+      (λ F B. go F (subst (λ (qs : List PlanTable). At F cut (record s { seen = qs }) rest) (append_assoc s.seen (q.plan ∷ []) (map (λ x. x.plan) more)) B)))
+
+  -- all that is left to come, of the receivers below k and of the plans
+  finish : (k : ℕ) (E : List Event) (cut : ℕ → ℕ) (s : Standing) (rest : List Proposed) → At E cut s rest → ((r : ℕ) → cut r ≤ length (heard r)) → ((r : ℕ) → k ≤ r → drop (cut r) (heard r) ≡ []) → Next E cut [] rest
+  finish zero E cut s rest A within done =
+      subst (Next E cut []) (append-nil rest) (publish_all rest E cut s [] [] (subst (At E cut s) (sym (append-nil rest)) A) (λ F B. record {
+        events = [];
+        so = tt;
+        sends = refl;
+        arrivals = λ r. ap (map (λ (a : ℕ × ℕ). (Arrive r a.1, Accepted a.0))) (sym (done r (omega arith)));
+        publications = refl;
+      }))
+  finish (suc k) E cut s rest A within done =
+      let all : length (heard k) ≤ length (heard k) = omega arith in
+      up_to (length (heard k)) k E cut s rest [] (within k) all A (λ F to B M.
+      finish k F to s rest B (still_within cut to k (length (heard k)) M all within)
+      (λ r low. elim (cases_eq k r) [
+        | inl e ↦ subst (λ (q : ℕ). drop (to q) (heard q) ≡ []) e (drop_all (to k) (heard k) (omega (arith, M.here)))
+        | inr ne ↦ ap (λ (m : ℕ). drop m (heard r)) (M.others r ne) ∙ done r (omega (arith, low, ne))
+      ]))
+
+  -- ---- loads
+
+  -- the source of a load is of one receiver, whose list shows the load at a cut; the cuts of the others stay
+  show_load : (l : Load) (ls : List Load) (E : List Event) (cut : ℕ → ℕ) (s : Standing) (rest : List Proposed) (calls : List Call) → l.source < length o.proposal.station.sources → IsOn E cut s rest (l ∷ ls)
+      → ((F : List Event) (to : ℕ → ℕ) → IsOn F to s rest ls → IsLatest C o F l → Next F to calls rest) → Next E cut calls rest
+  show_load l ls E cut s rest calls known On go =
+      let t = o.proposal.station in
+      let (row, there) = get_within t.sources l.source known in
+      let r = row.receiver in
+      let lt : r < length t.receivers = all_get (λ s. s.receiver < length t.receivers) t.sources l.source row there W.known in
+      let mine : is_of t r l.source ≡ true = rw (there, eq-eqb r r refl) refl in
+      let agrees = On.agree r lt in
+      let n = agrees.1.0 in
+      let shown : IsCut true (heard r) (cut r) l n = subst (λ b. IsCut b (heard r) (cut r) l n) mine agrees.1.1 in
+      up_to n r E cut s rest calls shown.0 shown.1 On.at (λ F to B M.
+      let words : accepted_by C o l.source F ≡ words_of l.source (take n (heard r)) =
+      accepted_here C o g p later heard W F to s rest l.source r row B there refl ∙ ap (λ (m : ℕ). words_of l.source (take m (heard r))) M.here in
+      let latest : IsLatest C o F l = ap (λ (ws : List ℕ). (length ws, last_of ws)) words ∙ ap (λ (k : Load). (k.count, k.word)) (sym shown.2) in
+      go F to (record {
+        at = B;
+        within = still_within cut to r n M shown.1 On.within;
+        agree = λ q less. elim (cases_eq r q) [
+          | inl e ↦
+              subst (λ (k : ℕ). (last : ℕ) × Cuts (is_of t k) (heard k) (to k) ls last) e
+              (subst (λ (m : ℕ). (last : ℕ) × Cuts (is_of t r) (heard r) m ls last) (sym M.here) (agrees.0, agrees.1.2))
+          | inr ne ↦
+              let theirs = On.agree q less in
+              let off : is_of t q l.source ≡ false = rw (there, ne_eqb r q ne) refl in
+              let stays : IsCut false (heard q) (cut q) l theirs.1.0 = subst (λ b. IsCut b (heard q) (cut q) l theirs.1.0) off theirs.1.1 in
+              subst (λ (m : ℕ). (last : ℕ) × Cuts (is_of t q) (heard q) m ls last) (sym (M.others q ne ∙ stays)) (theirs.0, theirs.1.2)
+        ];
+      }) latest)
+
+  show_loads : (loads ls : List Load) (E : List Event) (cut : ℕ → ℕ) (s : Standing) (rest : List Proposed) (calls : List Call) → AllByRecursion (λ l. l.source < length o.proposal.station.sources) loads → IsOn E cut s rest (loads ++ ls)
+      → ((F : List Event) (to : ℕ → ℕ) → IsOn F to s rest ls → Next F to calls rest) → Next E cut calls rest
+  show_loads [] ls E cut s rest calls known On go = go E cut On
+  show_loads (l ∷ loads) ls E cut s rest calls known On go =
+      show_load l (loads ++ ls) E cut s rest calls known.0 On (λ F to B latest. show_loads loads ls F to s rest calls known.1 B go)
+
+  show_one : (x : Option Load) (ls : List Load) (E : List Event) (cut : ℕ → ℕ) (s : Standing) (rest : List Proposed) (calls : List Call) → AllByRecursion (λ l. l.source < length o.proposal.station.sources) (option_to_list x)
+      → IsOn E cut s rest (option_to_list x ++ ls) → ((F : List Event) (to : ℕ → ℕ) → IsOn F to s rest ls → ((l : Load) → x ≡ Some l → IsLatest C o F l) → Next F to calls rest) → Next E cut calls rest
+  show_one None ls E cut s rest calls known On go = go E cut On (λ l h. absurd (none-some l h))
+  show_one (Some l) ls E cut s rest calls known On go = show_load l ls E cut s rest calls known.0 On (λ F to B latest. go F to B (λ k h. subst (IsLatest C o F) (same_Some l k h) latest))
+
+  -- ---- call by call
+
+  on_from : (E F : List Event) (cut : ℕ → ℕ) (s r : Standing) (rest left : List Proposed) (loads : List Load) → IsOn E cut s rest loads → At F cut r left → IsOn F cut r left loads
+  on_from E F cut s r rest left loads On A = record { at = A; within = On.within; agree = On.agree }
+
+  -- a change: first come the plans that were newly seen
+  change_goes : (E : List Event) (cut : ℕ → ℕ) (s : Standing) (more rest : List Proposed) (plans : List PlanTable) (t : Turn) (calls : List Call) → s.seen ++ map (λ q. q.plan) more ≡ plans → t ≡ turn g p s plans → At E cut s (more ++ rest)
+      → ((F : List Event) → At F cut (after_turn g p s plans t) rest → Next F cut calls rest) → Next E cut (Turns plans t ∷ calls) (more ++ rest)
+  change_goes E cut s more rest plans t calls grown is A go =
+      publish_all more E cut s rest (Turns plans t ∷ calls) A (λ F B.
+      let s' : Standing = record s { seen = plans } in
+      let B' : At F cut s' rest = subst (λ (qs : List PlanTable). At F cut (record s { seen = qs }) rest) grown B in
+      let T : Steps.IsTurned C o g p later heard W F cut s' rest t = subst (Steps.IsTurned C o g p later heard W F cut s' rest) (sym is) (turn_step C o g p later heard W F cut s' rest B') in
+      put_call F cut rest (Turns plans t) calls (Frame g) (turn_answer t) refl (λ r. refl) refl refl T.answer
+      (go (F ++ Frame g ∷ []) (subst (λ (r : Standing). At (F ++ Frame g ∷ []) cut r rest) (turned_same g p s plans t) T.after)))
+
+  goes : (calls : List Call) (E : List Event) (cut : ℕ → ℕ) (s : Standing) (rest : List Proposed) → IsOn E cut s rest (loads_of calls) → AreLawful g p s calls
+      → IsPrefix (standing_after g p s calls).seen (s.seen ++ map (λ q. q.plan) rest) → AllByRecursion (λ l. l.source < length o.proposal.station.sources) (loads_of calls) → Next E cut calls rest
+  goes [] E cut s rest On lawful seen known =
+      finish (length o.proposal.station.receivers) E cut s rest On.at On.within (λ r past. drop_all (cut r) (heard r) (omega (arith, ap (λ (l : List (ℕ × ℕ)). length l) (W.accepted.others r past))))
+  goes (Asks None ∷ calls) E cut s rest On lawful seen known =
+      put_call E cut rest (Asks None) calls (Cell g) (Refused FrameEnd) refl (λ r. refl) refl refl (end_answer C o g p later heard W E cut s rest On.at lawful.0)
+      (goes calls (E ++ Cell g ∷ []) cut s rest (on_from E (E ++ Cell g ∷ []) cut s s rest rest (loads_of calls) On (end_step C o g p later heard W E cut s rest On.at lawful.0)) lawful.1 seen known)
+  goes (Asks (Some c) ∷ calls) E cut s rest On lawful seen known =
+      let (own, others) = all_parts (λ (l : Load). l.source < length o.proposal.station.sources) (option_to_list c.load) (loads_of calls) known in
+      let s' = after g p s (Asks (Some c)) in
+      show_one c.load (loads_of calls) E cut s rest (Asks (Some c) ∷ calls) own On (λ F to B latest.
+      put_call F to rest (Asks (Some c)) calls (Cell g) (Sent c.bus c.slot c.word) refl (λ r. refl) refl refl (cell_answer_is C o g p later heard W F to s rest c B.at lawful.0 latest)
+      (goes calls (F ++ Cell g ∷ []) to s' rest (on_from F (F ++ Cell g ∷ []) to s s' rest rest (loads_of calls) B (cell_step C o g p later heard W F to s rest c B.at lawful.0 latest)) lawful.1 seen others))
+  goes (Meets loads ∷ calls) E cut s rest On lawful seen known =
+      let (own, others) = all_parts (λ (l : Load). l.source < length o.proposal.station.sources) loads (loads_of calls) known in
+      show_loads loads (loads_of calls) E cut s rest (Meets loads ∷ calls) own On (λ F to B.
+      let N = goes calls F to s rest B lawful.1 seen others in
+      record { events = N.events; so = N.so; sends = N.sends; arrivals = N.arrivals; publications = N.publications })
+  goes (Turns plans t ∷ calls) E cut s rest On lawful seen known =
+      let s' = after_turn g p s plans t in
+      let end = standing_after g p s' calls in
+      let first : IsPrefix plans end.seen = subst (λ (qs : List PlanTable). IsPrefix qs end.seen) (turned_seen g p s plans t) (seen_on g p s' calls lawful.1) in
+      let whole = prefix_on plans end.seen (s.seen ++ map (λ q. q.plan) rest) first seen in
+      let grown = lawful.0.0 in
+      let parts : s.seen ++ map (λ q. q.plan) rest ≡ s.seen ++ (grown.0 ++ whole.0) =
+      sym whole.1 ∙ (ap (λ (qs : List PlanTable). qs ++ whole.0) (sym grown.1) ∙ append_assoc s.seen grown.0 whole.0) in
+      let S = split_map (λ (q : Proposed). q.plan) rest grown.0 whole.0 (same_back s.seen (map (λ q. q.plan) rest) (grown.0 ++ whole.0) parts) in
+      let seen' : IsPrefix end.seen (s'.seen ++ map (λ q. q.plan) S.back) =
+      subst (IsPrefix end.seen) (sym (ap (λ (qs : List PlanTable). qs ++ map (λ q. q.plan) S.back) (turned_seen g p s plans t) ∙ (ap (λ (qs : List PlanTable). plans ++ qs) S.of_back ∙ whole.1))) seen in
+      subst (Next E cut (Turns plans t ∷ calls)) (sym S.whole)
+      (change_goes E cut s S.front S.back plans t calls (ap (λ (qs : List PlanTable). s.seen ++ qs) S.of_front ∙ grown.1) lawful.0.1 (subst (At E cut s) S.whole On.at)
+      (λ F B. goes calls F cut s' S.back (on_from E F cut s s' rest S.back (loads_of calls) On B) lawful.1 seen' known))
+
+starts : (C : ℕ) (o : Opening) (g : ℕ) (p : GroupTable) (later : List Proposed) (heard : ℕ → List (ℕ × ℕ)) → IsAt C o g p later heard [] (λ r. 0) (before_calls o.proposal.plan p o.first) later
+starts C o g p later heard =
+    let none : min 0 (cells_of p) ≡ 0 = omega arith in
+    record { arrivals = λ r. refl; seen = refl; left = refl; frame = rw none refl; earlier = refl }
+
+pub has_run : (C : ℕ) (o : Opening) (g : ℕ) (p : GroupTable) (later : List Proposed) (calls : List Call) (heard : ℕ → List (ℕ × ℕ)) → ReceiversAcceptForSources o.proposal.station → ReceiversAcceptInPieces o.proposal.station
+    → IsWorking C o g p later calls heard → HasRun C o g later calls heard
+has_run C o g p later calls heard words pieces H =
+    let W : Given C o g p later heard = record { words = words; pieces = pieces; known = H.wired.received; opens = H.opens; plans = H.published; accepted = H.accepted } in
+    let first = before_calls o.proposal.plan p o.first in
+    let N = goes C o g p later heard W calls [] (λ r. 0) first later (record { at = starts C o g p later heard; within = λ r. omega arith; agree = H.agree }) H.lawful H.seen H.known in
+    let so : answered C o (map (λ x. x.0) N.events) ≡ N.events = told_so C o [] N.events N.so in
+    record {
+      events = map (λ x. x.0) N.events;
+      is = record {
+        sends = ap (filter (λ (x : Event × Answer). is_sending x.0)) so ∙ N.sends;
+        arrivals = λ r. ap (filter (λ (x : Event × Answer). comes_to r x.0)) so ∙ N.arrivals r;
+        publications = ap (filter (λ (x : Event × Answer). is_publish x.0)) so ∙ N.publications;
+      };
+    }
