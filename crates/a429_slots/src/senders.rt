@@ -46,8 +46,10 @@ impl Sender {
         }
     }
 
-    fn cells(&self) -> u64
-        ensures { result ≡ cells_of self.now.table }
+    /// How many cells a frame has: its slots on each bus, at most 16 times 8192.
+    pub fn cells(&self) -> u64
+        ensures value { result ≡ cells_of self.now.table }
+        ensures few { result ≤ 131072 }
     {
         u64::from(self.plan.buses()) * u64::from(self.plan.frame())
     }

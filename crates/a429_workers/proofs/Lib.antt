@@ -1,9 +1,1 @@
-mod Answering
-mod Beginning
-mod Calling
-mod Changing
-mod Lists
-mod Heard
-mod Histories
-mod Steps
-mod Order
+

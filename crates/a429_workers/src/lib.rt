@@ -2,8 +2,16 @@
 #![tactic(auto)]
 
 mod cells;
+mod gates;
 pub mod laws;
+mod receiving;
+mod sending;
+mod sinks;
 mod transmit;
 
 pub use cells::{ChangeFault, FrameEnd, OpenFault, Sent};
+pub use gates::{Gate, GateFault, OpenGate, Point};
+pub use receiving::{ReceiveFault, ReceiveTotals, WORDS, receive_all};
+pub use sending::{SendFault, SendTotals, send_frames};
+pub use sinks::{BusSink, CountSink, MemorySink, SinkFault};
 pub use transmit::Transmit;

@@ -151,6 +151,14 @@ impl Transmit {
         })
     }
 
+    /// How many cells a frame of the plan in force has, at most 16 buses times 8192 slots.
+    pub fn cells(&self) -> u64
+        ensures value { result ≡ cells_of self.now.frame.table }
+        ensures few { result ≤ 131072 }
+    {
+        self.sender.cells()
+    }
+
     /// The number of the plan in force.
     pub fn plan(&self) -> u64
         ensures { result ≡ self.now.number }

@@ -1,0 +1,126 @@
+-- Words that come in at a receiver one after another, and how many are answered how.
+use Rattle.std.proofs.Common.{◌≡◌, ℕ, ◌+◌, ◌≤◌, ◌<◌, Bool, true, false, List, [], ◌∷◌, ◌++◌, length, take, ◌∙◌, sym, ap, subst, refl, inl, inr, arith, append_assoc, append-nil}
+use Rattle.std.specs.Prelude.{◌⊎◌, Err, cond, count_by, if◌then◌else◌}
+use Rattle.std.proofs.lemmas.List.{length_push, take_all, take-append-le}
+use Rattle.std.proofs.lemmas.List.Sums.{sum_by-append, sum_by-cons}
+use Rattle.a429_equipment.specs.TableRecord.{TableRecord}
+use Rattle.a429_equipment.specs.Arrivals.{sorted}
+use Rattle.a429_equipment.specs.Receiving.{accepted_after, with_word}
+use Rattle.a429_values.specs.Ends.{Receiving, accept_answer}
+use Rattle.a429_values.specs.declared.receiver.Accept.{Accept}
+use Rattle.a429_values.specs.declared.receiver.Accept.TheVariants.{Accepted, Parity, Filtered, NoSource, CountSpent}
+use Rattle.a429_workers.specs.declared.receiving.ReceiveTotals.{ReceiveTotals}
+use Rattle.a429_workers.specs.declared.receiving.ReceiveFault.TheVariants.{Gate, TooMuch}
+use Rattle.a429_workers.specs.Receives.{AreAtMost, AreTaken, IsSameReceiver, after_words, answers_to, counted, is_accepted, is_filtered, is_no_source, is_parity, is_spent, totals_of}
+
+-- ---- in pieces
+
+words_append : (limit : ℕ) (t : TableRecord) (r : ℕ) (A : List (ℕ × ℕ)) (xs ys : List ℕ) → accepted_after limit t r A (xs ++ ys) ≡ accepted_after limit t r (accepted_after limit t r A xs) ys
+words_append limit t r A [] ys = refl
+words_append limit t r A (x ∷ xs) ys = words_append limit t r (with_word limit A x (sorted t r x)) xs ys
+
+pub after_append : (r : Receiving) (xs ys : List ℕ) → after_words (after_words r xs) ys ≡ after_words r (xs ++ ys)
+after_append r xs ys = ap (λ (A : List (ℕ × ℕ)). record r { accepted = A }) (sym (words_append r.limit r.at.station r.number r.accepted xs ys))
+
+pub answers_append : (r : Receiving) (xs ys : List ℕ) → answers_to r (xs ++ ys) ≡ answers_to r xs ++ answers_to (after_words r xs) ys
+answers_append r [] ys = refl
+answers_append r (x ∷ xs) ys = ap (λ (zs : List Accept). accept_answer r x ∷ zs) (answers_append (after_words r (x ∷ [])) xs ys)
+
+pub length_answers : (r : Receiving) (xs : List ℕ) → length (answers_to r xs) ≡ length xs
+length_answers r [] = refl
+length_answers r (x ∷ xs) = let rest = length_answers (after_words r (x ∷ [])) xs in omega arith
+
+-- ---- totals
+
+one_if : (Accept → Bool) → Accept → ℕ
+one_if p a = if p a then 1 else 0
+
+count_push : (p : Accept → Bool) (xs : List Accept) (a : Accept) → count_by p (xs ++ a ∷ []) ≡ count_by p xs + (if p a then 1 else 0)
+count_push p xs a = sum_by-append (λ (x : Accept). cond (p x) 1 0) xs (a ∷ []) ∙ omega arith
+
+pub totals_push : (xs : List Accept) (a : Accept) → totals_of (xs ++ a ∷ []) ≡ counted (totals_of xs) a
+totals_push xs a = go a
+    (count_push is_accepted xs a) (count_push is_parity xs a) (count_push is_filtered xs a) (count_push is_no_source xs a) (count_push is_spent xs a)
+  where
+    all : (a b c d e f g h i j : ℕ) → a ≡ f → b ≡ g → c ≡ h → d ≡ i → e ≡ j
+        → ◌≡◌ {A = ReceiveTotals} (record { accepted = a; parity = b; filtered = c; no_source = d; spent = e }) (record { accepted = f; parity = g; filtered = h; no_source = i; spent = j })
+    all a b c d e f g h i j p q r s t = cc
+
+    go : (b : Accept) → count_by is_accepted (xs ++ a ∷ []) ≡ count_by is_accepted xs + (if is_accepted b then 1 else 0) → count_by is_parity (xs ++ a ∷ []) ≡ count_by is_parity xs + (if is_parity b then 1 else 0)
+        → count_by is_filtered (xs ++ a ∷ []) ≡ count_by is_filtered xs + (if is_filtered b then 1 else 0) → count_by is_no_source (xs ++ a ∷ []) ≡ count_by is_no_source xs + (if is_no_source b then 1 else 0)
+        → count_by is_spent (xs ++ a ∷ []) ≡ count_by is_spent xs + (if is_spent b then 1 else 0) → totals_of (xs ++ a ∷ []) ≡ counted (totals_of xs) b
+    go (Accepted s) p q r t u = all _ _ _ _ _ _ _ _ _ _ p (omega (arith, q)) (omega (arith, r)) (omega (arith, t)) (omega (arith, u))
+    go Parity p q r t u = all _ _ _ _ _ _ _ _ _ _ (omega (arith, p)) q (omega (arith, r)) (omega (arith, t)) (omega (arith, u))
+    go Filtered p q r t u = all _ _ _ _ _ _ _ _ _ _ (omega (arith, p)) (omega (arith, q)) r (omega (arith, t)) (omega (arith, u))
+    go NoSource p q r t u = all _ _ _ _ _ _ _ _ _ _ (omega (arith, p)) (omega (arith, q)) (omega (arith, r)) t (omega (arith, u))
+    go CountSpent p q r t u = all _ _ _ _ _ _ _ _ _ _ (omega (arith, p)) (omega (arith, q)) (omega (arith, r)) (omega (arith, t)) u
+
+one_at_most : (b : Bool) → cond b 1 0 ≤ 1
+one_at_most true = omega arith
+one_at_most false = omega arith
+
+few : (p : Accept → Bool) (xs : List Accept) → count_by p xs ≤ length xs
+few p [] = omega arith
+few p (x ∷ xs) = omega (arith, few p xs, one_at_most (p x), sum_by-cons (λ (y : Accept). cond (p y) 1 0) x xs)
+
+pub totals_small : (xs : List Accept) → AreAtMost (length xs) (totals_of xs)
+totals_small xs = record { accepted = few is_accepted xs; parity = few is_parity xs; filtered = few is_filtered xs; no_source = few is_no_source xs; spent = few is_spent xs }
+
+-- ---- the loop
+
+pub same_receiver : (a b c : Receiving) → IsSameReceiver a b → IsSameReceiver b c → IsSameReceiver a c
+same_receiver a b c p q = q ∙ ap (λ (r : Receiving). record r { accepted = c.accepted }) p
+
+-- the line gave these words since, and the receiver took them all
+pub record SoFar (before now : List ℕ) (old new : Receiving) (totals : ReceiveTotals) (n : ℕ) : Type 0 where
+  pub came : List ℕ
+  pub given : now ≡ before ++ came
+  pub many : length came ≡ n
+  pub taken : new ≡ after_words old came
+  pub counts : totals ≡ totals_of (answers_to old came)
+
+pub nothing_yet : (before : List ℕ) (r : Receiving) → SoFar before before r r (record { accepted = 0; parity = 0; filtered = 0; no_source = 0; spent = 0 }) 0
+nothing_yet before r = record { came = []; given = sym (append-nil before); many = refl; taken = refl; counts = refl }
+
+pub one_more : (before now next : List ℕ) (old mid new : Receiving) (totals later : ReceiveTotals) (n raw : ℕ) → SoFar before now old mid totals n → next ≡ now ++ raw ∷ [] → new ≡ after_words mid (raw ∷ [])
+    → later ≡ counted totals (accept_answer mid raw) → SoFar before next old new later (n + 1)
+one_more before now next old mid new totals later n raw S given taken counts = record {
+  came = S.came ++ raw ∷ [];
+  given = given ∙ (ap (λ (xs : List ℕ). xs ++ raw ∷ []) S.given ∙ append_assoc before S.came (raw ∷ []));
+  many = length_push S.came raw ∙ ap (λ (m : ℕ). m + 1) S.many;
+  taken = taken ∙ (ap (λ (r : Receiving). after_words r (raw ∷ [])) S.taken ∙ after_append old S.came (raw ∷ []));
+  counts = counts
+      ∙ (ap (λ (t : ReceiveTotals). counted t (accept_answer mid raw)) S.counts
+      ∙ (ap (λ (r : Receiving). counted (totals_of (answers_to old S.came)) (accept_answer r raw)) S.taken
+      ∙ (sym (totals_push (answers_to old S.came) (accept_answer (after_words old S.came) raw)) ∙ ap totals_of (sym (answers_append old S.came (raw ∷ []))))));
+}
+
+pub small_so_far : (before now : List ℕ) (old new : Receiving) (totals : ReceiveTotals) (n : ℕ) → SoFar before now old new totals n → AreAtMost n totals
+small_so_far before now old new totals n S =
+    subst (λ (t : ReceiveTotals). AreAtMost n t) (sym S.counts) (subst (λ (m : ℕ). AreAtMost m (totals_of (answers_to old S.came))) (length_answers old S.came ∙ S.many) (totals_small (answers_to old S.came)))
+
+-- the gate ended the loop before or after the last word
+pub gate_shut : (before now next : List ℕ) (old mid new : Receiving) (totals : ReceiveTotals) (n raw : ℕ) → SoFar before now old mid totals n → n < 1000000 → next ≡ now ++ raw ∷ []
+    → (new ≡ mid) ⊎ (new ≡ after_words mid (raw ∷ [])) → (given : List ℕ) × (next ≡ before ++ given) × AreTaken given (Err Gate) old new
+gate_shut before now next old mid new totals n raw S low given either =
+    let all = S.came ++ raw ∷ [] in
+    let is : next ≡ before ++ all = given ∙ (ap (λ (xs : List ℕ). xs ++ raw ∷ []) S.given ∙ append_assoc before S.came (raw ∷ [])) in
+    let many : length all ≡ n + 1 = length_push S.came raw ∙ ap (λ (m : ℕ). m + 1) S.many in
+    elim either [
+      | inl left ↦
+          let front : take n all ≡ S.came = take-append-le n S.came (raw ∷ []) (omega (arith, S.many)) ∙ take_all n S.came (omega (arith, S.many)) in
+          (all, is, (n, left ∙ (S.taken ∙ ap (after_words old) (sym front)), omega arith, omega arith))
+      | inr through ↦
+          let whole : take (n + 1) all ≡ all = take_all (n + 1) all (omega arith) in
+          (all, is, (n + 1, through ∙ (ap (λ (r : Receiving). after_words r (raw ∷ [])) S.taken ∙ (after_append old S.came (raw ∷ []) ∙ ap (after_words old) (sym whole))), omega arith, omega arith))
+    ]
+
+-- the line gave one word too many
+pub one_too_many : (before now next : List ℕ) (old mid : Receiving) (totals : ReceiveTotals) (n raw : ℕ) → SoFar before now old mid totals n → n ≡ 1000000 → next ≡ now ++ raw ∷ []
+    → (given : List ℕ) × (next ≡ before ++ given) × AreTaken given (Err TooMuch) old mid
+one_too_many before now next old mid totals n raw S full given =
+    let all = S.came ++ raw ∷ [] in
+    let is : next ≡ before ++ all = given ∙ (ap (λ (xs : List ℕ). xs ++ raw ∷ []) S.given ∙ append_assoc before S.came (raw ∷ [])) in
+    let many : length all ≡ n + 1 = length_push S.came raw ∙ ap (λ (m : ℕ). m + 1) S.many in
+    let front : take 1000000 all ≡ S.came = take-append-le 1000000 S.came (raw ∷ []) (omega (arith, S.many)) ∙ take_all 1000000 S.came (omega (arith, S.many)) in
+    (all, is, (S.taken ∙ ap (after_words old) (sym front), omega arith))

@@ -1,0 +1,10 @@
+use Rattle.std.proofs.Common.{◌≡◌}
+use Rattle.a429_workers.specs.Transmitting.{IsSameGroup}
+use Rattle.a429_workers.proofs.Stretching.{AreInFrames}
+use Rattle.a429_workers.proofs.sending.send_frames.Given as goal
+
+abbrev pub invariant-loop : goal.invariant-loop
+invariant-loop g l =
+    AreInFrames l.fn.transmit l.transmit (g.B.BusSink.taken l.fn.sink) (g.B.BusSink.taken l.sink) (record { cells = 0; words = 0; plan = l.fn.transmit.number }) l.totals l.counter
+    × (g.B.BusSink.failed l.sink ≡ g.B.BusSink.failed l.fn.sink)
+    × IsSameGroup l.fn.transmit l.transmit

@@ -1,0 +1,119 @@
+-- What a group's transmitter sent in a stretch of calls, and what its sink took.
+use Rattle.std.specs.Prelude.{◌≡◌, ◌+◌, ◌<◌, ◌++◌, ◌∷◌, [], ◌⊎◌, ℕ, zero, suc, Bool, true, false, List, Option, Some, None, Result, Ok, Err, IsTrue, is_some, length, count_by, filter_map, option_map}
+use Rattle.std.specs.List.{AllByRecursion}
+use Rattle.a429_slots.specs.Tables.{PlanTable, cells_of}
+use Rattle.a429_slots.specs.Sending.{Sending, after_cell}
+use Rattle.a429_workers.specs.Calls.{Call, Carried, Asks, Turns, Meets, Takes, StaysMid, StaysSpent}
+use Rattle.a429_workers.specs.Sinks.{failures_by}
+use Rattle.a429_workers.specs.Transmitting.{Transmitting, GoesOnBy, IsSameGroup}
+use Rattle.a429_workers.specs.declared.cells.Sent.{Sent}
+use Rattle.a429_workers.specs.declared.sending.SendTotals.{SendTotals}
+use Rattle.a429_workers.specs.declared.sending.SendFault.{SendFault}
+use Rattle.a429_workers.specs.declared.sending.SendFault.TheVariants.{Gate, Sink, Change}
+
+-- the cells that were answered in calls, in order
+abbrev pub sent_of : Call → Option Sent
+sent_of (Asks (Some c)) = Some (record { bus = c.bus; slot = c.slot; word = c.word })
+sent_of (Asks None) = None
+sent_of (Turns plans t) = None
+sent_of (Meets loads) = None
+
+abbrev pub sent_in : List Call → List Sent
+sent_in calls = filter_map sent_of calls
+
+abbrev pub has_word : Sent → Bool
+has_word s = is_some s.word
+
+-- a next frame was taken
+abbrev pub is_taken : Call → Bool
+is_taken (Turns plans (Takes n)) = true
+is_taken (Turns plans StaysMid) = false
+is_taken (Turns plans StaysSpent) = false
+is_taken (Asks c) = false
+is_taken (Meets loads) = false
+
+-- a cell was answered, or a next frame taken
+abbrev pub is_send : Call → Bool
+is_send (Asks (Some c)) = true
+is_send (Asks None) = false
+is_send (Turns plans (Takes n)) = true
+is_send (Turns plans StaysMid) = false
+is_send (Turns plans StaysSpent) = false
+is_send (Meets loads) = false
+
+-- what a sink has then, where it tells what it took
+abbrev pub with_cells : Option (List Sent) → List Sent → Option (List Sent)
+with_cells taken cells = option_map (λ before. before ++ cells) taken
+
+-- The transmitter answered these calls, each a cell or a next frame that was taken, and then the last; the sink took the cells of the former.
+pub record HasSent (old new : Transmitting) (before after : Option (List Sent)) (calls last : List Call) : Type 0 where
+  pub stands : GoesOnBy old (calls ++ last) new
+  pub same : IsSameGroup old new
+  pub sends : AllByRecursion (λ c. IsTrue (is_send c)) calls
+  pub took : after ≡ with_cells before (sent_in calls)
+
+-- the call that ended the loop: a cell that the sink did not take, or a frame that was not taken; at the gate there is none
+abbrev pub IsLast : SendFault → List Call → Type 0
+IsLast Gate last = last ≡ []
+IsLast Sink last = (c : Carried) × (last ≡ Asks (Some c) ∷ [])
+IsLast Change last = (plans : List PlanTable) × (last ≡ Turns plans StaysSpent ∷ [])
+
+-- the calls are so many whole frames: a next one is taken between two, and all cells of the last one are sent
+abbrev pub AreWhole : ℕ → List Call → Sending → Type 0
+AreWhole zero calls frame = calls ≡ []
+AreWhole (suc n) calls frame = (count_by is_taken calls ≡ n) × (frame.sent ≡ cells_of frame.table)
+
+abbrev pub totals_of : List Sent → ℕ → SendTotals
+totals_of cells plan = record { cells = length cells; words = count_by has_word cells; plan = plan }
+
+-- so many frames were sent from the beginning of a frame on, or fewer where the loop ended before
+abbrev pub AreSent : ℕ → Transmitting → Transmitting → Option (List Sent) → Option (List Sent) → Result SendTotals SendFault → Type 0
+AreSent frames old new before after (Ok totals) =
+    (calls : List Call) × HasSent old new before after calls [] × (totals ≡ totals_of (sent_in calls) new.number) × AreWhole frames calls new.frame
+AreSent frames old new before after (Err fault) =
+    (calls : List Call) × (last : List Call) × HasSent old new before after calls last × IsLast fault last × (count_by is_taken calls < frames)
+
+-- the count of failures of the sink: it rises by one where the sink failed
+abbrev pub sink_failures : {A : Type 0} → ℕ → Result A SendFault → ℕ
+sink_failures n (Ok done) = n
+sink_failures n (Err Sink) = failures_by {A = ℕ} {E = SendFault} n (Err Sink)
+sink_failures n (Err Gate) = n
+sink_failures n (Err Change) = n
+
+-- ---- one cell, one frame
+
+-- these cells are counted
+pub record IsTallied (start totals : SendTotals) (sent : List Sent) : Type 0 where
+  pub cells : totals.cells ≡ start.cells + length sent
+  pub words : totals.words ≡ start.words + count_by has_word sent
+
+-- a cell was answered
+pub record IsCellMade (old new : Transmitting) (c : Carried) : Type 0 where
+  pub stands : GoesOnBy old (Asks (Some c) ∷ []) new
+  pub same : IsSameGroup old new
+  pub frame : new.frame ≡ after_cell old.frame
+  pub number : new.number ≡ old.number
+
+-- a cell was answered and its sink took it; or the gate ended the loop before or after that, or the sink did not take it
+abbrev pub IsCell : Transmitting → Transmitting → Option (List Sent) → Option (List Sent) → SendTotals → SendTotals → Result (Unit {0}) SendFault → Type 0
+IsCell old new before after start totals (Ok done) =
+    (c : Carried) × IsCellMade old new c × (after ≡ with_cells before (sent_in (Asks (Some c) ∷ []))) × IsTallied start totals (sent_in (Asks (Some c) ∷ []))
+IsCell old new before after start totals (Err Gate) =
+    ((new ≡ old) × (after ≡ before)) ⊎ ((c : Carried) × IsCellMade old new c × (after ≡ with_cells before (sent_in (Asks (Some c) ∷ []))))
+IsCell old new before after start totals (Err Sink) = (c : Carried) × IsCellMade old new c × (after ≡ with_cells before [])
+IsCell old new before after start totals (Err Change) = ⊥
+
+-- all cells of a frame were sent from its beginning on, or fewer where the loop ended before
+abbrev pub IsFrame : Transmitting → Transmitting → Option (List Sent) → Option (List Sent) → SendTotals → SendTotals → Result (Unit {0}) SendFault → Type 0
+IsFrame old new before after start totals (Ok done) =
+    (calls : List Call) × HasSent old new before after calls [] × IsTallied start totals (sent_in calls) × (count_by is_taken calls ≡ 0) × (new.frame.sent ≡ cells_of new.frame.table)
+IsFrame old new before after start totals (Err fault) =
+    (calls : List Call) × (last : List Call) × HasSent old new before after calls last × IsLast fault last × (count_by is_taken calls ≡ 0)
+
+-- the next frame was taken, or its slots cannot be counted
+abbrev pub IsTurn : Transmitting → Transmitting → Result (Unit {0}) SendFault → Type 0
+IsTurn old new (Ok done) =
+    (plans : List PlanTable) × (n : ℕ) × GoesOnBy old (Turns plans (Takes n) ∷ []) new × IsSameGroup old new × (new.frame.sent ≡ 0)
+IsTurn old new (Err Change) = (plans : List PlanTable) × GoesOnBy old (Turns plans StaysSpent ∷ []) new × IsSameGroup old new
+IsTurn old new (Err Gate) = ⊥
+IsTurn old new (Err Sink) = ⊥

@@ -1,0 +1,110 @@
+//! The loop of a receiver.
+ghost use Rattle.std.specs.Prelude.{◌≡◌, ◌≤◌, ◌+◌, ◌<◌, ◌++◌, ◌∷◌, [], ◌⊎◌, ℕ, List, true, OnOk, MatchResult};
+ghost use Rattle.a429_values.specs.Ends.{accept_answer};
+ghost use Rattle.a429_workers.specs.Receives.{AreAtMost, AreTaken, IsSameReceiver, after_words, counted, source_failures};
+
+use crate::gates::{Gate, GateFault, Point};
+use a429_filter::LineSource;
+use a429_values::{Accept, Receiver};
+use thiserror::Error;
+
+/// How many words a receiver takes at most in one loop (profile).
+pub const WORDS: u64 = 1000000;
+
+/// How many words of a line a receiver accepted, and how many it refused for which reason.
+#[derive(Clone, Copy, Debug, PartialEq, Eq)]
+pub struct ReceiveTotals {
+    pub accepted: u64,
+    pub parity: u64,
+    pub filtered: u64,
+    pub no_source: u64,
+    pub spent: u64,
+}
+
+/// Why the loop of a receiver ended before its line.
+#[derive(Clone, Copy, Debug, PartialEq, Eq, Error)]
+pub enum ReceiveFault {
+    /// The line failed.
+    #[error("the line's source failed")]
+    Source,
+    /// The gate ended the loop.
+    #[error("the gate is shut")]
+    Gate,
+    /// The line gave a word more than a million.
+    #[error("too many words")]
+    TooMuch,
+}
+
+/// Counts one more answer.
+fn count(totals: &mut ReceiveTotals, answer: Accept)
+    requires room { (n : ℕ) × AreAtMost n totals.old × (n < 1000000) }
+    ensures { totals.new ≡ counted totals.old answer }
+{
+    match answer {
+        Accept::Accepted(_) => totals.accepted += 1,
+        Accept::Parity => totals.parity += 1,
+        Accept::Filtered => totals.filtered += 1,
+        Accept::NoSource => totals.no_source += 1,
+        Accept::CountSpent => totals.spent += 1,
+    }
+}
+
+/// One word passes the gate, goes to the receiver, and passes the gate again.
+fn receive<G: Gate>(
+    receiver: &mut Receiver,
+    number: usize,
+    place: u64,
+    raw: u32,
+    totals: &mut ReceiveTotals,
+    gate: &G,
+) -> Result<(), GateFault>
+    requires room { AreAtMost place totals.old × (place < 1000000) }
+    ensures ok { OnOk result (receiver.new ≡ after_words receiver.old (raw ∷ [])) }
+    ensures totals { OnOk result (totals.new ≡ counted totals.old (accept_answer receiver.old raw)) }
+    ensures same { IsSameReceiver receiver.old receiver.new }
+    ensures either { (receiver.new ≡ receiver.old) ⊎ (receiver.new ≡ after_words receiver.old (raw ∷ [])) }
+{
+    gate.pass(Point::BeforeAccept(number, place))?;
+    let answer = receiver.accept(raw);
+    count(totals, answer);
+    gate.pass(Point::AfterAccept(number, place))
+}
+
+/// Takes the words of a line for a receiver, each between two passes of the gate, until the line ends. Answers how
+/// many it accepted and refused. `Source` where the line failed, `TooMuch` where it gave a word after a million,
+/// before that word's gate, and `Gate` where the gate ended the loop. What was taken before stays taken, and what
+/// was accepted accepted. It takes no memory.
+pub fn receive_all<L: LineSource, G: Gate>(
+    line: &mut L,
+    receiver: &mut Receiver,
+    number: usize,
+    gate: &G,
+) -> Result<ReceiveTotals, ReceiveFault>
+    ensures taken { (given : List ℕ) × (L.given line.new ≡ L.given line.old ++ given) × AreTaken given result receiver.old receiver.new }
+    ensures same { IsSameReceiver receiver.old receiver.new }
+    ensures ended { OnOk result (L.ended line.new ≡ true) }
+    ensures failed { L.failed line.new ≡ source_failures (L.failed line.old) result }
+{
+    let mut totals = ReceiveTotals {
+        accepted: 0,
+        parity: 0,
+        filtered: 0,
+        no_source: 0,
+        spent: 0,
+    };
+    for place in 0..WORDS {
+        let raw = match line.next() {
+            Ok(Some(raw)) => raw,
+            Ok(None) => return Ok(totals),
+            Err(_) => return Err(ReceiveFault::Source),
+        };
+        if let Err(_) = receive(receiver, number, place, raw, &mut totals, gate) {
+            return Err(ReceiveFault::Gate);
+        }
+    }
+    match line.next() {
+        Ok(Some(_)) => Err(ReceiveFault::TooMuch),
+        Ok(None) => Ok(totals),
+        Err(_) => Err(ReceiveFault::Source),
+    }
+}

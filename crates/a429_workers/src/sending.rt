@@ -1,0 +1,135 @@
+//! The loop of a group.
+ghost use Rattle.std.specs.Prelude.{◌≡◌, ◌≤◌, ◌+◌, ◌<◌, ◌^◌, OnOk};
+ghost use Rattle.a429_slots.specs.Tables.{cells_of};
+ghost use Rattle.a429_workers.specs.Transmitting.{IsSameGroup};
+ghost use Rattle.a429_workers.specs.Sends.{AreSent, IsCell, IsFrame, IsTurn, sink_failures};
+
+use crate::gates::{Gate, Point};
+use crate::sinks::BusSink;
+use crate::transmit::Transmit;
+use thiserror::Error;
+
+/// How many cells a group sent, how many of them with a word, and the number of the plan in force at the end.
+#[derive(Clone, Copy, Debug, PartialEq, Eq)]
+pub struct SendTotals {
+    pub cells: u64,
+    pub words: u64,
+    pub plan: u64,
+}
+
+/// Why the loop of a group ended before its last cell.
+#[derive(Clone, Copy, Debug, PartialEq, Eq, Error)]
+pub enum SendFault {
+    /// The gate ended the loop.
+    #[error("the gate is shut")]
+    Gate,
+    /// The sink failed.
+    #[error("the sink failed")]
+    Sink,
+    /// The slots of the next frame cannot be counted in 64 bits.
+    #[error("slots spent")]
+    Change,
+}
+
+/// One cell: it passes the gate, is asked for, goes to the sink, and passes the gate again.
+fn send_cell<B: BusSink, G: Gate>(
+    transmit: &mut Transmit,
+    sink: &mut B,
+    group: usize,
+    totals: &mut SendTotals,
+    gate: &G,
+) -> Result<(), SendFault>
+    requires due { transmit.old.frame.sent < cells_of transmit.old.frame.table }
+    requires room { (totals.old.words ≤ totals.old.cells) × (totals.old.cells + 1 < 2 ^ 64) }
+    ensures done { IsCell transmit.old transmit.new (B.taken sink.old) (B.taken sink.new) totals.old totals.new result }
+    ensures same { IsSameGroup transmit.old transmit.new }
+    ensures few { OnOk result ((totals.new.words ≤ totals.new.cells) × (totals.new.cells ≡ totals.old.cells + 1)) }
+    ensures failed { B.failed sink.new ≡ sink_failures (B.failed sink.old) result }
+{
+    if let Err(_) = gate.pass(Point::BeforeCell(group, totals.cells)) {
+        return Err(SendFault::Gate);
+    }
+    let Ok(sent) = transmit.cell() else {
+        // It is due, so this is never reached.
+        return Err(SendFault::Gate);
+    };
+    if let Err(_) = sink.put(&sent) {
+        return Err(SendFault::Sink);
+    }
+    let place = totals.cells;
+    totals.cells += 1;
+    totals.words += u64::from(sent.word.is_some());
+    if let Err(_) = gate.pass(Point::AfterCell(group, place)) {
+        return Err(SendFault::Gate);
+    }
+    Ok(())
+}
+
+/// The cells of a frame, from its first on.
+fn send_frame<B: BusSink, G: Gate>(
+    transmit: &mut Transmit,
+    sink: &mut B,
+    group: usize,
+    totals: &mut SendTotals,
+    gate: &G,
+) -> Result<(), SendFault>
+    requires begins { transmit.old.frame.sent ≡ 0 }
+    requires room { (totals.old.words ≤ totals.old.cells) × (totals.old.cells + 131072 < 2 ^ 64) }
+    ensures done { IsFrame transmit.old transmit.new (B.taken sink.old) (B.taken sink.new) totals.old totals.new result }
+    ensures same { IsSameGroup transmit.old transmit.new }
+    ensures few { OnOk result ((totals.new.words ≤ totals.new.cells) × (totals.new.cells ≤ totals.old.cells + 131072)) }
+    ensures failed { B.failed sink.new ≡ sink_failures (B.failed sink.old) result }
+{
+    for _ in 0..transmit.cells() {
+        send_cell(transmit, sink, group, totals, gate)?;
+    }
+    Ok(())
+}
+
+/// Takes the next frame, where the one before is over.
+fn next_frame(transmit: &mut Transmit) -> Result<(), SendFault>
+    requires over { transmit.old.frame.sent ≡ cells_of transmit.old.frame.table }
+    ensures turn { IsTurn transmit.old transmit.new result }
+    ensures same { IsSameGroup transmit.old transmit.new }
+{
+    match transmit.change() {
+        Ok(_) => Ok(()),
+        Err(_) => Err(SendFault::Change),
+    }
+}
+
+/// Sends so many whole frames of a group, from the first cell of a frame on, and goes on to the next frame between
+/// two. Each cell passes the gate, is asked for, goes to the sink, and passes the gate again. Answers how many cells
+/// were sent. `Sink` where the sink failed: it took all cells but the last. `Change` where the slots of the next
+/// frame cannot be counted, and `Gate` where the gate ended the loop. What was sent before stays sent, and frames
+/// that were taken stay taken. It takes no memory, if the sink takes none.
+pub fn send_frames<B: BusSink, G: Gate>(
+    transmit: &mut Transmit,
+    sink: &mut B,
+    group: usize,
+    frames: u32,
+    gate: &G,
+) -> Result<SendTotals, SendFault>
+    requires { transmit.old.frame.sent ≡ 0 }
+    ensures same { IsSameGroup transmit.old transmit.new }
+    ensures sent { AreSent frames transmit.old transmit.new (B.taken sink.old) (B.taken sink.new) result }
+    ensures failed { B.failed sink.new ≡ sink_failures (B.failed sink.old) result }
+{
+    let mut totals = SendTotals {
+        cells: 0,
+        words: 0,
+        plan: transmit.plan(),
+    };
+    if frames == 0 {
+        return Ok(totals);
+    }
+    send_frame(transmit, sink, group, &mut totals, gate)?;
+    for _ in 1..frames {
+        next_frame(transmit)?;
+        send_frame(transmit, sink, group, &mut totals, gate)?;
+    }
+    Ok(SendTotals {
+        plan: transmit.plan(),
+        ..totals
+    })
+}
