@@ -1,1 +1,11 @@
-
+mod Answering
+mod Beginning
+mod Calling
+mod Changing
+mod Hearing
+mod Lists
+mod Heard
+mod Histories
+mod Steps
+mod Stretching
+mod Order
