@@ -2,8 +2,14 @@
 #![tactic(auto)]
 
 mod control;
+mod faults;
+mod live;
+mod reports;
 mod station;
 pub mod threads;
+mod working;
 
 pub use control::{Control, NoControl};
+pub use faults::LiveFault;
+pub use reports::Report;
 pub use station::{ReplanFault, Station};
