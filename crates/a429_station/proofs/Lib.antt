@@ -1,2 +1,3 @@
+pub mod Ended
 pub mod Joined
 pub mod Plans

@@ -16,4 +16,3 @@ pub record HasReceived {L : Type 0} (given : L → List ℕ) (ended : L → Bool
   pub gave : given line' ≡ given line ++ words
   pub taken : AreTaken words answer receiver receiver'
   pub at_end : OnOk answer (ended line' ≡ true)
-

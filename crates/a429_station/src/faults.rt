@@ -1,9 +1,7 @@
 //! Why a station did not run to its end.
-ghost use Rattle.std.specs.Prelude.{◌≡◌, option_map};
-
 use a429_slots::PlanFault;
 use a429_workers::{ReceiveFault, SendFault};
-use std::alloc::AllocError;
+use std::alloc::{AllocError, AllocFailed};
 use thiserror::Error;
 
 /// Why a station did not run, or not to its end.
@@ -50,6 +48,17 @@ impl From<AllocError> for LiveFault {
     ghost from_gives = { λ _ e. e ≡ fault.NoMemory };
 
     fn from(_error: AllocError) -> LiveFault {
+        LiveFault::NoMemory
+    }
+}
+
+impl<T: Drop> From<AllocFailed<T>> for LiveFault {
+    ghost use Rattle.std.specs.Prelude.{◌≡◌};
+    ghost use Rattle.a429_station.specs.declared.faults.LiveFault.TheVariants as fault;
+
+    ghost from_gives = { λ _ e. e ≡ fault.NoMemory };
+
+    fn from(_failed: AllocFailed<T>) -> LiveFault {
         LiveFault::NoMemory
     }
 }

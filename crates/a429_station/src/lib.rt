@@ -3,13 +3,14 @@
 
 mod control;
 mod faults;
-mod live;
 mod reports;
+mod running;
 mod station;
-pub mod threads;
+mod threads;
 mod working;
 
 pub use control::{Control, NoControl};
 pub use faults::LiveFault;
 pub use reports::Report;
+pub use running::{FRAMES, live};
 pub use station::{ReplanFault, Station};

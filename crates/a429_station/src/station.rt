@@ -8,6 +8,7 @@ ghost use Rattle.a429_station.specs.Resubmitting.{IsPlanned, IsReplanFault, Publ
 use a429_board::{BoardFault, Planner};
 use a429_equipment::{Equipment, TableFault};
 use a429_slots::{OUTPUTS, Plan, PlanFault, plan};
+use a429_workers::Transmit;
 use std::alloc::Global;
 use std::marker::Model;
 use std::sync::Wait;
@@ -153,5 +154,24 @@ impl<'a, R: Wait> Station<'a, R> {
             Ok(number) => Ok(number),
             Err(fault) => Err(ReplanFault::from(fault)),
         }
+    }
+    /// Tells a group's transmitter of this board all that was published.
+    pub(crate) fn tell(&mut self, transmit: &mut Transmit)
+        requires board { transmit.old.watcher.book ≡ self.old.planner.book }
+        ensures station { self.new ≡ self.old }
+        ensures transmit { transmit.new ≡ record transmit.old { watcher = record transmit.old.watcher { list = self.old.planner.list } } }
+    {
+        transmit.told(&mut self.planner);
+    }
+
+    /// Ends its board, and changes no list. It may wait for groups that read the board.
+    pub(crate) fn close(self) {
+        let Station {
+            rt,
+            alloc: _,
+            equipment: _,
+            planner,
+        } = self;
+        planner.close(rt);
     }
 }

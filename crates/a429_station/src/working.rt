@@ -95,7 +95,7 @@ impl<'a, B: BusSink + Send + Drop, G: Gate + Sync> Work for Sending<'a, B, G> {
 }
 
 /// A group at the first cell of a frame, with its sink.
-pub(crate) fn sending<'a, B: BusSink + Drop, G: Gate>(
+pub(crate) fn group_worker<'a, B: BusSink + Drop, G: Gate>(
     transmit: Transmit,
     sink: B,
     number: usize,
