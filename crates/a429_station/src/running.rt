@@ -1,9 +1,10 @@
 //! A station that runs: its receivers and groups at once.
-ghost use Rattle.std.specs.Prelude.{◌≡◌, ◌<◌, ◌≤◌, true, length, vec_len, IfOk, IfErr, map};
+ghost use Rattle.std.specs.Prelude.{◌≡◌, ◌<◌, ◌≤◌, [], length, vec_len, IfOk, IfErr, map};
 ghost use Rattle.std.specs.List.{AllByRecursion, AllZip};
 ghost use Rattle.a429_slots.specs.Tables.{PlanTable, groups_of};
 ghost use Rattle.a429_slots.specs.Planned.{IsPlanOf};
 ghost use Rattle.a429_board.specs.Lists.{beginner};
+ghost use Rattle.a429_station.specs.Working.{AllOfThree, IsHeardFrom, IsSentTo};
 
 use crate::control::{Control, Lent};
 use crate::faults::LiveFault;
@@ -43,6 +44,7 @@ fn receivers<'a, L: LineSource + Drop, G: Gate>(
     requires sources { vec_len sources ≤ length hub.now.station.receivers }
     ensures lines { IfOk result (λ workers. map (λ w. w.line) workers.items ≡ sources.items) }
     ensures hub { IfOk result (λ workers. AllByRecursion (λ w. w.receiver.at ≡ hub.now) workers.items) }
+    ensures fresh { IfOk result (λ workers. AllByRecursion (λ w. w.receiver.accepted ≡ []) workers.items) }
     ensures desk { desk.new.at ≡ desk.old.at }
 {
     let mut workers = Vec::new(alloc);
@@ -137,15 +139,26 @@ fn run<
     rt: &R,
     alloc: Global,
     hub: &Values,
+    desk: &mut Desk,
     station: &mut Station<'_, R>,
+    watchers: Vec<Watcher>,
     receiving: Vec<Receiving<'_, L, G>>,
-    sending: Vec<Sending<'_, B, G>>,
+    sinks: Vec<B>,
+    frames: u32,
+    gate: &G,
     control: &mut K,
 ) -> Result<Report<L, B>, LiveFault>
     requires receivers { AllByRecursion (λ w. w.receiver.at ≡ hub.now) receiving.items }
-    requires groups { AllByRecursion (λ w. w.transmit.transmitter.at ≡ hub.now) sending.items }
-    requires board { AllByRecursion (λ w. w.transmit.watcher.book ≡ station.old.planner.book) sending.items }
+    requires fresh { AllByRecursion (λ w. w.receiver.accepted ≡ []) receiving.items }
+    requires desk { desk.old.at ≡ hub.now }
+    requires sinks { vec_len sinks ≤ length hub.now.station.groups }
+    requires planned { vec_len sinks ≤ length (groups_of station.old.planner.last) }
+    requires watchers { AllByRecursion (λ w. w ≡ beginner station.old.planner) watchers.items }
+    requires enough { vec_len sinks ≤ vec_len watchers }
+    ensures heard { IfOk result (λ report. AllOfThree (IsHeardFrom L.given L.ended hub.now.station) (map (λ w. w.line) receiving.entry.items) report.sources.items report.receivers.items) }
+    ensures sent { IfOk result (λ report. AllOfThree (IsSentTo B.taken) sinks.items report.sinks.items report.groups.items) }
 {
+    let sending = groups(alloc, hub, desk, station, watchers, sinks, frames, gate)?;
     let lent = Lent { station, control };
     let Ok(done) = at_once(rt, alloc, receiving, sending, lent) else {
         return Err(LiveFault::Join);
@@ -204,6 +217,8 @@ pub fn live<
     requires sinks { vec_len sinks ≡ length equipment.now.groups }
     ensures plan { IfOk result (λ report. (p : PlanTable) × IsPlanOf equipment.now p) }
     ensures frames { IfOk result (λ report. frames ≤ 1000000) }
+    ensures heard { IfOk result (λ report. AllOfThree (IsHeardFrom L.given L.ended equipment.now) sources.items report.sources.items report.receivers.items) }
+    ensures sent { IfOk result (λ report. AllOfThree (IsSentTo B.taken) sinks.items report.sinks.items report.groups.items) }
 {
     numbers_in_range(equipment);
     let plan = plan(alloc, equipment)?;
@@ -215,12 +230,19 @@ pub fn live<
     let watchers = equipment.groups().len().max(1) as u32;
     let (planner, watchers) = Board::open(rt, alloc, plan, watchers)?;
     let mut station = Station::begun(rt, alloc, equipment, planner);
-    let answer = match groups(
-        alloc, &hub, &mut desk, &station, watchers, sinks, frames, gate,
-    ) {
-        Ok(sending) => run(rt, alloc, &hub, &mut station, receiving, sending, control),
-        Err(fault) => Err(fault),
-    };
+    let answer = run(
+        rt,
+        alloc,
+        &hub,
+        &mut desk,
+        &mut station,
+        watchers,
+        receiving,
+        sinks,
+        frames,
+        gate,
+        control,
+    );
     station.close();
     answer
 }
