@@ -1,0 +1,127 @@
+-- Plans of a station send its sources alone, and stay in order when one more is published.
+use Rattle.std.proofs.Common.{◌≡◌, ℕ, zero, suc, ◌+◌, ◌-◌, ◌<◌, ◌≤◌, ◌^◌, Bool, true, List, [], ◌∷◌, ◌++◌, length, map, ◌∙◌, sym, ap, subst, refl, arith}
+use Rattle.std.specs.Prelude.{Some, IsTrue, slice_get, ◌==◌, ◌&&◌}
+use Rattle.std.specs.List.{AllByRecursion, AllZip, zip}
+use Rattle.std.proofs.lemmas.Bool.{and_parts, eqb-true}
+use Rattle.std.proofs.lemmas.List.{length-append, map-append}
+use Rattle.std.proofs.lemmas.Option.{none-some, same_Some}
+use Rattle.a429_equipment.specs.TableRecord.{TableRecord}
+use Rattle.a429_equipment.specs.Sound.{IsSound}
+use Rattle.a429_equipment.specs.SameStation.{same_station, all_agree, same_receiver, same_source, same_group}
+use Rattle.a429_equipment.specs.declared.rows.OutputRow.{OutputRow}
+use Rattle.a429_equipment.specs.declared.rows.SourceRow.{SourceRow}
+use Rattle.a429_equipment.specs.declared.rows.GroupRow.{GroupRow}
+use Rattle.a429_slots.specs.Tables.{Placed, GroupTable, PlanTable, groups_of, outputs_of}
+use Rattle.a429_slots.specs.Planned.{IsServed, IsPlannedAt, IsPlanOf}
+use Rattle.a429_slots.specs.Proposed.{Proposed}
+use Rattle.a429_board.specs.Lists.{Planning, numbered}
+use Rattle.a429_workers.specs.Runs.{ArePublished, plans_of}
+use Rattle.a429_workers.specs.Transmitting.{IsKnownPlan, IsKnownTable}
+use Rattle.a429_board.specs.Refused.{IsWhy}
+use Rattle.a429_board.specs.declared.planner.BoardFault.{BoardFault}
+use Rattle.a429_board.specs.declared.planner.BoardFault.TheVariants.{CountSpent, NoMemory}
+use Rattle.a429_station.specs.Resubmitting.{Running, IsLed, IsPlanned, IsReplanFault, Publishes, of_board, opening}
+
+-- ---- sources
+
+served_known : (n rate : ℕ) (rows : List OutputRow) (ps : List Placed) → AllZip (IsServed rate) rows ps → AllByRecursion (λ o. o.source < n) rows → AllByRecursion (λ p. p.source < n) ps
+served_known n rate [] [] served known = tt
+served_known n rate [] (p ∷ ps) served known = absurd served
+served_known n rate (r ∷ rows) [] served known = absurd served
+served_known n rate (r ∷ rows) (p ∷ ps) served known = (omega (arith, served.0.0, known.0), served_known n rate rows ps served.1 known.1)
+
+tables_known : (t : TableRecord) (sources : List SourceRow) (rates : List ℕ) (rowss : List (List OutputRow)) (ts : List GroupTable) → AllZip (IsPlannedAt sources) (zip rates rowss) ts
+    → AllByRecursion (AllByRecursion (λ o. o.source < length t.sources)) rowss → AllByRecursion (IsKnownTable t) ts
+tables_known t sources [] rowss [] planned known = tt
+tables_known t sources [] rowss (u ∷ ts) planned known = absurd planned
+tables_known t sources (rate ∷ rates) [] [] planned known = tt
+tables_known t sources (rate ∷ rates) [] (u ∷ ts) planned known = absurd planned
+tables_known t sources (rate ∷ rates) (rows ∷ rowss) [] planned known = absurd planned
+tables_known t sources (rate ∷ rates) (rows ∷ rowss) (u ∷ ts) planned known =
+    (served_known (length t.sources) rate rows (outputs_of u) planned.0.served known.0, tables_known t sources rates rowss ts planned.1 known.1)
+
+same_sources : (a b : TableRecord) → same_station a b ≡ true → length a.sources ≡ length b.sources
+unfolding same_station
+same_sources a b h =
+    let more = (and_parts (all_agree same_receiver a.receivers b.receivers) (all_agree same_source a.sources b.sources && all_agree same_group a.groups b.groups) h).1 in
+    let sources = (and_parts (all_agree same_source a.sources b.sources) (all_agree same_group a.groups b.groups) more).0 in
+    eqb-true (length a.sources) (length b.sources) (and_parts (length a.sources == length b.sources) _ sources).0
+
+-- a plan of an equipment with as many sources sends the station's alone
+pub plan_known : (t e : TableRecord) (p : PlanTable) → length t.sources ≡ length e.sources → IsSound e → IsPlanOf e p → IsKnownPlan t p
+plan_known t e p same sound planned =
+    tables_known t e.sources (map (λ (g : GroupRow). g.rate) e.groups) e.outputs (groups_of p) planned.groups
+    (subst (λ (n : ℕ). AllByRecursion (AllByRecursion (λ o. o.source < n)) e.outputs) (sym same) sound.known_sources)
+
+-- ---- the planner's list
+
+pub all_more : {X : Type 0} (P : X → Type 0) (xs : List X) (x : X) → AllByRecursion P xs → P x → AllByRecursion P (xs ++ x ∷ [])
+all_more P [] x all one = (one, tt)
+all_more P (y ∷ ys) x all one = (all.0, all_more P ys x all.1 one)
+
+numbered_on : (base : ℕ) (later : List Proposed) (q : Proposed) → ((k : ℕ) (x : Proposed) → slice_get later k ≡ Some x → x.plan.number ≡ base + (k + 1)) → q.plan.number ≡ base + (length later + 1)
+    → (k : ℕ) (x : Proposed) → slice_get (later ++ q ∷ []) k ≡ Some x → x.plan.number ≡ base + (k + 1)
+numbered_on base [] q each next zero x h = let same : q ≡ x = same_Some q x h in ap (λ (y : Proposed). y.plan.number) (sym same) ∙ next
+numbered_on base [] q each next (suc k) x h = absurd (none-some x h)
+numbered_on base (y ∷ ys) q each next zero x h = each zero x h
+numbered_on base (y ∷ ys) q each next (suc k) x h =
+    let on = numbered_on (base + 1) ys q (λ j z e. let was = each (suc j) z e in omega (arith, was)) (omega (arith, next)) k x h in
+    omega (arith, on)
+
+-- where the board begins with the station's plan
+pub led_first : (t : TableRecord) (v : Planning) → IsSound t → IsPlanOf t v.last → v.list ≡ v.last ∷ [] → IsLed (record { station = t; planner = v })
+led_first t v sound planned first = record {
+  opened = v.last;
+  later = [];
+  plans = first;
+  published = record { of_station = tt; numbered = λ k q h. absurd (none-some q h); countable = omega (arith, planned.number) };
+  last = omega arith;
+  known = subst (AllByRecursion (IsKnownPlan t)) (sym first) (plan_known t t v.last refl sound planned, tt);
+}
+
+-- where one more is published
+pub led_on : (old new : Running) (bytes : List ℕ) (n : ℕ) (P : Publishes old bytes n new) → n < 2 ^ 64 → IsLed old → IsLed new
+led_on old new bytes n P fits L =
+    let q : Proposed = record { station = P.of.record_of; plan = numbered P.of.plan n } in
+    let o = opening old.station L.opened in
+    let plans : new.planner.list ≡ plans_of o (L.later ++ q ∷ []) =
+    P.list ∙ (ap (λ (l : List PlanTable). l ++ q.plan ∷ []) L.plans ∙ ap (λ (l : List PlanTable). L.opened ∷ l) (sym (map-append (λ (x : Proposed). x.plan) L.later (q ∷ [])))) in
+    let next : n ≡ L.opened.number + (length L.later + 1) = P.next ∙ omega (arith, L.last) in
+    let long : length (L.later ++ q ∷ []) ≡ length L.later + 1 = length-append L.later (q ∷ []) in
+    let last : new.planner.last.number ≡ n = ap (λ (p : PlanTable). p.number) P.last in
+    let station = P.station in
+    record {
+      opened = L.opened;
+      later = L.later ++ q ∷ [];
+      plans = subst (λ (t : TableRecord). new.planner.list ≡ plans_of (opening t L.opened) (L.later ++ q ∷ [])) (sym station) plans;
+      published = subst (λ (t : TableRecord). ArePublished (opening t L.opened) (L.later ++ q ∷ [])) (sym station) (record {
+        of_station = all_more (λ (x : Proposed). IsTrue (same_station old.station x.station)) L.later q L.published.of_station P.same;
+        numbered = numbered_on L.opened.number L.later q L.published.numbered next;
+        countable = omega (arith, long, next, fits);
+      });
+      last = omega (arith, last, next, long);
+      known = subst (λ (t : TableRecord). AllByRecursion (IsKnownPlan t) new.planner.list) (sym station) (
+          subst (AllByRecursion (IsKnownPlan old.station)) (sym P.list) (
+          all_more (IsKnownPlan old.station) old.planner.list (numbered P.of.plan n) L.known (plan_known old.station P.of.record_of P.of.plan (same_sources old.station P.of.record_of P.same) P.of.sound P.of.planned)));
+    }
+
+-- ---- a table that is submitted again
+
+-- its plan was published
+pub publishes : (old new : Running) (bytes : List ℕ) (of : IsPlanned bytes) (p : PlanTable) (n : ℕ) → same_station old.station of.record_of ≡ true → p ≡ of.plan
+    → n ≡ old.planner.last.number + 1 → new.planner.list ≡ old.planner.list ++ numbered p n ∷ [] → new.planner.last ≡ numbered p n → new.planner.book ≡ old.planner.book → new.station ≡ old.station
+    → Publishes old bytes n new
+publishes old new bytes of p n same is next list last book station = record {
+  of = of;
+  same = same;
+  next = next;
+  list = list ∙ ap (λ (q : PlanTable). old.planner.list ++ numbered q n ∷ []) is;
+  last = last ∙ ap (λ (q : PlanTable). numbered q n) is;
+  book = book;
+  station = station;
+}
+
+-- it was not
+pub refused : (v : Running) (bytes : List ℕ) (of : IsPlanned bytes) → same_station v.station of.record_of ≡ true → (f : BoardFault) → IsWhy f v.planner.last.number → IsReplanFault v bytes (of_board f)
+refused v bytes of same CountSpent why = (of, same, why)
+refused v bytes of same NoMemory why = tt

@@ -1,0 +1,95 @@
+//! Why a station did not run to its end.
+use a429_slots::PlanFault;
+use a429_workers::{ReceiveFault, SendFault};
+use std::alloc::{AllocError, AllocFailed};
+use thiserror::Error;
+
+/// Why a station did not run, or not to its end.
+#[derive(Clone, Copy, Debug, PartialEq, Eq, Error)]
+pub enum LiveFault {
+    /// The equipment has no plan. Nothing was started.
+    #[error("{0}")]
+    Plan(PlanFault),
+    /// More than a million frames were asked for, and nothing was started; or a line gave a word after a million.
+    #[error("too many frames or words")]
+    TooMuch,
+    /// A thread could not be started or taken in.
+    #[error("a thread could not be started or taken in")]
+    Join,
+    /// The source of a line failed.
+    #[error("a line's source failed")]
+    Source,
+    /// The gate ended a worker.
+    #[error("the gate is shut")]
+    Gate,
+    /// The sink of a group failed.
+    #[error("a group's sink failed")]
+    Sink,
+    /// Memory was refused.
+    #[error("out of memory")]
+    NoMemory,
+}
+
+impl From<PlanFault> for LiveFault {
+    ghost use Rattle.std.specs.Prelude.{◌≡◌};
+    ghost use Rattle.a429_station.specs.declared.faults.LiveFault.TheVariants as fault;
+
+    ghost from_gives = { λ why e. e ≡ fault.Plan why };
+
+    fn from(why: PlanFault) -> LiveFault {
+        LiveFault::Plan(why)
+    }
+}
+
+impl From<AllocError> for LiveFault {
+    ghost use Rattle.std.specs.Prelude.{◌≡◌};
+    ghost use Rattle.a429_station.specs.declared.faults.LiveFault.TheVariants as fault;
+
+    ghost from_gives = { λ _ e. e ≡ fault.NoMemory };
+
+    fn from(_error: AllocError) -> LiveFault {
+        LiveFault::NoMemory
+    }
+}
+
+impl<T: Drop> From<AllocFailed<T>> for LiveFault {
+    ghost use Rattle.std.specs.Prelude.{◌≡◌};
+    ghost use Rattle.a429_station.specs.declared.faults.LiveFault.TheVariants as fault;
+
+    ghost from_gives = { λ _ e. e ≡ fault.NoMemory };
+
+    fn from(_failed: AllocFailed<T>) -> LiveFault {
+        LiveFault::NoMemory
+    }
+}
+
+impl From<ReceiveFault> for LiveFault {
+    ghost use Rattle.std.specs.Prelude.{◌≡◌};
+    ghost use Rattle.a429_station.specs.Faults.{of_receiver};
+
+    ghost from_gives = { λ why e. e ≡ of_receiver why };
+
+    fn from(why: ReceiveFault) -> LiveFault {
+        match why {
+            ReceiveFault::Source => LiveFault::Source,
+            ReceiveFault::Gate => LiveFault::Gate,
+            ReceiveFault::TooMuch => LiveFault::TooMuch,
+        }
+    }
+}
+
+impl From<SendFault> for LiveFault {
+    ghost use Rattle.std.specs.Prelude.{◌≡◌};
+    ghost use Rattle.a429_station.specs.Faults.{of_group};
+
+    ghost from_gives = { λ why e. e ≡ of_group why };
+
+    // The slots of a million frames can be counted, so `Change` never comes.
+    fn from(why: SendFault) -> LiveFault {
+        match why {
+            SendFault::Sink => LiveFault::Sink,
+            SendFault::Gate => LiveFault::Gate,
+            SendFault::Change => LiveFault::TooMuch,
+        }
+    }
+}

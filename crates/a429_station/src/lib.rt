@@ -1,0 +1,16 @@
+//! A running station: its receivers and groups on threads of their own, and plans that are published meanwhile.
+#![tactic(auto)]
+
+mod control;
+mod faults;
+mod reports;
+mod running;
+mod station;
+mod threads;
+mod working;
+
+pub use control::{Control, NoControl};
+pub use faults::LiveFault;
+pub use reports::Report;
+pub use running::{FRAMES, live};
+pub use station::{ReplanFault, Station};

@@ -1,0 +1,177 @@
+//! A running station, and plans for it.
+ghost use Rattle.std.specs.Prelude.{◌≡◌, ◌∷◌, [], true, IfOk, IfErr, OnErr};
+ghost use Rattle.a429_equipment.specs.SameStation.{same_station};
+ghost use Rattle.a429_slots.specs.Planned.{IsPlanOf};
+ghost use Rattle.a429_board.specs.Lists.{Planning};
+ghost use Rattle.a429_station.specs.Resubmitting.{IsPlanned, IsReplanFault, Publishes};
+
+use a429_board::{BoardFault, Planner};
+use a429_equipment::{Equipment, TableFault};
+use a429_slots::{OUTPUTS, Plan, PlanFault, plan};
+use a429_workers::Transmit;
+use std::alloc::Global;
+use std::marker::Model;
+use std::sync::Wait;
+use thiserror::Error;
+
+/// Why no plan is published. Groups and outputs are numbered from 0 in table order.
+#[derive(Debug, Drop, Error)]
+pub enum ReplanFault {
+    /// The table is not read, for this kind of fault at this place. Want of memory is `NoMemory`.
+    #[error("{0}")]
+    Table(TableFault),
+    /// The interval of the output admits no period of the grid.
+    #[error("output {output} of group {group} has no period")]
+    Unfit { group: usize, output: usize },
+    /// The group needs this many buses, more than 16.
+    #[error("group {group} needs {needed} buses")]
+    TooManyBuses { group: usize, needed: usize },
+    /// The table is of another station.
+    #[error("station differs")]
+    StationDiffers,
+    /// The last plan has the last number of 64 bits.
+    #[error("count spent")]
+    CountSpent,
+    /// Memory was refused. It may come in place of any other answer.
+    #[error("out of memory")]
+    NoMemory,
+}
+
+impl From<TableFault> for ReplanFault {
+    ghost use Rattle.std.specs.Prelude.{◌≡◌};
+    ghost use Rattle.a429_station.specs.Resubmitting.{of_table};
+
+    ghost from_gives = { λ fault e. e ≡ of_table fault };
+
+    fn from(fault: TableFault) -> ReplanFault {
+        match fault {
+            TableFault::At(kind, place) => ReplanFault::Table(TableFault::At(kind, place)),
+            TableFault::NoMemory => ReplanFault::NoMemory,
+        }
+    }
+}
+
+impl From<PlanFault> for ReplanFault {
+    ghost use Rattle.std.specs.Prelude.{◌≡◌};
+    ghost use Rattle.a429_station.specs.Resubmitting.{of_plan};
+
+    ghost from_gives = { λ fault e. e ≡ of_plan fault };
+
+    fn from(fault: PlanFault) -> ReplanFault {
+        match fault {
+            PlanFault::Unfit { group, output } => ReplanFault::Unfit { group, output },
+            PlanFault::TooManyBuses { group, needed } => {
+                ReplanFault::TooManyBuses { group, needed }
+            }
+            PlanFault::NoMemory => ReplanFault::NoMemory,
+        }
+    }
+}
+
+impl From<BoardFault> for ReplanFault {
+    ghost use Rattle.std.specs.Prelude.{◌≡◌};
+    ghost use Rattle.a429_station.specs.Resubmitting.{of_board};
+
+    ghost from_gives = { λ fault e. e ≡ of_board fault };
+
+    fn from(fault: BoardFault) -> ReplanFault {
+        match fault {
+            BoardFault::CountSpent => ReplanFault::CountSpent,
+            BoardFault::NoMemory => ReplanFault::NoMemory,
+        }
+    }
+}
+
+/// The plan of a table of this station.
+fn replanned(alloc: Global, station: &Equipment, table: &[u8]) -> Result<Plan<OUTPUTS>, ReplanFault>
+    ensures plan { IfOk result (λ plan. (of : IsPlanned table.now) × (same_station station.now of.record_of ≡ true) × (plan ≡ of.plan)) }
+    ensures fault { IfErr result (λ fault. (p : Planning) → IsReplanFault (record { station = station.now; planner = p }) table.now fault) }
+{
+    let equipment = Equipment::read(alloc, table)?;
+    let _sound = equipment.rate();
+    let plan = plan(alloc, &equipment)?;
+    if station.same_station(&equipment) {
+        Ok(plan)
+    } else {
+        Err(ReplanFault::StationDiffers)
+    }
+}
+
+/// A station that runs, for which plans are published.
+pub struct Station<'a, R: Wait> {
+    rt: &'a R,
+    alloc: Global,
+    equipment: &'a Equipment,
+    planner: Planner,
+}
+
+impl<'a, R: Wait> Model for Station<'a, R> {
+    ghost use Rattle.a429_station.specs.Resubmitting.{IsLed, Running};
+
+    ghost Value = { Running };
+
+    ghost view = { λ s. record { station = s.equipment.now; planner = s.planner } };
+
+    ghost invariant = { λ s. IsLed (record { station = s.equipment.now; planner = s.planner }) };
+}
+
+impl<'a, R: Wait> Station<'a, R> {
+    /// The station whose board this planner has, which begins with the station's plan.
+    pub(crate) fn begun(
+        rt: &'a R,
+        alloc: Global,
+        equipment: &'a Equipment,
+        planner: Planner,
+    ) -> Station<'a, R>
+        requires planned { IsPlanOf equipment.now planner.last }
+        requires first { planner.list ≡ planner.last ∷ [] }
+        ensures { result ≡ record { station = equipment.now; planner = planner } }
+    {
+        let _sound = equipment.rate();
+        Station {
+            rt,
+            alloc,
+            equipment,
+            planner,
+        }
+    }
+
+    /// Reads an equipment table and plans it, and publishes that plan to all groups: each takes it at its next
+    /// frame. Answers the number of the plan. Refused is, in this order, a table with a fault (`Table`), one that
+    /// has no plan (`Unfit`, `TooManyBuses`), one of another station (`StationDiffers`, just where the receivers
+    /// with their filters, the sources or the groups differ), and a plan after the last number of 64 bits
+    /// (`CountSpent`). Then nothing changes. It may wait for groups that read the board.
+    pub fn resubmit(&mut self, table: &[u8]) -> Result<u64, ReplanFault>
+        ensures published { IfOk result (λ number. Publishes self.old table.now number self.new) }
+        ensures fault { IfErr result (IsReplanFault self.old table.now) }
+        ensures unchanged { OnErr result (self.new ≡ self.old) }
+    {
+        let plan = match replanned(self.alloc, self.equipment, table) {
+            Ok(plan) => plan,
+            Err(fault) => return Err(fault),
+        };
+        match self.planner.publish(self.rt, plan) {
+            Ok(number) => Ok(number),
+            Err(fault) => Err(ReplanFault::from(fault)),
+        }
+    }
+    /// Tells a group's transmitter of this board all that was published.
+    pub(crate) fn tell(&mut self, transmit: &mut Transmit)
+        requires board { transmit.old.watcher.book ≡ self.old.planner.book }
+        ensures station { self.new ≡ self.old }
+        ensures transmit { transmit.new ≡ record transmit.old { watcher = record transmit.old.watcher { list = self.old.planner.list } } }
+    {
+        transmit.told(&mut self.planner);
+    }
+
+    /// Ends its board, and changes no list. It may wait for groups that read the board.
+    pub(crate) fn close(self) {
+        let Station {
+            rt,
+            alloc: _,
+            equipment: _,
+            planner,
+        } = self;
+        planner.close(rt);
+    }
+}

@@ -1,0 +1,115 @@
+//! The workers of a running station: a receiver with its line, a group with its sink.
+ghost use Rattle.std.specs.Prelude.{◌≡◌};
+ghost use Rattle.a429_workers.specs.Sends.{AreSent};
+
+use crate::threads::Work;
+use a429_filter::LineSource;
+use a429_values::Receiver;
+use a429_workers::{
+    BusSink, Gate, ReceiveFault, ReceiveTotals, SendFault, SendTotals, Transmit, receive_all,
+    send_frames,
+};
+
+/// A receiver with its line, before its loop.
+#[derive(Drop)]
+pub struct Receiving<'a, L: LineSource + Drop, G: Gate> {
+    pub line: L,
+    pub receiver: Receiver,
+    pub number: usize,
+    pub gate: &'a G,
+}
+
+/// A receiver with its line, after its loop.
+#[derive(Drop)]
+pub struct Received<L> {
+    pub line: L,
+    pub receiver: Receiver,
+    pub answer: Result<ReceiveTotals, ReceiveFault>,
+}
+
+impl<'a, L: LineSource + Send + Drop, G: Gate + Sync> Work for Receiving<'a, L, G> {
+    ghost use Rattle.a429_station.specs.Working.{HasReceived};
+
+    type Done = Received<L>;
+
+    ghost did = { λ w d. HasReceived L.given L.ended w.line w.receiver d.line d.receiver d.answer };
+
+    fn work(self) -> Received<L> {
+        let Receiving {
+            mut line,
+            mut receiver,
+            number,
+            gate,
+        } = self;
+        let answer = receive_all(&mut line, &mut receiver, number, gate);
+        Received {
+            line,
+            receiver,
+            answer,
+        }
+    }
+}
+
+/// A group with its sink, before its loop, at the first cell of a frame.
+#[derive(Drop)]
+pub struct Sending<'a, B: BusSink + Drop, G: Gate> {
+    pub transmit: Transmit,
+    pub sink: B,
+    pub number: usize,
+    pub frames: u32,
+    pub gate: &'a G,
+    ghost begins: { transmit.frame.sent ≡ 0 },
+}
+
+/// A group with its sink, after its loop.
+#[derive(Drop)]
+pub struct Emitted<B> {
+    pub transmit: Transmit,
+    pub sink: B,
+    pub answer: Result<SendTotals, SendFault>,
+}
+
+impl<'a, B: BusSink + Send + Drop, G: Gate + Sync> Work for Sending<'a, B, G> {
+    ghost use Rattle.a429_workers.specs.Sends.{AreSent};
+
+    type Done = Emitted<B>;
+
+    ghost did = { λ w d. AreSent w.frames w.transmit d.transmit (B.taken w.sink) (B.taken d.sink) d.answer };
+
+    fn work(self) -> Emitted<B> {
+        let Sending {
+            mut transmit,
+            mut sink,
+            number,
+            frames,
+            gate,
+            ..
+        } = self;
+        let answer = send_frames(&mut transmit, &mut sink, number, frames, gate);
+        Emitted {
+            transmit,
+            sink,
+            answer,
+        }
+    }
+}
+
+/// A group at the first cell of a frame, with its sink.
+pub(crate) fn group_worker<'a, B: BusSink + Drop, G: Gate>(
+    transmit: Transmit,
+    sink: B,
+    number: usize,
+    frames: u32,
+    gate: &'a G,
+) -> Sending<'a, B, G>
+    requires { transmit.frame.sent ≡ 0 }
+    ensures { (result.transmit ≡ transmit) × (result.sink ≡ sink) × (result.frames ≡ frames) }
+{
+    Sending {
+        transmit,
+        sink,
+        number,
+        frames,
+        gate,
+    }
+}
