@@ -6,6 +6,8 @@ mod faults;
 mod reports;
 mod running;
 mod station;
+#[cfg(test)]
+mod tests;
 mod threads;
 mod working;
 
