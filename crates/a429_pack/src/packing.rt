@@ -83,6 +83,17 @@ fn buses_needed(entries: &[Entry], frame: Period) -> usize
     total.div_ceil(u128::from(frame.slots())) as usize
 }
 
+/// The fewest buses for the outputs of a group, whose entries in layout order are given too.
+fn fewest_buses(demands: &[Demand], entries: &[Entry], frame: Period) -> usize
+    requires order { AreInOrder demands.now entries.now }
+    requires frame { frame ≡ frame_of demands.now }
+    ensures value { result ≡ div_ceil (sum (demands_of frame entries.now)) (2 ^ frame) }
+    ensures fewest { AreFewestBuses (exponents_of demands.now) result }
+{
+    blocks_are_periodic();
+    buses_needed(entries, frame)
+}
+
 /// The demands in the order given.
 fn sums_of<const N: usize>(entries: &[Entry], frame: Period) -> SumTable<N>
     requires room { length entries.now ≤ N }
@@ -127,7 +138,7 @@ pub fn pack<const N: usize>(alloc: Global, demands: &[Demand]) -> Result<Packed<
     blocks_are_periodic();
     let entries = in_order(alloc, demands)?;
     let frame = greatest_period(demands);
-    let needed = buses_needed(&entries, frame);
+    let needed = fewest_buses(demands, &entries, frame);
     if needed > BUSES {
         return Err(PackFault::TooManyBuses(needed));
     }

@@ -4,33 +4,24 @@ use Rattle.std.specs.List.{All}
 use Rattle.a429_pack.specs.declared.demands.Demand.{Demand}
 use Rattle.a429_pack.specs.declared.entry.Entry.{Entry}
 use Rattle.a429_pack.specs.Demands.{demand_at, period_of}
-use Rattle.a429_pack.specs.Entries.{inputs_of, demands_of}
+use Rattle.a429_pack.specs.Entries.{AreInOrder, inputs_of, demands_of}
 use Rattle.a429_pack.specs.Kept.{padded}
 use Rattle.a429_pack.specs.Layout.{IsLaidOut}
-use Rattle.a429_pack.proofs.Packings.{fewest_needed, packing_of, within, quotients, sound, kept_in, sum_small, length-order}
+use Rattle.a429_pack.proofs.Packings.{packing_of, within, quotients, sound, kept_in, sum_small, length-order}
 use Rattle.a429_pack.proofs.packing.pack.Goals as goal
 
-pub buses_needed-needed-requires : goal.buses_needed-needed-requires
-buses_needed-needed-requires g c =
-    let h : ℕ = c.greatest_period-frame.result in
-    subst (λ (es : List Entry). All (λ e. e.exponent ≤ h) es) (sym c.deref.ensures.value)
-    (within h c.args.demands.now c.in_ok-entries.entries.items c.in_ok-entries.ensures c.greatest_period-frame.ensures.value)
-
-pub returns-then-needed-gt-BUSES-clause-fault : goal.returns-then-needed-gt-BUSES-clause-fault
-returns-then-needed-gt-BUSES-clause-fault g c = (
-  c.in_ok-entries.ensures.fit,
-  c.if-needed-gt-BUSES.true,
-  fewest_needed _ _ _ _ _ c.greatest_period-frame.ensures.value c.in_ok-entries.ensures c.deref.ensures.value c.buses_needed-needed.ensures c.blocks_are_periodic.ensures,
-)
+pub fewest_buses-needed-requires-clause-order : goal.fewest_buses-needed-requires-clause-order
+fewest_buses-needed-requires-clause-order g c =
+    subst (λ (es : List Entry). AreInOrder c.args.demands.now es) (sym c.deref.ensures.value) c.in_ok-entries.ensures
 
 pub sums_of-requires : goal.sums_of-requires
 sums_of-requires g c =
     let ds : List Demand = c.args.demands.now in
     let es : List Entry = c.in_ok-entries.entries.items in
     let h : ℕ = c.greatest_period-frame.result in
-    let needed : c.buses_needed-needed.result ≡ div_ceil (sum (demands_of h es)) (2 ^ h) =
-    c.buses_needed-needed.ensures ∙ ap (λ (xs : List Entry). div_ceil (sum (demands_of h xs)) (2 ^ h)) c.deref.ensures.value in
-    let small : sum (demands_of h es) < 2 ^ 32 = sum_small h (sum (demands_of h es)) c.buses_needed-needed.result c.greatest_period-frame.ensures.few needed c.if-needed-gt-BUSES.false in (
+    let needed : c.fewest_buses-needed.result ≡ div_ceil (sum (demands_of h es)) (2 ^ h) =
+    c.fewest_buses-needed.ensures.value ∙ ap (λ (xs : List Entry). div_ceil (sum (demands_of h xs)) (2 ^ h)) c.deref.ensures.value in
+    let small : sum (demands_of h es) < 2 ^ 32 = sum_small h (sum (demands_of h es)) c.fewest_buses-needed.result c.greatest_period-frame.ensures.few needed c.if-needed-gt-BUSES.false in (
       search rules,
       (
         omega (arith, ap length c.deref-2.ensures.value, length-order ds es c.in_ok-entries.ensures, c.requires.room),
@@ -48,9 +39,9 @@ invariant_of-result g c =
     let es : List Entry = c.in_ok-entries.entries.items in
     let is : List ℕ = inputs_of es in
     let h : ℕ = c.greatest_period-frame.result in
-    let buses : ℕ = c.buses_needed-needed.result in
+    let buses : ℕ = c.fewest_buses-needed.result in
     let needed : buses ≡ div_ceil (sum (demands_of h es)) (2 ^ h) =
-    c.buses_needed-needed.ensures ∙ ap (λ (xs : List Entry). div_ceil (sum (demands_of h xs)) (2 ^ h)) c.deref.ensures.value in
+    c.fewest_buses-needed.ensures.value ∙ ap (λ (xs : List Entry). div_ceil (sum (demands_of h xs)) (2 ^ h)) c.deref.ensures.value in
     let p = packing_of h ds es (c.blocks_are_periodic.ensures h) c.in_ok-entries.ensures c.greatest_period-frame.ensures.value in
     let sums : c.sums_of.result ≡ demands_of h es = c.sums_of.ensures ∙ ap (demands_of h) c.deref-2.ensures.value in
     let inputs : c.inputs_in.result ≡ padded g.row.N is = c.inputs_in.ensures ∙ ap (λ (xs : List Entry). padded g.row.N (inputs_of xs)) c.deref-3.ensures.value in
@@ -72,7 +63,3 @@ returns-clause-demands g c =
     let front : take (length c.sums_of.result) c.inputs_in.result ≡ inputs_of es = kept_in g.row.N h es c.sums_of.result c.inputs_in.result sums inputs in
     sums ∙ quotients h ds es c.in_ok-entries.ensures c.greatest_period-frame.ensures.value
     ∙ ap (map (λ i. 2 ^ h / period_of (demand_at ds i))) (sym front)
-
-pub returns-clause-fewest : goal.returns-clause-fewest
-returns-clause-fewest g c =
-    fewest_needed _ _ _ _ _ c.greatest_period-frame.ensures.value c.in_ok-entries.ensures c.deref.ensures.value c.buses_needed-needed.ensures c.blocks_are_periodic.ensures
