@@ -10,3 +10,4 @@ pub mod Packings
 pub mod Stretches
 pub mod Tables
 pub mod OneOrder
+pub mod Windows

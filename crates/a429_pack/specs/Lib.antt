@@ -7,3 +7,4 @@ pub mod Layout
 pub mod Orders
 pub mod Schedules
 pub mod Sums
+pub mod Windows

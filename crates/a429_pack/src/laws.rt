@@ -1,5 +1,5 @@
 //! What follows from the definitions of schedules, orders and stretches.
-ghost use Rattle.std.specs.Prelude.{◌≡◌, ℕ, ◌<◌, ◌≤◌, List, length, slice_index, sum};
+ghost use Rattle.std.specs.Prelude.{◌≡◌, ℕ, ◌<◌, ◌≤◌, ◌*◌, List, length, slice_index, sum};
 ghost use Rattle.std.specs.List.{range_with_len};
 ghost use Rattle.std.specs.List.Sorted.{IsPermutation};
 ghost use Rattle.a429_pack.specs.Demanded.{AreFewestBuses, IsBusCount};
@@ -7,6 +7,7 @@ ghost use Rattle.a429_pack.specs.declared.demands.Demand.{Demand};
 ghost use Rattle.a429_pack.specs.Demands.{IsLayoutOrder, greatest};
 ghost use Rattle.a429_pack.specs.Orders.{NamesEachOnce};
 ghost use Rattle.a429_pack.specs.Sums.{Holds};
+ghost use Rattle.a429_pack.specs.Windows.{Endless, ServesEndlessly, cells_asked, raw_bound};
 
 use a429_grid::laws::blocks_are_periodic;
 
@@ -45,4 +46,13 @@ pub fn stretches_are_apart()
 pub fn layout_orders_are_unique()
     ensures { (demands : List Demand) (inputs others : List ℕ) → IsLayoutOrder demands inputs → IsLayoutOrder demands others
         → inputs ≡ others }
+{}
+
+/// No endless schedule of any form, in which each output recurs within its own window of slots, has fewer buses than
+/// the raw bound of the windows: any stretch of slots has a cell in each whole window of each output. So where a plan
+/// has as many buses, no choice of periods does with fewer (profile: raw bound).
+pub fn raw_bound_holds()
+    ensures asked { (windows : List ℕ) (e : Endless) → ServesEndlessly windows e → (slots : ℕ)
+        → cells_asked slots windows ≤ slots * e.rows }
+    ensures bound { (windows : List ℕ) (e : Endless) → ServesEndlessly windows e → raw_bound windows ≤ e.rows }
 {}
