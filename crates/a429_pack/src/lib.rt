@@ -1,6 +1,7 @@
 //! The packing of a group's outputs onto the fewest buses (profile: layout).
 #![tactic(auto)]
 
+mod bounds;
 mod demands;
 mod entry;
 pub mod laws;
@@ -10,6 +11,7 @@ mod sums;
 #[cfg(test)]
 mod tests;
 
+pub use bounds::raw_bound;
 pub use demands::{BUSES, Demand, PackFault};
 pub use packed::Packed;
 pub use packing::pack;

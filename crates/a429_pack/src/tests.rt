@@ -1,7 +1,7 @@
 //! Worked examples: a table of demands, and small groups of outputs.
 ghost use Rattle.std.specs.Prelude.{◌≤◌};
 
-use crate::{Demand, PackFault, SumTable, pack};
+use crate::{Demand, PackFault, SumTable, pack, raw_bound};
 use a429_grid::Period;
 use a429_word::Label;
 use std::test::Fail;
@@ -64,4 +64,11 @@ fn groups_without_a_layout_are_refused(rt: HostRuntime) {
     assert_eq!(rt; refused, None);
     let refused = pack::<17>(rt.alloc(), &[demand(0); 17]).err();
     assert_eq!(rt; refused, Some(PackFault::TooManyBuses(17)));
+}
+
+#[test]
+fn raw_bounds_are_rounded_up_once(rt: HostRuntime) {
+    assert_eq!(rt; raw_bound(&[3, 3, 3]), 1);
+    assert_eq!(rt; raw_bound(&[3, 3, 3, 1000]), 2);
+    assert_eq!(rt; raw_bound(&[1, 1, 83333]), 3);
 }
