@@ -2,10 +2,14 @@
 //!
 //! Nothing of this touches what a command puts. The files are looked at anew, after the refusal was put.
 
+pub mod faults;
+pub mod keys;
 pub mod looks;
 pub mod periods;
 pub mod plans;
 pub mod reasons;
+pub mod rows;
+pub mod twins;
 
 use crate::arguments::requests::Request;
 use crate::files::FileReader;

@@ -19,7 +19,7 @@ const LINES: &str =
     "Tell what a reader of a line reports: words, faults of the line, and what is left of it";
 
 const FILE: &str =
-    "The line, a byte a symbol: `1` for Hi, `0` for Lo, `.` for Null; spaces and line feeds are skipped";
+    "File of a line, a byte a symbol: `1` for Hi, `0` for Lo, `.` for Null; spaces and line feeds are skipped";
 
 const FILTER: &str =
     "Filters of labels, `LLL/MMM` in octal, at most 32: then just the words that one of them passes are told";

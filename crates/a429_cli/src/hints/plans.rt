@@ -1,11 +1,11 @@
 //! Hints about tables that have no plan, and about texts that are none.
 
+use crate::hints::faults::tell_table_fault;
 use crate::hints::periods::{Unfit, tell_unfit};
 use crate::hints::reasons::meaning;
 use crate::tables::names::{group_name, source_name};
-use crate::tables::read_table;
 use a429_cert::{NoVerdict, Verdict, judge};
-use a429_equipment::Equipment;
+use a429_equipment::{Equipment, TableFault};
 use a429_slots::{OUTPUTS, PlanFault, Proposal};
 use std::alloc::Global;
 use std::io;
@@ -13,12 +13,24 @@ use std::io::Write;
 
 /// Tells why a table has no plan, and what would help.
 pub fn tell_no_plan<V: Write>(alloc: Global, table: &[u8], err: &mut V) -> io::Result<()> {
-    let Ok(equipment) = read_table(alloc, table) else {
+    let Some(equipment) = look_into(alloc, table, err)? else {
         return Ok(());
     };
     match Proposal::<OUTPUTS>::of(alloc, equipment) {
         Ok(_) => Ok(()),
         Err(none) => tell_fault(&none.equipment, none.fault, err),
+    }
+}
+
+/// The equipment of a table. Where the table has a fault, that is told.
+fn look_into<V: Write>(alloc: Global, table: &[u8], err: &mut V) -> io::Result<Option<Equipment>> {
+    match Equipment::read(alloc, table) {
+        Ok(equipment) => Ok(Some(equipment)),
+        Err(TableFault::At(kind, place)) => {
+            tell_table_fault(alloc, table, kind, place, err)?;
+            Ok(None)
+        }
+        Err(TableFault::NoMemory) => Ok(None),
     }
 }
 
@@ -69,7 +81,7 @@ pub fn tell_no_verdict<V: Write>(
     text: &[u8],
     err: &mut V,
 ) -> io::Result<()> {
-    let Ok(equipment) = read_table(alloc, table) else {
+    let Some(equipment) = look_into(alloc, table, err)? else {
         return Ok(());
     };
     match judge(alloc, &equipment, text) {
