@@ -1,0 +1,41 @@
+/* Counts the requests for memory that a program makes, and refuses the one whose number stands in REFUSED, counted
+   from 1. At its end the program writes to descriptor 3 how many it made. It goes before a program by LD_PRELOAD. */
+
+typedef __SIZE_TYPE__ size_t;
+
+extern void *__libc_malloc(size_t size);
+extern void *__libc_realloc(void *at, size_t size);
+extern void *__libc_calloc(size_t count, size_t size);
+extern char *getenv(const char *name);
+extern unsigned long strtoul(const char *text, char **end, int base);
+extern int dprintf(int descriptor, const char *form, ...);
+
+static unsigned long made;
+static unsigned long refused;
+
+static int is_refused(void) {
+    return __atomic_add_fetch(&made, 1, __ATOMIC_SEQ_CST) == refused;
+}
+
+void *malloc(size_t size) {
+    return is_refused() ? 0 : __libc_malloc(size);
+}
+
+void *realloc(void *at, size_t size) {
+    return is_refused() ? 0 : __libc_realloc(at, size);
+}
+
+void *calloc(size_t count, size_t size) {
+    return is_refused() ? 0 : __libc_calloc(count, size);
+}
+
+__attribute__((constructor)) static void begin(void) {
+    const char *number = getenv("REFUSED");
+    made = 0;
+    refused = number ? strtoul(number, 0, 10) : 0;
+}
+
+__attribute__((destructor)) static void end(void) {
+    unsigned long count = made;
+    dprintf(3, "%lu\n", count);
+}
