@@ -10,6 +10,7 @@ pub mod Columns
 pub mod Walk
 pub mod Stops
 pub mod Texts
+pub mod LabelCodes
 pub mod Names
 pub mod Numbers
 pub mod Faults

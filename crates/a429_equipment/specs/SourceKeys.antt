@@ -16,7 +16,7 @@ abbrev pub Key : Type 0
 Key = List ℕ × (List ℕ × Option ℤ)
 
 abbrev pub key_view : SourceKey → Key
-key_view k = (k.receiver.now, (k.label.now, k.sdi))
+key_view k = (k.receiver.now, (k.label.text.now, k.sdi))
 
 abbrev pub key_of : Data → Key
 key_of d = (text_at (codes "receiver") d, (text_at (codes "label") d, sdi_at d))

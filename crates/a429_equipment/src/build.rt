@@ -11,7 +11,7 @@ use crate::numbers::Numbers;
 use crate::rows::{GroupRow, Name, OutputRow, ReceiverRow, SourceRow};
 use crate::tree::{get_integer, integer_at, rows_at, text_at, text_of};
 use crate::values::label_value;
-use crate::version::{TableVersion, version_of};
+use crate::version::TableVersion;
 use a429_filter::{Filter, FilterSet};
 use a429_word::{Label, Sdi};
 use std::alloc::{AllocError, Global};
@@ -191,7 +191,7 @@ fn output_row(numbers: &Numbers<'_>, table: &Value) -> OutputRow
         source: numbers.source(text_at(table, "source")).unwrap_or(0),
         min_us: number(integer_at(table, "min_us")),
         max_us: number(integer_at(table, "max_us")),
-        hold: hold_of(version_of(numbers.root), table),
+        hold: hold_of(numbers.version, table),
     }
 }
 

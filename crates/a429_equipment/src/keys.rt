@@ -6,6 +6,7 @@ ghost use Rattle.toml.specs.View.{view};
 ghost use Rattle.a429_equipment.specs.Faults.{sdi_at, sdis_meet, same_sdi};
 ghost use Rattle.a429_equipment.specs.SourceKeys.{key_view, key_of, keys_meet, same_keys, AreSendersOf, AreSendersOfGroups, IsSenderOf};
 
+use crate::coded_label::CodedLabel;
 use crate::tree::{rows_at, text_at};
 use indexmap::IndexMap;
 use std::alloc::{AllocError, Global};
@@ -15,7 +16,7 @@ use toml::Value;
 #[derive(Clone, Copy)]
 pub struct SourceKey<'a> {
     receiver: &'a str,
-    label: &'a str,
+    label: CodedLabel<'a>,
     sdi: Option<i64>,
 }
 
@@ -52,7 +53,7 @@ fn same_sdi(a: Option<i64>, b: Option<i64>) -> bool
 pub fn keys_meet(a: &SourceKey<'_>, b: &SourceKey<'_>) -> bool
     ensures { result ≡ keys_meet (key_view a.now) (key_view b.now) }
 {
-    sdis_meet(a.sdi, b.sdi) && a.label == b.label && a.receiver == b.receiver
+    sdis_meet(a.sdi, b.sdi) && a.label.is(&b.label) && a.receiver == b.receiver
 }
 
 /// Both are sources, of the same label and SDI.
@@ -60,7 +61,7 @@ pub fn same_keys(a: &Option<SourceKey<'_>>, b: &Option<SourceKey<'_>>) -> bool
     ensures { result ≡ same_keys (option_map key_view a.now) (option_map key_view b.now) }
 {
     match (a, b) {
-        (Some(a), Some(b)) => same_sdi(a.sdi, b.sdi) && a.label == b.label,
+        (Some(a), Some(b)) => same_sdi(a.sdi, b.sdi) && a.label.is(&b.label),
         _ => false,
     }
 }
@@ -71,7 +72,7 @@ pub fn source_key(source: &Value) -> SourceKey<'_>
 {
     SourceKey {
         receiver: text_at(source, "receiver"),
-        label: text_at(source, "label"),
+        label: CodedLabel::of(text_at(source, "label")),
         sdi: sdi_at(source),
     }
 }

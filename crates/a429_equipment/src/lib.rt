@@ -3,6 +3,7 @@
 
 mod arrivals;
 mod build;
+mod coded_label;
 mod columns;
 mod copies;
 mod document;

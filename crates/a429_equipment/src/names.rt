@@ -5,7 +5,7 @@ ghost use Rattle.std.specs.Option.{option_copied};
 ghost use Rattle.toml.specs.View.{view};
 ghost use Rattle.a429_equipment.specs.Tree.{rows_at};
 ghost use Rattle.a429_equipment.specs.Stops.{table_of};
-ghost use Rattle.a429_equipment.specs.Names.{is_below};
+ghost use Rattle.a429_equipment.specs.Names.{is_below, name_of};
 ghost use Rattle.a429_equipment.specs.Walk.{earlier, outputs_of};
 ghost use Rattle.a429_equipment.specs.Faults.{repeats_name, names_nothing};
 
@@ -56,16 +56,21 @@ pub fn earlier(root: &Value, place: TablePlace) -> &[Value]
     }
 }
 
+fn name_of(table: &Value) -> &str
+    ensures { result.now ≡ name_of (view table.now) }
+{
+    text_at(table, "name")
+}
+
 /// The name is that of an earlier table of the same array.
 #[tactic(auto, unfolding(crate::specs::Faults::repeats_name, crate::specs::Walk::earlier), using(crate::proofs::NameNumbers::named_before))]
 pub fn repeats_name(numbers: &Numbers<'_>, stop: &Stop) -> bool
     ensures { result ≡ repeats_name (table_of numbers.now) stop.now.place (view stop.now.value.now) }
 {
-    let name = text_at(stop.value, "name");
     match stop.place {
-        TablePlace::Receiver(row) => is_below(numbers.receiver(name), row),
-        TablePlace::Source(row) => is_below(numbers.source(name), row),
-        TablePlace::Group(row) => is_below(numbers.group(name), row),
+        TablePlace::Receiver(row) => is_below(numbers.receiver(name_of(stop.value)), row),
+        TablePlace::Source(row) => is_below(numbers.source(name_of(stop.value)), row),
+        TablePlace::Group(row) => is_below(numbers.group(name_of(stop.value)), row),
         _ => false,
     }
 }

@@ -8,24 +8,28 @@ ghost use Rattle.a429_equipment.specs.Names.{number_named};
 ghost use Rattle.a429_equipment.specs.Numbers.{NumbersNames, NumbersOneMore};
 ghost use Rattle.a429_equipment.specs.Tree.{rows_at};
 ghost use Rattle.a429_equipment.specs.SourceKeys.{key_view, key_of, sender_of, senders_of, senders_view};
+ghost use Rattle.a429_equipment.specs.Version.{version_of};
 
 use crate::keys::{SourceKey, sender_key, sender_keys, source_keys};
 use crate::names::first_rows;
 use crate::tree::{rows_at, text_at};
+use crate::version::{TableVersion, version_of};
 use indexmap::IndexMap;
 use std::alloc::{AllocError, Global};
 use toml::Value;
 
-/// A root table, with the numbers of its receivers, sources and groups by their names, the keys of its
+/// A root table, with its version, the numbers of its receivers, sources and groups by their names, the keys of its
 /// sources, and those of the sources of each group's outputs.
 #[derive(Drop)]
 pub struct Numbers<'a> {
     pub root: &'a Value,
+    pub version: TableVersion,
     receivers: IndexMap<String, usize>,
     sources: IndexMap<String, usize>,
     groups: IndexMap<String, usize>,
     keys: Vec<SourceKey<'a>>,
     pub senders: Vec<Vec<Option<SourceKey<'a>>>>,
+    ghost of_version: { version ≡ version_of (view root.now) },
     ghost of_receivers: { NumbersNames receivers (rows_at (codes "receiver") (view root.now)) },
     ghost of_sources: { NumbersNames sources (rows_at (codes "source") (view root.now)) },
     ghost of_groups: { NumbersNames groups (rows_at (codes "group") (view root.now)) },
@@ -49,6 +53,7 @@ impl<'a> Numbers<'a> {
         let senders = sender_keys(alloc, &sources, &keys, rows_at(root, "group"))?;
         Ok(Numbers {
             root,
+            version: version_of(root),
             receivers,
             sources,
             groups,

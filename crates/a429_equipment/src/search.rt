@@ -15,7 +15,6 @@ use crate::values::{
     has_bad_hold, has_bad_interval, has_bad_label, has_bad_name, has_bad_sdi, has_too_many,
     has_wrong_rate, is_empty_group,
 };
-use crate::version::version_of;
 use crate::walk::Stop;
 
 /// The kinds that a document can have, in the order in which they are asked.
@@ -45,10 +44,10 @@ fn stands(numbers: &Numbers<'_>, kind: FaultKind, stop: &Stop) -> bool
     match kind {
         FaultKind::NotToml => false,
         FaultKind::Version => has_wrong_version(stop),
-        FaultKind::UnknownKey => has_unknown_key(version_of(numbers.root), stop),
-        FaultKind::MissingKey => lacks_key(version_of(numbers.root), stop),
-        FaultKind::WrongKind => has_wrong_kind(version_of(numbers.root), stop),
-        FaultKind::Rate => has_wrong_rate(version_of(numbers.root), stop),
+        FaultKind::UnknownKey => has_unknown_key(numbers.version, stop),
+        FaultKind::MissingKey => lacks_key(numbers.version, stop),
+        FaultKind::WrongKind => has_wrong_kind(numbers.version, stop),
+        FaultKind::Rate => has_wrong_rate(numbers.version, stop),
         FaultKind::TooMany => has_too_many(stop),
         FaultKind::Name => has_bad_name(stop),
         FaultKind::DuplicateName => repeats_name(numbers, stop),
