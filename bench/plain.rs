@@ -1,13 +1,14 @@
-//! Plays a script as `a429 replay` does, in plain Rust: what bench/replay compares the program with, in time and
-//! in every byte. It shares no code with the program, knows the table that bench/replay makes (source `sN` has
-//! label N, and receiver `rM` has the sources from 16 M on), and takes the slot tables from the text of the plan.
+//! Plays a script as `a429 replay` does, or tells a line as `a429 lines` does, in plain Rust: what bench/replay and
+//! bench/lines compare the program with, in time and in every byte. It shares no code with the program, knows the
+//! table that bench/replay makes (source `sN` has label N, and receiver `rM` has the sources from 16 M on), and takes
+//! the slot tables from the text of the plan.
 //!
-//! Words: the text of the plan, and the script.
+//! Words: `replay`, the text of the plan and the script; or `lines`, the line file and filters.
 
 use std::collections::HashMap;
 use std::error::Error;
 use std::io::{self, BufWriter, Write};
-use std::{env, fs};
+use std::{env, fmt, fs};
 
 enum Event {
     Arrive(usize, u32),
@@ -68,10 +69,7 @@ fn events(script: &str) -> Result<Vec<Event>, Box<dyn Error>> {
     script.lines().map(event).collect()
 }
 
-fn main() -> Result<(), Box<dyn Error>> {
-    let [_, plan, script] = &env::args().collect::<Vec<_>>()[..] else {
-        return Err("wanted: PLAN SCRIPT".into());
-    };
+fn replay(plan: &str, script: &str) -> Result<(), Box<dyn Error>> {
     let mut groups = groups(&fs::read_to_string(plan)?)?;
     let events = events(&fs::read_to_string(script)?)?;
     let mut last = [None; 256];
@@ -115,4 +113,90 @@ fn main() -> Result<(), Box<dyn Error>> {
         }
     }
     Ok(out.flush()?)
+}
+
+/// A filter `LLL/MMM`: the label and the mask, in octal.
+fn filter(text: &str) -> Result<(u8, u8), Box<dyn Error>> {
+    let (label, mask) = text.split_once('/').ok_or("no mask")?;
+    Ok((u8::from_str_radix(label, 8)?, u8::from_str_radix(mask, 8)?))
+}
+
+/// Where a reader is in a line: behind so many Nulls, in a run of so many bits, or in one that was reported.
+enum Stage {
+    Nulls(u32),
+    Bits(u32, u32),
+    Reported,
+}
+
+struct Teller<W: Write> {
+    filters: Vec<(u8, u8)>,
+    out: W,
+}
+
+impl<W: Write> Teller<W> {
+    fn word(&mut self, raw: u32) -> io::Result<()> {
+        let label = (raw as u8).reverse_bits();
+        let odd = raw.count_ones() % 2 == 1;
+        if self.filters.is_empty() {
+            writeln!(self.out, "{} {raw:08x}", if odd { "word" } else { "parity" })
+        } else if odd && self.filters.iter().any(|(own, mask)| label & mask == own & mask) {
+            writeln!(self.out, "word {raw:08x}")
+        } else {
+            Ok(())
+        }
+    }
+
+    fn fault(&mut self, text: fmt::Arguments) -> io::Result<()> {
+        if self.filters.is_empty() { writeln!(self.out, "{text}") } else { Ok(()) }
+    }
+}
+
+fn lines(file: &str, filters: &[String]) -> Result<(), Box<dyn Error>> {
+    let bytes = fs::read(file)?;
+    let filters = filters.iter().map(|text| filter(text)).collect::<Result<_, _>>()?;
+    let out = BufWriter::with_capacity(65536, io::stdout().lock());
+    let mut teller = Teller { filters, out };
+    if let Some(place) = bytes.iter().position(|byte| !b"10. \n".contains(byte)) {
+        writeln!(teller.out, "refused line byte {place}")?;
+        return Ok(());
+    }
+    let mut stage = Stage::Nulls(0);
+    for byte in bytes {
+        stage = match (stage, byte) {
+            (stage, b' ' | b'\n') => stage,
+            (Stage::Nulls(nulls), b'.') => Stage::Nulls(nulls.saturating_add(1)),
+            (Stage::Nulls(nulls), _) if nulls < 4 => {
+                teller.fault(format_args!("gap {nulls}"))?;
+                Stage::Reported
+            }
+            (Stage::Nulls(_), bit) => Stage::Bits(1, u32::from(bit == b'1')),
+            (Stage::Bits(32, raw), b'.') => {
+                teller.word(raw)?;
+                Stage::Nulls(1)
+            }
+            (Stage::Bits(count, _), b'.') => {
+                teller.fault(format_args!("short {count}"))?;
+                Stage::Nulls(1)
+            }
+            (Stage::Bits(32, _), _) => {
+                teller.fault(format_args!("long"))?;
+                Stage::Reported
+            }
+            (Stage::Bits(count, raw), bit) => Stage::Bits(count + 1, raw | u32::from(bit == b'1') << count),
+            (Stage::Reported, b'.') => Stage::Nulls(1),
+            (Stage::Reported, _) => Stage::Reported,
+        };
+    }
+    if let Stage::Bits(count, _) = stage {
+        teller.fault(format_args!("rest {count}"))?;
+    }
+    Ok(teller.out.flush()?)
+}
+
+fn main() -> Result<(), Box<dyn Error>> {
+    match &env::args().collect::<Vec<_>>()[1..] {
+        [command, plan, script] if command == "replay" => replay(plan, script),
+        [command, file, filters @ ..] if command == "lines" => lines(file, filters),
+        _ => Err("wanted: replay PLAN SCRIPT, or lines FILE [FILTER..]".into()),
+    }
 }

@@ -10,3 +10,5 @@ pub mod ScriptLines
 pub mod PlayedLines
 pub mod ReportLines
 pub mod FirstFrames
+pub mod HexDigits
+pub mod HexText

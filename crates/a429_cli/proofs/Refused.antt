@@ -1,14 +1,18 @@
 -- Refusals that are handed on.
-use Rattle.std.proofs.Common.{◌≡◌, ◌⊎◌, [], ◌∷◌, sym, subst, ℕ, List, inl, inr}
+use Rattle.std.proofs.Common.{◌≡◌, ◌⊎◌, [], ◌∷◌, length, sym, subst, ℕ, List, inl, inr}
 use Rattle.std.specs.Prelude.{Option, Result, Ok, Err, IfOk, OnOk, MatchResult}
 use Rattle.a429_equipment.specs.TableRecord.{TableRecord}
 use Rattle.a429_equipment.specs.Reading.{reading}
 use Rattle.a429_cert.specs.Due.{IsFirstUnfitOf}
 use Rattle.a429_cli.specs.Files.{IsFileRefusal, IsFirstUnread}
 use Rattle.a429_cert.specs.declared.verdicts.Verdict.{Verdict}
+use Rattle.a429_slots.specs.Proposed.{Proposed}
+use Rattle.a429_cli.specs.Names.{naming_of}
+use Rattle.a429_cli.specs.Script.{IsScriptFault}
+use Rattle.a429_cli.specs.Replaying.{IsNoStart, ReplayInput}
 use Rattle.a429_cli.specs.Outputs.{IsMemoryReply}
 use Rattle.a429_cli.specs.PlanReplies.{IsUnjudged, IsVerdictOf, IsVerdictReply, IsCheckReply}
-use Rattle.a429_cli.specs.Tables.{IsTableFault, IsTableRefusal, IsUnfitNamed}
+use Rattle.a429_cli.specs.Tables.{IsProposedBy, IsTableFault, IsTableRefusal, IsUnfitNamed}
 use Rattle.a429_cli.specs.RefusalText.{IsToldOf, OrMemory}
 use Rattle.a429_cli.specs.declared.output.refusals.CommandRefusal.{CommandRefusal}
 use Rattle.a429_cli.specs.declared.output.refusals.CommandRefusal.TheVariants as refused
@@ -99,3 +103,16 @@ pub verdict_told : (file : List ℕ → Option (List ℕ)) (name plan : List ℕ
     → IsCheckReply file name plan status bytes
 verdict_told file name plan v status bytes is (inl reply) = inr (v, is, reply)
 verdict_told file name plan v status bytes is (inr memory) = inl (refused.Memory, tt, memory.0, memory.1)
+
+-- a script's fault keeps a replay from its beginning
+pub script_fault_refuses : (i : ReplayInput) (q : Proposed) (r : CommandRefusal) → IsProposedBy i.table q → IsScriptFault (naming_of q.station) (length i.further) i.script r → OrMemory (IsNoStart i) r
+script_fault_refuses i q (refused.File name) p f = absurd f
+script_fault_refuses i q refused.WordText p f = absurd f
+script_fault_refuses i q refused.Parity p f = absurd f
+script_fault_refuses i q (refused.LineByte place) p f = absurd f
+script_fault_refuses i q (refused.Filter number) p f = absurd f
+script_fault_refuses i q (refused.Table kind place) p f = absurd f
+script_fault_refuses i q (refused.Unfit group source) p f = absurd f
+script_fault_refuses i q (refused.TooManyBuses group needed) p f = absurd f
+script_fault_refuses i q (refused.Script line) p f = inr (q, p, f)
+script_fault_refuses i q refused.Memory p f = tt

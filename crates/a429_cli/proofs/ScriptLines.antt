@@ -1,12 +1,17 @@
 -- The first line of a script, and the events of the lines after it.
-use Rattle.std.proofs.Common.{◌≡◌, ◌∙◌, ◌+◌, ◌<◌, ℕ, suc, Bool, true, false, cond, List, take, drop, [], ◌∷◌, ◌++◌, length, refl, sym, ap, arith, append_assoc, add-one}
+use Rattle.std.proofs.Common.{◌≡◌, ◌∙◌, ◌+◌, ◌<◌, ℕ, suc, Bool, true, false, cond, List, take, drop, [], ◌∷◌, ◌++◌, length, refl, sym, ap, arith, append_assoc, append-nil, length-append, add-one}
 use Rattle.std.specs.Prelude.{◌==◌, Option, Some, None, Result, Ok, Err, nat_lt, option_map, option_and_then, if◌then◌else◌}
 use Rattle.std.specs.List.{position_or_len}
 use Rattle.std.proofs.lemmas.Bool.Decides.{nat_tests}
+use Rattle.std.proofs.lemmas.Option.{same_Some}
+use Rattle.std.proofs.Math.Seq.{take-append_seam}
 use Rattle.a429_cli.specs.ScriptText.{cut, joined_on, lines_of}
 use Rattle.a429_cli.specs.Script.{events_before, event_then, events_from, events_after, first_event, line_event}
 use Rattle.a429_cli.specs.Names.{Naming}
 use Rattle.a429_cli.specs.declared.replay.script.ScriptEvent.{ScriptEvent}
+
+same_Ok : {X E : Type 0} (x y : X) → ◌≡◌ {A = Result X E} (Ok x) (Ok y) → x ≡ y
+same_Ok x y same = cc
 
 -- a byte before a cut
 abbrev after_byte : ℕ → ℕ → List ℕ → Option (List ℕ × List ℕ) → Option (List ℕ × List ℕ)
@@ -35,7 +40,7 @@ cut_on b x xs true e = rw (e, zero_below (length xs)) refl
 cut_on b x xs false e =
     rw (e, below_both (position_or_len (λ y. y == b) xs) (length xs)) (moved x (position_or_len (λ y. y == b) xs) xs (nat_lt (position_or_len (λ y. y == b) xs) (length xs)))
 
-cut-cons : (b x : ℕ) (xs : List ℕ) → cut b (x ∷ xs) ≡ after_byte b x xs (cut b xs)
+pub cut-cons : (b x : ℕ) (xs : List ℕ) → cut b (x ∷ xs) ≡ after_byte b x xs (cut b xs)
 cut-cons b x xs = cut_on b x xs (x == b) refl
 
 -- the lines of a text by its first cut at a line feed
@@ -88,3 +93,53 @@ events_before-nil (Err n) = refl
 pub events_before-append : (es : List ScriptEvent) (e : ScriptEvent) (r : Result (List ScriptEvent) ℕ) → events_before es (events_before (e ∷ []) r) ≡ events_before (es ++ e ∷ []) r
 events_before-append es e (Ok later) = ap (λ (l : List ScriptEvent). Ok l) (sym (append_assoc es (e ∷ []) later))
 events_before-append es e (Err n) = refl
+
+-- ---- faults
+
+-- the number of a faulty line
+abbrev pub fault_of : Result (List ScriptEvent) ℕ → Option ℕ
+fault_of (Ok events) = None
+fault_of (Err n) = Some n
+
+pub fault_before : (es : List ScriptEvent) (r : Result (List ScriptEvent) ℕ) → fault_of (events_before es r) ≡ fault_of r
+fault_before es (Ok later) = refl
+fault_before es (Err n) = refl
+
+pub no_fault : (r : Result (List ScriptEvent) ℕ) → fault_of r ≡ None → (events : List ScriptEvent) × (r ≡ Ok events)
+no_fault (Ok events) none = (events, refl)
+no_fault (Err n) none = cc
+
+pub a_fault : (r : Result (List ScriptEvent) ℕ) (n : ℕ) → fault_of r ≡ Some n → r ≡ Err n
+a_fault (Ok events) n is = cc
+a_fault (Err m) n is = ap Err (same_Some m n is)
+
+pub events_end : (names : Naming) (further : ℕ) (n : ℕ) (text : List ℕ) → length text ≡ 0 → events_after names further n text ≡ Ok []
+events_end names further n [] none = refl
+events_end names further n (x ∷ xs) none = absurd (omega (arith, none))
+
+-- what stands before the events that are left
+pub events_so_far : (done : List ScriptEvent) (r : Result (List ScriptEvent) ℕ) (events : List ScriptEvent) → events_before done r ≡ Ok events → take (length done) events ≡ done
+events_so_far done (Ok later) events is = rw (← same_Ok (done ++ later) events is, take-append_seam done later) refl
+events_so_far done (Err n) events is = cc
+
+no_first : (names : Naming) (further : ℕ) (e : ScriptEvent) (rest : List ℕ) → first_event names further [] ≡ Some (e, rest) → ⊥
+unfolding cut
+no_first names further e rest first = cc
+
+-- one event more
+pub events_next : (names : Naming) (further : ℕ) (done : List ScriptEvent) (e : ScriptEvent) (text rest : List ℕ) → first_event names further text ≡ Some (e, rest)
+    → events_before done (events_after names further (length done) text) ≡ events_before (done ++ e ∷ []) (events_after names further (length (done ++ e ∷ [])) rest)
+events_next names further done e [] rest first = absurd (no_first names further e rest first)
+events_next names further done e (x ∷ xs) rest first =
+    let step = events_step names further (length done) (x ∷ xs) (omega arith) in
+    let count : length (done ++ e ∷ []) ≡ length done + 1 = length-append done (e ∷ []) in
+    rw (step, first, events_before-append done e (events_after names further (length done + 1) rest), count) refl
+
+-- no event more
+pub events_last : (names : Naming) (further : ℕ) (done events : List ScriptEvent) (text : List ℕ) → first_event names further text ≡ None
+    → events_before done (events_after names further (length done) text) ≡ Ok events → events ≡ done
+events_last names further done events [] none is = sym (same_Ok (done ++ []) events is) ∙ append-nil done
+events_last names further done events (x ∷ xs) none is =
+    let step = events_step names further (length done) (x ∷ xs) (omega arith) in
+    let bad = rw (step, none) at is in
+    cc

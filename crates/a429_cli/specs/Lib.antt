@@ -5,6 +5,7 @@ pub mod Files
 pub mod Names
 pub mod AnswerLines
 pub mod WordLines
+pub mod Nibbles
 pub mod RefusalText
 pub mod Outputs
 pub mod ScriptText

@@ -10,7 +10,7 @@ use Rattle.a429_cli.specs.Replaying.{IsInput, IsOutcome, IsStart, ReplayInput}
 use Rattle.a429_cli.specs.Tables.{IsProposedBy}
 use Rattle.a429_cli.specs.declared.output.refusals.CommandRefusal.{CommandRefusal}
 use Rattle.a429_cli.specs.declared.replay.Input.{Input}
-use Rattle.a429_cli.specs.declared.replay.Prepared.{Prepared}
+use Rattle.a429_cli.specs.declared.replay.script.ScriptEvent.{ScriptEvent}
 use Rattle.a429_cli.specs.declared.replay.station.Station.{Station}
 
 -- it has the names of the proposed station, and nothing happened to it since it was opened at slot 0
@@ -29,11 +29,11 @@ abbrev pub IsInputReading : (List ℕ → Option (List ℕ)) → List ℕ → Li
 IsInputReading file table script further result =
     MatchResult result (λ i. IsInput file table script further (input_of i)) (OrMemory (IsFirstUnread file (table ∷ script ∷ further)))
 
--- the station, just opened, and the events from which a replay of these bytes starts
-abbrev pub IsPreparedFor : ReplayInput → Prepared → Type 0
-IsPreparedFor i p = (q : Proposed) × IsStart i q p.events.items × IsOpened q p.station
+-- the station, just opened, from which a replay of these bytes starts, whose script has no faulty line
+abbrev pub IsPreparedFor : ReplayInput → Station → Type 0
+IsPreparedFor i s = (q : Proposed) × (events : List ScriptEvent) × IsStart i q events × IsOpened q s
 
--- of a station just opened, and of further tables of these bytes: what its events come to was put
-abbrev pub IsOutcomePut : List (List ℕ) → Prepared → Option (List ℕ) → Option (List ℕ) → ℕ → Type 0
-IsOutcomePut further p old new status =
-    (i : ReplayInput) (q : Proposed) → i.further ≡ further → IsOpened q p.station → IsPut (IsOutcome i q p.events.items) old new status
+-- of a station just opened: what the events of the script come to was put
+abbrev pub IsOutcomePut : ReplayInput → Station → Option (List ℕ) → Option (List ℕ) → ℕ → Type 0
+IsOutcomePut i s old new status =
+    (q : Proposed) (events : List ScriptEvent) → IsStart i q events → IsOpened q s → IsPut (IsOutcome i q events) old new status

@@ -1,5 +1,5 @@
 -- What the program writes of a script: a line for each event, of the machine's answer, or of the fault of a table that was to be published.
-use Rattle.std.specs.Prelude.{◌≡◌, ◌-◌, ◌≤◌, ◌++◌, ◌∷◌, [], ◌⊎◌, ℕ, List, Bool, Some, IsTrue, ⊤, length, slice_get, take}
+use Rattle.std.specs.Prelude.{◌≡◌, ◌-◌, ◌≤◌, ◌++◌, ◌∷◌, [], ◌⊎◌, ℕ, List, Bool, Some, Ok, IsTrue, ⊤, length, slice_get, take}
 use Rattle.a429_slots.specs.Events.{Event}
 use Rattle.a429_slots.specs.Events as machine
 use Rattle.a429_slots.specs.Proposed.{Proposed}
@@ -7,7 +7,9 @@ use Rattle.a429_slots.specs.History.{Opening}
 use Rattle.a429_slots.specs.Answers.{answer}
 use Rattle.a429_core.specs.Standing.{Standing, StandsFor}
 use Rattle.a429_cli.specs.AnswerLines.{answer_line}
+use Rattle.a429_cli.specs.Names.{Naming}
 use Rattle.a429_cli.specs.RefusalText.{refusal_line}
+use Rattle.a429_cli.specs.Script.{script_events}
 use Rattle.a429_cli.specs.Tables.{IsProposedBy, IsTableRefusal}
 use Rattle.a429_cli.specs.declared.output.refusals.CommandRefusal.{CommandRefusal}
 use Rattle.a429_cli.specs.declared.replay.script.ScriptEvent.{ScriptEvent}
@@ -48,9 +50,9 @@ PlaysOne names further event old new before after =
     (o : Opening) (E : List Event) → StandsFor 41 o E old
     → (E' : List Event) × (line : List ℕ) × Happens o names further E event E' line × StandsFor 41 o E' new × (after ≡ before ++ line)
 
--- the first of these events happen to a state, whatever history the state stands for, and the bytes that are printed are put as Puts says;
+-- the first of a script's events happen to a state, whatever history the state stands for, and the bytes that are printed are put as Puts says;
 -- where memory sufficed, all of them happen
-abbrev pub PlaysFirst : List (List ℕ) → List (List ℕ) → List ScriptEvent → Standing → (List ℕ → Type 0) → Bool → Type 0
-PlaysFirst names further events old Puts sufficed =
-    (o : Opening) (E : List Event) → StandsFor 41 o E old
-    → (n : ℕ) × (E' : List Event) × (bytes : List ℕ) × Played o names further E (take n events) E' bytes × Puts bytes × (IsTrue sufficed → n ≡ length events)
+abbrev pub PlaysScript : Naming → List (List ℕ) → List ℕ → Standing → (List ℕ → Type 0) → Bool → Type 0
+PlaysScript names further script old Puts sufficed =
+    (events : List ScriptEvent) → script_events names (length further) script ≡ Ok events → (o : Opening) (E : List Event) → StandsFor 41 o E old
+    → (n : ℕ) × (E' : List Event) × (bytes : List ℕ) × Played o names.sources further E (take n events) E' bytes × Puts bytes × (IsTrue sufficed → n ≡ length events)

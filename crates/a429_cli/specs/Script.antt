@@ -1,12 +1,9 @@
 -- Scripts: one event a line (profile: replay script). A script is read with the names of its station and the number of further tables.
-use Rattle.std.specs.Prelude.{◌≡◌, ◌+◌, ◌∷◌, [], ◌++◌, ◌&&◌, ℕ, List, Option, Some, None, Result, MatchResult, Ok, Err, codes, if◌then◌else◌, nat_lt, nat_le, option_map, option_and_then}
+use Rattle.std.specs.Prelude.{◌≡◌, ◌+◌, ◌∷◌, [], ◌++◌, ◌&&◌, ℕ, List, Option, Some, None, Result, Ok, Err, codes, if◌then◌else◌, nat_lt, nat_le, option_map, option_and_then}
 use Rattle.std.specs.Str.{bytes_eq}
-use Rattle.std.specs.declared.vec.Vec.{Vec}
-use Rattle.std.specs.declared.alloc.Global.{Global}
 use Rattle.a429_word.specs.Hexadecimal.{raw_word}
 use Rattle.a429_cli.specs.ScriptText.{cut, decimal_number, lines_of}
 use Rattle.a429_cli.specs.Names.{Naming, number_named}
-use Rattle.a429_cli.specs.RefusalText.{OrMemory}
 use Rattle.a429_cli.specs.declared.output.refusals.CommandRefusal.{CommandRefusal}
 use Rattle.a429_cli.specs.declared.output.refusals.CommandRefusal.TheVariants as refused
 use Rattle.a429_cli.specs.declared.replay.script.ScriptEvent.{ScriptEvent}
@@ -70,7 +67,6 @@ abbrev pub IsScriptFault : Naming → ℕ → List ℕ → CommandRefusal → Ty
 IsScriptFault names further script (refused.Script n) = script_events names further script ≡ Err n
 IsScriptFault names further script _ = ⊥
 
--- what reading a script gives: its events, or the number of its first faulty line
-abbrev pub IsScriptReading : Naming → ℕ → List ℕ → Result (Vec ScriptEvent Global) CommandRefusal → Type 0
-IsScriptReading names further script result =
-    MatchResult result (λ events. script_events names further script ≡ Ok events.items) (OrMemory (IsScriptFault names further script))
+-- it has no faulty line
+abbrev pub IsScript : Naming → ℕ → List ℕ → Type 0
+IsScript names further script = (events : List ScriptEvent) × (script_events names further script ≡ Ok events)

@@ -4,6 +4,7 @@ ghost use Rattle.std.specs.Io.KnownBytes.{Appends, Keeps};
 ghost use Rattle.a429_cli.specs.Outputs.{CountsFault};
 
 pub mod endings;
+pub mod from_end;
 pub mod pending;
 pub mod refusals;
 

@@ -1,9 +1,7 @@
 //! The command `replay`.
-ghost use Rattle.std.specs.Prelude.{◌≤◌, IfOk, IsTrue, MatchResult, length, OnOk};
-ghost use Rattle.std.specs.List.{AllByRecursion};
-ghost use Rattle.a429_cli.specs.Files.{bytes_of, texts_of};
+ghost use Rattle.std.specs.Prelude.{◌≤◌, IfOk, IsTrue, MatchResult, OnOk};
+ghost use Rattle.a429_cli.specs.Files.{texts_of};
 ghost use Rattle.a429_cli.specs.Outputs.{CountsFault, IsPut};
-ghost use Rattle.a429_cli.specs.Playing.{HasTable};
 ghost use Rattle.a429_cli.specs.RefusalText.{OrMemory};
 ghost use Rattle.a429_cli.specs.Replaying.{IsNoStart, IsReplay};
 ghost use Rattle.a429_cli.specs.Opened.{IsInputReading, IsOutcomePut, IsPreparedFor, input_of};
@@ -20,7 +18,7 @@ use crate::output::pending::Pending;
 use crate::output::refusals::CommandRefusal;
 use crate::output::{Output, OutputFault};
 use crate::replay::playing::play_all;
-use crate::replay::script::{ScriptEvent, read_script};
+use crate::replay::script::check_script;
 use crate::replay::station::Station;
 use std::alloc::Global;
 
@@ -30,13 +28,6 @@ struct Input {
     table: Vec<u8>,
     script: Vec<u8>,
     further: Vec<Vec<u8>>,
-}
-
-/// A station and what is to happen to it.
-#[derive(Drop)]
-struct Prepared {
-    station: Station,
-    events: Vec<ScriptEvent>,
 }
 
 /// Reads the files of these names.
@@ -59,35 +50,32 @@ fn read_input<F: FileReader>(
     })
 }
 
-/// The station and the events that are given. Refused is the table, its plan, or the script.
-fn prepare(alloc: Global, input: &Input) -> Result<Prepared, CommandRefusal>
-    ensures tables { IfOk result (λ p. AllByRecursion (HasTable (length input.now.further.items)) p.events.items) }
-    ensures prepared { MatchResult result (IsPreparedFor (input_of input.now)) (OrMemory (IsNoStart (input_of input.now))) }
+/// The station that is given, where the script is one of it. Refused is the table, its plan, or the script.
+fn prepare(alloc: Global, input: &Input) -> Result<Station, CommandRefusal>
+    ensures { MatchResult result (IsPreparedFor (input_of input.now)) (OrMemory (IsNoStart (input_of input.now))) }
 {
     let station = Station::open(alloc, &input.table)?;
-    let further = input.further.len();
-    let events = read_script(alloc, &station.names, further, &input.script)?;
-    Ok(Prepared { station, events })
+    check_script(&station.names, input.further.len(), &input.script)?;
+    Ok(station)
 }
 
-/// Plays the events on the station, and puts the lines that they come to. Where memory is refused in the
+/// Plays the script on the station, and puts the lines that its events come to. Where memory is refused in the
 /// midst, these lines end with the one that says so.
 fn play_prepared<O: Output>(
     alloc: Global,
-    prepared: Prepared,
-    further: &[Vec<u8>],
+    station: Station,
+    input: &Input,
     out: &mut O,
 ) -> Result<u8, OutputFault>
-    requires { AllByRecursion (HasTable (length further.now)) prepared.events.items }
-    ensures played { IfOk result (IsOutcomePut (bytes_of further.now) prepared (O.contents out.old) (O.contents out.new)) }
+    ensures played { IfOk result (IsOutcomePut (input_of input.now) station (O.contents out.old) (O.contents out.new)) }
     ensures status { IfOk result (λ status. status ≤ 1) }
     ensures flushed { OnOk result (IsTrue (O.is_flushed out.new)) }
     ensures faults { CountsFault result (O.failures out.old) (O.failures out.new) }
 {
-    let Prepared { station, events } = prepared;
     let Station { names, mut state } = station;
     let mut lines = Pending::new(alloc);
-    let sufficed = play_all(alloc, &mut state, &names, further, &events, &mut lines, out)?;
+    let (further, script) = (&input.further, &input.script);
+    let sufficed = play_all(alloc, &mut state, &names, further, script, &mut lines, out)?;
     finish(&lines.text, sufficed, out)
 }
 
@@ -112,7 +100,7 @@ pub fn replay<F: FileReader, O: Output>(
         Err(refusal) => return refuse(alloc, &refusal, out),
     };
     match prepare(alloc, &input) {
-        Ok(prepared) => play_prepared(alloc, prepared, &input.further, out),
+        Ok(station) => play_prepared(alloc, station, &input, out),
         Err(refusal) => refuse(alloc, &refusal, out),
     }
 }

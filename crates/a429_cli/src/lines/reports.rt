@@ -4,29 +4,25 @@ ghost use Rattle.std.specs.Option.{option_to_list};
 ghost use Rattle.a429_cli.specs.LineReports.{found_line, printed, printed_if, received, rest_line};
 ghost use Rattle.a429_cli.specs.Outputs.{AppendsPending, CountsFault};
 
+use crate::output::from_end::{push_hex, push_number};
 use crate::output::pending::{Pending, put_if_full};
 use crate::output::{Output, OutputFault};
 use a429_filter::FilterSet;
 use a429_line::Found;
 use a429_word::Word;
 use std::alloc::AllocError;
-use std::io;
-use std::io::Write;
 
-/// Appends the line of a report. The error is a want of memory, and may leave a part of the line.
-#[tactic(auto, unfolding(a429_word::specs::Hexadecimal::hex))]
-pub fn push_found(text: &mut Vec<u8>, found: Found) -> io::Result<()>
-    ensures { OnOk result (text.new.items ≡ text.old.items ++ found_line found) }
+/// Appends the line of a report. Where memory is refused, nothing is appended.
+pub fn push_found(text: &mut Vec<u8>, found: Found) -> Result<(), AllocError>
+    ensures line { OnOk result (text.new.items ≡ text.old.items ++ found_line found) }
+    ensures kept { OnErr result (text.new.items ≡ text.old.items) }
 {
     match found {
-        Found::Word(word) => {
-            let raw = word.raw();
-            writeln!(text, "word {raw:08x}")
-        }
-        Found::Parity(raw) => writeln!(text, "parity {raw:08x}"),
-        Found::Short(bits) => writeln!(text, "short {bits}"),
-        Found::Long => writeln!(text, "long"),
-        Found::Gap(nulls) => writeln!(text, "gap {nulls}"),
+        Found::Word(word) => push_hex(text, b"word ", word.raw()),
+        Found::Parity(raw) => push_hex(text, b"parity ", raw),
+        Found::Short(bits) => push_number(text, b"short ", u64::from(bits)),
+        Found::Long => text.extend_from_slice(b"long\n"),
+        Found::Gap(nulls) => push_number(text, b"gap ", u64::from(nulls)),
     }
 }
 

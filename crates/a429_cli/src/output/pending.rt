@@ -7,6 +7,7 @@ ghost use Rattle.a429_cli.specs.Outputs.{AppendsPending, CountsFault};
 ghost use Rattle.a429_cli.specs.RefusalText.{refusal_line};
 
 use crate::lines::reports::push_found;
+use crate::output::from_end::push_number;
 use crate::output::refusals::CommandRefusal;
 use crate::output::{Output, OutputFault};
 use crate::replay::answers::push_answer;
@@ -19,7 +20,7 @@ use std::io::Write;
 /// From how many bytes on lines are put out.
 const FULL: usize = 65536;
 
-/// Lines that were not yet put out, and room for one more.
+/// Lines that were not yet put out, and room for a refusal.
 #[derive(Drop)]
 pub struct Pending {
     pub text: Vec<u8>,
@@ -42,11 +43,7 @@ impl Pending {
         ensures line { OnOk result (self.new.text.items ≡ self.old.text.items ++ answer_line names.now.sources answer) }
         ensures kept { OnErr result (self.new.text.items ≡ self.old.text.items) }
     {
-        self.line.clear();
-        match push_answer(&mut self.line, names, answer) {
-            Ok(()) => self.text.extend_from_slice(&self.line),
-            Err(_) => Err(AllocError),
-        }
+        push_answer(&mut self.text, names, answer)
     }
 
     /// Appends the line of a refusal. Where memory is refused, nothing is appended.
@@ -66,11 +63,7 @@ impl Pending {
         ensures line { OnOk result (self.new.text.items ≡ self.old.text.items ++ found_line found) }
         ensures kept { OnErr result (self.new.text.items ≡ self.old.text.items) }
     {
-        self.line.clear();
-        match push_found(&mut self.line, found) {
-            Ok(()) => self.text.extend_from_slice(&self.line),
-            Err(_) => Err(AllocError),
-        }
+        push_found(&mut self.text, found)
     }
 
     /// Appends the line of a rest of so many bits. Where memory is refused, nothing is appended.
@@ -78,11 +71,7 @@ impl Pending {
         ensures line { OnOk result (self.new.text.items ≡ self.old.text.items ++ codes "rest " ++ decimal bits ++ 10 ∷ []) }
         ensures kept { OnErr result (self.new.text.items ≡ self.old.text.items) }
     {
-        self.line.clear();
-        match writeln!(self.line, "rest {bits}") {
-            Ok(()) => self.text.extend_from_slice(&self.line),
-            Err(_) => Err(AllocError),
-        }
+        push_number(&mut self.text, b"rest ", u64::from(bits))
     }
 }
 

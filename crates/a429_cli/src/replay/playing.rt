@@ -1,16 +1,15 @@
 //! Scripts played on a station.
 ghost use Rattle.std.specs.Prelude.{◌≡◌, ◌<◌, OnOk, OnErr, IfOk, MatchResult, length};
-ghost use Rattle.std.specs.List.{AllByRecursion};
 ghost use Rattle.a429_core.specs.Happened.{event_of};
 ghost use Rattle.a429_cli.specs.Files.{bytes_of};
 ghost use Rattle.a429_cli.specs.Outputs.{AppendsPending, CountsFault};
-ghost use Rattle.a429_cli.specs.Playing.{HasTable, IsEventOf, IsUnread, PlaysFirst, PlaysOne};
+ghost use Rattle.a429_cli.specs.Playing.{HasTable, IsEventOf, IsUnread, PlaysOne, PlaysScript};
 ghost use Rattle.a429_cli.specs.RefusalText.{OrMemory};
 
 use crate::output::pending::{Pending, put_if_full};
 use crate::output::refusals::CommandRefusal;
 use crate::output::{Output, OutputFault};
-use crate::replay::script::ScriptEvent;
+use crate::replay::script::{ScriptEvent, first_event};
 use crate::tables::names::Names;
 use crate::tables::propose;
 use a429_core::{Event, StationState};
@@ -69,28 +68,29 @@ fn play(
     }
 }
 
-/// Plays events of a script one after another. Their lines are put out where they have become many, and
-/// those that are left stand in `lines`. Whether memory sufficed for all.
+/// Plays the events of a script one after another, each as it is read. Their lines are put out where they have
+/// become many, and those that are left stand in `lines`. Whether memory sufficed for all.
 pub fn play_all<O: Output>(
     alloc: Global,
     state: &mut StationState,
     names: &Names,
     further: &[Vec<u8>],
-    events: &[ScriptEvent],
+    script: &[u8],
     lines: &mut Pending,
     out: &mut O,
 ) -> Result<bool, OutputFault>
-    requires { AllByRecursion (HasTable (length further.now)) events.now }
-    ensures played { IfOk result (PlaysFirst names.now.sources (bytes_of further.now) events.now state.old
+    ensures played { IfOk result (PlaysScript names.now (bytes_of further.now) script.now state.old
         (AppendsPending (O.contents out.old) lines.old.text.items (O.contents out.new) lines.new.text.items)) }
     ensures few { OnOk result (length lines.old.text.items < 65536 → length lines.new.text.items < 65536) }
     ensures faults { CountsFault result (O.failures out.old) (O.failures out.new) }
 {
-    for event in events {
-        let Ok(()) = play(alloc, state, names, further, *event, lines) else {
+    let mut text = script;
+    while let Some((event, rest)) = first_event(names, further.len(), text) {
+        let Ok(()) = play(alloc, state, names, further, event, lines) else {
             return Ok(false);
         };
         put_if_full(&mut lines.text, out)?;
+        text = rest;
     }
     Ok(true)
 }

@@ -1,17 +1,15 @@
 //! Scripts of events, one a line.
-ghost use Rattle.std.specs.List.{AllByRecursion};
-ghost use Rattle.std.specs.Prelude.{◌≡◌, ◌<◌, ℕ, length, IfOk, IfSome, option_map};
+ghost use Rattle.std.specs.Prelude.{◌≡◌, ◌<◌, ℕ, length, IfSome, MatchResult, option_map};
 ghost use Rattle.a429_cli.specs.ScriptText.{cut, decimal_digit, decimal_number};
-ghost use Rattle.a429_cli.specs.Script.{arrive_event, line_event, first_event, publish_event, IsScriptReading};
+ghost use Rattle.a429_cli.specs.Script.{arrive_event, line_event, first_event, publish_event, IsScript, IsScriptFault};
 ghost use Rattle.a429_cli.specs.Playing.{HasTable};
 
 use crate::output::refusals::CommandRefusal;
 use crate::tables::names::Names;
 use a429_word::raw_word;
-use std::alloc::Global;
 
 /// An event of a script. Receivers and groups are numbered from 0 in table order, the further tables of the
-/// command line from 1. A script may have millions of events: so the small numbers are kept in a byte.
+/// command line from 1.
 #[derive(Clone, Copy, Debug, PartialEq, Eq)]
 pub enum ScriptEvent {
     Arrive(u8, u32),
@@ -97,7 +95,11 @@ fn read_line(names: &Names, further: usize, line: &[u8]) -> Option<ScriptEvent>
 }
 
 /// The event of a text's first line, and the text after the line.
-fn first_event<'a>(names: &Names, further: usize, text: &'a [u8]) -> Option<(ScriptEvent, &'a [u8])>
+pub fn first_event<'a>(
+    names: &Names,
+    further: usize,
+    text: &'a [u8],
+) -> Option<(ScriptEvent, &'a [u8])>
     ensures event { option_map (λ p. (p.0, p.1.now)) result ≡ first_event names.now further text.entry.now }
     ensures shorter { IfSome result (λ p. length p.1.now < length text.entry.now) }
     ensures table { IfSome result (λ p. HasTable further p.0) }
@@ -106,25 +108,19 @@ fn first_event<'a>(names: &Names, further: usize, text: &'a [u8]) -> Option<(Scr
     Some((read_line(names, further, line)?, rest))
 }
 
-/// Reads a script of a station with these names, beside so many further tables. Refused is the number of its
+/// Checks a script of a station with these names, beside so many further tables. Refused is the number of its
 /// first faulty line, from 1: of one that is no event, names nothing, or does not end with a line feed.
-pub fn read_script(
-    alloc: Global,
-    names: &Names,
-    further: usize,
-    script: &[u8],
-) -> Result<Vec<ScriptEvent>, CommandRefusal>
-    ensures tables { IfOk result (λ events. AllByRecursion (HasTable further) events.items) }
-    ensures events { IsScriptReading names.now further script.now result }
+pub fn check_script(names: &Names, further: usize, script: &[u8]) -> Result<(), CommandRefusal>
+    ensures { MatchResult result (λ _. IsScript names.now further script.now) (IsScriptFault names.now further script.now) }
 {
-    let mut events = Vec::new(alloc);
+    let mut lines = 0;
     let mut text = script;
     while !text.is_empty() {
-        let Some((event, rest)) = first_event(names, further, text) else {
-            return Err(CommandRefusal::Script(events.len() + 1));
+        let Some((_, rest)) = first_event(names, further, text) else {
+            return Err(CommandRefusal::Script(lines + 1));
         };
-        events.push(event)?;
+        lines += 1;
         text = rest;
     }
-    Ok(events)
+    Ok(())
 }

@@ -1,16 +1,47 @@
 //! Names of a station: of its receivers, sources and groups, and the numbers that they stand for.
 ghost use Rattle.std.specs.Prelude.{◌≡◌, ◌≤◌, IfOk, length, map, string_bytes};
-ghost use Rattle.a429_cli.specs.Names.{group_name, name_at, naming_of, number_named, output_name};
+ghost use Rattle.a429_slots.specs.declared.answers.Answer.TheVariants.{Accepted};
+ghost use Rattle.a429_cli.specs.AnswerLines.{answer_line};
+ghost use Rattle.a429_cli.specs.Names.{group_name, naming_of, number_named, output_name};
 
 use a429_equipment::{Equipment, GroupRow, ReceiverRow, SourceRow};
 use std::alloc::{AllocError, Global};
 use std::marker::Model;
 
+/// The name of a source, and the line of a word of it that is accepted.
+#[derive(Drop)]
+struct SourceName {
+    name: String,
+    accepted: Vec<u8>,
+}
+
+impl Model for SourceName {
+    ghost use Rattle.std.specs.Prelude.{◌≡◌, ◌++◌, ◌∷◌, [], ℕ, List, codes, string_bytes};
+
+    ghost Value = { List ℕ };
+
+    ghost view = { λ s. string_bytes s.name };
+
+    ghost invariant = { λ s. s.accepted.items ≡ codes "accepted " ++ string_bytes s.name ++ 10 ∷ [] };
+}
+
+impl SourceName {
+    fn of(alloc: Global, name: &str) -> Result<SourceName, AllocError>
+        ensures { IfOk result (λ s. s ≡ name.now) }
+    {
+        let name = String::from_str(alloc, name)?;
+        let mut accepted = Vec::from_slice(alloc, b"accepted ")?;
+        accepted.extend_from_slice(name.as_bytes())?;
+        accepted.push(b'\n')?;
+        Ok(SourceName { name, accepted })
+    }
+}
+
 /// The names of a station's receivers, sources and groups, each in table order.
 #[derive(Drop)]
 pub struct Names {
     receivers: Vec<String>,
-    sources: Vec<String>,
+    sources: Vec<SourceName>,
     groups: Vec<String>,
 }
 
@@ -22,7 +53,7 @@ impl Model for Names {
 
     ghost view = { λ n. record {
       receivers = map string_bytes n.receivers.items;
-      sources = map string_bytes n.sources.items;
+      sources = n.sources.items;
       groups = map string_bytes n.groups.items;
     } };
 
@@ -58,13 +89,13 @@ impl Names {
         number_of(&self.groups, name)
     }
 
-    /// The name of the source of this number; nothing where there is no such source.
-    pub fn source(&self, number: usize) -> &str
-        ensures { result.now ≡ name_at self.now.sources number }
+    /// The line of an accepted word of the source of this number, whose name is nothing where there is none.
+    pub fn accepted(&self, source: usize) -> &[u8]
+        ensures { result.now ≡ answer_line self.now.sources (Accepted source) }
     {
-        match self.sources.get(number) {
-            Some(name) => name.as_str(),
-            None => "",
+        match self.sources.get(source) {
+            Some(own) => &own.accepted,
+            None => b"accepted \n",
         }
     }
 }
@@ -89,12 +120,12 @@ fn receiver_names(alloc: Global, rows: &[ReceiverRow]) -> Result<Vec<String>, Al
     Ok(names)
 }
 
-fn source_names(alloc: Global, rows: &[SourceRow]) -> Result<Vec<String>, AllocError>
-    ensures { IfOk result (λ names. map string_bytes names.items ≡ map (λ s. s.name) rows.now) }
+fn source_names(alloc: Global, rows: &[SourceRow]) -> Result<Vec<SourceName>, AllocError>
+    ensures { IfOk result (λ names. names.items ≡ map (λ s. s.name) rows.now) }
 {
     let mut names = Vec::new(alloc);
     for row in rows {
-        names.push(String::from_str(alloc, row.name.as_str())?)?;
+        names.push(SourceName::of(alloc, row.name.as_str())?)?;
     }
     Ok(names)
 }

@@ -17,15 +17,12 @@ returns-in-Err-clause-replayed g c = λ tells.
     (λ unread. inl unread) (c.in-Err.ensures tells) in
     both_ok c.refuse.result _ _ (λ status is line. (refusal_line line.0 ++ 10 ∷ [], inl (line.0, told_or_memory begun c.in-Err.refusal line.0 line.1 why, is, refl), line.2)) c.refuse.ensures.status c.refuse.ensures.line
 
-pub play_prepared-requires : goal.play_prepared-requires
-play_prepared-requires g c = rw c.deref.ensures.value c.in-Ok-prepare.ensures.tables
-
 pub returns-in-Ok-prepare-clause-replayed : goal.returns-in-Ok-prepare-clause-replayed
 returns-in-Ok-prepare-clause-replayed g c = λ tells.
-    let p = c.in-Ok-prepare.ensures.prepared in
+    let p = c.in-Ok-prepare.ensures in
     IfOk-weaker c.play_prepared.result _ _ (λ status played.
-    let was = played (input_of c.in-Ok.input) p.0 (rw c.deref.ensures.value refl) p.2 in
-    (was.0, inr (input_of c.in-Ok.input, p.0, c.in-Ok-prepare.prepared.events.items, c.in-Ok.ensures tells, p.1, was.1), was.2))
+    let was = played p.0 p.1 p.2 p.3 in
+    (was.0, inr (input_of c.in-Ok.input, p.0, p.1, c.in-Ok.ensures tells, p.2, was.1), was.2))
     c.play_prepared.ensures.played
 
 pub returns-clause-replayed : goal.returns-clause-replayed
@@ -35,5 +32,5 @@ returns-clause-replayed g c = λ tells.
     let i = input_of c.in-Ok.input in
     let begun = IsReplayRefusal file c.args.table.now c.args.script.now names in
     let why = or_memory_weaker (λ r. IsTableRefusal i.table r ⊎ IsScriptRefusal i r) begun c.in-Err-prepare.refusal
-    (λ cause. inr (i, c.in-Ok.ensures tells, cause)) c.in-Err-prepare.ensures.prepared in
+    (λ cause. inr (i, c.in-Ok.ensures tells, cause)) c.in-Err-prepare.ensures in
     both_ok c.refuse-in-Err-prepare.result _ _ (λ status is line. (refusal_line line.0 ++ 10 ∷ [], inl (line.0, told_or_memory begun c.in-Err-prepare.refusal line.0 line.1 why, is, refl), line.2)) c.refuse-in-Err-prepare.ensures.status c.refuse-in-Err-prepare.ensures.line
