@@ -18,3 +18,4 @@ pub mod SpacedTables
 pub mod SpacedPlans
 pub mod OnePlan
 pub mod OneFault
+pub mod NextCells

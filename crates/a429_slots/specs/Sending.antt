@@ -1,5 +1,5 @@
 -- Where a group stands in its frame, as the machine keeps it.
-use Rattle.std.specs.Prelude.{◌+◌, ◌/◌, ◌%◌, ◌^◌, ℕ, Bool, Option, Some, None, List, if◌then◌else◌, nat_lt, min}
+use Rattle.std.specs.Prelude.{◌≡◌, ◌<◌, ◌*◌, ◌⊎◌, ◌+◌, ◌/◌, ◌%◌, ◌^◌, ℕ, Bool, Option, Some, None, List, if◌then◌else◌, nat_lt, min}
 use Rattle.std.specs.List.{list_all}
 use Rattle.a429_slots.specs.Tables.{Placed, GroupTable, frame_of, buses_of, cells_of}
 use Rattle.a429_slots.specs.declared.senders.Due.{Due}
@@ -10,6 +10,15 @@ pub record Sending : Type 0 where
   pub table : GroupTable
   pub first : ℕ
   pub sent : ℕ
+
+-- how many cells of a frame stand before one: cells are counted slot by slot, and in a slot bus by bus
+abbrev pub cells_before : GroupTable → ℕ → ℕ → ℕ
+cells_before t bus slot = slot * buses_of t + bus
+
+-- a frame's next cell: one of its cells, or the first behind them
+pub record IsNextCell (t : GroupTable) (bus slot : ℕ) : Type 0 where
+  pub bus_of : (bus ≡ 0) ⊎ (bus < buses_of t)
+  pub slot_of : (slot < frame_of t) ⊎ ((slot ≡ frame_of t) × (bus ≡ 0))
 
 abbrev pub begun : ℕ → GroupTable → Sending
 begun first p = record { table = p; first = first; sent = 0 }

@@ -13,24 +13,26 @@ pub struct Due {
     pub limits: SendLimits,
 }
 
-/// The plan in force of a group, the first slot of its frame, and how many cells of the frame were sent.
+/// The plan in force of a group, the first slot of its frame, and the slot and the bus of the next cell: cells are
+/// counted up slot by slot, and in a slot bus by bus, so that no number of cells is divided.
 #[derive(Drop)]
 pub struct Sender {
     plan: GroupPlan<OUTPUTS>,
     first: u64,
-    sent: u64,
+    slot: u32,
+    bus: u32,
 }
 
 impl Model for Sender {
-    ghost use Rattle.std.specs.Prelude.{◌≤◌, ◌<◌, ◌+◌, ◌^◌};
-    ghost use Rattle.a429_slots.specs.Tables.{cells_of, frame_of};
-    ghost use Rattle.a429_slots.specs.Sending.{Sending};
+    ghost use Rattle.std.specs.Prelude.{◌<◌, ◌+◌, ◌^◌};
+    ghost use Rattle.a429_slots.specs.Tables.{frame_of};
+    ghost use Rattle.a429_slots.specs.Sending.{Sending, IsNextCell, cells_before};
 
     ghost Value = { Sending };
 
-    ghost view = { λ s. record { table = s.plan; first = s.first; sent = s.sent } };
+    ghost view = { λ s. record { table = s.plan; first = s.first; sent = cells_before s.plan s.bus s.slot } };
 
-    ghost invariant = { λ s. (s.first + frame_of s.plan < 2 ^ 64) × (s.sent ≤ cells_of s.plan) };
+    ghost invariant = { λ s. (s.first + frame_of s.plan < 2 ^ 64) × IsNextCell s.plan s.bus s.slot };
 }
 
 impl Sender {
@@ -42,7 +44,8 @@ impl Sender {
         Sender {
             plan,
             first,
-            sent: 0,
+            slot: 0,
+            bus: 0,
         }
     }
 
@@ -65,7 +68,7 @@ impl Sender {
     pub fn is_mid_frame(&self) -> bool
         ensures { result ≡ (nat_lt self.now.sent (cells_of self.now.table)) }
     {
-        self.sent < self.cells()
+        self.bus < self.plan.buses() && self.slot < self.plan.frame()
     }
 
     /// The output that stands on a bus in a slot of the frame.
@@ -89,11 +92,13 @@ impl Sender {
         if !self.is_mid_frame() {
             return None;
         }
-        let buses = u64::from(self.plan.buses());
-        let bus = (self.sent % buses) as u32;
-        let slot = self.sent / buses;
-        self.sent += 1;
-        Some((bus, slot))
+        let (bus, slot) = (self.bus, self.slot);
+        if bus + 1 == self.plan.buses() {
+            (self.bus, self.slot) = (0, slot + 1);
+        } else {
+            self.bus = bus + 1;
+        }
+        Some((bus, u64::from(slot)))
     }
 
     /// Goes on to the next frame by this plan, unless its slots cannot be counted in 64 bits.
@@ -107,7 +112,7 @@ impl Sender {
         }
         self.plan = *newest;
         self.first = first;
-        self.sent = 0;
+        (self.bus, self.slot) = (0, 0);
         true
     }
 }
