@@ -1,8 +1,10 @@
 -- A station that is open for a script, and what a replay makes of the bytes that it was given.
 use Rattle.std.specs.Prelude.{◌≡◌, ◌∷◌, [], ℕ, List, Option, Result, MatchResult}
+use Rattle.std.specs.declared.vec.Vec.{Vec}
+use Rattle.std.specs.declared.alloc.Global.{Global}
 use Rattle.a429_slots.specs.Proposed.{Proposed}
 use Rattle.a429_core.specs.Standing.{StandsFor}
-use Rattle.a429_cli.specs.Files.{IsFirstUnread, bytes_of}
+use Rattle.a429_cli.specs.Files.{AreRead, IsFirstUnread}
 use Rattle.a429_cli.specs.Names.{naming_of}
 use Rattle.a429_cli.specs.Outputs.{IsPut}
 use Rattle.a429_cli.specs.RefusalText.{OrMemory}
@@ -22,7 +24,11 @@ abbrev pub IsOpenedFrom : List ℕ → Station → Type 0
 IsOpenedFrom table s = (q : Proposed) × IsProposedBy table q × IsOpened q s
 
 abbrev pub input_of : Input → ReplayInput
-input_of i = record { table = i.table.items; script = i.script.items; further = bytes_of i.further.items }
+input_of i = record { table = i.table.items; script = i.script.items; further = i.further.items }
+
+-- what reading tables of these names gives: their bytes, or the first that cannot be read
+abbrev pub AreTablesRead : (List ℕ → Option (List ℕ)) → List (List ℕ) → Result (Vec (List ℕ) Global) CommandRefusal → Type 0
+AreTablesRead file names result = MatchResult result (λ tables. AreRead file names tables.items) (OrMemory (IsFirstUnread file names))
 
 -- what reading the files of these names gives: their bytes, or the first that cannot be read
 abbrev pub IsInputReading : (List ℕ → Option (List ℕ)) → List ℕ → List ℕ → List (List ℕ) → Result Input CommandRefusal → Type 0

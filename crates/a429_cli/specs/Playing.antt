@@ -27,6 +27,10 @@ IsEventOf further (Cell group) e = e ≡ machine.Cell group
 IsEventOf further (Frame group) e = e ≡ machine.Frame group
 IsEventOf further (Publish n) e = (table : List ℕ) × (q : Proposed) × (slice_get further (n - 1) ≡ Some table) × IsProposedBy table q × (e ≡ machine.Publish q)
 
+-- the event that publishes a table
+abbrev pub IsPublication : List ℕ → Event → Type 0
+IsPublication table e = (q : Proposed) × IsProposedBy table q × (e ≡ machine.Publish q)
+
 -- a table that was to be published is refused
 abbrev pub IsUnread : List (List ℕ) → ScriptEvent → CommandRefusal → Type 0
 IsUnread further (Publish n) refusal = (table : List ℕ) × (slice_get further (n - 1) ≡ Some table) × IsTableRefusal table refusal

@@ -1,5 +1,5 @@
 -- Tables as a command reads them: the proposal of a table, or why there is none.
-use Rattle.std.specs.Prelude.{◌≡◌, ℕ, List, Ok, Err, string_bytes}
+use Rattle.std.specs.Prelude.{◌≡◌, ℕ, List, Result, MatchResult, Ok, Err, string_bytes}
 use Rattle.a429_equipment.specs.TableRecord.{TableRecord}
 use Rattle.a429_equipment.specs.Reading.{reading}
 use Rattle.a429_slots.specs.Planned.{IsPlanOf}
@@ -7,6 +7,7 @@ use Rattle.a429_slots.specs.Proposed.{Proposed}
 use Rattle.a429_slots.specs.Faults.{IsFaultOf}
 use Rattle.a429_slots.specs.declared.planner.PlanFault.TheVariants as plan
 use Rattle.a429_cli.specs.Names.{group_name, output_name}
+use Rattle.a429_cli.specs.RefusalText.{OrMemory}
 use Rattle.a429_cli.specs.declared.output.refusals.CommandRefusal.{CommandRefusal}
 use Rattle.a429_cli.specs.declared.output.refusals.CommandRefusal.TheVariants as refused
 
@@ -35,3 +36,7 @@ IsPlanRefusal t _ = ⊥
 abbrev pub IsTableRefusal : List ℕ → CommandRefusal → Type 0
 IsTableRefusal table (refused.Table kind place) = reading table ≡ Err (kind, place)
 IsTableRefusal table refusal = (t : TableRecord) × (reading table ≡ Ok t) × IsPlanRefusal t refusal
+
+-- what reading and planning a table gives: its proposal, or its refusal
+abbrev pub IsProposing : List ℕ → Result Proposed CommandRefusal → Type 0
+IsProposing table result = MatchResult result (IsProposedBy table) (OrMemory (IsTableRefusal table))

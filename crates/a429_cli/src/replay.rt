@@ -4,9 +4,10 @@ ghost use Rattle.a429_cli.specs.Files.{texts_of};
 ghost use Rattle.a429_cli.specs.Outputs.{CountsFault, IsPut};
 ghost use Rattle.a429_cli.specs.RefusalText.{OrMemory};
 ghost use Rattle.a429_cli.specs.Replaying.{IsNoStart, IsReplay};
-ghost use Rattle.a429_cli.specs.Opened.{IsInputReading, IsOutcomePut, IsPreparedFor, input_of};
+ghost use Rattle.a429_cli.specs.Opened.{AreTablesRead, IsInputReading, IsOutcomePut, IsPreparedFor, input_of};
 
 pub mod answers;
+pub mod further;
 pub mod playing;
 pub mod script;
 pub mod station;
@@ -17,17 +18,30 @@ use crate::output::endings::{finish, refuse};
 use crate::output::pending::Pending;
 use crate::output::refusals::CommandRefusal;
 use crate::output::{Output, OutputFault};
+use crate::replay::further::{FurtherTable, plan_tables};
 use crate::replay::playing::play_all;
 use crate::replay::script::check_script;
 use crate::replay::station::Station;
 use std::alloc::Global;
 
-/// The bytes of the files that a replay reads.
+/// The bytes of the files that a replay reads; of the further tables also what they come to.
 #[derive(Drop)]
 struct Input {
     table: Vec<u8>,
     script: Vec<u8>,
-    further: Vec<Vec<u8>>,
+    further: Vec<FurtherTable>,
+}
+
+/// Reads the further tables of these names, and plans them.
+fn read_further<F: FileReader>(
+    alloc: Global,
+    files: &mut F,
+    names: &[&str],
+) -> Result<Vec<FurtherTable>, CommandRefusal>
+    ensures { IsTrue (F.tells files.old) → AreTablesRead (F.file files.old) (texts_of names.now) result }
+{
+    let tables = read_files(alloc, files, names)?;
+    Ok(plan_tables(alloc, tables)?)
 }
 
 /// Reads the files of these names.
@@ -42,7 +56,7 @@ fn read_input<F: FileReader>(
 {
     let table = read_file(alloc, files, table)?;
     let script = read_file(alloc, files, script)?;
-    let further = read_files(alloc, files, further)?;
+    let further = read_further(alloc, files, further)?;
     Ok(Input {
         table,
         script,

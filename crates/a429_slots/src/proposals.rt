@@ -1,6 +1,8 @@
 //! A station's equipment with its own plan.
 ghost use Rattle.std.specs.Prelude.{◌≡◌, ◌≤◌, IfOk, IfErr};
 
+mod copies;
+
 use crate::planner::{PlanFault, plan};
 use crate::plans::Plan;
 use a429_equipment::Equipment;

@@ -1,7 +1,6 @@
 //! Scripts played on a station.
-ghost use Rattle.std.specs.Prelude.{◌≡◌, ◌<◌, OnOk, OnErr, IfOk, MatchResult, length};
+ghost use Rattle.std.specs.Prelude.{◌≡◌, ◌<◌, OnOk, OnErr, IfOk, IfSome, MatchResult, length};
 ghost use Rattle.a429_core.specs.Happened.{event_of};
-ghost use Rattle.a429_cli.specs.Files.{bytes_of};
 ghost use Rattle.a429_cli.specs.Outputs.{AppendsPending, CountsFault};
 ghost use Rattle.a429_cli.specs.Playing.{HasTable, IsEventOf, IsUnread, PlaysOne, PlaysScript};
 ghost use Rattle.a429_cli.specs.RefusalText.{OrMemory};
@@ -9,22 +8,22 @@ ghost use Rattle.a429_cli.specs.RefusalText.{OrMemory};
 use crate::output::pending::{Pending, put_if_full};
 use crate::output::refusals::CommandRefusal;
 use crate::output::{Output, OutputFault};
+use crate::replay::further::FurtherTable;
 use crate::replay::script::{ScriptEvent, first_event};
 use crate::tables::names::Names;
-use crate::tables::propose;
 use a429_core::{Event, StationState};
 use std::alloc::{AllocError, Global};
 
-/// The event of the machine that a script's event stands for, where the bytes of the further tables are
-/// these. A table that is published is read and planned; refused is its fault, or else that of its plan.
+/// The event of the machine that a script's event stands for, where these are the further tables. Refused is the
+/// fault of the one that is published, or else that of its plan; with no refusal memory is.
 fn machine_event(
     alloc: Global,
-    further: &[Vec<u8>],
+    further: &[FurtherTable],
     event: ScriptEvent,
-) -> Result<Event, CommandRefusal>
+) -> Result<Event, Option<&CommandRefusal>>
     requires { HasTable (length further.now) event }
-    ensures { MatchResult result (λ e. IsEventOf (bytes_of further.now) event (event_of e))
-        (OrMemory (IsUnread (bytes_of further.now) event)) }
+    ensures { MatchResult result (λ e. IsEventOf further.now event (event_of e))
+        (λ why. IfSome why (λ r. OrMemory (IsUnread further.now event) r.now)) }
 {
     match event {
         ScriptEvent::Arrive(receiver, raw) => Ok(Event::Arrive {
@@ -37,10 +36,7 @@ fn machine_event(
         ScriptEvent::Frame(group) => Ok(Event::Frame {
             group: usize::from(group),
         }),
-        ScriptEvent::Publish(number) => {
-            let proposal = propose(alloc, &further[number - 1])?;
-            Ok(Event::Publish { proposal })
-        }
+        ScriptEvent::Publish(number) => further[number - 1].publication(alloc),
     }
 }
 
@@ -49,12 +45,12 @@ fn play(
     alloc: Global,
     state: &mut StationState,
     names: &Names,
-    further: &[Vec<u8>],
+    further: &[FurtherTable],
     event: ScriptEvent,
     lines: &mut Pending,
 ) -> Result<(), AllocError>
     requires { HasTable (length further.now) event }
-    ensures played { OnOk result (PlaysOne names.now.sources (bytes_of further.now) event
+    ensures played { OnOk result (PlaysOne names.now.sources further.now event
         state.old state.new lines.old.text.items lines.new.text.items) }
     ensures kept { OnErr result (lines.new.text.items ≡ lines.old.text.items) }
 {
@@ -63,8 +59,8 @@ fn play(
             Ok(answer) => lines.push_answer(names, answer),
             Err(error) => Err(error),
         },
-        Err(CommandRefusal::Memory) => Err(AllocError),
-        Err(refusal) => lines.push_refusal(&refusal),
+        Err(None | Some(CommandRefusal::Memory)) => Err(AllocError),
+        Err(Some(refusal)) => lines.push_refusal(refusal),
     }
 }
 
@@ -74,12 +70,12 @@ pub fn play_all<O: Output>(
     alloc: Global,
     state: &mut StationState,
     names: &Names,
-    further: &[Vec<u8>],
+    further: &[FurtherTable],
     script: &[u8],
     lines: &mut Pending,
     out: &mut O,
 ) -> Result<bool, OutputFault>
-    ensures played { IfOk result (PlaysScript names.now (bytes_of further.now) script.now state.old
+    ensures played { IfOk result (PlaysScript names.now further.now script.now state.old
         (AppendsPending (O.contents out.old) lines.old.text.items (O.contents out.new) lines.new.text.items)) }
     ensures few { OnOk result (length lines.old.text.items < 65536 → length lines.new.text.items < 65536) }
     ensures faults { CountsFault result (O.failures out.old) (O.failures out.new) }

@@ -1,9 +1,6 @@
 use Rattle.std.proofs.Common.{◌≡◌, ◌++◌, [], List, ℕ, ap, length, take, subst, sym}
 use Rattle.std.specs.Prelude.{Ok}
-use Rattle.std.specs.declared.vec.Vec.{Vec}
-use Rattle.std.specs.declared.alloc.Global.{Global}
 use Rattle.a429_slots.specs.History.{Opening}
-use Rattle.a429_cli.specs.Files.{bytes_of}
 use Rattle.a429_cli.specs.Playing.{Played}
 use Rattle.a429_cli.specs.Script.{script_events}
 use Rattle.a429_cli.specs.Names.{Naming, naming_of}
@@ -20,14 +17,14 @@ returns-clause-played g c =
     let o : Opening = record { proposal = q; first = 0 } in
     let i = input_of c.args.input.now in
     let all = c.in_ok-sufficed.sufficed in
-    let script : script_events c.args.station.names (length (bytes_of c.deref.result.now)) c.deref-2.result.now ≡ Ok events =
+    let script : script_events c.args.station.names (length c.deref.result.now) c.deref-2.result.now ≡ Ok events =
     rw (opened.0, c.deref.ensures.value, c.deref-2.ensures.value) start.events_are in
     let was = c.in_ok-sufficed.ensures.played events script o [] opened.1 in
     let kept = rw c.new-lines.ensures at was.4 in
     let sent = rw c.deref-3.ensures.value at put in
     let played : Played o (naming_of q.station).sources i.further [] (take was.0 events) was.1 was.2 =
     subst (λ (names : List (List ℕ)). Played o names i.further [] (take was.0 events) was.1 was.2) (ap (λ (n : Naming). n.sources) opened.0)
-    (subst (λ (ts : List (Vec ℕ Global)). Played o c.args.station.names.sources (bytes_of ts) [] (take was.0 events) was.1 was.2) c.deref.ensures.value was.3) in
+    (subst (λ (ts : List (List ℕ)). Played o c.args.station.names.sources ts [] (take was.0 events) was.1 was.2) c.deref.ensures.value was.3) in
     let bytes = was.2 ++ ending all in (
       bytes,
       subst (λ (n : ℕ). IsOutcome i q events n bytes) (sym is) (played_ended i q events was.0 was.2 all (was.1, played) was.5),

@@ -1,6 +1,5 @@
-use Rattle.std.proofs.Common.{◌∙◌, ℕ, List, sym, subst, ap}
+use Rattle.std.proofs.Common.{◌∙◌, ℕ, List, subst, ap}
 use Rattle.std.specs.Prelude.{Err}
-use Rattle.std.proofs.lemmas.List.{length-map}
 use Rattle.std.proofs.lemmas.Result.{err_from_is_err_and}
 use Rattle.a429_cli.specs.RefusalText.{OrMemory}
 use Rattle.a429_cli.specs.Names.{Naming, naming_of}
@@ -19,7 +18,7 @@ returns-in_err-check_script c =
     let opened = c.in_ok-station.ensures in
     let names = naming_of opened.0.station in
     let proposed = subst (λ (t : List ℕ). IsProposedBy t opened.0) c.deref.ensures.value opened.1 in
-    let many = (c.len.ensures ∙ c.args.input.now.further.ok.0) ∙ sym (length-map c.args.input.now.further.items (λ t. t.items)) in
+    let many = c.len.ensures ∙ c.args.input.now.further.ok.0 in
     let of_names = subst (λ (n : Naming). IsScriptFault n c.len.result c.deref-2.result.now e) opened.2.0 c.in_err-check_script.ensures in
     let of_text = subst (λ (t : List ℕ). IsScriptFault names c.len.result t e) c.deref-2.ensures.value of_names in
     let fault = subst (λ (n : ℕ). IsScriptFault names n i.script e) many of_text in
@@ -31,7 +30,7 @@ returns c =
     let opened = c.in_ok-station.ensures in
     let names = naming_of opened.0.station in
     let proposed = subst (λ (t : List ℕ). IsProposedBy t opened.0) c.deref.ensures.value opened.1 in
-    let many = (c.len.ensures ∙ c.args.input.now.further.ok.0) ∙ sym (length-map c.args.input.now.further.items (λ t. t.items)) in
+    let many = c.len.ensures ∙ c.args.input.now.further.ok.0 in
     let of_names = subst (λ (n : Naming). IsScript n c.len.result c.deref-2.result.now) opened.2.0 c.in_ok-check_script.ensures in
     let of_text = subst (λ (t : List ℕ). IsScript names c.len.result t) c.deref-2.ensures.value of_names in
     let script = subst (λ (n : ℕ). IsScript names n i.script) many of_text in

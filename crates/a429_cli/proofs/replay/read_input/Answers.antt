@@ -17,7 +17,7 @@ returns-in_err-further g c = λ tells.
     let told = c.in_ok-table.ensures.tells ∙ tells in
     let same : (name : List ℕ) → last name ≡ first name = λ name. c.in_ok-script.ensures.keeps name ∙ c.in_ok-table.ensures.keeps name in
     let script = rw (c.in_ok-table.ensures.keeps c.args.script.now) at (c.in_ok-script.ensures.read told) in
-    let bad = c.in_err-further.ensures.read (c.in_ok-script.ensures.tells ∙ told) in
+    let bad = c.in_err-further.ensures (c.in_ok-script.ensures.tells ∙ told) in
     failed c.from_residual-in_err-further.result _ (OrMemory (IsFirstUnread first all)) e (p.1 ∙ ap Err p.2)
     (or_memory_weaker (IsFirstUnread last names) (IsFirstUnread first all) e
     (λ one. inr (c.in_ok-table.table.items, c.in_ok-table.ensures.read tells, inr (c.in_ok-script.script.items, script, unread_by last first same names e one))) bad)

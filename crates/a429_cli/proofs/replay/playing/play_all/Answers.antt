@@ -1,7 +1,6 @@
-use Rattle.std.proofs.Common.{rules, ◌≡◌, ◌∙◌, ◌++◌, ◌∷◌, [], map, length, ap, refl, sym, append-nil}
+use Rattle.std.proofs.Common.{rules, ◌≡◌, ◌∙◌, ◌++◌, ◌∷◌, [], length, ap, refl, sym, append-nil}
 use Rattle.std.specs.Prelude.{Some, None}
 use Rattle.std.specs.Io.KnownBytes.{Appends, append_known}
-use Rattle.std.proofs.lemmas.List.{length-map}
 use Rattle.a429_cli.specs.Script.{first_event, script_events}
 use Rattle.a429_cli.proofs.PlayedLines.{Appends-same, Appends-text, Appends-then, played_push}
 use Rattle.a429_cli.proofs.ScriptLines.{events_before-nil, events_last, events_next, events_so_far}
@@ -15,8 +14,7 @@ pub returns-in_default-play-clause-played : goal.returns-in_default-play-clause-
 returns-in_default-play-clause-played g c = λ events is o E s.
     let was = c.loop-event.invariant.played o E s in
     let kept : c.play.new.lines.text.items ≡ c.loop-event.lines.text.items = search rules in
-    let further = length-map c.args.further.now (λ t. t.items) in
-    let done = events_so_far was.0 _ events (sym was.3 ∙ rw further at is) in
+    let done = events_so_far was.0 _ events (sym was.3 ∙ is) in
     (length was.0, was.1, was.2, rw done was.4, rw kept was.6, λ no. cc)
 
 pub loop-event-preserved : goal.loop-event-preserved
@@ -24,7 +22,7 @@ loop-event-preserved g c = record {
   played = λ o E s.
       let was = c.loop-event.invariant.played o E s in
       let names = c.args.names.now in
-      let further = map (λ t. t.items) c.args.further.now in
+      let further = c.args.further.now in
       let event = c.in-Some.event in
       let first : first_event names (length c.args.further.now) c.loop-event.text.now ≡ Some (event, c.in-Some.rest.now) = search rules in
       let now = c.in-Ok.ensures.played o was.1 was.5 in
@@ -48,7 +46,6 @@ returns-clause-played g c = λ events is o E s.
     let was = c.loop-event.invariant.played o E s in
     let names = c.args.names.now in
     let none : first_event names (length c.args.further.now) c.loop-event.text.now ≡ None = search rules in
-    let further = length-map c.args.further.now (λ t. t.items) in
-    let all = events_last names (length c.args.further.now) was.0 events c.loop-event.text.now none (sym was.3 ∙ rw further at is) in
-    let done = events_so_far was.0 _ events (sym was.3 ∙ rw further at is) in
+    let all = events_last names (length c.args.further.now) was.0 events c.loop-event.text.now none (sym was.3 ∙ is) in
+    let done = events_so_far was.0 _ events (sym was.3 ∙ is) in
     (length was.0, was.1, was.2, rw done was.4, was.6, λ sufficed. ap length (sym all))

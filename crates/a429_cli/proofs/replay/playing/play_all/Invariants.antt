@@ -1,4 +1,4 @@
-use Rattle.std.proofs.Common.{◌≡◌, ℕ, List, map, ◌<◌, length}
+use Rattle.std.proofs.Common.{◌≡◌, ℕ, List, ◌<◌, length}
 use Rattle.std.specs.Io.KnownBytes.{Appends, append_known}
 use Rattle.a429_slots.specs.Events.{Event}
 use Rattle.a429_slots.specs.History.{Opening}
@@ -13,7 +13,7 @@ invariant-loop-event g l = record {
   played : (o : Opening) (E : List Event) → StandsFor 41 o E l.initial.state
       → (done : List ScriptEvent) × (M : List Event) × (bytes : List ℕ)
       × (script_events l.names (length l.further) l.script ≡ events_before done (events_after l.names (length l.further) (length done) l.text))
-      × Played o l.names.sources (map (λ t. t.items) l.further) E done M bytes × StandsFor 41 o M l.state
+      × Played o l.names.sources l.further E done M bytes × StandsFor 41 o M l.state
       × Appends (append_known (g.O.Output.contents l.initial.out) l.initial.lines.text.items) (append_known (g.O.Output.contents l.out) l.lines.text.items) bytes;
   few : length l.initial.lines.text.items < 65536 → length l.lines.text.items < 65536;
   kept : g.O.Output.failures l.out ≡ g.O.Output.failures l.initial.out;
