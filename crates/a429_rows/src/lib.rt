@@ -1,7 +1,9 @@
 //! Tests across crates of what no command reaches: last slots and counts, writers and readers that fail, and
-//! public functions called by themselves. What commands write is stated by the cases of `a429_cases`.
+//! public functions called by themselves. What commands write is stated by the cases of `a429_cases`. `client` is a
+//! caller that stands on what the crates below promise, and on nothing else.
 #![tactic(auto)]
 
+pub mod client;
 #[cfg(test)]
 mod fields;
 #[cfg(test)]

@@ -1,0 +1,87 @@
+-- What a station of two receivers and a group did on threads, as one list of events of the machine.
+use Rattle.std.specs.Prelude.{◌≡◌, ◌-◌, ◌^◌, ◌++◌, ◌∷◌, [], ℕ, zero, suc, Bool, true, List, Option, ◌<◌, length}
+use Rattle.std.specs.List.{AllByRecursion}
+use Rattle.a429_equipment.specs.declared.loads.Load.{Load}
+use Rattle.a429_equipment.specs.TableRecord.{TableRecord}
+use Rattle.a429_equipment.specs.Agreement.{Agrees}
+use Rattle.a429_equipment.specs.Receiving.{IsReceived, accepted_after}
+use Rattle.a429_slots.specs.Tables.{PlanTable}
+use Rattle.a429_slots.specs.Planned.{IsPlanOf}
+use Rattle.a429_slots.specs.Proposed.{Proposed}
+use Rattle.a429_slots.specs.History.{Opening}
+use Rattle.a429_board.specs.Lists.{Watched}
+use Rattle.a429_values.specs.Ends.{Place, Receiving}
+use Rattle.a429_workers.specs.Calls.{Call, Meets}
+use Rattle.a429_workers.specs.Runs.{ArePublished, HasRun, IsWired, plans_of}
+use Rattle.a429_workers.specs.Receives.{after_words}
+use Rattle.a429_workers.specs.Sends.{HasSent, sent_in, with_cells}
+use Rattle.a429_workers.specs.Transmitting.{BeginsWith, GoesOnBy, IsKnownPlan, Transmitting}
+use Rattle.a429_workers.specs.declared.cells.Sent.{Sent}
+
+-- the words that came in at the two receivers
+abbrev pub two : List ℕ → List ℕ → ℕ → List ℕ
+two first second zero = first
+two first second (suc zero) = second
+two first second (suc (suc r)) = []
+
+-- what each receiver of the station accepts of the words that come in there, of no source more than 41 bits can count
+abbrev pub heard_of : TableRecord → (ℕ → List ℕ) → ℕ → List (ℕ × ℕ)
+heard_of t words r = accepted_after (2 ^ 41 - 1) t r [] (words r)
+
+-- the station begins with this plan, in slot 0
+abbrev pub opening : TableRecord → PlanTable → Opening
+opening t plan = record { proposal = record { station = t; plan = plan }; first = 0 }
+
+-- These words came in, and a sink of the first group took cells. That was one run of the machine: its arrivals are what the receivers
+-- accept of the words, and the cells that it answers are those that the sink took.
+pub record IsOneRun (t : TableRecord) (words : ℕ → List ℕ) (before after : Option (List Sent)) : Type 0 where
+  pub plan : PlanTable
+  pub planned : IsPlanOf t plan
+  pub later : List Proposed
+  pub calls : List Call
+  pub run : HasRun 41 (opening t plan) 0 later calls (heard_of t words)
+  pub cells : after ≡ with_cells before (sent_in calls)
+
+-- ---- pieces of it
+
+-- a receiver that accepted nothing yet
+abbrev pub fresh : Place → ℕ → Receiving
+fresh at number = record { at = at; number = number; limit = 2 ^ 41 - 1; accepted = [] }
+
+-- the line gave words, and where it came to its end the receiver took them all
+abbrev pub HasHeard : {L : Type 0} → (L → List ℕ) → L → L → Receiving → Receiving → Bool → Type 0
+HasHeard given line rest old new done =
+    (words : List ℕ) × (given rest ≡ given line ++ words) × (done ≡ true → new ≡ after_words old words)
+
+-- the transmitter answered cells and changes, and where they are all that was asked for the sink took the cells
+abbrev pub HasSentAll : Transmitting → Transmitting → Option (List Sent) → Option (List Sent) → Bool → Type 0
+HasSentAll old new before after done = done ≡ true → (calls : List Call) × HasSent old new before after calls []
+
+-- a planner's list: the opening plan and those published after it, all of the station
+pub record AreShown (o : Opening) (list : List PlanTable) : Type 0 where
+  pub later : List Proposed
+  pub published : ArePublished o later
+  pub plans : list ≡ plans_of o later
+  pub known : AllByRecursion (IsKnownPlan o.proposal.station) list
+
+-- a transmitter met two receivers, and was told this list of plans
+pub record HasMet (old new : Transmitting) (first second : Receiving) (list : List PlanTable) : Type 0 where
+  pub one : List Load
+  pub other : List Load
+  pub stands : GoesOnBy old (Meets one ∷ Meets other ∷ []) new
+  pub told : new.watcher.list ≡ list
+  pub station : new.transmitter.at ≡ old.transmitter.at
+  pub agrees_one : Agrees old.transmitter.at.station first.number first.accepted new.transmitter.loads
+  pub agrees_other : Agrees old.transmitter.at.station second.number second.accepted new.transmitter.loads
+  pub received_one : IsReceived first.limit first.at.station first.number first.accepted
+  pub received_other : IsReceived second.limit second.at.station second.number second.accepted
+
+-- Two receivers of a station that has no other took words, from nothing accepted on. The first group's transmitter, which began by the opening plan
+-- of its watcher at slot 0 and with no load, sent frames, and then met both and was told the planner's list. So it was one run.
+abbrev pub EndsRunOnce : Type 0
+EndsRunOnce =
+    (at : Place) (w : Watched) (list : List PlanTable) (begun sent done : Transmitting) (first second : List ℕ) (calls : List Call) (before after : Option (List Sent))
+    → IsWired at.station → length at.station.receivers ≡ 2 → 0 < length at.station.groups → IsPlanOf at.station w.opened
+    → BeginsWith (record { at = at; number = 0; loads = [] }) w 0 begun → begun.transmitter.at ≡ at → HasSent begun sent before after calls []
+    → AreShown (opening at.station w.opened) list → HasMet sent done (after_words (fresh at 0) first) (after_words (fresh at 1) second) list
+    → IsOneRun at.station (two first second) before after
