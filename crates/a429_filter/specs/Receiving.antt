@@ -1,11 +1,12 @@
 -- What a socket answers, by the words that it took in the call (profile).
-use Rattle.std.specs.Prelude.{◌≡◌, ◌≤◌, ℕ, Bool, true, false, List, ◌++◌, Option, Result, Ok, Err, length, filter, min, option_map, ◌+◌, ◌-◌, ◌^◌, ◌==◌, ◌&&◌}
+use Rattle.std.specs.Prelude.{◌≡◌, ◌≤◌, ℕ, Bool, true, false, List, ◌++◌, Option, Some, None, Result, Ok, Err, length, filter, map, min, option_map, ◌+◌, ◌-◌, ◌^◌, ◌==◌, ◌&&◌}
+use Rattle.std.specs.List.{FoldsTo}
 use Rattle.a429_word.specs.Bits.{has_odd_parity, label_of}
 use Rattle.a429_filter.specs.declared.filters.Filter.{Filter}
 use Rattle.a429_filter.specs.declared.sources.SourceFault.{SourceFault}
 use Rattle.a429_filter.specs.declared.sources.SourceFault.TheVariants.{Failed, Skipped}
 use Rattle.a429_filter.specs.Filters.{set_passes}
-use Rattle.a429_filter.specs.Sources.{word_given}
+use Rattle.a429_filter.specs.Sources.{SourceAnswer, word_given}
 
 -- a raw number of odd parity whose label passes
 abbrev pub accepts : Option (List Filter) → ℕ → Bool
@@ -26,8 +27,21 @@ pub record Received (filters : Option (List Filter)) (taken : List ℕ) (answer 
   pub looks : length refused ≤ 65536
   pub skipped : is_skipped answer ≡ (length refused == 65536)
 
+-- what the source was asked for behind the words: its end or a failure, where that is the answer, and else nothing
+abbrev pub AsksLast : {L : Type 0} → (L → SourceAnswer → L → Type 0) → L → SourceAnswer → L → Type 0
+AsksLast steps before (Ok None) after = steps before (Ok None) after
+AsksLast steps before (Ok (Some word)) after = before ≡ after
+AsksLast steps before (Err Failed) after = (fault : SourceFault) × steps before (Err fault) after
+AsksLast steps before (Err Skipped) after = before ≡ after
+
+-- In the call the source was asked for each word that it gave, and behind them for its end or its failure, where that is the answer.
+abbrev pub AsksFor : {L : Type 0} → (L → List ℕ) → (L → SourceAnswer → L → Type 0) → L → SourceAnswer → L → Type 0
+AsksFor {L} given steps before answer after =
+    (taken : List ℕ) × (behind : L) × (given after ≡ given before ++ taken)
+    × FoldsTo steps before (map (λ raw. Ok (Some raw)) taken) behind × AsksLast steps behind answer after
+
 -- the answer is by the words that the source gave in the call, and what was behind them the source has still to give
-abbrev pub ReceivesFrom : {L : Type 0} → (L → List ℕ) → (L → Option (List ℕ)) → L → L → Option (List Filter) → Result (Option ℕ) SourceFault → Type 0
+abbrev pub ReceivesFrom : {L : Type 0} → (L → List ℕ) → (L → Option (List ℕ)) → L → L → Option (List Filter) → SourceAnswer → Type 0
 ReceivesFrom given left before after filters answer =
     (taken : List ℕ) × (given after ≡ given before ++ taken) × (left before ≡ option_map (λ more. taken ++ more) (left after))
     × Received filters taken answer

@@ -4,6 +4,10 @@ use Rattle.a429_filter.specs.declared.sources.SourceFault.{SourceFault}
 use Rattle.a429_line.specs.declared.found.Found.{Found}
 use Rattle.a429_line.specs.declared.found.Found.TheVariants.{Word, Parity, Short, Long, Gap}
 
+-- what a call answers: a word, the end, or a fault
+abbrev pub SourceAnswer : Type 0
+SourceAnswer = Result (Option ℕ) SourceFault
+
 -- the word that an answer gives
 abbrev pub word_given : Result (Option ℕ) SourceFault → List ℕ
 word_given (Ok None) = []

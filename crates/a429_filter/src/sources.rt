@@ -1,6 +1,6 @@
 //! Where the words of a line come from.
 ghost use Rattle.std.specs.Prelude.{◌≡◌, ◌++◌, List, ℕ, Bool, Ok, None, Option, option_map, []};
-ghost use Rattle.a429_filter.specs.Sources.{failures_after, is_end, list_or_none, word_given};
+ghost use Rattle.a429_filter.specs.Sources.{SourceAnswer, failures_after, is_end, list_or_none, word_given};
 
 use thiserror::Error;
 
@@ -29,13 +29,17 @@ pub trait LineSource {
     /// The words that it has still to give, where it tells them.
     ghost left: { Self → Option (List ℕ) } = { λ _. None };
 
+    /// Whether a call can answer this and take it from one state to another, where it tells that.
+    ghost steps: { Self → SourceAnswer → Self → Type 0 } = { λ _ _ _. Unit {0} };
+
     /// The next word, whatever its parity, or None at the end. A call that answers a fault gives no word.
     fn next(&mut self) -> Result<Option<u32>, SourceFault>
         ensures given { given self.new ≡ given self.old ++ word_given result }
         ensures ended { ended self.new ≡ is_end result }
         ensures failed { failed self.new ≡ failures_after (failed self.old) result }
         ensures left { left self.old ≡ option_map (λ more. word_given result ++ more) (left self.new) }
-        ensures all { result ≡ Ok None → list_or_none (left self.new) ≡ [] };
+        ensures all { result ≡ Ok None → list_or_none (left self.new) ≡ [] }
+        ensures step { steps self.old result self.new };
 
     /// How many calls of `next` answered a fault. At the last value of 64 bits it counts no more.
     fn failures(&self) -> u64

@@ -1,6 +1,6 @@
 -- one more symbol: what it adds to the reports, and what is kept then
 use Rattle.std.proofs.Common.{◌≡◌, ℕ, ◌+◌, ◌*◌, ◌%◌, ◌^◌, ◌<◌, ◌≤◌, true, false, List, [], ◌∷◌, ◌++◌, length, refl, ap, sym, ◌∙◌, arith, append_assoc, append-nil, length-append, get_or, drop, take, drop-cons, add-one}
-use Rattle.std.specs.Prelude.{filter_map, bit_or}
+use Rattle.std.specs.Prelude.{◌≢◌, Option, Some, None, is_some, filter_map, bit_or}
 use Rattle.std.specs.Option.{option_to_list, option_map_or}
 use Rattle.std.specs.List.{find}
 use Rattle.std.proofs.lemmas.List.Elements.{filter_map-append}
@@ -198,6 +198,10 @@ after_none stage = refl
 drop_next : (x : List Symbol) (i : ℕ) (d : Symbol) → i < length x → drop i x ≡ get_or x i d ∷ drop (i + 1) x
 drop_next x i d h = drop-cons x i d h ∙ ap (λ (n : ℕ). get_or x i d ∷ drop n x) (sym (add-one i))
 
+one_of : (found : Option Found) → is_some found ≡ true → length (option_to_list found) ≡ 1
+one_of None some = absurd (let clash : false ≡ true = some in cc)
+one_of (Some f) some = refl
+
 -- a step of the loop over a piece
 pub due_step : (out old : List Found) (stage begun : Stage) (piece : List Symbol) (i : ℕ) (d : Symbol) → i < length piece →
     out ++ due_in stage (drop i piece) ≡ old ++ due_in begun piece →
@@ -231,3 +235,21 @@ pub front_stays : (n : ℕ) (out more old : List Found) → n ≡ length old →
 front_stays n out more old len e =
     let enough : n ≤ length out = omega (arith, length-take n out, ap length e) in
     take-append-le n out more enough ∙ e
+
+-- a report that is due in what is left is due in the whole piece
+pub due_some : (out old : List Found) (stage begun : Stage) (piece : List Symbol) (i : ℕ) (d : Symbol) → i < length piece → length old ≤ length out →
+    is_some (due stage (get_or piece i d)) ≡ true → out ++ due_in stage (drop i piece) ≡ old ++ due_in begun piece → due_in begun piece ≢ []
+unfolding due_in
+due_some out old stage begun piece i d h more some e none =
+    let s = get_or piece i d in
+    let left = due_in (after stage s) (drop (i + 1) piece) in
+    let at : out ++ (option_to_list (due stage s) ++ left) ≡ old ++ due_in begun piece = ap (λ (x : List Symbol). out ++ due_in stage x) (sym (drop_next piece i d h)) ∙ e in
+    let one : length (option_to_list (due stage s)) ≡ 1 = one_of (due stage s) some in
+    let long = ap length at in
+    let short : length (due_in begun piece) ≡ 0 = ap length none in
+    omega (arith, long, one, short, more, length-append out (option_to_list (due stage s) ++ left), length-append (option_to_list (due stage s)) left, length-append old (due_in begun piece))
+
+-- symbols with a report that is due bring one behind every line
+pub some_of : (x y : List Symbol) (stage : Stage) (due : List Found) → due ≡ due_in stage y → due ≢ [] → StandsFor x stage → (found : Found) × (later : List Found) × (reports (x ++ y) ≡ reports x ++ found ∷ later)
+some_of x y stage [] is some S = absurd (some refl)
+some_of x y stage (f ∷ fs) is some S = (f, fs, reports_of x y stage S ∙ ap (λ (l : List Found). reports x ++ l) (sym is))

@@ -46,3 +46,9 @@ abbrev pub AddsReports : Stage → List Symbol → List Found → List Found →
 AddsReports stage piece before after =
     (x : List Symbol) → StandsFor x stage
     → (added : List Found) × (after ≡ before ++ added) × (reports (x ++ piece) ≡ reports x ++ added)
+
+-- behind every line that a reader at this stage stands for, these symbols bring a report at least
+abbrev pub BringSome : Stage → List Symbol → Type 0
+BringSome stage piece =
+    (x : List Symbol) → StandsFor x stage
+    → (found : Found) × (later : List Found) × (reports (x ++ piece) ≡ reports x ++ found ∷ later)

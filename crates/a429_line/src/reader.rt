@@ -1,10 +1,10 @@
 //! A reader of one line, symbols in any pieces.
-ghost use Rattle.std.specs.Prelude.{◌≡◌, ◌++◌, ◌≤◌, ◌<◌, List, [], None, IfSome, OnOk, OnErr, IfOk, is_ok, length, slice_range, if◌then◌else◌};
+ghost use Rattle.std.specs.Prelude.{◌≡◌, ◌≢◌, ◌++◌, ◌≤◌, ◌<◌, List, [], None, IfSome, OnOk, OnErr, IfOk, IsErr, is_ok, is_some, true, length, slice_range, if◌then◌else◌};
 ghost use Rattle.std.specs.Option.{option_to_list};
 ghost use Rattle.a429_line.specs.LineBytes.{symbols_of};
 ghost use Rattle.a429_line.specs.Reports.{rest};
 ghost use Rattle.a429_line.specs.Stages.{after_all, due_in};
-ghost use Rattle.a429_line.specs.Standing.{AddsReports, BringReports, GoesOnBy, StandsFor};
+ghost use Rattle.a429_line.specs.Standing.{AddsReports, BringReports, BringSome, GoesOnBy, StandsFor};
 ghost use Rattle.a429_line.specs.declared.found.Symbol.{Symbol};
 
 use crate::found::{Found, Symbol};
@@ -29,7 +29,8 @@ impl Model for LineReader {
 
 /// Adds the report, if there is one.
 fn push_some(out: &mut Vec<Found>, found: Option<Found>) -> Result<(), AllocError>
-    ensures { out.new.items ≡ (if is_ok result then out.old.items ++ option_to_list found else out.old.items) }
+    ensures items { out.new.items ≡ (if is_ok result then out.old.items ++ option_to_list found else out.old.items) }
+    ensures memory { IsErr result → is_some found ≡ true }
 {
     if let Some(found) = found {
         out.push(found)?;
@@ -43,6 +44,7 @@ fn take_all(mut stage: Stage, piece: &[Symbol], out: &mut Vec<Found>) -> Result<
     ensures due { OnOk result (out.new.items ≡ out.old.items ++ due_in stage piece.now) }
     ensures after { IfOk result (λ now. now ≡ after_all stage piece.now) }
     ensures err { OnErr result (out.new.items ≡ out.old.items) }
+    ensures memory { OnErr result (due_in stage piece.now ≢ []) }
 {
     let before = out.len();
     for symbol in piece {
@@ -67,13 +69,15 @@ impl LineReader {
     }
 
     /// Takes the next piece of the line, and adds the reports that are due in it at the end of the list.
-    /// Where memory for them is refused, the reader and the list are as before.
+    /// Where memory for one of them is refused, the reader and the list are as before; a piece in which none is due
+    /// is never refused.
     // For every line that the reader stands for, it then stands for that line with the piece behind it,
     // and the reports added are those that the longer line has beyond the shorter one's.
     pub fn feed(&mut self, piece: &[Symbol], out: &mut Vec<Found>) -> Result<(), AllocError>
         ensures stands { OnOk result (GoesOnBy self.old piece.now self.new) }
         ensures reports { OnOk result (AddsReports self.old piece.now out.old.items out.new.items) }
         ensures err { OnErr result ((self.new ≡ self.old) × (out.new.items ≡ out.old.items)) }
+        ensures memory { OnErr result (BringSome self.old piece.now) }
     {
         self.stage = take_all(self.stage, piece, out)?;
         Ok(())
