@@ -1,5 +1,5 @@
 -- The root table of the bytes.
-use Rattle.std.proofs.Common.{◌≡◌, ℕ, Bool, true, false, List, [], ◌∷◌, Option, Some, None, option_map, Ok, Err, refl}
+use Rattle.std.proofs.Common.{◌≡◌, ℕ, Bool, true, false, List, [], ◌∷◌, Option, Some, None, option_map, Ok, Err, refl, sym, ap, ◌∙◌}
 use Rattle.std.specs.Str.{IsUtf8, is_utf8}
 use Rattle.std.proofs.lemmas.Str.{IsUtf8-from_is_utf8, is_utf8-from_IsUtf8}
 use Rattle.toml.specs.Data.{Data, Members, table}
@@ -28,6 +28,19 @@ pub document-text : (bytes : List ℕ) (parsed : Option Members) → IsUtf8 byte
 unfolding document
 document-text bytes parsed text e = rw (is_utf8-from_IsUtf8 bytes text, e)
 
+no_document : (bytes : List ℕ) → is_utf8 bytes ≡ false → document bytes ≡ None
+unfolding document
+no_document bytes is = rw is
+
+text_if : (b : Bool) (bytes : List ℕ) (root : Data) → is_utf8 bytes ≡ b → root_of (document bytes) ≡ Ok root → is_utf8 bytes ≡ true
+text_if true bytes root is e = is
+text_if false bytes root is e =
+    absurd (let none : root_of (document bytes) ≡ root_of None = ap root_of (no_document bytes is) in let clash : root_of None ≡ Ok root = sym none ∙ e in cc)
+
+-- a root table is of a text
+pub root_is_text : (bytes : List ℕ) (root : Data) → root_of (document bytes) ≡ Ok root → is_utf8 bytes ≡ true
+root_is_text bytes root e = text_if (is_utf8 bytes) bytes root refl e
+
 judged_fault : (root : Data) (fs : List Fault) (f : Fault) → first fs ≡ Some f → judged root fs ≡ Err f
 judged_fault root [] f e = cc
 judged_fault root (g ∷ gs) f e = cc
@@ -48,6 +61,6 @@ reading-no_root : (bytes : List ℕ) (f : Fault) → root_of (document bytes) �
 unfolding reading
 reading-no_root bytes f e = rw e
 
-pub no_root_passes : {X Y : Type 0} (v : X → Data) (w : Y → TableRecord) (bytes : List ℕ) (e : TableFault) → GivesUnlessMemory v (Err e) (root_of (document bytes)) → GivesUnlessMemory w (Err e) (reading bytes)
-no_root_passes v w bytes NoMemory h = tt
+pub no_root_passes : {X Y : Type 0} (v : X → Data) (w : Y → TableRecord) (bytes : List ℕ) (e : TableFault) → GivesUnlessMemory v bytes (Err e) (root_of (document bytes)) → GivesUnlessMemory w bytes (Err e) (reading bytes)
+no_root_passes v w bytes NoMemory h = h
 no_root_passes v w bytes (At kind place) h = reading-no_root bytes (kind, place) h

@@ -1,5 +1,5 @@
 -- What the bytes of an equipment table state: a record, or the least fault.
-use Rattle.std.specs.Prelude.{◌≡◌, ℕ, List, [], ◌∷◌, Option, Some, None, option_map, Result, Ok, Err, if◌then◌else◌}
+use Rattle.std.specs.Prelude.{◌≡◌, ℕ, true, List, [], ◌∷◌, Option, Some, None, option_map, Result, Ok, Err, if◌then◌else◌}
 use Rattle.std.specs.Str.{is_utf8}
 use Rattle.toml.specs.Data.{Data, table}
 use Rattle.toml.specs.Parse.{parse_document}
@@ -34,8 +34,8 @@ read_root (Ok root) = judged root (faults root)
 unfoldable pub reading : List ℕ → Result TableRecord (FaultKind × TablePlace)
 reading bytes = read_root (root_of (document bytes))
 
--- a function gives what is stated, unless memory runs out
-abbrev pub GivesUnlessMemory : {X Y : Type 0} → (X → Y) → Result X TableFault → Result Y (FaultKind × TablePlace) → Type 0
-GivesUnlessMemory view (Ok x) stated = stated ≡ Ok (view x)
-GivesUnlessMemory view (Err NoMemory) stated = Unit {0}
-GivesUnlessMemory view (Err (At kind place)) stated = stated ≡ Err (kind, place)
+-- a function gives what is stated by these bytes, unless memory runs out: it does so only where they are UTF-8
+abbrev pub GivesUnlessMemory : {X Y : Type 0} → (X → Y) → List ℕ → Result X TableFault → Result Y (FaultKind × TablePlace) → Type 0
+GivesUnlessMemory view bytes (Ok x) stated = stated ≡ Ok (view x)
+GivesUnlessMemory view bytes (Err NoMemory) stated = is_utf8 bytes ≡ true
+GivesUnlessMemory view bytes (Err (At kind place)) stated = stated ≡ Err (kind, place)

@@ -56,9 +56,10 @@ impl Equipment {
 
     /// Reads an equipment table, as TOML (profile: equipment table, versions 1 and 2). The fault is the
     /// first by kind, and of its kind the first in walk order: root, receivers, sources, then each group
-    /// followed by its outputs. It is `NoMemory` only where memory ran out.
+    /// followed by its outputs. It is `NoMemory` only where memory ran out, and for bytes that are UTF-8: others are
+    /// `NotToml`.
     pub fn read(alloc: Global, bytes: &[u8]) -> Result<Equipment, TableFault>
-        ensures { GivesUnlessMemory (λ e. e) result (reading bytes.now) }
+        ensures { GivesUnlessMemory (λ e. e) bytes.now result (reading bytes.now) }
     {
         let root = document(alloc, bytes)?;
         let numbers = Numbers::of(alloc, &root)?;
