@@ -3,6 +3,8 @@
 #![tactic(auto)]
 
 #[cfg(test)]
+mod devices;
+#[cfg(test)]
 mod fields;
 #[cfg(test)]
 mod files;
