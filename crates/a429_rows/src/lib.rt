@@ -5,6 +5,8 @@
 
 pub mod client;
 #[cfg(test)]
+mod devices;
+#[cfg(test)]
 mod fields;
 #[cfg(test)]
 mod files;
