@@ -16,6 +16,7 @@ pub mod Ranges
 pub mod Cutting
 pub mod Lasting
 pub mod Receiving
+pub mod Chained
 pub mod KeyPairs
 pub mod Labels
 pub mod Stations

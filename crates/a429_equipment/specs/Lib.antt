@@ -11,9 +11,11 @@ pub mod Walk
 pub mod Stops
 pub mod Texts
 pub mod LabelCodes
+pub mod Chains
 pub mod Names
 pub mod Numbers
 pub mod Faults
+pub mod KeyBuckets
 pub mod SourceKeys
 pub mod Least
 pub mod Stated

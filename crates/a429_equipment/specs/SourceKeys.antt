@@ -1,5 +1,5 @@
 -- What sources state of their words, as the tests for repeats compare it.
-use Rattle.std.specs.Prelude.{◌≡◌, codes, ℕ, ℤ, List, [], Vec, String, map, Bool, false, ◌&&◌, Option, Some, option_map}
+use Rattle.std.specs.Prelude.{◌≡◌, codes, ℕ, ℤ, List, [], String, map, Bool, false, ◌&&◌, Option, Some, option_map}
 use Rattle.std.specs.declared.alloc.Global.{Global}
 use Rattle.std.specs.List.{list_any}
 use Rattle.std.specs.Option.{option_map_or}
@@ -7,6 +7,7 @@ use Rattle.std.specs.Str.{bytes_eq}
 use Rattle.indexmap.specs.IndexMap.{IndexMap}
 use Rattle.toml.specs.Data.{Data}
 use Rattle.a429_equipment.specs.declared.keys.SourceKey.{SourceKey}
+use Rattle.a429_equipment.specs.declared.senders.Senders.{Senders}
 use Rattle.a429_equipment.specs.Tree.{text_at, rows_at}
 use Rattle.a429_equipment.specs.Numbers.{NumbersNames}
 use Rattle.a429_equipment.specs.Faults.{sdi_at, sdis_meet, same_sdi, source_of}
@@ -43,12 +44,12 @@ sender_of root d = option_map key_of (source_of root d)
 abbrev pub senders_of : Data → Data → List (Option Key)
 senders_of root group = map (sender_of root) (rows_at (codes "output") group)
 
-abbrev pub senders_view : List (Vec (Option SourceKey) Global) → List (List (Option Key))
-senders_view senders = map (λ s. map (option_map key_view) s.items) senders
+abbrev pub senders_view : List Senders → List (List (Option Key))
+senders_view senders = map (λ s. map (option_map key_view) s.keys.items) senders
 
 -- those of a group, or none where there is no such group
-abbrev pub keys_in : Option (Vec (Option SourceKey) Global) → List (Option SourceKey)
-keys_in senders = option_map_or (λ s. s.items) senders []
+abbrev pub keys_in : Option Senders → List (Option SourceKey)
+keys_in senders = option_map_or (λ s. s.keys.items) senders []
 
 -- the key is that of the source of an output of a table, by the numbers and the keys of its sources
 abbrev pub IsSenderOf : {S : Type 0} → IndexMap (String Global) ℕ S → List SourceKey → Data → Option SourceKey → Type 0
@@ -61,7 +62,7 @@ AreSendersOf numbers keys outputs senders =
     (root : Data) → AreOfSources numbers keys root → map (option_map key_view) senders ≡ map (sender_of root) outputs
 
 -- the keys are those of the sources of the outputs of each group
-abbrev pub AreSendersOfGroups : {S : Type 0} → IndexMap (String Global) ℕ S → List SourceKey → List Data → List (Vec (Option SourceKey) Global) → Type 0
+abbrev pub AreSendersOfGroups : {S : Type 0} → IndexMap (String Global) ℕ S → List SourceKey → List Data → List Senders → Type 0
 AreSendersOfGroups numbers keys groups senders =
     (root : Data) → AreOfSources numbers keys root → senders_view senders ≡ map (senders_of root) groups
 

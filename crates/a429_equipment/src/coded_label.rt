@@ -7,15 +7,15 @@ ghost use Rattle.a429_equipment.specs.LabelCodes.{label_code};
 #[derive(Clone, Copy)]
 pub struct CodedLabel<'a> {
     pub text: &'a str,
-    code: u32,
+    code: u8,
     ghost of_text: { code ≡ label_code text.now },
 }
 
-fn label_code(text: &[u8]) -> u32
+fn label_code(text: &[u8]) -> u8
     ensures { result ≡ label_code text.now }
 {
     match text {
-        [a, b, c] => u32::from(*a) + 256 * (u32::from(*b) + 256 * u32::from(*c)),
+        [a, b, c] => a % 4 * 64 + b % 8 * 8 + c % 8,
         _ => 0,
     }
 }
@@ -29,6 +29,13 @@ impl<'a> CodedLabel<'a> {
             text,
             code: label_code(text.as_bytes()),
         }
+    }
+
+    /// Its code.
+    pub fn code(&self) -> u8
+        ensures { result ≡ label_code self.now.text.now }
+    {
+        self.code
     }
 
     /// Whether both have one text. Most that differ do so by their codes: texts are compared where codes are equal.

@@ -1,12 +1,16 @@
-//! What sources state of their words, gathered once: the tests for repeats compare it pair by pair.
+//! What sources state of their words, gathered once and in buckets: the tests for repeats compare those of one bucket.
 
 ghost use Rattle.std.specs.Prelude.{◌≡◌, map, slice_get, option_map, IfOk};
 ghost use Rattle.indexmap.specs.IndexMap.{get_by_text};
 ghost use Rattle.toml.specs.View.{view};
 ghost use Rattle.a429_equipment.specs.Faults.{sdi_at, sdis_meet, same_sdi};
+ghost use Rattle.a429_equipment.specs.Chains.{AreChained};
+ghost use Rattle.a429_equipment.specs.KeyBuckets.{key_bucket, sender_bucket};
 ghost use Rattle.a429_equipment.specs.SourceKeys.{key_view, key_of, keys_meet, same_keys, AreSendersOf, AreSendersOfGroups, IsSenderOf};
 
+use crate::chains::Chains;
 use crate::coded_label::CodedLabel;
+use crate::senders::Senders;
 use crate::tree::{rows_at, text_at};
 use indexmap::IndexMap;
 use std::alloc::{AllocError, Global};
@@ -91,6 +95,44 @@ pub fn source_keys<'a>(
     Ok(keys)
 }
 
+/// The bucket of a key, by its label.
+pub fn key_bucket(key: &SourceKey<'_>) -> u8
+    ensures { result ≡ key_bucket key.now }
+{
+    key.label.code()
+}
+
+/// The bucket of a key, by its label; the first where there is no key.
+pub fn sender_bucket(key: &Option<SourceKey<'_>>) -> u8
+    ensures { result ≡ sender_bucket key.now }
+{
+    match key {
+        Some(key) => key_bucket(key),
+        None => 0,
+    }
+}
+
+/// The keys of sources, in buckets by their labels.
+pub fn key_chains(alloc: Global, keys: &[SourceKey<'_>]) -> Result<Chains, AllocError>
+    ensures { IfOk result (λ chains. AreChained (map key_bucket keys.now) chains.last.items chains.before.items) }
+{
+    let mut chains = Chains::new(alloc)?;
+    for key in keys {
+        chains.push(key_bucket(key))?;
+    }
+    Ok(chains)
+}
+
+fn sender_chains(alloc: Global, keys: &[Option<SourceKey<'_>>]) -> Result<Chains, AllocError>
+    ensures { IfOk result (λ chains. AreChained (map sender_bucket keys.now) chains.last.items chains.before.items) }
+{
+    let mut chains = Chains::new(alloc)?;
+    for key in keys {
+        chains.push(sender_bucket(key))?;
+    }
+    Ok(chains)
+}
+
 fn nth_key<'a>(keys: &[SourceKey<'a>], number: usize) -> Option<SourceKey<'a>>
     ensures { result ≡ slice_get keys.now number }
 {
@@ -132,18 +174,34 @@ fn group_keys<'a>(
     Ok(senders)
 }
 
+fn group_senders<'a>(
+    alloc: Global,
+    numbers: &IndexMap<String, usize>,
+    keys: &[SourceKey<'a>],
+    outputs: &[Value],
+) -> Result<Senders<'a>, AllocError>
+    ensures { IfOk result (λ senders. AreSendersOf numbers.now keys.now (map view outputs.now) senders.keys.items) }
+{
+    let senders = group_keys(alloc, numbers, keys, outputs)?;
+    let chains = sender_chains(alloc, &senders)?;
+    Ok(Senders {
+        keys: senders,
+        chains,
+    })
+}
+
 /// The keys of the sources of the outputs of each group.
 pub fn sender_keys<'a>(
     alloc: Global,
     numbers: &IndexMap<String, usize>,
     keys: &[SourceKey<'a>],
     groups: &[Value],
-) -> Result<Vec<Vec<Option<SourceKey<'a>>>>, AllocError>
+) -> Result<Vec<Senders<'a>>, AllocError>
     ensures { IfOk result (λ senders. AreSendersOfGroups numbers.now keys.now (map view groups.now) senders.items) }
 {
     let mut senders = Vec::new(alloc);
     for group in groups {
-        senders.push(group_keys(alloc, numbers, keys, rows_at(group, "output"))?)?;
+        senders.push(group_senders(alloc, numbers, keys, rows_at(group, "output"))?)?;
     }
     Ok(senders)
 }

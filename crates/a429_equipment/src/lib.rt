@@ -3,6 +3,7 @@
 
 mod arrivals;
 mod build;
+mod chains;
 mod coded_label;
 mod columns;
 mod copies;
@@ -20,6 +21,7 @@ mod repeats;
 mod rows;
 mod same;
 mod search;
+mod senders;
 mod shape;
 mod tree;
 mod values;

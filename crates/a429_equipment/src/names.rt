@@ -1,59 +1,23 @@
 //! Faults in names: names given twice, and names that stand for nothing.
 
-ghost use Rattle.std.specs.Prelude.{◌≡◌, map, take, codes, slice_get};
+ghost use Rattle.std.specs.Prelude.{◌≡◌, slice_get};
 ghost use Rattle.std.specs.Option.{option_copied};
 ghost use Rattle.toml.specs.View.{view};
-ghost use Rattle.a429_equipment.specs.Tree.{rows_at};
 ghost use Rattle.a429_equipment.specs.Stops.{table_of};
 ghost use Rattle.a429_equipment.specs.Names.{is_below, name_of};
-ghost use Rattle.a429_equipment.specs.Walk.{earlier, outputs_of};
 ghost use Rattle.a429_equipment.specs.Faults.{repeats_name, names_nothing};
 
 use crate::fault::TablePlace;
 use crate::numbers::Numbers;
-use crate::tree::{rows_at, text_at};
+use crate::tree::text_at;
 use crate::walk::Stop;
 use toml::Value;
-
-/// The rows before a number.
-pub fn first_rows<T>(rows: &[T], count: usize) -> &[T]
-    ensures { result.now ≡ take count rows.now }
-{
-    if count < rows.len() {
-        &rows[..count]
-    } else {
-        rows
-    }
-}
 
 /// The row of a number.
 pub fn nth_row<T>(rows: &[T], row: usize) -> Option<&T>
     ensures { option_copied result ≡ slice_get rows.now row }
 {
     rows.get(row)
-}
-
-fn outputs_of(root: &Value, group: usize) -> &[Value]
-    ensures { map view result.now ≡ outputs_of (slice_get (rows_at (codes "group") (view root.now)) group) }
-{
-    match nth_row(rows_at(root, "group"), group) {
-        Some(group) => rows_at(group, "output"),
-        None => &[],
-    }
-}
-
-/// The earlier tables of the array that a place lies in.
-#[tactic(auto, unfolding(crate::specs::Walk::earlier), using(crate::proofs::Trees::map_take))]
-pub fn earlier(root: &Value, place: TablePlace) -> &[Value]
-    ensures { map view result.now ≡ earlier (view root.now) place }
-{
-    match place {
-        TablePlace::Root => &[],
-        TablePlace::Receiver(row) => first_rows(rows_at(root, "receiver"), row),
-        TablePlace::Source(row) => first_rows(rows_at(root, "source"), row),
-        TablePlace::Group(row) => first_rows(rows_at(root, "group"), row),
-        TablePlace::Output(group, row) => first_rows(outputs_of(root, group), row),
-    }
 }
 
 fn name_of(table: &Value) -> &str

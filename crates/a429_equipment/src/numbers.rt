@@ -9,9 +9,12 @@ ghost use Rattle.a429_equipment.specs.Numbers.{NumbersNames, NumbersOneMore};
 ghost use Rattle.a429_equipment.specs.Tree.{rows_at};
 ghost use Rattle.a429_equipment.specs.SourceKeys.{key_view, key_of, sender_of, senders_of, senders_view};
 ghost use Rattle.a429_equipment.specs.Version.{version_of};
+ghost use Rattle.a429_equipment.specs.Chains.{AreChained};
+ghost use Rattle.a429_equipment.specs.KeyBuckets.{key_bucket};
 
-use crate::keys::{SourceKey, sender_key, sender_keys, source_keys};
-use crate::names::first_rows;
+use crate::chains::Chains;
+use crate::keys::{SourceKey, key_chains, sender_key, sender_keys, source_keys};
+use crate::senders::Senders;
 use crate::tree::{rows_at, text_at};
 use crate::version::{TableVersion, version_of};
 use indexmap::IndexMap;
@@ -27,20 +30,20 @@ pub struct Numbers<'a> {
     receivers: IndexMap<String, usize>,
     sources: IndexMap<String, usize>,
     groups: IndexMap<String, usize>,
-    keys: Vec<SourceKey<'a>>,
-    pub senders: Vec<Vec<Option<SourceKey<'a>>>>,
+    pub keys: Vec<SourceKey<'a>>,
+    pub key_chains: Chains,
+    pub senders: Vec<Senders<'a>>,
     ghost of_version: { version ≡ version_of (view root.now) },
     ghost of_receivers: { NumbersNames receivers (rows_at (codes "receiver") (view root.now)) },
     ghost of_sources: { NumbersNames sources (rows_at (codes "source") (view root.now)) },
     ghost of_groups: { NumbersNames groups (rows_at (codes "group") (view root.now)) },
     ghost of_keys: { map key_view keys.items ≡ map key_of (rows_at (codes "source") (view root.now)) },
+    ghost of_key_chains: { AreChained (map key_bucket keys.items) key_chains.last.items key_chains.before.items },
     ghost of_senders: { senders_view senders.items ≡ map (senders_of (view root.now)) (rows_at (codes "group") (view root.now)) },
 }
 
 impl<'a> Numbers<'a> {
     ghost use Rattle.a429_equipment.specs.Stops.{table_of};
-    ghost use Rattle.a429_equipment.specs.Walk.{earlier};
-    ghost use Rattle.a429_equipment.specs.declared.fault.TablePlace.TheVariants.{Source};
 
     /// Gathers the names of a root table.
     pub fn of(alloc: Global, root: &'a Value) -> Result<Numbers<'a>, AllocError>
@@ -50,6 +53,7 @@ impl<'a> Numbers<'a> {
         let sources = number_names(alloc, rows_at(root, "source"))?;
         let groups = number_names(alloc, rows_at(root, "group"))?;
         let keys = source_keys(alloc, rows_at(root, "source"))?;
+        let key_chains = key_chains(alloc, &keys)?;
         let senders = sender_keys(alloc, &sources, &keys, rows_at(root, "group"))?;
         Ok(Numbers {
             root,
@@ -58,6 +62,7 @@ impl<'a> Numbers<'a> {
             sources,
             groups,
             keys,
+            key_chains,
             senders,
         })
     }
@@ -81,14 +86,6 @@ impl<'a> Numbers<'a> {
         ensures { result ≡ number_named name.now (rows_at (codes "group") (table_of self.now)) }
     {
         self.groups.get(name).copied()
-    }
-
-    /// The keys of the sources before a row.
-    #[tactic(auto, unfolding(crate::specs::Walk::earlier), using(crate::proofs::Trees::map_take))]
-    pub fn earlier_sources(&self, row: usize) -> &[SourceKey<'a>]
-        ensures { map key_view result.now ≡ map key_of (earlier (table_of self.now) (Source row)) }
-    {
-        first_rows(&self.keys, row)
     }
 
     /// The key of the source of an output.
