@@ -1,83 +1,225 @@
--- What holds of workers before their loops, of those that have ended.
-use Rattle.std.proofs.Common.{◌≡◌, ℕ, Bool, List, [], ◌∷◌, ◌++◌, ◌∙◌, drop, map, ap, subst, sym}
-use Rattle.std.specs.Prelude.{Option, Result, Ok, Err, IfOk, slice_get}
-use Rattle.std.specs.List.{AllByRecursion, AllZip}
-use Rattle.std.proofs.lemmas.Option.{same_Some}
+-- What holds of workers that have ended, and of the station that they were of.
+use Rattle.std.proofs.Common.{◌≡◌, ◌∙◌, ℕ, ◌+◌, ◌-◌, ◌^◌, ◌<◌, ◌≤◌, Bool, true, false, List, [], ◌∷◌, ◌++◌, length, drop, map, ap, subst, sym, refl, inl, inr, arith}
+use Rattle.std.specs.Prelude.{◌⊎◌, Option, Some, None, Result, Ok, Err, if◌then◌else◌, nat_lt, option_map, slice_get}
+use Rattle.std.specs.List.{AllByRecursion, AllZip, range_with_len}
+use Rattle.std.proofs.lemmas.List.{map-append}
+use Rattle.std.proofs.lemmas.Option.{none-some, same_Some}
+use Rattle.a429_equipment.specs.declared.arrivals.ArrivalRefusal.{ArrivalRefusal}
+use Rattle.a429_equipment.specs.declared.loads.Load.{Load}
 use Rattle.a429_equipment.specs.TableRecord.{TableRecord}
+use Rattle.a429_equipment.specs.Agreement.{Agrees, words_of}
+use Rattle.a429_equipment.specs.Arrivals.{sorted}
+use Rattle.a429_equipment.specs.Receiving.{IsReceived, accepted_after, with_word}
+use Rattle.a429_slots.specs.Tables.{PlanTable, groups_of}
+use Rattle.a429_slots.specs.Planned.{IsPlanOf}
+use Rattle.a429_slots.specs.Proposed.{Proposed}
 use Rattle.a429_values.specs.Ends as ends
-use Rattle.a429_station.specs.Working.{AllOfThree, HasReceived, IsHeardFrom, IsSentTo}
-use Rattle.a429_workers.specs.Receives.{AreTaken}
-use Rattle.a429_workers.specs.Sends.{AreSent, sent_in, totals_of}
-use Rattle.a429_workers.specs.Transmitting.{Transmitting, IsSameGroup}
+use Rattle.a429_board.specs.Lists.{Planning, Watched}
+use Rattle.a429_workers.specs.Calls.{Call}
+use Rattle.a429_workers.specs.Receives.{AreTaken, after_words, answers_to, totals_of}
+use Rattle.a429_workers.specs.Runs.{ArePublished, IsWired, plans_of}
+use Rattle.a429_workers.specs.Sends.{AreSent}
+use Rattle.a429_workers.specs.Transmitting.{Transmitting, IsKnownPlan, IsSameGroup}
 use Rattle.a429_workers.specs.declared.cells.Sent.{Sent}
 use Rattle.a429_workers.specs.declared.receiving.ReceiveTotals.{ReceiveTotals}
 use Rattle.a429_workers.specs.declared.receiving.ReceiveFault.{ReceiveFault}
 use Rattle.a429_workers.specs.declared.receiving.ReceiveFault.TheVariants.{Source, Gate, TooMuch}
 use Rattle.a429_workers.specs.declared.sending.SendTotals.{SendTotals}
 use Rattle.a429_workers.specs.declared.sending.SendFault.{SendFault}
+use Rattle.a429_station.specs.Course.{Course, IsHeardIn, IsSentIn, fresh, heard_in, meeting, meetings}
+use Rattle.a429_station.specs.Faults.{EndsGroup, EndsLine, GaveTooMuch, HasStopped, IsFirst, first_fault, of_receiver}
+use Rattle.a429_station.specs.Numbered.{AllNumbered}
+use Rattle.a429_station.specs.Resubmitting.{GoesOn, HasFewSlots, IsBegun, IsLed, Running, opening}
+use Rattle.a429_station.specs.Working.{HasEmitted, HasReceived, IsJoined, IsOver, IsReady, IsReceiverAt, meeting_of}
+use Rattle.a429_station.specs.declared.faults.LiveFault.{LiveFault}
+use Rattle.a429_station.proofs.Numbered.{mapped_range, numbered_also, numbered_both, numbered_place, numbered_weaker, zip_mapped}
+use Rattle.a429_station.proofs.OneRun.{IsTakenIn, group_ran, never_refused, same_hub}
+use Rattle.a429_station.proofs.Plans.{plan_small}
 
-pub zip_all : {A B : Type 0} (R : A → B → Type 0) (P : A → Type 0) (Q : B → Type 0) → ((a : A) (b : B) → R a b → P a → Q b) → (xs : List A) (ys : List B) → AllZip R xs ys → AllByRecursion P xs → AllByRecursion Q ys
-zip_all R P Q on [] [] z all = tt
-zip_all R P Q on [] (y ∷ ys) z all = absurd z
-zip_all R P Q on (x ∷ xs) [] z all = absurd z
-zip_all R P Q on (x ∷ xs) (y ∷ ys) z all = (on x y z.0 all.0, zip_all R P Q on xs ys z.1 all.1)
+-- ---- one receiver
 
-pub all_mapped : {A B : Type 0} (f : A → B) (P : B → Type 0) (xs : List A) → AllByRecursion (λ x. P (f x)) xs → AllByRecursion P (map f xs)
-all_mapped f P [] all = tt
-all_mapped f P (x ∷ xs) all = (all.0, all_mapped f P xs all.1)
+pub receiver_stays : (at : ends.Place) (k : ℕ) (words : List ℕ) (answer : Result ReceiveTotals ReceiveFault) (old new : ends.Receiving) → AreTaken words answer old new → old ≡ fresh at k → IsReceiverAt at k new
+receiver_stays at k words (Ok totals) old new h is = (ap (λ (r : ends.Receiving). r.at) (h.0) ∙ ap (λ (r : ends.Receiving). r.at) is, ap (λ (r : ends.Receiving). r.number) (h.0) ∙ ap (λ (r : ends.Receiving). r.number) is)
+receiver_stays at k words (Err Source) old new h is = (ap (λ (r : ends.Receiving). r.at) (h.0) ∙ ap (λ (r : ends.Receiving). r.at) is, ap (λ (r : ends.Receiving). r.number) (h.0) ∙ ap (λ (r : ends.Receiving). r.number) is)
+receiver_stays at k words (Err TooMuch) old new h is = (ap (λ (r : ends.Receiving). r.at) (h.0) ∙ ap (λ (r : ends.Receiving). r.at) is, ap (λ (r : ends.Receiving). r.number) (h.0) ∙ ap (λ (r : ends.Receiving). r.number) is)
+receiver_stays at k words (Err Gate) old new h is = (ap (λ (r : ends.Receiving). r.at) (h.1) ∙ ap (λ (r : ends.Receiving). r.at) is, ap (λ (r : ends.Receiving). r.number) (h.1) ∙ ap (λ (r : ends.Receiving). r.number) is)
 
-pub all_but_last : {A : Type 0} (P : A → Type 0) (xs : List A) (x : A) → AllByRecursion P (xs ++ x ∷ []) → AllByRecursion P xs
-all_but_last P [] x all = tt
-all_but_last P (y ∷ ys) x all = (all.0, all_but_last P ys x all.1)
+gave_too_much : (words : List ℕ) (answer : Result ReceiveTotals ReceiveFault) (old new : ends.Receiving) → AreTaken words answer old new → GaveTooMuch words answer
+gave_too_much words (Ok totals) old new h = tt
+gave_too_much words (Err Source) old new h = tt
+gave_too_much words (Err Gate) old new h = tt
+gave_too_much words (Err TooMuch) old new h = h.1
 
-pub all_last : {A : Type 0} (P : A → Type 0) (xs : List A) (x : A) → AllByRecursion P (xs ++ x ∷ []) → P x
-all_last P [] x all = all.0
-all_last P (y ∷ ys) x all = all_last P ys x all.1
+module _ {L : Type 0} (given : L → List ℕ) (ended : L → Bool) (failed : L → ℕ) where
+  pub line_ended : (line line' : L) (r r' : ends.Receiving) (answer : Result ReceiveTotals ReceiveFault) → HasReceived given ended failed line r line' r' answer → EndsLine given ended failed line answer
+  line_ended line line' r r' answer h = record { after = line'; words = h.words; gave = h.gave; at_end = h.at_end; failures = h.failures; many = gave_too_much h.words answer r r' h.taken }
 
-pub always : {A E : Type 0} (P : Type 0) (r : Result A E) → P → IfOk r (λ a. P)
-always P (Ok a) p = p
-always P (Err e) p = tt
+  -- what it did, where it ended well
+  pub heard_one : (at : ends.Place) (c : Course) (k : ℕ) (line line' : L) (r r' : ends.Receiving) (answer : Result ReceiveTotals ReceiveFault) (totals : ReceiveTotals) (h : HasReceived given ended failed line r line' r' answer)
+      → r ≡ fresh at k → answer ≡ Ok totals → c.came k ≡ h.words → IsHeardIn given ended at.station c k line line' totals
+  heard_one at c k line line' r r' (Ok counts) totals h is same came =
+      let sum : counts ≡ totals = cc in
+      record {
+        gave = h.gave ∙ ap (λ (ws : List ℕ). given line ++ ws) (sym came);
+        at_end = h.at_end;
+        few = subst (λ (ws : List ℕ). length ws ≤ 1000000) (sym came) h.taken.2;
+        hub = at;
+        station = refl;
+        counted = sym sum ∙ (h.taken.1 ∙ (ap (λ (x : ends.Receiving). totals_of (answers_to x h.words)) is ∙ ap (λ (ws : List ℕ). totals_of (answers_to (fresh at k) ws)) (sym came)));
+      }
+  heard_one at c k line line' r r' (Err fault) totals h is same came = absurd (cc same)
 
-pub receiver_stays : (words : List ℕ) (answer : Result ReceiveTotals ReceiveFault) (old new : ends.Receiving) → AreTaken words answer old new → new.at ≡ old.at
-receiver_stays words (Ok totals) old new h = ap (λ (r : ends.Receiving). r.at) h.0
-receiver_stays words (Err Source) old new h = ap (λ (r : ends.Receiving). r.at) h.0
-receiver_stays words (Err TooMuch) old new h = ap (λ (r : ends.Receiving). r.at) h.0
-receiver_stays words (Err Gate) old new h = ap (λ (r : ends.Receiving). r.at) h.1
+  -- and what its receiver is then
+  pub receiver_one : (at : ends.Place) (k : ℕ) (came : List ℕ) (line line' : L) (r r' : ends.Receiving) (answer : Result ReceiveTotals ReceiveFault) (totals : ReceiveTotals) (h : HasReceived given ended failed line r line' r' answer)
+      → r ≡ fresh at k → answer ≡ Ok totals → came ≡ h.words → r' ≡ after_words (fresh at k) came
+  receiver_one at k came line line' r r' (Ok counts) totals h is same words =
+      h.taken.0 ∙ (ap (λ (x : ends.Receiving). after_words x h.words) is ∙ ap (λ (ws : List ℕ). after_words (fresh at k) ws) (sym words))
+  receiver_one at k came line line' r r' (Err fault) totals h is same words = absurd (cc same)
+
+-- ---- one group
 
 pub group_stays : (frames : ℕ) (answer : Result SendTotals SendFault) (old new : Transmitting) (before after : Option (List Sent)) → AreSent frames old new before after answer → IsSameGroup old new
 group_stays frames (Ok totals) old new before after h = h.1.same
 group_stays frames (Err fault) old new before after h = h.2.same
 
--- ---- devices
+-- ---- what a receiver accepted, it accepts
 
-pub three_of : {A D X T E : Type 0} (R : A → D → Type 0) (P : A → Type 0) (Q : X → X → T → Type 0) (before : A → X) (after : D → X) (answer : D → Result T E)
-    → ((a : A) (d : D) (t : T) → R a d → P a → answer d ≡ Ok t → Q (before a) (after d) t)
-    → (ws : List A) (ds : List D) (ts : List T) → AllZip R ws ds → AllByRecursion P ws → map (λ (t : T). Ok t) ts ≡ map answer ds
-    → AllOfThree Q (map before ws) (map after ds) ts
-three_of R P Q before after answer on [] [] [] z all same = tt
-three_of R P Q before after answer on [] [] (t ∷ ts) z all same = absurd (cc same)
-three_of R P Q before after answer on [] (d ∷ ds) ts z all same = absurd z
-three_of R P Q before after answer on (w ∷ ws) [] ts z all same = absurd z
-three_of R P Q before after answer on (w ∷ ws) (d ∷ ds) [] z all same = absurd (cc same)
-three_of {A} {D} {X} {T} {E} R P Q before after answer on (w ∷ ws) (d ∷ ds) (t ∷ ts) z all same =
-    let first : Ok t ≡ answer d = same_Some (Ok t) (answer d) (ap (λ (l : List (Result T E)). slice_get l 0) same) in
-    (on w d t z.0 all.0 (sym first), three_of R P Q before after answer on ws ds ts z.1 all.1 (ap (λ (l : List (Result T E)). drop 1 l) same))
+module _ (limit : ℕ) (t : TableRecord) (r : ℕ) where
+  in_pieces : (A : List (ℕ × ℕ)) (raws more : List ℕ) → accepted_after limit t r A (raws ++ more) ≡ accepted_after limit t r (accepted_after limit t r A raws) more
+  in_pieces A [] more = refl
+  in_pieces A (raw ∷ raws) more = in_pieces (with_word limit A raw (sorted t r raw)) raws more
 
-pub heard_from : {L : Type 0} (given : L → List ℕ) (ended : L → Bool) (t : TableRecord) (line line' : L) (r r' : ends.Receiving) (answer : Result ReceiveTotals ReceiveFault) (totals : ReceiveTotals)
-    → HasReceived given ended line r line' r' answer → (r.at.station ≡ t) × (r.accepted ≡ []) → answer ≡ Ok totals → IsHeardFrom given ended t line line' totals
-heard_from given ended t line line' r r' (Ok counts) totals h p same =
-    let is : counts ≡ totals = cc in
-    record { words = h.words; receiver = r; station = p.0; empty = p.1; gave = h.gave; at_end = h.at_end; counted = sym is ∙ h.taken.1 }
-heard_from given ended t line line' r r' (Err fault) totals h p same = absurd (cc same)
+  one_received : (A : List (ℕ × ℕ)) (raw : ℕ) (x : Result ℕ ArrivalRefusal) → sorted t r raw ≡ x → IsReceived limit t r A → IsReceived limit t r (with_word limit A raw x)
+  one_received A raw (Err refusal) is whole = whole
+  one_received A raw (Ok s) is whole = by (nat_lt (length (words_of s A)) limit) refl
+    where
+      grown : List (ℕ × ℕ)
+      grown = A ++ (s, raw) ∷ []
 
-pub sent_to : {B : Type 0} (taken : B → Option (List Sent)) (frames : ℕ) (old new : Transmitting) (sink sink' : B) (answer : Result SendTotals SendFault) (totals : SendTotals)
-    → AreSent frames old new (taken sink) (taken sink') answer → answer ≡ Ok totals → IsSentTo taken sink sink' totals
-sent_to taken frames old new sink sink' (Ok counts) totals h same =
-    let is : counts ≡ totals = cc in
-    let counted : counts ≡ totals_of (sent_in h.0) counts.plan = h.2 ∙ ap (λ (n : ℕ). totals_of (sent_in h.0) n) (sym (ap (λ (x : SendTotals). x.plan) h.2)) in
-    record { cells = sent_in h.0; took = h.1.took; counted = subst (λ (x : SendTotals). x ≡ totals_of (sent_in h.0) x.plan) is counted }
-sent_to taken frames old new sink sink' (Err fault) totals h same = absurd (cc same)
+      by : (b : Bool) → nat_lt (length (words_of s A)) limit ≡ b → IsReceived limit t r (if b then grown else A)
+      by true room =
+          let added : with_word limit A raw (Ok s) ≡ grown = rw room refl in
+          ap (accepted_after limit t r []) (map-append (λ (e : ℕ × ℕ). e.1) A ((s, raw) ∷ []))
+          ∙ (in_pieces [] (map (λ (e : ℕ × ℕ). e.1) A) (raw ∷ [])
+          ∙ (ap (λ (B : List (ℕ × ℕ)). with_word limit B raw (sorted t r raw)) whole ∙ (ap (λ (y : Result ℕ ArrivalRefusal). with_word limit A raw y) is ∙ added)))
+      by false full = whole
 
-pub both : {A : Type 0} (P Q : A → Type 0) (xs : List A) → AllByRecursion P xs → AllByRecursion Q xs → AllByRecursion (λ x. P x × Q x) xs
-both P Q [] p q = tt
-both P Q (x ∷ xs) p q = ((p.0, q.0), both P Q xs p.1 q.1)
+  pub all_received : (A : List (ℕ × ℕ)) (raws : List ℕ) → IsReceived limit t r A → IsReceived limit t r (accepted_after limit t r A raws)
+  all_received A [] whole = whole
+  all_received A (raw ∷ raws) whole = all_received (with_word limit A raw (sorted t r raw)) raws (one_received A raw (sorted t r raw) refl whole)
+
+-- ---- the station when its workers were taken in
+
+-- the plans after the first
+rest_of : {X : Type 0} (x y : X) (xs ys : List X) → x ∷ xs ≡ y ∷ ys → (x ≡ y) × (xs ≡ ys)
+rest_of {X} x y xs ys same = (same_Some x y (ap (λ (l : List X). slice_get l 0) same), ap (λ (l : List X). drop 1 l) same)
+
+-- the board of a station that began with this plan begins with it
+pub record BeganSo (old new : Running) (later : List Proposed) : Type 0 where
+  pub list : new.planner.list ≡ plans_of (opening old.station old.planner.last) later
+  pub published : ArePublished (opening old.station old.planner.last) later
+  pub station : new.station ≡ old.station
+
+pub began_so : (old new : Running) → IsBegun old → GoesOn old new → (N : IsLed new) → BeganSo old new N.later
+began_so old new B G N =
+    let more : old.planner.last ∷ G.plans.0 ≡ N.opened ∷ map (λ (q : Proposed). q.plan) N.later = ap (λ (l : List PlanTable). l ++ G.plans.0) (sym B.first) ∙ (G.plans.1 ∙ N.plans) in
+    let first : N.opened ≡ old.planner.last = sym (rest_of old.planner.last N.opened G.plans.0 (map (λ (q : Proposed). q.plan) N.later) more).0 in
+    record {
+      list = N.plans ∙ ap (λ (q : PlanTable). q ∷ map (λ (q : Proposed). q.plan) N.later) first;
+      published = subst (λ (q : PlanTable). ArePublished (opening old.station q) N.later) first (subst (λ (t : TableRecord). ArePublished (opening t N.opened) N.later) G.station N.published);
+      station = G.station;
+    }
+
+-- each receiver is what it was before its first word, with the words that came to it
+abbrev pub AreAfter : ends.Place → (ℕ → List ℕ) → List ends.Receiving → Type 0
+AreAfter at came receivers = AllNumbered (λ k r. r ≡ after_words (fresh at k) (came k)) receivers
+
+-- the course of a run of this station
+abbrev pub course_of : Running → List Proposed → (ℕ → List ℕ) → Course
+course_of old later came = record { opened = old.planner.last; later = later; came = came }
+
+pub taken_in : (at : ends.Place) (old new : Running) (came : ℕ → List ℕ) (receivers : List ends.Receiving) → at.station ≡ old.station → IsBegun old → GoesOn old new → (N : IsLed new) → IsWired at.station
+    → AreAfter at came receivers → length receivers ≡ length at.station.receivers → ((k : ℕ) → length at.station.receivers ≤ k → came k ≡ [])
+    → IsTakenIn at old.planner new.planner (course_of old N.later came) receivers
+taken_in at old new came receivers here B G N wired each all past =
+    let t = at.station in
+    let c = course_of old N.later came in
+    let S = began_so old new B G N in
+    record {
+      opened = refl;
+      planned = subst (λ (x : TableRecord). IsPlanOf x old.planner.last) (sym here) B.planned;
+      list = S.list;
+      published = subst (λ (x : TableRecord). ArePublished (opening x old.planner.last) N.later) (sym here) S.published;
+      known = subst (λ (x : TableRecord). AllByRecursion (IsKnownPlan x) new.planner.list) (S.station ∙ sym here) N.known;
+      wired = wired;
+      accepted = record {
+        received = λ r inside. all_received (2 ^ 41 - 1) t r [] (came r) refl;
+        others = λ r outside. ap (accepted_after (2 ^ 41 - 1) t r []) (past r outside);
+      };
+      meetings = mapped_range (meeting_of t) (meeting t c) 0 receivers (numbered_weaker (λ k r. r ≡ after_words (fresh at k) (came k)) (λ k r. meeting_of t r ≡ meeting t c (0 + k)) (λ k r e. subst (λ (n : ℕ). meeting_of t r ≡ meeting t c n) (omega arith) (ap (meeting_of t) e)) receivers each)
+          ∙ ap (λ (n : ℕ). map (meeting t c) (range_with_len 0 n)) all;
+      agree = λ loads agrees r inside.
+          numbered_place (λ k. Agrees t k (heard_in t c k) loads) receivers r (omega (arith, inside, all))
+          (numbered_weaker (λ k x. (x ≡ after_words (fresh at k) (came k)) × Agrees t x.number x.accepted loads) (λ k x. Agrees t k (heard_in t c k) loads)
+          (λ k x h. subst (λ (y : ends.Receiving). Agrees t y.number y.accepted loads) h.0 h.1) receivers
+          (numbered_both (λ k x. x ≡ after_words (fresh at k) (came k)) (λ k x. Agrees t x.number x.accepted loads) receivers each (numbered_also (λ x. Agrees t x.number x.accepted loads) receivers agrees)));
+    }
+
+-- a group's worker that ended, which began ready
+pub group_over : {B : Type 0} (taken : B → Option (List Sent)) (failed : B → ℕ) (at : ends.Place) (old new : Running) (g frames : ℕ) (v w : Transmitting) (sink sink' : B) (answer : Result SendTotals SendFault)
+    → at.station ≡ old.station → IsBegun old → GoesOn old new → IsLed new → frames ≤ 1000000
+    → HasEmitted taken failed frames v sink w sink' answer → IsReady at old.planner g v → IsOver at new.planner w answer
+group_over taken failed at old new g frames v w sink sink' answer here begun G N few E R =
+    let same = group_stays frames answer v w (taken sink) (taken sink') E.sent in
+    record {
+      hub = same_hub at old.planner g v w R same;
+      board = same.board ∙ (ap (λ (x : Watched). x.book) R.watcher ∙ sym G.book);
+      counts = λ beginning is.
+          never_refused at old.planner new.planner.list g frames v w (taken sink) (taken sink') answer R (plan_small old.station old.planner.last begun.planned)
+          (omega (arith, R.inside, begun.planned.count, ap (λ (t : TableRecord). length t.groups) here))
+          (subst (λ (x : TableRecord). AllByRecursion (IsKnownPlan x) new.planner.list) (G.station ∙ sym here) N.known) N.small few E.sent beginning is;
+    }
+
+-- a group's worker that ended well, was told all plans, and met the receivers
+pub group_one : {B : Type 0} (taken : B → Option (List Sent)) (failed : B → ℕ) (at : ends.Place) (first last : Planning) (c : Course) (receivers : List ends.Receiving) (frames own g : ℕ) (v w : Transmitting) (sink sink' : B) (answer : Result SendTotals SendFault) (totals : SendTotals)
+    → IsTakenIn at first last c receivers → HasEmitted taken failed own v sink w sink' answer → IsJoined at.station last.list receivers w → IsReady at first g v → own ≡ frames → answer ≡ Ok totals
+    → IsSentIn taken frames at.station c g sink sink' totals
+group_one taken failed at first last c receivers frames own g v w sink sink' answer totals K E J R same is =
+    let sent : AreSent frames v w (taken sink) (taken sink') (Ok totals) =
+    subst (λ (n : ℕ). AreSent n v w (taken sink) (taken sink') (Ok totals)) same (subst (AreSent own v w (taken sink) (taken sink')) is E.sent) in
+    group_ran taken at first last c receivers frames g v w sink sink' totals K R sent J
+
+pub group_ended : {B : Type 0} (taken : B → Option (List Sent)) (failed : B → ℕ) (frames : ℕ) (v w : Transmitting) (sink sink' : B) (answer : Result SendTotals SendFault) → HasEmitted taken failed frames v sink w sink' answer → EndsGroup failed sink answer
+group_ended taken failed frames v w sink sink' answer E = record { after = sink'; failures = E.failures }
+
+-- ---- the first fault
+
+pub all_well : {T E D : Type 0} (answer : D → Result T E) (ts : List T) (ds : List D) → map (λ (t : T). Ok t) ts ≡ map answer ds → first_fault (map answer ds) ≡ None
+all_well {T} {E} answer ts ds same = ap (λ (l : List (Result T E)). first_fault l) (sym same) ∙ none ts
+  where
+    none : (xs : List T) → first_fault {A = T} {E = E} (map (λ (t : T). Ok t) xs) ≡ None
+    none [] = refl
+    none (x ∷ xs) = none xs
+
+pub first_of_receivers : (x : Option ReceiveFault) (y : Option SendFault) (fault : LiveFault) → Some fault ≡ option_map of_receiver x → IsFirst x y fault
+first_of_receivers (Some why) y fault is = same_Some fault (of_receiver why) is
+first_of_receivers None y fault is = absurd (none-some fault (sym is))
+
+-- the loops of all receivers and groups have ended
+pub all_stopped : {L B W D V E : Type 0} (given : L → List ℕ) (ended : L → Bool) (failed : L → ℕ) (taken : B → Option (List Sent)) (failed_sink : B → ℕ)
+    (line : W → L) (receiver : W → ends.Receiving) (line' : D → L) (receiver' : D → ends.Receiving) (answer : D → Result ReceiveTotals ReceiveFault)
+    (own : V → ℕ) (transmit : V → Transmitting) (sink : V → B) (transmit' : E → Transmitting) (sink' : E → B) (answer' : E → Result SendTotals SendFault)
+    (ws : List W) (ds : List D) (vs : List V) (es : List E) (sinks : List B) (fault : LiveFault)
+    → AllZip (λ w d. HasReceived given ended failed (line w) (receiver w) (line' d) (receiver' d) (answer d)) ws ds
+    → AllZip (λ v e. HasEmitted taken failed_sink (own v) (transmit v) (sink v) (transmit' e) (sink' e) (answer' e)) vs es → map sink vs ≡ sinks
+    → IsFirst (first_fault (map answer ds)) (first_fault (map answer' es)) fault → HasStopped given ended failed failed_sink (map line ws) sinks fault
+all_stopped given ended failed taken failed_sink line receiver line' receiver' answer own transmit sink transmit' sink' answer' ws ds vs es sinks fault heard sent same first = record {
+  heard = map answer ds;
+  sent = map answer' es;
+  lines = zip_mapped (λ w d. HasReceived given ended failed (line w) (receiver w) (line' d) (receiver' d) (answer d)) (EndsLine given ended failed) line answer
+      (λ w d h. line_ended given ended failed (line w) (line' d) (receiver w) (receiver' d) (answer d) h) ws ds heard;
+  groups = subst (λ l. AllZip (EndsGroup failed_sink) l (map answer' es)) same
+      (zip_mapped (λ v e. HasEmitted taken failed_sink (own v) (transmit v) (sink v) (transmit' e) (sink' e) (answer' e)) (EndsGroup failed_sink) sink answer'
+      (λ v e h. group_ended taken failed_sink (own v) (transmit v) (transmit' e) (sink v) (sink' e) (answer' e) h) vs es sent);
+  first = first;
+}

@@ -1,5 +1,5 @@
 -- Plans of a station send its sources alone, and stay in order when one more is published.
-use Rattle.std.proofs.Common.{◌≡◌, ℕ, zero, suc, ◌+◌, ◌-◌, ◌<◌, ◌≤◌, ◌^◌, Bool, true, List, [], ◌∷◌, ◌++◌, length, map, ◌∙◌, sym, ap, subst, refl, arith}
+use Rattle.std.proofs.Common.{◌≡◌, ℕ, zero, suc, ◌+◌, ◌-◌, ◌<◌, ◌≤◌, ◌^◌, Bool, true, List, [], ◌∷◌, ◌++◌, length, map, ◌∙◌, sym, ap, subst, refl, arith, append-nil, append_assoc}
 use Rattle.std.specs.Prelude.{Some, IsTrue, slice_get, ◌==◌, ◌&&◌}
 use Rattle.std.specs.List.{AllByRecursion, AllZip, zip}
 use Rattle.std.proofs.lemmas.Bool.{and_parts, eqb-true}
@@ -11,8 +11,8 @@ use Rattle.a429_equipment.specs.SameStation.{same_station, all_agree, same_recei
 use Rattle.a429_equipment.specs.declared.rows.OutputRow.{OutputRow}
 use Rattle.a429_equipment.specs.declared.rows.SourceRow.{SourceRow}
 use Rattle.a429_equipment.specs.declared.rows.GroupRow.{GroupRow}
-use Rattle.a429_slots.specs.Tables.{Placed, GroupTable, PlanTable, groups_of, outputs_of}
-use Rattle.a429_slots.specs.Planned.{IsServed, IsPlannedAt, IsPlanOf}
+use Rattle.a429_slots.specs.Tables.{Placed, GroupTable, PlanTable, frame_of, groups_of, outputs_of}
+use Rattle.a429_slots.specs.Planned.{IsServed, IsPlannedAt, IsPlanOf, rated_outputs}
 use Rattle.a429_slots.specs.Proposed.{Proposed}
 use Rattle.a429_board.specs.Lists.{Planning, numbered}
 use Rattle.a429_workers.specs.Runs.{ArePublished, plans_of}
@@ -20,7 +20,7 @@ use Rattle.a429_workers.specs.Transmitting.{IsKnownPlan, IsKnownTable}
 use Rattle.a429_board.specs.Refused.{IsWhy}
 use Rattle.a429_board.specs.declared.planner.BoardFault.{BoardFault}
 use Rattle.a429_board.specs.declared.planner.BoardFault.TheVariants.{CountSpent, NoMemory}
-use Rattle.a429_station.specs.Resubmitting.{Running, IsLed, IsPlanned, IsReplanFault, Publishes, of_board, opening}
+use Rattle.a429_station.specs.Resubmitting.{GoesOn, HasFewSlots, IsLed, IsPlanned, IsReplanFault, Publishes, Running, of_board, opening}
 
 -- ---- sources
 
@@ -53,6 +53,17 @@ plan_known t e p same sound planned =
     tables_known t e.sources (map (λ (g : GroupRow). g.rate) e.groups) e.outputs (groups_of p) planned.groups
     (subst (λ (n : ℕ). AllByRecursion (AllByRecursion (λ o. o.source < n)) e.outputs) (sym same) sound.known_sources)
 
+-- ---- slots
+
+tables_small : (sources : List SourceRow) (rated : List (ℕ × List OutputRow)) (ts : List GroupTable) → AllZip (IsPlannedAt sources) rated ts → AllByRecursion (λ t. frame_of t ≤ 8192) ts
+tables_small sources [] [] planned = tt
+tables_small sources [] (u ∷ ts) planned = absurd planned
+tables_small sources (r ∷ rated) [] planned = absurd planned
+tables_small sources (r ∷ rated) (u ∷ ts) planned = (planned.0.few_slots, tables_small sources rated ts planned.1)
+
+pub plan_small : (e : TableRecord) (p : PlanTable) → IsPlanOf e p → HasFewSlots p
+plan_small e p planned = tables_small e.sources (rated_outputs e) (groups_of p) planned.groups
+
 -- ---- the planner's list
 
 pub all_more : {X : Type 0} (P : X → Type 0) (xs : List X) (x : X) → AllByRecursion P xs → P x → AllByRecursion P (xs ++ x ∷ [])
@@ -77,6 +88,7 @@ led_first t v sound planned first = record {
   published = record { of_station = tt; numbered = λ k q h. absurd (none-some q h); countable = omega (arith, planned.number) };
   last = omega arith;
   known = subst (AllByRecursion (IsKnownPlan t)) (sym first) (plan_known t t v.last refl sound planned, tt);
+  small = subst (AllByRecursion HasFewSlots) (sym first) (plan_small t v.last planned, tt);
 }
 
 -- where one more is published
@@ -103,7 +115,23 @@ led_on old new bytes n P fits L =
       known = subst (λ (t : TableRecord). AllByRecursion (IsKnownPlan t) new.planner.list) (sym station) (
           subst (AllByRecursion (IsKnownPlan old.station)) (sym P.list) (
           all_more (IsKnownPlan old.station) old.planner.list (numbered P.of.plan n) L.known (plan_known old.station P.of.record_of P.of.plan (same_sources old.station P.of.record_of P.same) P.of.sound P.of.planned)));
+      small = subst (AllByRecursion HasFewSlots) (sym P.list) (all_more HasFewSlots old.planner.list (numbered P.of.plan n) L.small (plan_small P.of.record_of P.of.plan P.of.planned));
     }
+
+-- ---- plans follow one another
+
+pub stays : (v : Running) → GoesOn v v
+stays v = record { station = refl; book = refl; plans = ([], append-nil v.planner.list) }
+
+pub goes_further : (u v w : Running) → GoesOn u v → GoesOn v w → GoesOn u w
+goes_further u v w p q = record {
+  station = q.station ∙ p.station;
+  book = q.book ∙ p.book;
+  plans = (p.plans.0 ++ q.plans.0, sym (append_assoc u.planner.list p.plans.0 q.plans.0) ∙ (ap (λ (l : List PlanTable). l ++ q.plans.0) p.plans.1 ∙ q.plans.1));
+}
+
+pub one_further : (old new : Running) (bytes : List ℕ) (n : ℕ) → Publishes old bytes n new → GoesOn old new
+one_further old new bytes n P = record { station = P.station; book = P.book; plans = (numbered P.of.plan n ∷ [], sym P.list) }
 
 -- ---- a table that is submitted again
 

@@ -1,3 +1,5 @@
+pub mod Course
 pub mod Faults
+pub mod Numbered
 pub mod Resubmitting
 pub mod Working

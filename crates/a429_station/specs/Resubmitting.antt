@@ -1,5 +1,5 @@
 -- Plans that are published while a station runs: of the tables that are submitted again, those of the same station.
-use Rattle.std.specs.Prelude.{◌≡◌, ◌+◌, ◌^◌, ◌++◌, ◌∷◌, [], ⊤, ℕ, Bool, true, false, List, Option, Some, None, Ok, Err, map, length}
+use Rattle.std.specs.Prelude.{◌≡◌, ◌≤◌, ◌+◌, ◌^◌, ◌++◌, ◌∷◌, [], ⊤, ℕ, Bool, true, false, List, Option, Some, None, Ok, Err, map, length}
 use Rattle.std.specs.List.{AllByRecursion}
 use mathlib.Core.List.{IsPrefix}
 use Rattle.a429_equipment.specs.TableRecord.{TableRecord}
@@ -8,7 +8,7 @@ use Rattle.a429_equipment.specs.Sound.{IsSound}
 use Rattle.a429_equipment.specs.SameStation.{same_station}
 use Rattle.a429_equipment.specs.declared.fault.TableFault.{TableFault}
 use Rattle.a429_equipment.specs.declared.fault.TableFault.TheVariants as table
-use Rattle.a429_slots.specs.Tables.{PlanTable}
+use Rattle.a429_slots.specs.Tables.{PlanTable, frame_of, groups_of}
 use Rattle.a429_slots.specs.Proposed.{Proposed}
 use Rattle.a429_slots.specs.History.{Opening}
 use Rattle.a429_slots.specs.Planned.{IsPlanOf}
@@ -32,6 +32,10 @@ pub record Running : Type 0 where
 abbrev pub opening : TableRecord → PlanTable → Opening
 opening t p = record { proposal = record { station = t; plan = p }; first = 0 }
 
+-- a frame of each group has at most 8192 slots on a bus
+abbrev pub HasFewSlots : PlanTable → Type 0
+HasFewSlots p = AllByRecursion (λ t. frame_of t ≤ 8192) (groups_of p)
+
 -- The planner's list is the opening plan and those of later proposals of the station, numbered on from it. Its plans send no sources but the
 -- station's.
 pub record IsLed (v : Running) : Type 0 where
@@ -41,6 +45,12 @@ pub record IsLed (v : Running) : Type 0 where
   pub published : ArePublished (opening v.station opened) later
   pub last : v.planner.last.number ≡ opened.number + length later
   pub known : AllByRecursion (IsKnownPlan v.station) v.planner.list
+  pub small : AllByRecursion HasFewSlots v.planner.list
+
+-- its board begins with the plan of its own table, and nothing was published yet
+pub record IsBegun (v : Running) : Type 0 where
+  pub planned : IsPlanOf v.station v.planner.last
+  pub first : v.planner.list ≡ v.planner.last ∷ []
 
 -- the station and its board stay, and plans are published after those before
 pub record GoesOn (old new : Running) : Type 0 where

@@ -1,43 +1,78 @@
 -- What the workers of a running station do.
-use Rattle.std.specs.Prelude.{◌≡◌, ◌++◌, ◌∷◌, [], ⊤, ℕ, Bool, true, List, Option, Result, OnOk}
+use Rattle.std.specs.Prelude.{◌≡◌, ◌≢◌, ◌<◌, ◌++◌, [], ℕ, Bool, true, List, Option, Result, Ok, Err, IsTrue, OnOk, drop, length, map}
+use Rattle.std.specs.List.{AllByRecursion}
+use mathlib.Core.List.{IsPrefix}
 use Rattle.a429_values.specs.Ends as ends
 use Rattle.a429_equipment.specs.TableRecord.{TableRecord}
-use Rattle.a429_workers.specs.Receives as receives
-use Rattle.a429_workers.specs.Receives.{AreTaken, answers_to}
-use Rattle.a429_workers.specs.Sends as sends
-use Rattle.a429_workers.specs.Sends.{with_cells}
+use Rattle.a429_equipment.specs.Agreement.{Agrees, loads_of_all}
+use Rattle.a429_slots.specs.Tables.{PlanTable}
+use Rattle.a429_board.specs.Lists.{Planning, beginner}
+use Rattle.a429_workers.specs.Calls.{Call, Meets}
+use Rattle.a429_workers.specs.Receives.{AreTaken, source_failures}
+use Rattle.a429_workers.specs.Sends.{AreSent, sink_failures}
+use Rattle.a429_workers.specs.Transmitting.{Transmitting, BeginsWith, GoesOnBy}
 use Rattle.a429_workers.specs.declared.cells.Sent.{Sent}
 use Rattle.a429_workers.specs.declared.receiving.ReceiveTotals.{ReceiveTotals}
 use Rattle.a429_workers.specs.declared.receiving.ReceiveFault.{ReceiveFault}
 use Rattle.a429_workers.specs.declared.sending.SendTotals.{SendTotals}
+use Rattle.a429_workers.specs.declared.sending.SendFault.{SendFault}
+use Rattle.a429_workers.specs.declared.sending.SendFault.TheVariants.{Change}
+
+-- ---- receivers
 
 -- the line gave words, the receiver took them, and the answer says how many and why it ended; where it is Ok the line's last call answered the end
-pub record HasReceived {L : Type 0} (given : L → List ℕ) (ended : L → Bool) (line : L) (receiver : ends.Receiving) (line' : L) (receiver' : ends.Receiving) (answer : Result ReceiveTotals ReceiveFault) : Type 0 where
+pub record HasReceived {L : Type 0} (given : L → List ℕ) (ended : L → Bool) (failed : L → ℕ) (line : L) (receiver : ends.Receiving) (line' : L) (receiver' : ends.Receiving) (answer : Result ReceiveTotals ReceiveFault) : Type 0 where
   pub words : List ℕ
   pub gave : given line' ≡ given line ++ words
   pub taken : AreTaken words answer receiver receiver'
   pub at_end : OnOk answer (ended line' ≡ true)
+  pub failures : failed line' ≡ source_failures (failed line) answer
 
--- ---- devices in a run
+-- receiver k of the hub
+abbrev pub IsReceiverAt : ends.Place → ℕ → ends.Receiving → Type 0
+IsReceiverAt at k r = (r.at ≡ at) × (r.number ≡ k)
 
--- P holds of the items of three lists, place by place
-abbrev pub AllOfThree : {X Y Z : Type 0} → (X → Y → Z → Type 0) → List X → List Y → List Z → Type 0
-AllOfThree P [] [] [] = ⊤
-AllOfThree P (x ∷ xs) (y ∷ ys) (z ∷ zs) = P x y z × AllOfThree P xs ys zs
-AllOfThree P _ _ _ = ⊥
+-- ---- groups
 
--- the source of a line gave words up to its end, and the totals count the answers to them of a receiver of the station that had accepted nothing
-pub record IsHeardFrom {L : Type 0} (given : L → List ℕ) (ended : L → Bool) (t : TableRecord) (before after : L) (totals : ReceiveTotals) : Type 0 where
-  pub words : List ℕ
-  pub receiver : ends.Receiving
-  pub station : receiver.at.station ≡ t
-  pub empty : receiver.accepted ≡ []
-  pub gave : given after ≡ given before ++ words
-  pub at_end : ended after ≡ true
-  pub counted : totals ≡ receives.totals_of (answers_to receiver words)
+-- the transmitter of group g, before its first cell: at a hub and by a board whose planner is this, from slot 0 on
+pub record IsReady (at : ends.Place) (p : Planning) (g : ℕ) (v : Transmitting) : Type 0 where
+  pub inside : g < length at.station.groups
+  pub transmitter : v.transmitter ≡ record { at = at; number = g; loads = [] }
+  pub watcher : v.watcher ≡ beginner p
+  pub begins : BeginsWith v.transmitter v.watcher 0 v
 
--- the sink took cells, where it tells them, and the totals count them
-pub record IsSentTo {B : Type 0} (taken : B → Option (List Sent)) (before after : B) (totals : SendTotals) : Type 0 where
-  pub cells : List Sent
-  pub took : taken after ≡ with_cells (taken before) cells
-  pub counted : totals ≡ sends.totals_of cells totals.plan
+-- the group sent its frames, or fewer, and the sink took cells
+pub record HasEmitted {B : Type 0} (taken : B → Option (List Sent)) (failed : B → ℕ) (frames : ℕ) (old : Transmitting) (sink : B) (new : Transmitting) (sink' : B) (answer : Result SendTotals SendFault) : Type 0 where
+  pub sent : AreSent frames old new (taken sink) (taken sink') answer
+  pub failures : failed sink' ≡ sink_failures (failed sink) answer
+
+-- the transmitter of a group after its loop: still at the hub and of the board, and its next frame was not refused if its watcher saw published
+-- plans alone
+pub record IsOver (at : ends.Place) (p : Planning) (v : Transmitting) (answer : Result SendTotals SendFault) : Type 0 where
+  pub hub : v.transmitter.at ≡ at
+  pub board : v.watcher.book ≡ p.book
+  pub counts : IsPrefix v.watcher.list p.list → answer ≢ Err Change
+
+-- ---- meetings
+
+-- a receiver is met: each of its sources is loaded
+abbrev pub meeting_of : TableRecord → ends.Receiving → Call
+meeting_of t r = Meets (loads_of_all t r.number r.accepted)
+
+-- the transmitter met these receivers, in order, and its loads agree with what they accepted
+pub record HasMet (t : TableRecord) (receivers : List ends.Receiving) (old new : Transmitting) : Type 0 where
+  pub stands : GoesOnBy old (map (meeting_of t) receivers) new
+  pub rest : new ≡ record old { transmitter = new.transmitter }
+  pub hub : new.transmitter.at ≡ old.transmitter.at
+  pub agree : AllByRecursion (λ r. Agrees t r.number r.accepted new.transmitter.loads) receivers
+
+-- the watcher's list is this
+abbrev pub told : Transmitting → List PlanTable → Transmitting
+told v list = record v { watcher = record v.watcher { list = list } }
+
+-- the transmitter was told all plans that were published, and then met the receivers
+pub record IsJoined (t : TableRecord) (list : List PlanTable) (receivers : List ends.Receiving) (v : Transmitting) : Type 0 where
+  pub beginning : IsPrefix v.watcher.list list
+  pub stands : GoesOnBy v [] (told v list)
+  pub end : Transmitting
+  pub met : HasMet t receivers (told v list) end

@@ -1,4 +1,8 @@
 //! Why a station did not run to its end.
+ghost use Rattle.std.specs.Prelude.{◌≢◌};
+ghost use Rattle.a429_station.specs.Faults.{IsOfGroup};
+ghost use Rattle.a429_workers.specs.declared.sending.SendFault.TheVariants.{Change};
+
 use a429_slots::PlanFault;
 use a429_workers::{ReceiveFault, SendFault};
 use std::alloc::{AllocError, AllocFailed};
@@ -78,18 +82,14 @@ impl From<ReceiveFault> for LiveFault {
     }
 }
 
-impl From<SendFault> for LiveFault {
-    ghost use Rattle.std.specs.Prelude.{◌≡◌};
-    ghost use Rattle.a429_station.specs.Faults.{of_group};
-
-    ghost from_gives = { λ why e. e ≡ of_group why };
-
-    // The slots of a million frames can be counted, so `Change` never comes.
-    fn from(why: SendFault) -> LiveFault {
-        match why {
-            SendFault::Sink => LiveFault::Sink,
-            SendFault::Gate => LiveFault::Gate,
-            SendFault::Change => LiveFault::TooMuch,
-        }
+/// The fault of a group. The slots of a million frames can be counted, so `Change` never comes.
+pub(crate) fn group_fault(why: SendFault) -> LiveFault
+    requires { why ≢ Change }
+    ensures { IsOfGroup why result }
+{
+    match why {
+        SendFault::Sink => LiveFault::Sink,
+        SendFault::Gate => LiveFault::Gate,
+        SendFault::Change => unreachable!(),
     }
 }

@@ -1,10 +1,12 @@
 //! What a station did, from what its workers did.
-ghost use Rattle.std.specs.Prelude.{◌≡◌, ◌⊎◌, Ok, Some, IfOk, IfErr, map, option_map};
+ghost use Rattle.std.specs.Prelude.{◌≡◌, ◌⊎◌, Ok, None, Some, IfOk, IfErr, map, option_map};
 ghost use Rattle.std.specs.List.{AllByRecursion};
-ghost use Rattle.a429_station.specs.Faults.{first_fault, of_group, of_receiver};
+ghost use Rattle.a429_station.specs.Faults.{IsFirst, first_fault, of_receiver};
+ghost use Rattle.a429_station.specs.Numbered.{AllNumbered};
+ghost use Rattle.a429_station.specs.Working.{HasMet, IsJoined, IsOver, IsReceiverAt};
 ghost use Rattle.a429_station.specs.declared.faults.LiveFault.TheVariants.{NoMemory};
 
-use crate::faults::LiveFault;
+use crate::faults::{LiveFault, group_fault};
 use crate::running::Values;
 use crate::station::Station;
 use crate::working::{Emitted, Received};
@@ -77,9 +79,9 @@ pub(crate) fn receivers_reported<L: Drop>(
 
 /// A transmitter meets each receiver of its hub.
 fn meet_all(transmit: &mut Transmit, receivers: &mut [Receiver])
-    requires hub { AllByRecursion (λ r. r.at ≡ transmit.old.transmitter.at) receivers.old }
+    requires receivers { AllNumbered (IsReceiverAt transmit.old.transmitter.at) receivers.old }
     ensures receivers { receivers.new ≡ receivers.old }
-    ensures hub { transmit.new.transmitter.at ≡ transmit.old.transmitter.at }
+    ensures met { HasMet transmit.old.transmitter.at.station receivers.old transmit.old transmit.new }
 {
     for place in 0..receivers.len() {
         transmit.meet(&mut receivers[place]);
@@ -95,12 +97,12 @@ pub(crate) fn groups_reported<R: Wait, B: Drop>(
     receivers: &mut [Receiver],
     sent: Vec<Emitted<B>>,
 ) -> Result<Told<B>, LiveFault>
-    requires board { AllByRecursion (λ d. d.transmit.watcher.book ≡ station.old.planner.book) sent.items }
-    requires receivers { AllByRecursion (λ r. r.at ≡ hub.now) receivers.old }
-    requires hub { AllByRecursion (λ d. d.transmit.transmitter.at ≡ hub.now) sent.items }
+    requires receivers { AllNumbered (IsReceiverAt hub.now) receivers.old }
+    requires groups { AllByRecursion (λ d. IsOver hub.now station.old.planner d.transmit d.answer) sent.items }
     ensures totals { IfOk result (λ r. map (λ t. Ok t) r.totals.items ≡ map (λ d. d.answer) sent.items) }
     ensures sinks { IfOk result (λ r. r.sinks.items ≡ map (λ d. d.sink) sent.items) }
-    ensures fault { IfErr result (λ f. (f ≡ NoMemory) ⊎ (Some f ≡ option_map of_group (first_fault (map (λ d. d.answer) sent.items)))) }
+    ensures joined { IfOk result (λ r. AllByRecursion (λ d. IsJoined hub.now.station station.old.planner.list receivers.old d.transmit) sent.items) }
+    ensures fault { IfErr result (λ f. (f ≡ NoMemory) ⊎ IsFirst None (first_fault (map (λ d. d.answer) sent.items)) f) }
 {
     let _at = hub;
     let mut totals = Vec::new(alloc);
@@ -115,7 +117,7 @@ pub(crate) fn groups_reported<R: Wait, B: Drop>(
         meet_all(&mut transmit, receivers);
         let one = match answer {
             Ok(one) => one,
-            Err(fault) => return Err(LiveFault::from(fault)),
+            Err(fault) => return Err(group_fault(fault)),
         };
         totals.push(one)?;
         sinks.push(sink)?;

@@ -1,10 +1,16 @@
 //! A station that runs: its receivers and groups at once.
-ghost use Rattle.std.specs.Prelude.{◌≡◌, ◌<◌, ◌≤◌, [], length, vec_len, IfOk, IfErr, map};
-ghost use Rattle.std.specs.List.{AllByRecursion, AllZip};
-ghost use Rattle.a429_slots.specs.Tables.{PlanTable, groups_of};
-ghost use Rattle.a429_slots.specs.Planned.{IsPlanOf};
+ghost use Rattle.std.specs.Prelude.{◌≡◌, ◌+◌, ◌<◌, ◌≤◌, ◌∷◌, [], length, vec_len, IfOk, IfErr, map};
+ghost use Rattle.std.specs.List.{AllByRecursion};
+ghost use Rattle.a429_slots.specs.Tables.{groups_of};
 ghost use Rattle.a429_board.specs.Lists.{beginner};
-ghost use Rattle.a429_station.specs.Working.{AllOfThree, IsHeardFrom, IsSentTo};
+ghost use Rattle.a429_workers.specs.Runs.{IsWired};
+ghost use Rattle.a429_workers.specs.Transmitting.{BeginsWith};
+ghost use Rattle.a429_station.specs.Course.{HasRun, fresh};
+ghost use Rattle.a429_station.specs.Faults.{IsLiveFault, IsRunFault};
+ghost use Rattle.a429_station.specs.Numbered.{AllNumbered};
+ghost use Rattle.a429_station.specs.Resubmitting.{HasFewSlots, IsBegun};
+ghost use Rattle.a429_station.specs.Working.{IsReady};
+ghost use Rattle.a429_station.specs.declared.faults.LiveFault.TheVariants.{NoMemory};
 
 use crate::control::{Control, Lent};
 use crate::faults::LiveFault;
@@ -14,11 +20,11 @@ use crate::threads::{AtOnce, at_once};
 use crate::working::{Receiving, Sending, group_worker};
 use a429_board::{Board, Watcher};
 use a429_equipment::Equipment;
-use a429_equipment::laws::numbers_in_range;
+use a429_equipment::laws::{numbers_in_range, sources_apart};
 use a429_filter::LineSource;
 use a429_slots::plan;
-use a429_values::{Desk, Hub};
-use a429_workers::{BusSink, Gate, Transmit};
+use a429_values::{Desk, Hub, HubFault};
+use a429_workers::{BusSink, Gate, OpenFault, Transmit};
 use std::alloc::Global;
 use std::sync::Wait;
 use std::thread::Threads;
@@ -32,7 +38,7 @@ const COUNT_BITS: u32 = 41;
 
 pub(crate) type Values = Hub<SOURCES, COUNT_BITS>;
 
-/// The receivers of a station, each with its line.
+/// The receivers of a station, each with its line. None was given out before.
 fn receivers<'a, L: LineSource + Drop, G: Gate>(
     alloc: Global,
     hub: &Values,
@@ -41,18 +47,21 @@ fn receivers<'a, L: LineSource + Drop, G: Gate>(
     gate: &'a G,
 ) -> Result<Vec<Receiving<'a, L, G>>, LiveFault>
     requires hub { desk.old.at ≡ hub.now }
+    requires none { desk.old.receivers ≡ [] }
     requires sources { vec_len sources ≤ length hub.now.station.receivers }
     ensures lines { IfOk result (λ workers. map (λ w. w.line) workers.items ≡ sources.items) }
-    ensures hub { IfOk result (λ workers. AllByRecursion (λ w. w.receiver.at ≡ hub.now) workers.items) }
-    ensures fresh { IfOk result (λ workers. AllByRecursion (λ w. w.receiver.accepted ≡ []) workers.items) }
+    ensures fresh { IfOk result (λ workers. AllNumbered (λ r w. w.receiver ≡ fresh hub.now r) workers.items) }
     ensures desk { desk.new.at ≡ desk.old.at }
+    ensures transmitters { desk.new.transmitters ≡ desk.old.transmitters }
+    ensures fault { IfErr result (λ fault. fault ≡ NoMemory) }
 {
     let mut workers = Vec::new(alloc);
     let mut number = 0;
     for line in sources {
-        // Each number is given out once, so what is refused is memory.
-        let Ok(receiver) = desk.receiver(alloc, hub, number) else {
-            return Err(LiveFault::NoMemory);
+        let receiver = match desk.receiver(alloc, hub, number) {
+            Ok(receiver) => receiver,
+            Err(HubFault::AlreadyTaken) => unreachable!(),
+            Err(HubFault::NoMemory) => return Err(LiveFault::NoMemory),
         };
         workers.push(Receiving {
             line,
@@ -65,7 +74,7 @@ fn receivers<'a, L: LineSource + Drop, G: Gate>(
     Ok(workers)
 }
 
-/// The transmitter of a group, at slot 0.
+/// The transmitter of a group, at slot 0. It was not given out before.
 fn transmitter(
     alloc: Global,
     hub: &Values,
@@ -75,24 +84,29 @@ fn transmitter(
 ) -> Result<Transmit, LiveFault>
     requires hub { desk.old.at ≡ hub.now }
     requires group { group < length hub.now.station.groups }
+    requires earlier { AllByRecursion (λ g. g < group) desk.old.transmitters }
     requires planned { group < length (groups_of watcher.opened) }
+    requires small { HasFewSlots watcher.opened }
     ensures desk { desk.new.at ≡ desk.old.at }
-    ensures begins { IfOk result (λ t. t.frame.sent ≡ 0) }
-    ensures hub { IfOk result (λ t. t.transmitter.at ≡ hub.now) }
+    ensures given { IfOk result (λ t. AllByRecursion (λ g. g < group + 1) desk.new.transmitters) }
+    ensures transmitter { IfOk result (λ t. t.transmitter ≡ record { at = hub.now; number = group; loads = [] }) }
     ensures watcher { IfOk result (λ t. t.watcher ≡ watcher) }
+    ensures begins { IfOk result (λ t. BeginsWith t.transmitter t.watcher 0 t × (t.frame.sent ≡ 0)) }
+    ensures fault { IfErr result (λ fault. fault ≡ NoMemory) }
 {
-    // Each number is given out once, so what is refused is memory.
-    let Ok(transmitter) = desk.transmitter(hub, group) else {
-        return Err(LiveFault::NoMemory);
+    let transmitter = match desk.transmitter(hub, group) {
+        Ok(transmitter) => transmitter,
+        Err(HubFault::AlreadyTaken) => unreachable!(),
+        Err(HubFault::NoMemory) => return Err(LiveFault::NoMemory),
     };
     match Transmit::open(alloc, transmitter, watcher, group, 0) {
         Ok(transmit) => Ok(transmit),
-        // The slots of a first frame from slot 0 on can be counted.
-        Err(_) => Err(LiveFault::NoMemory),
+        Err(OpenFault::SlotsSpent) => unreachable!(),
+        Err(OpenFault::NoMemory) => Err(LiveFault::NoMemory),
     }
 }
 
-/// The groups of a station, each with its sink.
+/// The groups of a station, each with its sink. None was given out before.
 fn groups<'a, R: Wait, B: BusSink + Drop, G: Gate>(
     alloc: Global,
     hub: &Values,
@@ -104,22 +118,22 @@ fn groups<'a, R: Wait, B: BusSink + Drop, G: Gate>(
     gate: &'a G,
 ) -> Result<Vec<Sending<'a, B, G>>, LiveFault>
     requires hub { desk.old.at ≡ hub.now }
+    requires none { desk.old.transmitters ≡ [] }
     requires sinks { vec_len sinks ≤ length hub.now.station.groups }
     requires planned { vec_len sinks ≤ length (groups_of station.now.planner.last) }
+    requires small { HasFewSlots station.now.planner.last }
     requires watchers { AllByRecursion (λ w. w ≡ beginner station.now.planner) watchers.items }
     requires enough { vec_len sinks ≤ vec_len watchers }
     ensures sinks { IfOk result (λ workers. map (λ w. w.sink) workers.items ≡ sinks.items) }
-    ensures hub { IfOk result (λ workers. AllByRecursion (λ w. w.transmit.transmitter.at ≡ hub.now) workers.items) }
-    ensures watcher { IfOk result (λ workers. AllByRecursion (λ w. w.transmit.watcher ≡ beginner station.now.planner) workers.items) }
-    ensures frames { IfOk result (λ workers. AllByRecursion (λ w. w.frames ≡ frames) workers.items) }
+    ensures ready { IfOk result (λ workers. AllNumbered (λ g w. IsReady hub.now station.now.planner g w.transmit × (w.frames ≡ frames)) workers.items) }
+    ensures fault { IfErr result (λ fault. fault ≡ NoMemory) }
 {
     let mut workers = Vec::new(alloc);
     let mut watchers = watchers;
     let mut number = 0;
     for sink in sinks {
-        // There is a watcher for each group.
         let Some(watcher) = watchers.pop() else {
-            return Err(LiveFault::NoMemory);
+            unreachable!()
         };
         let transmit = transmitter(alloc, hub, desk, watcher, number)?;
         workers.push(group_worker(transmit, sink, number, frames, gate))?;
@@ -148,15 +162,17 @@ fn run<
     gate: &G,
     control: &mut K,
 ) -> Result<Report<L, B>, LiveFault>
-    requires receivers { AllByRecursion (λ w. w.receiver.at ≡ hub.now) receiving.items }
-    requires fresh { AllByRecursion (λ w. w.receiver.accepted ≡ []) receiving.items }
-    requires desk { desk.old.at ≡ hub.now }
-    requires sinks { vec_len sinks ≤ length hub.now.station.groups }
-    requires planned { vec_len sinks ≤ length (groups_of station.old.planner.last) }
+    requires receivers { AllNumbered (λ r w. w.receiver ≡ fresh hub.now r) receiving.items }
+    requires all { vec_len receiving ≡ length hub.now.station.receivers }
+    requires hub { IsWired hub.now.station × (hub.now.station ≡ station.old.station) }
+    requires desk { (desk.old.at ≡ hub.now) × (desk.old.transmitters ≡ []) }
+    requires begun { IsBegun station.old }
+    requires sinks { vec_len sinks ≡ length hub.now.station.groups }
+    requires few { frames ≤ 1000000 }
     requires watchers { AllByRecursion (λ w. w ≡ beginner station.old.planner) watchers.items }
     requires enough { vec_len sinks ≤ vec_len watchers }
-    ensures heard { IfOk result (λ report. AllOfThree (IsHeardFrom L.given L.ended hub.now.station) (map (λ w. w.line) receiving.entry.items) report.sources.items report.receivers.items) }
-    ensures sent { IfOk result (λ report. AllOfThree (IsSentTo B.taken) sinks.items report.sinks.items report.groups.items) }
+    ensures ran { IfOk result (HasRun L.given L.ended B.taken hub.now.station frames (map (λ w. w.line) receiving.entry.items) sinks.items) }
+    ensures fault { IfErr result (IsRunFault L.given L.ended L.failed B.failed (map (λ w. w.line) receiving.entry.items) sinks.items) }
 {
     let sending = groups(alloc, hub, desk, station, watchers, sinks, frames, gate)?;
     let lent = Lent { station, control };
@@ -169,6 +185,7 @@ fn run<
         meanwhile: (lent, answer),
     } = done;
     let Lent { station, .. } = lent;
+    station.led();
     let mut heard = receivers_reported(alloc, first)?;
     let told = groups_reported(alloc, hub, station, heard.receivers.as_mut_slice(), second)?;
     answer?;
@@ -193,10 +210,16 @@ fn run<
 /// for each receiver takes the words of its line, one for each group sends so many frames from slot 0 on, and the
 /// calling thread runs the control meanwhile. Answers their totals when all have ended, with the devices.
 ///
+/// Then each receiver took the words that its source gave up to its end, each sink took the cells of so many whole
+/// frames, and what a group did is one run of the machine: its calls meet the premises of
+/// `a429_workers::laws::one_run`, by the equipment's plan, the plans that the control published, and what all
+/// receivers accepted.
+///
 /// Refused is, in this order, an equipment without a plan (`Plan`), and more than a million frames (`TooMuch`); then
 /// nothing was started. `Join` where a thread could not be started or taken in. When all have ended: the fault of the
-/// first receiver that has one (`Source`, `Gate`, `TooMuch`), or else of the first group (`Sink`, `Gate`), or else
-/// `NoMemory` of the control. `NoMemory` may come in place of any later answer.
+/// first receiver that has one (`Source`, `Gate`, or `TooMuch` where its source gave a word after a million), or else
+/// of the first group (`Sink`, `Gate`), or else `NoMemory` of the control. `NoMemory` may come in place of any later
+/// answer.
 pub fn live<
     R: Threads + Wait,
     L: LineSource + Send + Drop,
@@ -215,12 +238,11 @@ pub fn live<
 ) -> Result<Report<L, B>, LiveFault>
     requires sources { vec_len sources ≡ length equipment.now.receivers }
     requires sinks { vec_len sinks ≡ length equipment.now.groups }
-    ensures plan { IfOk result (λ report. (p : PlanTable) × IsPlanOf equipment.now p) }
-    ensures frames { IfOk result (λ report. frames ≤ 1000000) }
-    ensures heard { IfOk result (λ report. AllOfThree (IsHeardFrom L.given L.ended equipment.now) sources.items report.sources.items report.receivers.items) }
-    ensures sent { IfOk result (λ report. AllOfThree (IsSentTo B.taken) sinks.items report.sinks.items report.groups.items) }
+    ensures ran { IfOk result (HasRun L.given L.ended B.taken equipment.now frames sources.items sinks.items) }
+    ensures fault { IfErr result (IsLiveFault L.given L.ended L.failed B.failed equipment.now frames sources.items sinks.items) }
 {
     numbers_in_range(equipment);
+    sources_apart(equipment);
     let plan = plan(alloc, equipment)?;
     if frames > FRAMES {
         return Err(LiveFault::TooMuch);

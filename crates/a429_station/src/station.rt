@@ -3,7 +3,10 @@ ghost use Rattle.std.specs.Prelude.{◌≡◌, ◌∷◌, [], true, IfOk, IfErr,
 ghost use Rattle.a429_equipment.specs.SameStation.{same_station};
 ghost use Rattle.a429_slots.specs.Planned.{IsPlanOf};
 ghost use Rattle.a429_board.specs.Lists.{Planning};
-ghost use Rattle.a429_station.specs.Resubmitting.{IsPlanned, IsReplanFault, Publishes};
+ghost use mathlib.Core.List.{IsPrefix};
+ghost use Rattle.a429_workers.specs.Transmitting.{GoesOnBy};
+ghost use Rattle.a429_station.specs.Resubmitting.{GoesOn, IsLed, IsPlanned, IsReplanFault, Publishes};
+ghost use Rattle.a429_station.specs.Working.{told};
 
 use a429_board::{BoardFault, Planner};
 use a429_equipment::{Equipment, TableFault};
@@ -145,6 +148,7 @@ impl<'a, R: Wait> Station<'a, R> {
         ensures published { IfOk result (λ number. Publishes self.old table.now number self.new) }
         ensures fault { IfErr result (IsReplanFault self.old table.now) }
         ensures unchanged { OnErr result (self.new ≡ self.old) }
+        ensures after { GoesOn self.old self.new }
     {
         let plan = match replanned(self.alloc, self.equipment, table) {
             Ok(plan) => plan,
@@ -155,11 +159,21 @@ impl<'a, R: Wait> Station<'a, R> {
             Err(fault) => Err(ReplanFault::from(fault)),
         }
     }
+
+    /// Its list of plans: the opening one, and proposals of this station after it.
+    pub(crate) fn led(&self)
+        ensures { IsLed self.now }
+    {
+        let _ = &self.rt;
+    }
+
     /// Tells a group's transmitter of this board all that was published.
     pub(crate) fn tell(&mut self, transmit: &mut Transmit)
         requires board { transmit.old.watcher.book ≡ self.old.planner.book }
         ensures station { self.new ≡ self.old }
-        ensures transmit { transmit.new ≡ record transmit.old { watcher = record transmit.old.watcher { list = self.old.planner.list } } }
+        ensures transmit { transmit.new ≡ told transmit.old self.old.planner.list }
+        ensures beginning { IsPrefix transmit.old.watcher.list self.old.planner.list }
+        ensures stands { GoesOnBy transmit.old [] transmit.new }
     {
         transmit.told(&mut self.planner);
     }

@@ -1,6 +1,5 @@
 //! The workers of a running station: a receiver with its line, a group with its sink.
 ghost use Rattle.std.specs.Prelude.{◌≡◌};
-ghost use Rattle.a429_workers.specs.Sends.{AreSent};
 
 use crate::threads::Work;
 use a429_filter::LineSource;
@@ -32,7 +31,7 @@ impl<'a, L: LineSource + Send + Drop, G: Gate + Sync> Work for Receiving<'a, L, 
 
     type Done = Received<L>;
 
-    ghost did = { λ w d. HasReceived L.given L.ended w.line w.receiver d.line d.receiver d.answer };
+    ghost did = { λ w d. HasReceived L.given L.ended L.failed w.line w.receiver d.line d.receiver d.answer };
 
     fn work(self) -> Received<L> {
         let Receiving {
@@ -70,11 +69,11 @@ pub struct Emitted<B> {
 }
 
 impl<'a, B: BusSink + Send + Drop, G: Gate + Sync> Work for Sending<'a, B, G> {
-    ghost use Rattle.a429_workers.specs.Sends.{AreSent};
+    ghost use Rattle.a429_station.specs.Working.{HasEmitted};
 
     type Done = Emitted<B>;
 
-    ghost did = { λ w d. AreSent w.frames w.transmit d.transmit (B.taken w.sink) (B.taken d.sink) d.answer };
+    ghost did = { λ w d. HasEmitted B.taken B.failed w.frames w.transmit w.sink d.transmit d.sink d.answer };
 
     fn work(self) -> Emitted<B> {
         let Sending {

@@ -1,12 +1,17 @@
-use Rattle.std.specs.Prelude.{◌≡◌, ◌+◌, ◌++◌, [], map, vec_len}
+use Rattle.std.specs.Prelude.{◌≡◌, ◌+◌, ◌++◌, ◌<◌, length, map, vec_len}
 use Rattle.std.specs.List.{AllByRecursion}
 use Rattle.std.specs.Vec.Iter.{into_iter_items, into_iter_len}
+use Rattle.a429_station.specs.Course.{fresh}
+use Rattle.a429_station.specs.Numbered.{AllNumbered}
 use Rattle.a429_station.proofs.running.receivers.Given as goal
 
 abbrev pub invariant-loop-line : goal.invariant-loop-line
-invariant-loop-line g l =
-    (map (λ w. w.line) l.workers.items ++ into_iter_items l.line-iterator ≡ l.fn.sources.items)
-    × (l.number + into_iter_len l.line-iterator ≡ vec_len l.fn.sources)
-    × (l.desk.at ≡ l.fn.desk.at)
-    × AllByRecursion (λ w. w.receiver.at ≡ l.fn.hub) l.workers.items
-    × AllByRecursion (λ w. w.receiver.accepted ≡ []) l.workers.items
+invariant-loop-line g l = record {
+  lines : map (λ w. w.line) l.workers.items ++ into_iter_items l.line-iterator ≡ l.fn.sources.items;
+  left : l.number + into_iter_len l.line-iterator ≡ vec_len l.fn.sources;
+  count : l.number ≡ length l.workers.items;
+  desk : l.desk.at ≡ l.fn.desk.at;
+  transmitters : l.desk.transmitters ≡ l.fn.desk.transmitters;
+  given : AllByRecursion (λ y. y < l.number) l.desk.receivers;
+  fresh : AllNumbered (λ r w. w.receiver ≡ fresh l.fn.hub r) l.workers.items;
+}

@@ -1,41 +1,126 @@
-use Rattle.std.proofs.Common.{rules, ◌≡◌, ◌∙◌, ap, subst, sym, [], map}
-use Rattle.std.specs.List.{AllByRecursion}
+use Rattle.std.proofs.Common.{rules, arith, ◌≡◌, ◌∙◌, ℕ, List, ap, subst, sym, refl, [], map, length, inl, inr}
+use Rattle.std.proofs.lemmas.Result.{err_from_is_err_and}
+use Rattle.std.proofs.lemmas.List.{length-map}
+use Rattle.std.specs.Prelude.{Result, Err, IfOk, IfErr}
+use Rattle.std.specs.List.{AllByRecursion, AllZip}
+use Rattle.a429_equipment.specs.TableRecord.{TableRecord}
 use Rattle.a429_values.specs.Ends as ends
-use Rattle.a429_board.specs.Lists.{Watched}
-use Rattle.a429_station.specs.Working.{AllOfThree, IsHeardFrom, IsSentTo}
-use Rattle.a429_station.proofs.Ended.{zip_all, all_mapped, receiver_stays, group_stays, three_of, heard_from, sent_to, both}
+use Rattle.a429_workers.specs.Receives.{after_words}
+use Rattle.a429_station.specs.Course.{HasRun, IsHeardIn, IsSentIn, fresh}
+use Rattle.a429_station.specs.Faults.{HasStopped, IsFirst, IsRunFault, first_fault}
+use Rattle.a429_station.specs.Numbered.{AllNumbered, AllOfThree}
+use Rattle.a429_station.specs.Working.{HasEmitted, HasReceived, IsJoined, IsOver, IsReady, IsReceiverAt}
+use Rattle.a429_station.specs.declared.faults.LiveFault.{LiveFault}
+use Rattle.a429_station.specs.declared.reports.Report.{Report}
+use Rattle.a429_station.specs.declared.working.Emitted.{Emitted}
+use Rattle.a429_station.specs.declared.working.Received.{Received}
+use Rattle.a429_station.specs.declared.working.Receiving.{Receiving}
+use Rattle.a429_station.specs.declared.working.Sending.{Sending}
+use Rattle.a429_station.proofs.Ended.{AreAfter, all_stopped, course_of, taken_in, group_one, group_over, heard_one, receiver_one, receiver_stays, all_well, first_of_receivers}
+use Rattle.a429_station.proofs.Numbered.{middle, numbered_all, numbered_mapped, shown, shown_past, three_of, zip_length, zip_mapped, zip_numbered, zip_with}
+use Rattle.a429_station.proofs.Plans.{plan_small}
 use Rattle.a429_station.proofs.running.run.Goals as goal
 
-pub groups_reported-requires-clause-board : goal.groups_reported-requires-clause-board
-groups_reported-requires-clause-board g c =
-    let on = c.in-Ok.ensures.meanwhile.2.book in
-    zip_all _ _ _ (λ w d h p. (group_stays w.frames d.answer w.transmit d.transmit _ _ h).board ∙ (ap (λ (x : Watched). x.book) p ∙ sym on)) c.in_ok-sending.sending.items c.in-Ok.done.second.items c.in-Ok.ensures.second c.in_ok-sending.ensures.watcher
+pub groups-requires-clause-planned : goal.groups-requires-clause-planned
+groups-requires-clause-planned g c =
+    omega (arith, c.requires.sinks, c.requires.begun.planned.count, ap (λ (t : TableRecord). length t.groups) c.requires.hub.1)
+
+pub groups-requires-clause-small : goal.groups-requires-clause-small
+groups-requires-clause-small g c = plan_small c.args.station.now.station c.args.station.now.planner.last c.requires.begun.planned
 
 pub groups_reported-requires-clause-receivers : goal.groups_reported-requires-clause-receivers
 groups_reported-requires-clause-receivers g c =
-    let all = zip_all _ _ (λ d. d.receiver.at ≡ c.args.hub.now) (λ w d h p. receiver_stays h.words d.answer w.receiver d.receiver h.taken ∙ p) c.args.receiving.items c.in-Ok.done.first.items c.in-Ok.ensures.first c.requires.receivers in
-    subst (AllByRecursion (λ r. r.at ≡ c.args.hub.now)) (search rules) (all_mapped (λ d. d.receiver) (λ r. r.at ≡ c.args.hub.now) c.in-Ok.done.first.items all)
-
-pub groups_reported-requires-clause-hub : goal.groups_reported-requires-clause-hub
-groups_reported-requires-clause-hub g c =
-    zip_all _ _ _ (λ w d h p. (group_stays w.frames d.answer w.transmit d.transmit _ _ h).hub ∙ p) c.in_ok-sending.sending.items c.in-Ok.done.second.items c.in-Ok.ensures.second c.in_ok-sending.ensures.hub
-
-pub returns-clause-heard : goal.returns-clause-heard
-returns-clause-heard g c =
     let hub = c.args.hub.now in
-    let heard = c.in_ok-heard.heard in
-    let before = both (λ w. w.receiver.at ≡ hub) (λ w. w.receiver.accepted ≡ []) c.args.receiving.items c.requires.receivers c.requires.fresh in
-    let all = three_of _ (λ w. (w.receiver.at ≡ hub) × (w.receiver.accepted ≡ [])) (IsHeardFrom g.L.LineSource.given g.L.LineSource.ended hub.station) (λ w. w.line) (λ d. d.line) (λ d. d.answer)
-    (λ w d t h p same. heard_from g.L.LineSource.given g.L.LineSource.ended hub.station w.line d.line w.receiver d.receiver d.answer t h (ap (λ (x : ends.Place). x.station) p.0, p.1) same)
-    c.args.receiving.items c.in-Ok.done.first.items heard.totals.items c.in-Ok.ensures.first before c.in_ok-heard.ensures.totals in
-    subst (λ l. AllOfThree (IsHeardFrom g.L.LineSource.given g.L.LineSource.ended hub.station) (map (λ w. w.line) c.args.receiving.items) l heard.totals.items) (sym c.in_ok-heard.ensures.sources) all
+    let all = zip_numbered _ (λ k w. w.receiver ≡ fresh hub k) (λ k d. IsReceiverAt hub k d.receiver) (λ k w d h p. receiver_stays hub k h.words d.answer w.receiver d.receiver h.taken p)
+    c.args.receiving.items c.in-Ok.done.first.items c.in-Ok.ensures.first c.requires.receivers in
+    subst (AllNumbered (IsReceiverAt hub)) (search rules) (numbered_mapped (λ d. d.receiver) (IsReceiverAt hub) c.in-Ok.done.first.items all)
 
-pub returns-clause-sent : goal.returns-clause-sent
-returns-clause-sent g c =
+pub groups_reported-requires-clause-groups : goal.groups_reported-requires-clause-groups
+groups_reported-requires-clause-groups g c =
+    let hub = c.args.hub.now in
+    let old = c.args.station.now in
+    let on = c.in-Ok.ensures.meanwhile.2 in
+    let over = zip_numbered _ (λ k w. IsReady hub old.planner k w.transmit × (w.frames ≡ c.args.frames)) (λ k d. IsOver hub c.in-Ok.done.meanwhile.0.station.now.planner d.transmit d.answer)
+    (λ k w d h p. group_over g.B.BusSink.taken g.B.BusSink.failed hub old c.in-Ok.done.meanwhile.0.station.now k w.frames w.transmit d.transmit w.sink d.sink d.answer c.requires.hub.1 c.requires.begun on c.led.ensures (omega (arith, p.1, c.requires.few)) h p.0)
+    c.in_ok-sending.sending.items c.in-Ok.done.second.items c.in-Ok.ensures.second c.in_ok-sending.ensures.ready in
+    numbered_all (λ d. IsOver hub c.in-Ok.done.meanwhile.0.station.now.planner d.transmit d.answer) c.in-Ok.done.second.items over
+
+pub returns-clause-ran : goal.returns-clause-ran
+returns-clause-ran g c =
+    let given = g.L.LineSource.given in
+    let ended = g.L.LineSource.ended in
+    let failed = g.L.LineSource.failed in
+    let taken = g.B.BusSink.taken in
+    let hub = c.args.hub.now in
+    let old = c.args.station.now in
+    let new = c.in-Ok.done.meanwhile.0.station.now in
+    let did : Receiving g.row.L.Denot g.row.G.Denot → Received g.row.L.Denot → Type 0 = λ w d. HasReceived given ended failed w.line w.receiver d.line d.receiver d.answer in
+    let first = c.in-Ok.ensures.first in
+    let ws = c.args.receiving.items in
+    let ds = c.in-Ok.done.first.items in
+    let show : (w : Receiving g.row.L.Denot g.row.G.Denot) (d : Received g.row.L.Denot) → did w d → List ℕ = λ w d h. h.words in
+    let came : ℕ → List ℕ = shown did show ws ds first in
+    let heard = c.in_ok-heard.heard in
     let told = c.in_ok-told.told in
-    let workers = c.in_ok-sending.sending.items in
-    let all = three_of _ (λ w. w.frames ≡ c.args.frames) (IsSentTo g.B.BusSink.taken) (λ w. w.sink) (λ d. d.sink) (λ d. d.answer)
-    (λ w d t h p same. sent_to g.B.BusSink.taken w.frames w.transmit d.transmit w.sink d.sink d.answer t h same)
-    workers c.in-Ok.done.second.items told.totals.items c.in-Ok.ensures.second c.in_ok-sending.ensures.frames c.in_ok-told.ensures.totals in
-    subst (λ l. AllOfThree (IsSentTo g.B.BusSink.taken) c.args.sinks.items l told.totals.items) (sym c.in_ok-told.ensures.sinks)
-    (subst (λ l. AllOfThree (IsSentTo g.B.BusSink.taken) l (map (λ d. d.sink) c.in-Ok.done.second.items) told.totals.items) c.in_ok-sending.ensures.sinks all)
+    let course = course_of old c.led.ensures.later came in
+    let lines = three_of did show (λ w. w.line) (λ d. d.line) (λ d. d.answer) (λ k w. w.receiver ≡ fresh hub k) (IsHeardIn given ended hub.station course) came
+    (λ k w d t h p same is. heard_one given ended failed hub course k w.line d.line w.receiver d.receiver d.answer t h p same is)
+    ws ds heard.totals.items first c.requires.receivers c.in_ok-heard.ensures.totals (λ k. refl) in
+    let after = three_of did show (λ w. w.line) (λ d. d.receiver) (λ d. d.answer) (λ k w. w.receiver ≡ fresh hub k) (λ k x r t. r ≡ after_words (fresh hub k) (came k)) came
+    (λ k w d t h p same is. receiver_one given ended failed hub k (came k) w.line d.line w.receiver d.receiver d.answer t h p same is)
+    ws ds heard.totals.items first c.requires.receivers c.in_ok-heard.ensures.totals (λ k. refl) in
+    let rs = map (λ d. d.receiver) ds in
+    let each : AreAfter hub came rs = middle (λ k r. r ≡ after_words (fresh hub k) (came k)) (map (λ w. w.line) ws) rs heard.totals.items after in
+    let many : length ds ≡ length hub.station.receivers = omega (arith, zip_length did ws ds first, c.requires.all) in
+    let K = taken_in hub old new came rs c.requires.hub.1 c.requires.begun c.in-Ok.ensures.meanwhile.2 c.led.ensures c.requires.hub.0 each (omega (arith, many, length-map ds (λ d. d.receiver)))
+    (λ k past. shown_past did show ws ds first k (omega (arith, past, c.requires.all))) in
+    let joined = subst (λ (l : List ends.Receiving). AllByRecursion (λ d. IsJoined hub.station new.planner.list l d.transmit) c.in-Ok.done.second.items) (search rules) c.in_ok-told.ensures.joined in
+    let sent : Sending g.row.B.Denot g.row.G.Denot g.B.BusSink → Emitted g.row.B.Denot → Type 0 = λ w d. HasEmitted taken g.B.BusSink.failed w.frames w.transmit w.sink d.transmit d.sink d.answer in
+    let both : Sending g.row.B.Denot g.row.G.Denot g.B.BusSink → Emitted g.row.B.Denot → Type 0 = λ w d. sent w d × IsJoined hub.station new.planner.list rs d.transmit in
+    let none : (w : Sending g.row.B.Denot g.row.G.Denot g.B.BusSink) (d : Emitted g.row.B.Denot) → both w d → List ℕ = λ w d h. [] in
+    let vs = c.in_ok-sending.sending.items in
+    let es = c.in-Ok.done.second.items in
+    let pairs = zip_with sent (λ d. IsJoined hub.station new.planner.list rs d.transmit) vs es c.in-Ok.ensures.second joined in
+    let cells = three_of both none (λ w. w.sink) (λ d. d.sink) (λ d. d.answer)
+    (λ k w. IsReady hub old.planner k w.transmit × (w.frames ≡ c.args.frames)) (IsSentIn taken c.args.frames hub.station course) (shown both none vs es pairs)
+    (λ k w d t h p same is. group_one taken g.B.BusSink.failed hub old.planner new.planner course rs c.args.frames w.frames k w.transmit d.transmit w.sink d.sink d.answer t K h.0 h.1 p.0 p.1 same)
+    vs es told.totals.items pairs c.in_ok-sending.ensures.ready c.in_ok-told.ensures.totals (λ k. refl) in
+    record {
+      course = course;
+      planned = K.planned;
+      few = c.requires.few;
+      heard = subst (λ l. AllOfThree (IsHeardIn given ended hub.station course) (map (λ w. w.line) ws) l heard.totals.items) (sym c.in_ok-heard.ensures.sources) lines;
+      sent = subst (λ l. AllOfThree (IsSentIn taken c.args.frames hub.station course) c.args.sinks.items l told.totals.items) (sym c.in_ok-told.ensures.sinks)
+          (subst (λ l. AllOfThree (IsSentIn taken c.args.frames hub.station course) l (map (λ d. d.sink) c.in-Ok.done.second.items) told.totals.items) c.in_ok-sending.ensures.sinks cells);
+    }
+
+pub returns-in_err-heard-clause-fault : goal.returns-in_err-heard-clause-fault
+returns-in_err-heard-clause-fault g c =
+    let p = err_from_is_err_and c.from_residual-in_err-heard.result c.from_residual-in_err-heard.ensures.1 in
+    let fault = c.in_err-heard.field-0.0 in
+    let stop = λ (first : IsFirst (first_fault (map (λ d. d.answer) c.in-Ok.done.first.items)) (first_fault (map (λ d. d.answer) c.in-Ok.done.second.items)) fault).
+    all_stopped g.L.LineSource.given g.L.LineSource.ended g.L.LineSource.failed g.B.BusSink.taken g.B.BusSink.failed
+    (λ w. w.line) (λ w. w.receiver) (λ d. d.line) (λ d. d.receiver) (λ d. d.answer) (λ v. v.frames) (λ v. v.transmit) (λ v. v.sink) (λ e. e.transmit) (λ e. e.sink) (λ e. e.answer)
+    c.args.receiving.items c.in-Ok.done.first.items c.in_ok-sending.sending.items c.in-Ok.done.second.items c.args.sinks.items fault c.in-Ok.ensures.first c.in-Ok.ensures.second c.in_ok-sending.ensures.sinks first in
+    subst (λ (r : Result (Report g.row.L.Denot g.row.B.Denot) LiveFault). IfErr r (IsRunFault g.L.LineSource.given g.L.LineSource.ended g.L.LineSource.failed g.B.BusSink.failed (map (λ w. w.line) c.args.receiving.items) c.args.sinks.items))
+    (sym (p.1 ∙ ap (λ (f : LiveFault). Err f) p.2))
+    (elim c.in_err-heard.ensures.fault [
+      | inl none ↦ inl none
+      | inr why ↦ inr (inr (stop (first_of_receivers _ _ fault why)))
+    ])
+
+pub returns-in_err-told-clause-fault : goal.returns-in_err-told-clause-fault
+returns-in_err-told-clause-fault g c =
+    let p = err_from_is_err_and c.from_residual-in_err-told.result c.from_residual-in_err-told.ensures.1 in
+    let fault = c.in_err-told.field-0.0 in
+    let well = all_well (λ d. d.answer) c.in_ok-heard.heard.totals.items c.in-Ok.done.first.items c.in_ok-heard.ensures.totals in
+    let stop = λ (first : IsFirst (first_fault (map (λ d. d.answer) c.in-Ok.done.first.items)) (first_fault (map (λ d. d.answer) c.in-Ok.done.second.items)) fault).
+    all_stopped g.L.LineSource.given g.L.LineSource.ended g.L.LineSource.failed g.B.BusSink.taken g.B.BusSink.failed
+    (λ w. w.line) (λ w. w.receiver) (λ d. d.line) (λ d. d.receiver) (λ d. d.answer) (λ v. v.frames) (λ v. v.transmit) (λ v. v.sink) (λ e. e.transmit) (λ e. e.sink) (λ e. e.answer)
+    c.args.receiving.items c.in-Ok.done.first.items c.in_ok-sending.sending.items c.in-Ok.done.second.items c.args.sinks.items fault c.in-Ok.ensures.first c.in-Ok.ensures.second c.in_ok-sending.ensures.sinks first in
+    subst (λ (r : Result (Report g.row.L.Denot g.row.B.Denot) LiveFault). IfErr r (IsRunFault g.L.LineSource.given g.L.LineSource.ended g.L.LineSource.failed g.B.BusSink.failed (map (λ w. w.line) c.args.receiving.items) c.args.sinks.items))
+    (sym (p.1 ∙ ap (λ (f : LiveFault). Err f) p.2))
+    (elim c.in_err-told.ensures.fault [
+      | inl none ↦ inl none
+      | inr first ↦ inr (inr (stop (subst (λ x. IsFirst x (first_fault (map (λ d. d.answer) c.in-Ok.done.second.items)) fault) (sym well) first)))
+    ])

@@ -1,8 +1,8 @@
 use Rattle.std.proofs.Common.{rules, ◌≡◌, ◌<◌, ◌^◌, refl, sym, subst, ℕ}
 use Rattle.std.specs.Prelude.{IfOk, IfErr}
-use Rattle.a429_station.specs.Resubmitting.{Running, Publishes, IsReplanFault, IsLed, of_board}
+use Rattle.a429_station.specs.Resubmitting.{GoesOn, Running, Publishes, IsReplanFault, IsLed, of_board}
 use Rattle.a429_station.specs.declared.station.ReplanFault.{ReplanFault}
-use Rattle.a429_station.proofs.Plans.{led_on, publishes, refused}
+use Rattle.a429_station.proofs.Plans.{led_on, one_further, publishes, refused, stays}
 use Rattle.a429_station.proofs.station.Station.resubmit.Goals as goal
 use Rattle.a429_station.proofs.station.Station.resubmit.Goals.{in-Ok-publish, in-Err-publish}
 
@@ -49,4 +49,21 @@ returns-clause-fault g c =
           subst (λ r. IfErr r (IsReplanFault c.args.self.now c.args.table.now)) (sym w.result-is)
           (subst (λ (f : ReplanFault). IsReplanFault c.args.self.now c.args.table.now f) (sym w.from.ensures)
           (subst (λ (v : Running). IsReplanFault v c.args.table.now (of_board w.in-Err-publish.fault)) c.self.view_is why))
+    ]
+
+pub returns-in-Err-clause-after : goal.returns-in-Err-clause-after
+returns-in-Err-clause-after g c = subst (λ (v : Running). GoesOn c.args.self.now v) (search rules) (stays c.args.self.now)
+
+pub returns-clause-after : goal.returns-clause-after
+returns-clause-after g c =
+    let told = c.in-Ok.ensures.plan in
+    let old : Running = record { station = c.self.inside.equipment.now; planner = c.self.inside.planner } in
+    let new : Running = record { station = c.self.inside.equipment.now; planner = c.publish.new.self } in
+    elim c.match-publish.branch [
+      | in-Ok-publish w ↦
+          let n = w.in-Ok-publish.number in
+          let e = w.in-Ok-publish.ensures in
+          let done = publishes old new c.args.table.now told.0 c.in-Ok.plan n told.1 told.2 e.next e.list e.last e.book refl in
+          subst (λ (v : Running). GoesOn v new) c.self.view_is (one_further old new c.args.table.now n done)
+      | in-Err-publish w ↦ subst (λ (v : Running). GoesOn c.args.self.now v) (search rules) (stays c.args.self.now)
     ]

@@ -1,0 +1,79 @@
+-- The course of a run of a station: what came to its receivers, what its groups sent by that, and which plans were published meanwhile.
+use Rattle.std.specs.Prelude.{◌≡◌, ◌≤◌, ◌-◌, ◌^◌, ◌++◌, ◌∷◌, [], ⊤, ℕ, zero, suc, Bool, true, List, Option, Some, None, IsTrue, length, map}
+use Rattle.std.specs.List.{AllByRecursion, range_with_len}
+use Rattle.a429_equipment.specs.TableRecord.{TableRecord}
+use Rattle.a429_equipment.specs.Receiving.{accepted_after}
+use Rattle.a429_equipment.specs.Agreement.{loads_of_all}
+use Rattle.a429_slots.specs.Tables.{GroupTable, PlanTable}
+use Rattle.a429_slots.specs.Planned.{IsPlanOf}
+use Rattle.a429_slots.specs.Proposed.{Proposed}
+use Rattle.a429_values.specs.Ends as ends
+use Rattle.a429_workers.specs.Calls.{Call, Meets}
+use Rattle.a429_workers.specs.Receives as receives
+use Rattle.a429_workers.specs.Receives.{answers_to}
+use Rattle.a429_workers.specs.Runs.{IsWorking, led_to}
+use Rattle.a429_workers.specs.Sends as sends
+use Rattle.a429_workers.specs.Sends.{AreWhole, is_send, sent_in, with_cells}
+use Rattle.a429_workers.specs.declared.cells.Sent.{Sent}
+use Rattle.a429_workers.specs.declared.receiving.ReceiveTotals.{ReceiveTotals}
+use Rattle.a429_workers.specs.declared.sending.SendTotals.{SendTotals}
+use Rattle.a429_station.specs.Numbered.{AllOfThree}
+use Rattle.a429_station.specs.Resubmitting.{opening}
+use Rattle.a429_station.specs.declared.reports.Report.{Report}
+
+-- the plan that the run began with, the proposals that were published meanwhile, in order, and the raw words that came to each receiver
+pub record Course : Type 0 where
+  pub opened : PlanTable
+  pub later : List Proposed
+  pub came : ℕ → List ℕ
+
+-- ---- receivers
+
+-- receiver r, which accepted nothing yet: of a source it accepts as many words as 41 bits count
+abbrev pub fresh : ends.Place → ℕ → ends.Receiving
+fresh at r = record { at = at; number = r; limit = 2 ^ 41 - 1; accepted = [] }
+
+-- what receiver r accepted of the words that came to it, as pairs of a source's number and a word
+abbrev pub heard_in : TableRecord → Course → ℕ → List (ℕ × ℕ)
+heard_in t c r = accepted_after (2 ^ 41 - 1) t r [] (c.came r)
+
+-- the source of receiver r's line gave the words that came to it, up to its end, and the totals count the receiver's answers to them
+pub record IsHeardIn {L : Type 0} (given : L → List ℕ) (ended : L → Bool) (t : TableRecord) (c : Course) (r : ℕ) (before after : L) (totals : ReceiveTotals) : Type 0 where
+  pub gave : given after ≡ given before ++ c.came r
+  pub at_end : ended after ≡ true
+  pub few : length (c.came r) ≤ 1000000
+  pub hub : ends.Place
+  pub station : hub.station ≡ t
+  pub counted : totals ≡ receives.totals_of (answers_to (fresh hub r) (c.came r))
+
+-- ---- groups
+
+-- a receiver is met: each of its sources is loaded
+abbrev pub meeting : TableRecord → Course → ℕ → Call
+meeting t c r = Meets (loads_of_all t r (heard_in t c r))
+
+-- after the frames each receiver is met, in order
+abbrev pub meetings : TableRecord → Course → List Call
+meetings t c = map (meeting t c) (range_with_len 0 (length t.receivers))
+
+-- Group g was asked for so many whole frames, from slot 0 on by the plan that the run began with, and then met each receiver. Its calls are a
+-- working transmitter's, as one run (`a429_workers::laws`) supposes, by the plans that were published and what each receiver accepted. Its sink
+-- took the cells, where it tells them, and the totals count them.
+pub record IsSentIn {B : Type 0} (taken : B → Option (List Sent)) (frames : ℕ) (t : TableRecord) (c : Course) (g : ℕ) (before after : B) (totals : SendTotals) : Type 0 where
+  pub table : GroupTable
+  pub calls : List Call
+  pub works : IsWorking 41 (opening t c.opened) g table c.later (calls ++ meetings t c) (heard_in t c)
+  pub only : AllByRecursion (λ x. IsTrue (is_send x)) calls
+  pub whole : AreWhole frames calls (led_to (opening t c.opened) g table calls).frame
+  pub took : taken after ≡ with_cells (taken before) (sent_in calls)
+  pub counted : totals ≡ sends.totals_of (sent_in calls) (led_to (opening t c.opened) g table calls).number
+
+-- ---- the station
+
+-- The station ran by a plan of its own table. Receivers and groups go by their numbers, which are their places in the table.
+pub record HasRun {L B : Type 0} (given : L → List ℕ) (ended : L → Bool) (taken : B → Option (List Sent)) (t : TableRecord) (frames : ℕ) (sources : List L) (sinks : List B) (report : Report L B) : Type 0 where
+  pub course : Course
+  pub planned : IsPlanOf t course.opened
+  pub few : frames ≤ 1000000
+  pub heard : AllOfThree (IsHeardIn given ended t course) sources report.sources.items report.receivers.items
+  pub sent : AllOfThree (IsSentIn taken frames t course) sinks report.sinks.items report.groups.items
