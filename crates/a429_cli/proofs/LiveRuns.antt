@@ -18,10 +18,10 @@ heard_rows given ended t [] [] (x ∷ xs) totals same all = absurd all
 heard_rows given ended t [] (b ∷ bs) after totals same all = absurd (cc same)
 heard_rows given ended t (r ∷ rs) [] after totals same all = absurd (cc same)
 heard_rows given ended t (r ∷ rs) (b ∷ bs) [] totals same all = absurd all
-heard_rows given ended t (r ∷ rs) (b ∷ bs) (a ∷ as) [] same all = absurd all
-heard_rows given ended t (r ∷ rs) (b ∷ bs) (a ∷ as) (x ∷ xs) same (one, all) =
+heard_rows given ended t (r ∷ rs) (b ∷ bs) (a ∷ more) [] same all = absurd all
+heard_rows given ended t (r ∷ rs) (b ∷ bs) (a ∷ more) (x ∷ xs) same (one, all) =
     let fewer : length bs ≡ length rs = omega (arith, same) in
-    ((one.receiver, one.words, one.station, one.empty, one.counted), heard_rows given ended t rs bs as xs fewer all)
+    ((one.receiver, one.words, one.station, one.empty, one.counted), heard_rows given ended t rs bs more xs fewer all)
 
 pub as_many : {X Y Z : Type 0} (P : X → Y → Z → Type 0) (xs : List X) (ys : List Y) (zs : List Z) → AllOfThree P xs ys zs → length zs ≡ length xs
 as_many P [] [] [] all = refl

@@ -57,7 +57,7 @@ pub all_four : (a b c d : Bool) → a ≡ true → b ≡ true → c ≡ true →
 all_four a b c d p q r s = rw (p, q, r, s) refl
 
 -- where the words after the command's are kept for it, and its own level passes
-pub passes_with : (w : Walk) (b : Bool) → Bool
+unfoldable pub passes_with : (w : Walk) (b : Bool) → Bool
 unfolding command_line
 passes_with w b =
     entered_passes (built command_line) w.stopped

@@ -33,12 +33,12 @@ arrivals_step names n (x ∷ xs) some =
     ap (λ (l : List (List ℕ) × List ℕ). arrivals_from names (n + 1) l.0 l.1) (lines-cut (x ∷ xs)) ∙ from_cut names n x xs (cut 10 (x ∷ xs))
 
 pub arrivals_before-nil : (r : Result (List Arrival) ℕ) → arrivals_before [] r ≡ r
-arrivals_before-nil (Ok as) = refl
+arrivals_before-nil (Ok later) = refl
 arrivals_before-nil (Err n) = refl
 
-pub arrivals_before-append : (as : List Arrival) (a : Arrival) (r : Result (List Arrival) ℕ) → arrivals_before as (arrivals_before (a ∷ []) r) ≡ arrivals_before (as ++ a ∷ []) r
-arrivals_before-append as a (Ok later) = ap (λ (l : List Arrival). Ok l) (sym (append_assoc as (a ∷ []) later))
-arrivals_before-append as a (Err n) = refl
+pub arrivals_before-append : (xs : List Arrival) (a : Arrival) (r : Result (List Arrival) ℕ) → arrivals_before xs (arrivals_before (a ∷ []) r) ≡ arrivals_before (xs ++ a ∷ []) r
+arrivals_before-append xs a (Ok later) = ap (λ (l : List Arrival). Ok l) (sym (append_assoc xs (a ∷ []) later))
+arrivals_before-append xs a (Err n) = refl
 
 -- of n numbers those from i on
 pub numbers_left : {X : Type 0} (f : ℕ → X) (i n : ℕ) → i < n → map f (range_with_len i (n - i)) ≡ f i ∷ map f (range_with_len (i + 1) (n - (i + 1)))

@@ -72,11 +72,13 @@ IsLiveRefusal file r refusal =
 
 -- ---- the report
 
+-- the words that a receiver refused for another reason than parity
+abbrev pub refused_words : ReceiveTotals → List ℕ
+refused_words t = codes " filtered " ++ decimal t.filtered ++ codes " no-source " ++ decimal t.no_source ++ codes " spent " ++ decimal t.spent ++ 10 ∷ []
+
 -- the line of a receiver
 abbrev pub receiver_line : List ℕ → ReceiveTotals → List ℕ
-receiver_line name t =
-    codes "receiver " ++ name ++ codes " accepted " ++ decimal t.accepted ++ codes " parity " ++ decimal t.parity ++ codes " filtered " ++ decimal t.filtered
-    ++ codes " no-source " ++ decimal t.no_source ++ codes " spent " ++ decimal t.spent ++ 10 ∷ []
+receiver_line name t = codes "receiver " ++ name ++ codes " accepted " ++ decimal t.accepted ++ codes " parity " ++ decimal t.parity ++ refused_words t
 
 -- those of several, in order
 abbrev pub receiver_lines : List ReceiverRow → List ReceiveTotals → List ℕ
@@ -92,17 +94,18 @@ abbrev pub group_lines : List GroupRow → List SendTotals → List ℕ
 group_lines (row ∷ rows) (t ∷ totals) = group_line row.name t ++ group_lines rows totals
 group_lines _ _ = []
 
--- a further table was published under a number, or there was no number left
-abbrev pub published_line : Option ℕ → List ℕ
-published_line (Some n) = codes "published " ++ decimal n ++ 10 ∷ []
-published_line None = codes "refused count-spent" ++ 10 ∷ []
+-- what is told of a further table that can be planned: that it is of another station, the number under which it was published, or that there was
+-- no number left
+abbrev pub published_line : Bool → Option ℕ → List ℕ
+published_line false number = codes "refused station-differs" ++ 10 ∷ []
+published_line true (Some n) = codes "published " ++ decimal n ++ 10 ∷ []
+published_line true None = codes "refused count-spent" ++ 10 ∷ []
 
--- the line of a further table that was resubmitted to a station: its own refusal or that of its plan, or that it is of another station, or its number
+-- the line of a further table that was resubmitted to a station: its own refusal or that of its plan, or what is told of a plan
 abbrev pub IsResubmitLine : TableRecord → List ℕ → List ℕ → Type 0
 IsResubmitLine t table line =
     ((refusal : CommandRefusal) × IsTableRefusal table refusal × (line ≡ refusal_line refusal ++ 10 ∷ []))
-    ⊎ ((q : Proposed) × IsProposedBy table q × (same_station t q.station ≡ false) × (line ≡ codes "refused station-differs" ++ 10 ∷ []))
-    ⊎ ((q : Proposed) × (number : Option ℕ) × IsProposedBy table q × (same_station t q.station ≡ true) × (line ≡ published_line number))
+    ⊎ ((q : Proposed) × (number : Option ℕ) × IsProposedBy table q × (line ≡ published_line (same_station t q.station) number))
 
 -- one line for each further table, then one for each receiver and one for each group of the station, in table order
 abbrev pub IsReport : TableRecord → List (List ℕ) → List ReceiveTotals → List SendTotals → List ℕ → Type 0

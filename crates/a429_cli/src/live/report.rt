@@ -1,8 +1,8 @@
 //! The report of a run.
-ghost use Rattle.std.specs.Prelude.{◌≡◌, ◌++◌, ◌∷◌, [], ℕ, List, OnOk, MatchResult, codes};
+ghost use Rattle.std.specs.Prelude.{◌≡◌, ◌++◌, ◌∷◌, [], ℕ, List, OnOk, MatchResult};
 ghost use Rattle.std.specs.List.{AllZip, concat};
 ghost use Rattle.a429_cli.specs.Files.{bytes_of};
-ghost use Rattle.a429_cli.specs.LiveReplies.{IsReport, IsResubmitLine, IsRunRefusal, group_line, group_lines, published_line, receiver_line, receiver_lines};
+ghost use Rattle.a429_cli.specs.LiveReplies.{IsReport, IsResubmitLine, IsRunRefusal, group_line, group_lines, published_line, receiver_line, receiver_lines, refused_words};
 ghost use Rattle.a429_cli.specs.RefusalText.{OrMemory, refusal_line};
 
 use crate::output::refusals::CommandRefusal;
@@ -15,23 +15,24 @@ use std::alloc::{AllocError, Global};
 use std::io;
 use std::io::Write;
 
-/// Appends the line of a receiver. The error is a want of memory, and may leave a part of the line.
-fn push_receiver(text: &mut Vec<u8>, row: &ReceiverRow, totals: ReceiveTotals) -> io::Result<()>
-    ensures { OnOk result (text.new.items ≡ text.old.items ++ receiver_line row.now.name totals) }
+/// Appends how many words a receiver refused for another reason than parity.
+fn push_refused_words(text: &mut Vec<u8>, totals: ReceiveTotals) -> io::Result<()>
+    ensures { OnOk result (text.new.items ≡ text.old.items ++ refused_words totals) }
 {
-    let ReceiveTotals {
-        accepted,
-        parity,
-        filtered,
-        no_source,
-        spent,
-    } = totals;
-    let name = row.name.as_str();
-    write!(text, "receiver {name} accepted {accepted} parity {parity}")?;
+    let (filtered, no_source, spent) = (totals.filtered, totals.no_source, totals.spent);
     writeln!(
         text,
         " filtered {filtered} no-source {no_source} spent {spent}"
     )
+}
+
+/// Appends the line of a receiver. The error is a want of memory, and may leave a part of the line.
+fn push_receiver(text: &mut Vec<u8>, row: &ReceiverRow, totals: ReceiveTotals) -> io::Result<()>
+    ensures { OnOk result (text.new.items ≡ text.old.items ++ receiver_line row.now.name totals) }
+{
+    let (name, accepted, parity) = (row.name.as_str(), totals.accepted, totals.parity);
+    write!(text, "receiver {name} accepted {accepted} parity {parity}")?;
+    push_refused_words(text, totals)
 }
 
 /// Appends the line of a group. The error is a want of memory, and may leave a part of the line.
@@ -78,25 +79,19 @@ fn push_groups(text: &mut Vec<u8>, rows: &[GroupRow], totals: &[SendTotals]) -> 
 
 /// Appends the line of a refusal. The error is a want of memory, and may leave a part of the line.
 fn push_refused(text: &mut Vec<u8>, refusal: &CommandRefusal) -> io::Result<()>
-    ensures { OnOk result (text.new.items ≡ text.old.items ++ refusal_line refusal.now ++ 10 ∷ []) }
+    ensures { OnOk result (text.new.items ≡ text.old.items ++ (refusal_line refusal.now ++ 10 ∷ [])) }
 {
     writeln!(text, "{refusal}")
 }
 
-/// Appends the line of a table of another station.
-fn push_differing(text: &mut Vec<u8>) -> io::Result<()>
-    ensures { OnOk result (text.new.items ≡ text.old.items ++ codes "refused station-differs" ++ 10 ∷ []) }
+/// Appends the line of a table that can be planned: that it is of another station, or its number, if there was one left.
+fn push_published(text: &mut Vec<u8>, same: bool, answer: Option<u64>) -> io::Result<()>
+    ensures { OnOk result (text.new.items ≡ text.old.items ++ published_line same answer) }
 {
-    writeln!(text, "refused station-differs")
-}
-
-/// Appends the line of a plan that was published, or for which there was no number left.
-fn push_published(text: &mut Vec<u8>, answer: Option<u64>) -> io::Result<()>
-    ensures { OnOk result (text.new.items ≡ text.old.items ++ published_line answer) }
-{
-    match answer {
-        Some(number) => writeln!(text, "published {number}"),
-        None => writeln!(text, "refused count-spent"),
+    match (same, answer) {
+        (false, _) => writeln!(text, "refused station-differs"),
+        (true, Some(number)) => writeln!(text, "published {number}"),
+        (true, None) => writeln!(text, "refused count-spent"),
     }
 }
 
@@ -115,11 +110,8 @@ fn push_resubmitted(
         Err(CommandRefusal::Memory) => Err(io::Error::from(AllocError)),
         Err(refusal) => push_refused(text, &refusal),
         Ok(proposal) => {
-            if station.same_station(proposal.equipment()) {
-                push_published(text, answer)
-            } else {
-                push_differing(text)
-            }
+            let same = station.same_station(proposal.equipment());
+            push_published(text, same, answer)
         }
     }
 }

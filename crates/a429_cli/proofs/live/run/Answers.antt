@@ -10,15 +10,15 @@ use Rattle.a429_cli.proofs.LiveRuns.{as_many, heard_rows}
 use Rattle.a429_cli.proofs.Refused.{matched_both}
 use Rattle.a429_cli.proofs.live.run.Goals as goal
 
-pub live-requires-sources : goal.live-requires-sources
-live-requires-sources g c =
-    ap length c.in_ok-sources.ensures ∙ length-map-range_with_len (λ r. at_start (words_for c.args.arrivals.now r)) 0 _
+pub live-requires-clause-sources : goal.live-requires-clause-sources
+live-requires-clause-sources g c =
+    ap length c.in_ok-sources.ensures ∙ length-map-range_with_len _ 0 _
 
 pub returns-in-Ok : goal.returns-in-Ok
 returns-in-Ok g c =
     let t = c.args.equipment.now in
     let report = c.in-Ok.report in
-    let many = ap length c.in_ok-sources.ensures ∙ length-map-range_with_len (λ r. at_start (words_for c.args.arrivals.now r)) 0 _ in
+    let many = ap length c.in_ok-sources.ensures ∙ length-map-range_with_len _ 0 _ in
     let heard = heard_rows _ _ t t.receivers c.in_ok-sources.sources.items report.sources.items report.receivers.items many c.in-Ok.ensures.heard in
     let groups = as_many _ c.in_ok-sinks.sinks.items report.sinks.items report.groups.items c.in-Ok.ensures.sent ∙ c.in_ok-sinks.ensures in
     matched_both c.report_text.result (λ text. IsReport t (bytes_of c.args.further.now) report.receivers.items report.groups.items text.items) (λ text. IsRunReport t (bytes_of c.args.further.now) text.items)

@@ -15,12 +15,12 @@ returns-in_err-text c = λ text at n is.
 pub returns-in-Ok : goal.returns-in-Ok
 returns-in-Ok c = λ text at n is.
     let same : c.in_ok-text.text.now ≡ text = same_Some _ _ ((c.in_ok-text.ensures ∙ first_value-rows (found_of c.args.found.now) (codes "FRAMES")) ∙ at) in
-    ap Some (c.in-Ok.ensures.1 ∙ (ap (λ (t : Text). digits_value 10 (without_leading_plus t)) same ∙ sym is.2))
+    ap Some (c.in-Ok.ensures.value.0.1 ∙ (ap (λ (t : Text). digits_value 10 (without_leading_plus t)) same ∙ sym is.2))
 
-pub returns : goal.returns
-returns c = λ text at n is.
+pub returns-in-Err : goal.returns-in-Err
+returns-in-Err c = λ text at n is.
     let same : c.in_ok-text.text.now ≡ text = same_Some _ _ ((c.in_ok-text.ensures ∙ first_value-rows (found_of c.args.found.now) (codes "FRAMES")) ∙ at) in
     let numeral = subst (λ (t : Text). IsNumeral 10 (without_leading_plus t)) (sym same) is.1.0 in
     let few : digits_value 10 (without_leading_plus c.in_ok-text.text.now) ≤ 1000000 = subst (λ (t : Text). digits_value 10 (without_leading_plus t) ≤ 1000000) (sym same) is.1.3 in
     let small : digits_value 10 (without_leading_plus c.in_ok-text.text.now) < 2 ^ 32 = omega (arith, few) in
-    absurd (c.in-Err.ensures (numeral, small))
+    absurd (c.in-Err.ensures.value.0 (numeral, small))
