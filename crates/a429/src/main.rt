@@ -3,12 +3,14 @@
 
 ghost use Rattle.std.specs.Prelude.{◌≡◌, ◌≢◌, ◌≤◌, IsTrue};
 
-use a429_cli::{CountedWriter, DiskFiles, Output, command};
+use a429_cli::{CountedWriter, DiskFiles, Output, command, command_live};
 use std::alloc::{AllocError, Global};
 use std::env::{Env, FillError};
 use std::io::{ErrorKind, Write};
 use std::process::ExitCode;
 use std::rt::Files;
+use std::sync::Wait;
+use std::thread::Threads;
 use std::{env, io};
 
 /// The environment of a runtime, with the arguments that follow the first: that is the path of the program, and
@@ -65,8 +67,13 @@ fn without_words<O: Output, V: Write>(out: &mut O, err: &mut V, error: &io::Erro
 }
 
 /// Does the command of the words that the program was given. The status is the one that `command` answers, or
-/// where the words cannot be read that of a refusal or of a usage fault.
-fn run<R: Env + Files + AllocGlobal, O: Output, V: Write>(rt: &R, out: &mut O, err: &mut V) -> u8
+/// `command_live` where the first word is `live`, or where the words cannot be read that of a refusal or of a usage
+/// fault.
+fn run<R: Env + Files + AllocGlobal + Threads + Wait, O: Output, V: Write>(
+    rt: &R,
+    out: &mut O,
+    err: &mut V,
+) -> u8
     ensures status { result ≤ 2 }
     ensures quiet { result ≡ 0 → V.contents err.new ≡ V.contents err.old }
     ensures silent { result ≡ 2 → O.contents out.new ≡ O.contents out.old }
@@ -80,7 +87,13 @@ fn run<R: Env + Files + AllocGlobal, O: Output, V: Write>(rt: &R, out: &mut O, e
         Ok(words) => words,
         Err(error) => return without_words(out, err, &io::Error::from(error)),
     };
-    command(rt.alloc(), &words, &mut DiskFiles::new(rt), out, err)
+    let mut files = DiskFiles::new(rt);
+    match words.first() {
+        Some(first) if *first == "live" => {
+            command_live(rt, rt.alloc(), &words, &mut files, out, err)
+        }
+        _ => command(rt.alloc(), &words, &mut files, out, err),
+    }
 }
 
 fn main(rt: HostRuntime) -> ExitCode {

@@ -18,10 +18,17 @@ mod words;
 use malformed::Malformed;
 use playing::Player;
 use std::process::ExitCode;
+use std::rt::Files;
+use std::sync::Wait;
+use std::thread::Threads;
 use std::{env, fs, io};
 
 /// Plays the cases of a file, or keeps its text for later ones.
-fn take_file(rt: &HostRuntime, player: &mut Player<'_, HostRuntime>, path: &str) -> io::Result<()> {
+fn take_file<R: Files + Print + AllocGlobal + Threads + Wait>(
+    rt: &R,
+    player: &mut Player<'_, R>,
+    path: &str,
+) -> io::Result<()> {
     let name = path.rsplit_once('/').map_or(path, |(_, name)| name);
     let bytes = match fs::read(rt, path) {
         Ok(bytes) => bytes,

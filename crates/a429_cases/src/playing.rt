@@ -6,17 +6,19 @@ use crate::rows::{filled, has_place, numbered};
 use crate::stated::{Case, Outcome};
 use a429_cli::MemoryFiles;
 use std::io;
+use std::sync::Wait;
+use std::thread::Threads;
 
 /// What plays cases: the texts that they share, and the counts of what was played.
 #[derive(Drop)]
-pub struct Player<'a, R: Print + AllocGlobal> {
+pub struct Player<'a, R: Print + AllocGlobal + Threads + Wait> {
     rt: &'a R,
     texts: MemoryFiles,
     cases: usize,
     failures: usize,
 }
 
-impl<'a, R: Print + AllocGlobal> Player<'a, R> {
+impl<'a, R: Print + AllocGlobal + Threads + Wait> Player<'a, R> {
     pub fn new(rt: &'a R) -> Player<'a, R> {
         Player {
             rt,
@@ -128,7 +130,7 @@ impl<'a, R: Print + AllocGlobal> Player<'a, R> {
         match Case::of(alloc, &mut self.texts, text) {
             Err(malformed) => self.tell(title, malformed),
             Ok(mut case) => {
-                let outcome = case.played(alloc);
+                let outcome = case.played(self.rt);
                 if case.is_met(&outcome) {
                     return Ok(());
                 }

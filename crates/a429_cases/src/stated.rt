@@ -5,8 +5,10 @@ use crate::parts::{has_file, head_and_lines, name_and_rest, part_bytes};
 use crate::rows::has_place;
 use crate::spelling::cut_around;
 use crate::words::words_of;
-use a429_cli::{CountedWriter, MemoryFiles, command};
+use a429_cli::{CountedWriter, MemoryFiles, command, command_live};
 use std::alloc::Global;
+use std::sync::Wait;
+use std::thread::Threads;
 
 /// What a command wrote, and its status.
 #[derive(Drop)]
@@ -160,11 +162,18 @@ impl<'a> Case<'a> {
         })
     }
 
-    /// Does the command.
-    pub fn played(&mut self, alloc: Global) -> Outcome {
+    /// Does the command, as the program does.
+    pub fn played<R: AllocGlobal + Threads + Wait>(&mut self, rt: &R) -> Outcome {
+        let alloc = rt.alloc();
         let mut out = CountedWriter::new(Vec::new(alloc));
         let mut err = Vec::new(alloc);
-        let status = command(alloc, &self.words, &mut self.files, &mut out, &mut err);
+        let Case { words, files, .. } = self;
+        let is_live = words.first().is_some_and(|first| *first == "live");
+        let status = if is_live {
+            command_live(rt, alloc, words, files, &mut out, &mut err)
+        } else {
+            command(alloc, words, files, &mut out, &mut err)
+        };
         let CountedWriter { writer: out, .. } = out;
         Outcome { out, err, status }
     }

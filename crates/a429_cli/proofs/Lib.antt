@@ -2,6 +2,13 @@ pub mod PlainWords
 pub mod StoppedWords
 pub mod ManyWords
 pub mod RequestWords
+pub mod LiveRequestWords
+pub mod Elsewhere
+pub mod LiveFound
+pub mod WordsLines
+pub mod Resubmitted
+pub mod LiveRuns
+pub mod ReportParts
 pub mod Found
 pub mod Refused
 pub mod KindReplies

@@ -27,6 +27,11 @@ or_memory_weaker P Q (refused.Table kind place) more p = more p
 or_memory_weaker P Q (refused.Unfit group source) more p = more p
 or_memory_weaker P Q (refused.TooManyBuses group needed) more p = more p
 or_memory_weaker P Q (refused.Script line) more p = more p
+or_memory_weaker P Q refused.Join more p = more p
+or_memory_weaker P Q refused.Gate more p = more p
+or_memory_weaker P Q refused.Source more p = more p
+or_memory_weaker P Q refused.Sink more p = more p
+or_memory_weaker P Q refused.TooMuch more p = more p
 or_memory_weaker P Q refused.Memory more p = tt
 
 -- what is told stands where the refusal does, or for want of memory
@@ -44,6 +49,11 @@ file_refusal_by f g name (refused.Table kind place) same bad = bad
 file_refusal_by f g name (refused.Unfit group source) same bad = bad
 file_refusal_by f g name (refused.TooManyBuses group needed) same bad = bad
 file_refusal_by f g name (refused.Script line) same bad = bad
+file_refusal_by f g name refused.Join same bad = bad
+file_refusal_by f g name refused.Gate same bad = bad
+file_refusal_by f g name refused.Source same bad = bad
+file_refusal_by f g name refused.Sink same bad = bad
+file_refusal_by f g name refused.TooMuch same bad = bad
 file_refusal_by f g name refused.Memory same bad = bad
 
 pub failed : {X : Type 0} (result : Result X CommandRefusal) (P : X → Type 0) (F : CommandRefusal → Type 0) (e : CommandRefusal) → result ≡ Err e → F e → MatchResult result P F
@@ -68,6 +78,11 @@ table_fault_refuses table (refused.Table kind place) f = f
 table_fault_refuses table (refused.Unfit group source) f = absurd f
 table_fault_refuses table (refused.TooManyBuses group needed) f = absurd f
 table_fault_refuses table (refused.Script line) f = absurd f
+table_fault_refuses table refused.Join f = absurd f
+table_fault_refuses table refused.Gate f = absurd f
+table_fault_refuses table refused.Source f = absurd f
+table_fault_refuses table refused.Sink f = absurd f
+table_fault_refuses table refused.TooMuch f = absurd f
 table_fault_refuses table refused.Memory f = absurd f
 
 pub table_fault_unjudged : (table : List ℕ) (r : CommandRefusal) → IsTableFault table r → IsUnjudged table r
@@ -80,6 +95,11 @@ table_fault_unjudged table (refused.Table kind place) f = f
 table_fault_unjudged table (refused.Unfit group source) f = absurd f
 table_fault_unjudged table (refused.TooManyBuses group needed) f = absurd f
 table_fault_unjudged table (refused.Script line) f = absurd f
+table_fault_unjudged table refused.Join f = absurd f
+table_fault_unjudged table refused.Gate f = absurd f
+table_fault_unjudged table refused.Source f = absurd f
+table_fault_unjudged table refused.Sink f = absurd f
+table_fault_unjudged table refused.TooMuch f = absurd f
 table_fault_unjudged table refused.Memory f = absurd f
 
 pub unfit_unjudged : (table : List ℕ) (t : TableRecord) (g o : ℕ) → reading table ≡ Ok t → IsFirstUnfitOf t g o → (r : CommandRefusal) → IsUnfitNamed t g o r → IsUnjudged table r
@@ -92,6 +112,11 @@ unfit_unjudged table t g o is first (refused.Table kind place) named = absurd na
 unfit_unjudged table t g o is first (refused.Unfit group source) named = (t, g, o, is, first, named.0, named.1)
 unfit_unjudged table t g o is first (refused.TooManyBuses group needed) named = absurd named
 unfit_unjudged table t g o is first (refused.Script line) named = absurd named
+unfit_unjudged table t g o is first refused.Join named = absurd named
+unfit_unjudged table t g o is first refused.Gate named = absurd named
+unfit_unjudged table t g o is first refused.Source named = absurd named
+unfit_unjudged table t g o is first refused.Sink named = absurd named
+unfit_unjudged table t g o is first refused.TooMuch named = absurd named
 unfit_unjudged table t g o is first refused.Memory named = absurd named
 
 pub matched_both : {X : Type 0} (result : Result X CommandRefusal) (P Q : X → Type 0) (F G : CommandRefusal → Type 0) → ((x : X) → P x → Q x) → ((e : CommandRefusal) → F e → G e) → MatchResult result P F → MatchResult result Q G

@@ -40,24 +40,24 @@ abbrev replay_leaf : Shape
 replay_leaf = built_leaf (inherited top_shape replay_app.top)
 
 -- after one required word and before the next
-abbrev held_last : List Row → Text → Text → Held
+abbrev pub held_last : List Row → Text → Text → Held
 held_last rows id t = record { rows = rows; pending = Some (id, t ∷ []); skip = 0 }
 
 -- the command line as it is built, and its walk after the word that names a command
-abbrev top : Shape
+abbrev pub top : Shape
 top = (built command_line).top
 
-abbrev commands : Names
+abbrev pub commands : Names
 commands = names_of (built command_line)
 
-abbrev at_command : Text → Walk
+abbrev pub at_command : Text → Walk
 at_command name = record (walk_from nothing_held) { stopped = Some (name, []) }
 
-all_four : (a b c d : Bool) → a ≡ true → b ≡ true → c ≡ true → d ≡ true → (a && (b && (c && d))) ≡ true
+pub all_four : (a b c d : Bool) → a ≡ true → b ≡ true → c ≡ true → d ≡ true → (a && (b && (c && d))) ≡ true
 all_four a b c d p q r s = rw (p, q, r, s) refl
 
 -- where the words after the command's are kept for it, and its own level passes
-passes_with : (w : Walk) (b : Bool) → Bool
+unfoldable pub passes_with : (w : Walk) (b : Bool) → Bool
 unfolding command_line
 passes_with w b =
     entered_passes (built command_line) w.stopped

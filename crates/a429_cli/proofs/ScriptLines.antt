@@ -44,7 +44,7 @@ pub cut-cons : (b x : ℕ) (xs : List ℕ) → cut b (x ∷ xs) ≡ after_byte b
 cut-cons b x xs = cut_on b x xs (x == b) refl
 
 -- the lines of a text by its first cut at a line feed
-abbrev lines_by : Option (List ℕ × List ℕ) → List ℕ → List (List ℕ) × List ℕ
+abbrev pub lines_by : Option (List ℕ × List ℕ) → List ℕ → List (List ℕ) × List ℕ
 lines_by None text = ([], text)
 lines_by (Some p) text = (p.0 ∷ (lines_of p.1).0, (lines_of p.1).1)
 
@@ -56,7 +56,7 @@ cut_or_joined : (x : ℕ) (xs : List ℕ) (t : Bool) → (x == 10) ≡ t → lin
 cut_or_joined x xs true e later = rw e refl
 cut_or_joined x xs false e later = rw (e, later) (joined x xs (cut 10 xs))
 
-lines-cut : (text : List ℕ) → lines_of text ≡ lines_by (cut 10 text) text
+pub lines-cut : (text : List ℕ) → lines_of text ≡ lines_by (cut 10 text) text
 unfolding cut
 lines-cut [] = refl
 lines-cut (x ∷ xs) = cut_or_joined x xs (x == 10) refl (lines-cut xs) ∙ ap (λ (o : Option (List ℕ × List ℕ)). lines_by o (x ∷ xs)) (sym (cut-cons 10 x xs))

@@ -1,11 +1,16 @@
 -- The command line of the program.
-use Rattle.std.specs.Prelude.{◌≡◌, ◌≢◌, ◌∷◌, [], true, false, Some, codes, ⊤}
+use Rattle.std.specs.Prelude.{◌≡◌, ◌≢◌, ◌∷◌, [], ℕ, true, false, Some, codes, ⊤}
 use Rattle.clap.specs.Words.{App, Rule, Shape, Text, new_app, new_rule, rule_of, with_rule, with_subcommand}
 use Rattle.clap.specs.declared.builder.arg.Arg.{Arg}
 use Rattle.clap.specs.declared.builder.action.ArgAction.TheVariants.{Append}
+use Rattle.clap.specs.declared.builder.value_parser.ValueParser.TheVariants as reads
 
 abbrev pub required_rule : Text → Rule
 required_rule id = record (new_rule id) { required = true }
+
+-- a whole number up to the most
+abbrev pub number_rule : Text → ℕ → Rule
+number_rule id most = record (required_rule id) { parser = Some (reads.Unsigned 0 most) }
 
 -- as many values as are given
 abbrev pub many_rule : Text → Rule
@@ -30,6 +35,11 @@ check_app = with_rule (with_rule (new_app (codes "check")) (required_rule (codes
 abbrev pub replay_app : App
 replay_app = with_rule (with_rule (with_rule (new_app (codes "replay")) (required_rule (codes "TABLE"))) (required_rule (codes "SCRIPT"))) (many_rule (codes "FURTHER"))
 
+abbrev pub live_app : App
+live_app =
+    with_rule (with_rule (with_rule (with_rule (new_app (codes "live")) (required_rule (codes "TABLE"))) (required_rule (codes "WORDS"))) (number_rule (codes "FRAMES") 1000000))
+    (many_rule (codes "FURTHER"))
+
 abbrev pub top_shape : Shape
 top_shape = record ((new_app (codes "a429")).top) { has_version = true; no_binary_name = true; subcommand_required = true }
 
@@ -39,7 +49,8 @@ bare_line = record { top = top_shape; subs = [] }
 
 unfoldable pub command_line : App
 command_line =
-    with_subcommand (with_subcommand (with_subcommand (with_subcommand (with_subcommand bare_line word_app.top) lines_app.top) plan_app.top) check_app.top) replay_app.top
+    with_subcommand (with_subcommand (with_subcommand (with_subcommand (with_subcommand (with_subcommand bare_line word_app.top) lines_app.top) plan_app.top) check_app.top) replay_app.top)
+    live_app.top
 
 -- a name of a file, which no option can be
 abbrev pub IsName : Text → Type 0

@@ -19,4 +19,7 @@ pub mod LineReports
 pub mod LineReplies
 pub mod PlanReplies
 pub mod Requests
+pub mod WordsFile
+pub mod LiveWords
+pub mod LiveReplies
 pub mod RequestRows

@@ -16,6 +16,11 @@ refusal_line (refused.Table kind place) = codes "refused table " ++ kind_text ki
 refusal_line (refused.Unfit group source) = codes "refused unfit " ++ string_bytes group ++ codes " " ++ string_bytes source
 refusal_line (refused.TooManyBuses group needed) = codes "refused too-many-buses " ++ string_bytes group ++ codes " " ++ decimal needed
 refusal_line (refused.Script line) = codes "refused script line " ++ decimal line
+refusal_line refused.Join = codes "refused join"
+refusal_line refused.Gate = codes "refused gate"
+refusal_line refused.Source = codes "refused source"
+refusal_line refused.Sink = codes "refused sink"
+refusal_line refused.TooMuch = codes "refused too-much"
 refusal_line refused.Memory = codes "refused memory"
 
 -- a refusal for the cause that Stands, or for want of memory

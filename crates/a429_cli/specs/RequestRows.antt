@@ -1,8 +1,13 @@
 -- What is asked for by the values that were read of a command's words.
-use Rattle.std.specs.Prelude.{[], List, Option, None, codes, if◌then◌else◌, option_and_then, option_map, unwrap_or}
+use Rattle.std.specs.Prelude.{◌≡◌, [], List, Option, None, Result, MatchResult, true, false, codes, not, if◌then◌else◌, option_and_then, option_map, unwrap_or}
 use Rattle.std.specs.Str.{bytes_eq}
-use Rattle.clap.specs.Words.{Row, Text, first_of, all_of}
-use Rattle.a429_cli.specs.Requests.{RequestBytes, Word, Lines, Plan, Check, Replay}
+use Rattle.clap.specs.Words.{HasKind, Row, Text, first_of, all_of}
+use Rattle.clap.specs.declared.error.Error.{Error}
+use Rattle.a429_cli.specs.LiveWords.{IsLiveReadOf, LiveTexts, live_texts}
+use Rattle.a429_cli.specs.Requests.{IsReadOf, RequestBytes, Word, Lines, Plan, Check, Replay}
+use Rattle.a429_cli.specs.Usage.{elsewhere, is_live}
+use Rattle.a429_cli.specs.declared.arguments.requests.LiveRequest.{LiveRequest}
+use Rattle.a429_cli.specs.declared.arguments.requests.Request.{Request}
 
 abbrev pub word_request : List Row → Option RequestBytes
 word_request rows = option_map Word (first_of (codes "HEX") rows)
@@ -33,3 +38,15 @@ request_by name rows =
 -- by what was found of the words: the command's name and its values
 abbrev pub request_found : Option (Text × List Row) → Option RequestBytes
 request_found found = option_and_then (λ p. request_by p.0 p.1) found
+
+-- what was found is what `command` does, and it was read; or it is what another call does, or memory was refused
+abbrev pub IsRequestFound : Option (Text × List Row) → Result Request Error → Type 0
+IsRequestFound found result = MatchResult result (λ q. IsReadOf (request_found found) q × (is_live found ≡ false)) (HasKind (elsewhere (is_live found)))
+
+-- of `live`, by what was found
+abbrev pub live_found : Option (Text × List Row) → Option LiveTexts
+live_found found = option_and_then (λ p. if bytes_eq p.0 (codes "live") then live_texts p.1 else None) found
+
+-- the same of `command_live`
+abbrev pub IsLiveFound : Option (Text × List Row) → Result LiveRequest Error → Type 0
+IsLiveFound found result = MatchResult result (λ q. IsLiveReadOf (live_found found) q × (is_live found ≡ true)) (HasKind (elsewhere (not (is_live found))))

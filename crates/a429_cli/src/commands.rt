@@ -148,7 +148,7 @@ fn answer<F: FileReader, O: Output>(
 
 /// Answers words that are no request, by the error that their parser gave. Help that was asked for is put, with
 /// status 0; the text of a mistake is written to `err`, as far as it takes it, with status 2.
-fn explain<O: Output, V: Write>(
+pub fn explain<O: Output, V: Write>(
     alloc: Global,
     error: &Error,
     out: &mut O,

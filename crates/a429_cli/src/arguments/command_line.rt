@@ -1,8 +1,9 @@
 //! The command line: its commands, and the texts of their help.
 ghost use Rattle.std.specs.Prelude.{◌≡◌, IfOk};
 ghost use Rattle.clap.specs.Words.{app_of};
-ghost use Rattle.a429_cli.specs.CommandLine.{HasRule, bare_line, check_app, command_line, lines_app, many_rule, plan_app, replay_app, required_rule, word_app};
+ghost use Rattle.a429_cli.specs.CommandLine.{HasRule, bare_line, check_app, command_line, lines_app, live_app, many_rule, number_rule, plan_app, replay_app, required_rule, word_app};
 
+use clap::builder::ValueParser;
 use clap::{Arg, ArgAction, Command};
 use std::alloc::{AllocError, Global};
 
@@ -41,11 +42,31 @@ const SCRIPT: &str =
 
 const FURTHER: &str = "Further tables, whose plans the script may publish, numbered from 1";
 
+const LIVE: &str =
+    "Run a station on threads of its own, and print how many words and cells there were";
+
+const WORDS: &str = "Words that come in, one a line: `RECEIVER HEX`";
+
+const RESUBMITTED: &str =
+    "Further tables of the same station, whose plans are published one after another while it runs";
+
+const FRAMES: &str = "How many frames each group sends, at most 1000000";
+
+/// How many frames may be asked for (profile).
+const MOST_FRAMES: u64 = 1000000;
+
 /// An argument that must be given.
 fn required_argument<'a>(alloc: Global, id: &'a str, help: &'a str) -> Arg<'a>
     ensures { HasRule result (required_rule id.entry.now) }
 {
     Arg::new(alloc, id).required(true).help(help)
+}
+
+/// An argument that must be given: a whole number up to the most.
+fn number_argument<'a>(alloc: Global, id: &'a str, help: &'a str, most: u64) -> Arg<'a>
+    ensures { HasRule result (number_rule id.entry.now most) }
+{
+    required_argument(alloc, id, help).value_parser(ValueParser::unsigned(0, most))
 }
 
 /// A last argument, which takes as many values as are given.
@@ -94,6 +115,16 @@ fn replay_command<'a>(alloc: Global) -> Result<Command<'a>, AllocError>
     replay.arg(repeated_argument(alloc, "FURTHER", FURTHER))
 }
 
+fn live_command<'a>(alloc: Global) -> Result<Command<'a>, AllocError>
+    ensures { IfOk result (λ c. app_of c ≡ live_app) }
+{
+    let live = Command::new(alloc, "live").about(LIVE);
+    let live = live.arg(required_argument(alloc, "TABLE", TABLE))?;
+    let live = live.arg(required_argument(alloc, "WORDS", WORDS))?;
+    let live = live.arg(number_argument(alloc, "FRAMES", FRAMES, MOST_FRAMES))?;
+    live.arg(repeated_argument(alloc, "FURTHER", RESUBMITTED))
+}
+
 /// The command line without its commands.
 fn top_command<'a>(alloc: Global) -> Result<Command<'a>, AllocError>
     ensures { IfOk result (λ c. app_of c ≡ bare_line) }
@@ -113,5 +144,6 @@ pub fn build_command<'a>(alloc: Global) -> Result<Command<'a>, AllocError>
     let line = line.subcommand(lines_command(alloc)?)?;
     let line = line.subcommand(plan_command(alloc)?)?;
     let line = line.subcommand(check_command(alloc)?)?;
-    line.subcommand(replay_command(alloc)?)
+    let line = line.subcommand(replay_command(alloc)?)?;
+    line.subcommand(live_command(alloc)?)
 }

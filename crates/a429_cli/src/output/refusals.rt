@@ -24,8 +24,19 @@ pub enum CommandRefusal {
     Unfit { group: String, source: String },
     /// The group needs so many buses, which are more than 16.
     TooManyBuses { group: String, needed: usize },
-    /// The line of this number, from 1, is the first of the script that is no event of the station.
+    /// The line of this number, from 1, is the first of the script that is no event of the station, or of the
+    /// file of words that is no word for it.
     Script(usize),
+    /// A thread could not be started or taken in.
+    Join,
+    /// The gate ended a worker.
+    Gate,
+    /// The source of a line failed.
+    Source,
+    /// The sink of a group failed.
+    Sink,
+    /// A receiver was given a word after a million, or more than a million frames were asked for.
+    TooMuch,
     /// Memory was refused.
     Memory,
 }
@@ -51,6 +62,11 @@ impl fmt::Display for CommandRefusal {
                 write!(f, "refused too-many-buses {group} {needed}")
             }
             CommandRefusal::Script(line) => write!(f, "refused script line {line}"),
+            CommandRefusal::Join => write!(f, "refused join"),
+            CommandRefusal::Gate => write!(f, "refused gate"),
+            CommandRefusal::Source => write!(f, "refused source"),
+            CommandRefusal::Sink => write!(f, "refused sink"),
+            CommandRefusal::TooMuch => write!(f, "refused too-much"),
             CommandRefusal::Memory => write!(f, "refused memory"),
         }
     }

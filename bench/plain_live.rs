@@ -1,0 +1,106 @@
+//! Runs a station as `a429 live` does, in plain Rust with threads and atomics: what bench/live compares the program
+//! with, in time and in its report. It shares no code with the program, knows the table that bench/live makes
+//! (source `sN` has label N, receiver `rM` has the sources from 16 M on), and takes the slot tables from the text of
+//! the plan.
+//!
+//! Words: the text of the plan, the file of words, how many receivers, and how many frames.
+
+use std::error::Error;
+use std::sync::atomic::{AtomicU64, Ordering};
+use std::{env, fs, thread};
+
+struct Group {
+    buses: usize,
+    sources: Vec<Option<usize>>,
+}
+
+fn groups(plan: &str) -> Result<Vec<Group>, Box<dyn Error>> {
+    let mut groups: Vec<Group> = Vec::new();
+    let mut frame = 0;
+    for line in plan.lines() {
+        match *line.split(' ').collect::<Vec<_>>() {
+            ["group", _, "frame", slots, "buses", buses] => {
+                frame = slots.parse()?;
+                let buses = buses.parse()?;
+                groups.push(Group { buses, sources: vec![None; frame * buses] });
+            }
+            ["output", source, "period", period, "bus", bus, "offset", offset] => {
+                let group = groups.last_mut().ok_or("an output before its group")?;
+                let bus: usize = bus.parse()?;
+                for slot in (offset.parse()?..frame).step_by(period.parse()?) {
+                    group.sources[slot * group.buses + bus] = Some(source[1..].parse()?);
+                }
+            }
+            _ => {}
+        }
+    }
+    Ok(groups)
+}
+
+fn words(text: &str, receivers: usize) -> Result<Vec<Vec<u32>>, Box<dyn Error>> {
+    let mut words = vec![Vec::new(); receivers];
+    for line in text.lines() {
+        let (receiver, raw) = line.split_once(' ').ok_or("no word")?;
+        words[receiver[1..].parse::<usize>()?].push(u32::from_str_radix(raw, 16)?);
+    }
+    Ok(words)
+}
+
+/// A word of a source: how many were accepted, and the last of them.
+fn receive(receiver: usize, words: &[u32], values: &[AtomicU64]) -> (u64, u64, u64) {
+    let (mut accepted, mut parity, mut no_source) = (0, 0, 0);
+    for raw in words {
+        let source = usize::from((*raw as u8).reverse_bits());
+        if raw.count_ones() % 2 == 0 {
+            parity += 1;
+        } else if source / 16 != receiver {
+            no_source += 1;
+        } else {
+            let count = values[source].load(Ordering::SeqCst) >> 32;
+            values[source].store((count + 1) << 32 | u64::from(*raw), Ordering::SeqCst);
+            accepted += 1;
+        }
+    }
+    (accepted, parity, no_source)
+}
+
+/// How many cells were sent, and a sum over them, so that none is left out.
+fn send(group: &Group, frames: u64, values: &[AtomicU64]) -> (u64, u64) {
+    let (mut cells, mut sum) = (0, 0u64);
+    for frame in 0..frames {
+        for (cell, source) in group.sources.iter().enumerate() {
+            let word = source.map_or(0, |source| values[source].load(Ordering::SeqCst));
+            sum = sum.wrapping_add(word ^ frame ^ (cell % group.buses) as u64);
+            cells += 1;
+        }
+    }
+    (cells, sum)
+}
+
+fn main() -> Result<(), Box<dyn Error>> {
+    let [_, plan, text, receivers, frames] = &env::args().collect::<Vec<_>>()[..] else {
+        return Err("wanted: PLAN WORDS RECEIVERS FRAMES".into());
+    };
+    let groups = groups(&fs::read_to_string(plan)?)?;
+    let words = words(&fs::read_to_string(text)?, receivers.parse()?)?;
+    let frames: u64 = frames.parse()?;
+    let values: Vec<AtomicU64> = (0..256).map(|_| AtomicU64::new(0)).collect();
+    let values = &values[..];
+    let (received, sent) = thread::scope(|scope| {
+        let receiving: Vec<_> = words.iter().enumerate().map(|(r, words)| scope.spawn(move || receive(r, words, values))).collect();
+        let sending: Vec<_> = groups.iter().map(|group| scope.spawn(move || send(group, frames, values))).collect();
+        let received: Vec<_> = receiving.into_iter().map(|worker| worker.join()).collect();
+        let sent: Vec<_> = sending.into_iter().map(|worker| worker.join()).collect();
+        (received, sent)
+    });
+    for (r, done) in received.into_iter().enumerate() {
+        let (accepted, parity, no_source) = done.map_err(|_| "a receiver failed")?;
+        println!("receiver r{r} accepted {accepted} parity {parity} filtered 0 no-source {no_source} spent 0");
+    }
+    for (g, done) in sent.into_iter().enumerate() {
+        let (cells, sum) = done.map_err(|_| "a group failed")?;
+        std::hint::black_box(sum);
+        println!("group g{g} cells {cells}");
+    }
+    Ok(())
+}

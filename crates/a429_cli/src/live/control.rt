@@ -1,0 +1,38 @@
+//! Further tables, resubmitted while a station runs.
+
+use a429_station::{Control, ReplanFault, Station};
+use std::alloc::{AllocError, Global};
+use std::sync::Wait;
+
+/// Resubmits tables one after another, and keeps what each is answered: the number of its plan, or None where it was
+/// refused.
+#[derive(Drop)]
+pub struct Resubmits<'a> {
+    tables: &'a [Vec<u8>],
+    pub answers: Vec<Option<u64>>,
+}
+
+impl<'a> Resubmits<'a> {
+    /// None was resubmitted yet.
+    pub fn new(alloc: Global, tables: &'a [Vec<u8>]) -> Resubmits<'a> {
+        Resubmits {
+            tables,
+            answers: Vec::new(alloc),
+        }
+    }
+}
+
+impl<'a, R: Wait> Control<R> for Resubmits<'a> {
+    #[tactic(auto, using(crate::proofs::Resubmitted::goes_on_self, crate::proofs::Resubmitted::goes_on_by))]
+    fn run(&mut self, station: &mut Station<'_, R>) -> Result<(), AllocError> {
+        for table in self.tables {
+            let answer = match station.resubmit(table) {
+                Ok(number) => Some(number),
+                Err(ReplanFault::NoMemory) => return Err(AllocError),
+                Err(_) => None,
+            };
+            self.answers.push(answer)?;
+        }
+        Ok(())
+    }
+}
