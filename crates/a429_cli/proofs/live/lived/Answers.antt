@@ -36,7 +36,7 @@ returns g c = λ tells.
     let q = c.in_ok-prepared.prepared.proposal in
     let read = c.in_ok-input.ensures tells in
     let start = c.in_ok-prepared.ensures in
-    let of_station = subst (λ (t : TableRecord). IsRunResult t _ c.run.result) c.equipment-equipment.ensures c.run.ensures in
+    let of_station = subst (λ (t : TableRecord). IsRunResult t _ c.run.result) c.equipment-equipment.ensures.equipment c.run.ensures in
     matched_both c.run.result (λ text. IsRunReport q.station i.further text.items) (λ text. IsReportOf file r text.items) (OrMemory IsRunRefusal) (OrMemory (IsLiveRefusal file r))
     (λ text report. (i, q, c.in_ok-prepared.prepared.arrivals.items, read, start, report))
     (λ e why. or_memory_weaker IsRunRefusal (IsLiveRefusal file r) e (λ one. inr (i, read, inr (q, c.in_ok-prepared.prepared.arrivals.items, start, one))) why) of_station

@@ -8,4 +8,4 @@ pub returns : goal.returns
 returns c =
     let inv = c.loop-place.invariant in
     let none : drop c.loop-place.place c.args.further.now ≡ [] = drop_of_length-le c.args.further.now c.loop-place-test.false in
-    (inv.0, rw append-nil inv.0 at (inv.2 [] (rw none tt)), inv.1)
+    (inv.0, rw (append-nil inv.0) at (inv.2 [] (rw none tt)), inv.1)
