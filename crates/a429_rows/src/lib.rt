@@ -5,11 +5,11 @@
 
 pub mod client;
 #[cfg(test)]
-mod devices;
-#[cfg(test)]
 mod fields;
 #[cfg(test)]
 mod files;
+#[cfg(test)]
+mod gates;
 #[cfg(test)]
 mod grid;
 #[cfg(test)]

@@ -10,7 +10,7 @@ use mathlib.Core.List.{IsPrefix}
 use Rattle.a429_slots.specs.Tables.{GroupTable, PlanTable, cells_of, frame_of, groups_of}
 use Rattle.a429_slots.specs.History.{last_of}
 use Rattle.a429_slots.specs.Sending.{Sending, after_cell, fits_next, turned}
-use Rattle.a429_workers.specs.Calls.{Call, Turn, Asks, Turns, Meets, Takes, StaysMid, StaysSpent, Standing, IsLawful, AreLawful, after, after_turn, standing_after, number_of, table_of, turn}
+use Rattle.a429_workers.specs.Calls.{Call, Asks, Turns, Meets, Takes, StaysMid, StaysSpent, Standing, IsLawful, AreLawful, after, standing_after, number_of, table_of, turn}
 use Rattle.a429_workers.specs.Sends.{is_taken}
 use Rattle.a429_workers.specs.Transmitting.{first_fits}
 use Rattle.a429_station.specs.Resubmitting.{HasFewSlots}

@@ -1,21 +1,19 @@
 -- What holds of workers that have ended, and of the station that they were of.
-use Rattle.std.proofs.Common.{◌≡◌, ◌∙◌, ℕ, ◌+◌, ◌-◌, ◌^◌, ◌<◌, ◌≤◌, Bool, true, false, List, [], ◌∷◌, ◌++◌, length, drop, map, ap, subst, sym, refl, inl, inr, arith}
-use Rattle.std.specs.Prelude.{◌⊎◌, Option, Some, None, Result, Ok, Err, if◌then◌else◌, nat_lt, option_map, slice_get}
+use Rattle.std.proofs.Common.{◌≡◌, ◌∙◌, ℕ, ◌+◌, ◌-◌, ◌^◌, ◌≤◌, Bool, true, false, List, [], ◌∷◌, ◌++◌, length, drop, map, ap, subst, sym, refl, arith}
+use Rattle.std.specs.Prelude.{Option, Some, None, Result, Ok, Err, if◌then◌else◌, nat_lt, option_map, slice_get}
 use Rattle.std.specs.List.{AllByRecursion, AllZip, range_with_len}
 use Rattle.std.proofs.lemmas.List.{map-append}
 use Rattle.std.proofs.lemmas.Option.{none-some, same_Some}
 use Rattle.a429_equipment.specs.declared.arrivals.ArrivalRefusal.{ArrivalRefusal}
-use Rattle.a429_equipment.specs.declared.loads.Load.{Load}
 use Rattle.a429_equipment.specs.TableRecord.{TableRecord}
 use Rattle.a429_equipment.specs.Agreement.{Agrees, words_of}
 use Rattle.a429_equipment.specs.Arrivals.{sorted}
 use Rattle.a429_equipment.specs.Receiving.{IsReceived, accepted_after, with_word}
-use Rattle.a429_slots.specs.Tables.{PlanTable, groups_of}
+use Rattle.a429_slots.specs.Tables.{PlanTable}
 use Rattle.a429_slots.specs.Planned.{IsPlanOf}
 use Rattle.a429_slots.specs.Proposed.{Proposed}
 use Rattle.a429_values.specs.Ends as ends
 use Rattle.a429_board.specs.Lists.{Planning, Watched}
-use Rattle.a429_workers.specs.Calls.{Call}
 use Rattle.a429_workers.specs.Receives.{AreTaken, after_words, answers_to, totals_of}
 use Rattle.a429_workers.specs.Runs.{ArePublished, IsWired, plans_of}
 use Rattle.a429_workers.specs.Sends.{AreSent}
@@ -26,10 +24,10 @@ use Rattle.a429_workers.specs.declared.receiving.ReceiveFault.{ReceiveFault}
 use Rattle.a429_workers.specs.declared.receiving.ReceiveFault.TheVariants.{Source, Gate, TooMuch}
 use Rattle.a429_workers.specs.declared.sending.SendTotals.{SendTotals}
 use Rattle.a429_workers.specs.declared.sending.SendFault.{SendFault}
-use Rattle.a429_station.specs.Course.{Course, IsHeardIn, IsSentIn, fresh, heard_in, meeting, meetings}
+use Rattle.a429_station.specs.Course.{Course, IsHeardIn, IsSentIn, fresh, heard_in, meeting}
 use Rattle.a429_station.specs.Faults.{EndsGroup, EndsLine, GaveTooMuch, HasStopped, IsFirst, first_fault, of_receiver}
 use Rattle.a429_station.specs.Numbered.{AllNumbered}
-use Rattle.a429_station.specs.Resubmitting.{GoesOn, HasFewSlots, IsBegun, IsLed, Running, opening}
+use Rattle.a429_station.specs.Resubmitting.{GoesOn, IsBegun, IsLed, Running, opening}
 use Rattle.a429_station.specs.Working.{HasEmitted, HasReceived, IsJoined, IsOver, IsReady, IsReceiverAt, meeting_of}
 use Rattle.a429_station.specs.declared.faults.LiveFault.{LiveFault}
 use Rattle.a429_station.proofs.Numbered.{mapped_range, numbered_also, numbered_both, numbered_place, numbered_weaker, zip_mapped}

@@ -1,5 +1,5 @@
 -- What joined threads did, place by place.
-use Rattle.std.specs.Prelude.{◌≡◌, ◌+◌, ◌<◌, ℕ, suc, List, [], ◌∷◌, length, map}
+use Rattle.std.specs.Prelude.{◌≡◌, ℕ, suc, List, [], ◌∷◌, length, map}
 use Rattle.std.specs.List.{AllZip, slice_index_or}
 use Rattle.std.proofs.Common.{arith, refl, subst}
 use Rattle.std.specs.PromisedHandle.{KeepsAt, KeepsEach}

@@ -1,9 +1,9 @@
 -- Items by their places, in lists that grow, that workers lead to others, and that are three in a row.
 use Rattle.std.proofs.Common.{◌≡◌, ℕ, zero, suc, ◌+◌, ◌<◌, ◌≤◌, List, [], ◌∷◌, ◌++◌, length, get_or, take, map, ap, subst, sym, refl, ◌∙◌, drop, arith}
-use Rattle.std.specs.Prelude.{◌==◌, ◌||◌, Bool, true, false, IsTrue, Some, Result, Ok, Err, slice_get}
+use Rattle.std.specs.Prelude.{◌==◌, ◌||◌, Bool, false, IsTrue, Result, Ok, slice_get}
 use Rattle.std.specs.List.{AllByRecursion, AllZip, list_any, range_with_len}
 use Rattle.std.proofs.lemmas.Bool.{ne_eqb}
-use Rattle.std.proofs.lemmas.Option.{none-some, same_Some}
+use Rattle.std.proofs.lemmas.Option.{same_Some}
 use Rattle.a429_station.specs.Numbered.{AllNumbered, AllOfThree}
 
 -- ---- the last item

@@ -1,28 +1,27 @@
 -- What all workers of a run did, as the premises of one run.
-use Rattle.std.proofs.Common.{◌≡◌, ◌∙◌, ℕ, suc, ◌+◌, ◌-◌, ◌*◌, ◌^◌, ◌<◌, ◌≤◌, Bool, List, [], ◌∷◌, ◌++◌, length, map, ap, subst, sym, refl, inl, inr, arith, append-nil}
-use Rattle.std.specs.Prelude.{◌≢◌, Option, Some, None, Result, Ok, Err, IsTrue, slice_get, count_by}
-use Rattle.std.specs.List.{AllByRecursion, AllZip, range_with_len}
+use Rattle.std.proofs.Common.{◌≡◌, ◌∙◌, ℕ, ◌+◌, ◌*◌, ◌<◌, ◌≤◌, List, [], ◌∷◌, ◌++◌, length, map, ap, subst, sym, refl, inl, inr, arith, append-nil}
+use Rattle.std.specs.Prelude.{◌≢◌, Option, Some, Result, Ok, Err, slice_get, count_by}
+use Rattle.std.specs.List.{AllByRecursion}
 use Rattle.std.proofs.lemmas.Option.{slice_get_cases}
 use mathlib.Core.List.{IsPrefix}
 use Rattle.a429_equipment.specs.declared.loads.Load.{Load}
 use Rattle.a429_equipment.specs.TableRecord.{TableRecord}
 use Rattle.a429_equipment.specs.Agreement.{Agrees}
-use Rattle.a429_slots.specs.Tables.{GroupTable, PlanTable, cells_of, frame_of, groups_of}
+use Rattle.a429_slots.specs.Tables.{GroupTable, PlanTable, frame_of, groups_of}
 use Rattle.a429_slots.specs.Planned.{IsPlanOf}
-use Rattle.a429_slots.specs.Sending.{Sending}
 use Rattle.a429_values.specs.Ends as ends
 use Rattle.a429_board.specs.Lists.{Planning, Watched, beginner}
-use Rattle.a429_workers.specs.Calls.{Call, Turns, StaysSpent, Standing, AreLawful, IsLawful, before_calls, standing_after, loads_of, turn, after}
-use Rattle.a429_workers.specs.Runs.{ArePublished, AreHeard, IsWired, IsWorking, led_to, plans_of}
+use Rattle.a429_workers.specs.Calls.{Call, Turns, StaysSpent, Standing, AreLawful, IsLawful, before_calls, standing_after, loads_of, after}
+use Rattle.a429_workers.specs.Runs.{ArePublished, AreHeard, IsWired, plans_of}
 use Rattle.a429_workers.specs.Transmitting.{Transmitting, Outset, BeginsWith, HasMade, IsKnownPlan, IsSameGroup, StandsFor, led_by}
-use Rattle.a429_workers.specs.Sends.{AreSent, AreWhole, HasSent, is_send, is_taken, sent_in, totals_of, with_cells}
+use Rattle.a429_workers.specs.Sends.{AreSent, AreWhole, HasSent, is_taken, sent_in, totals_of}
 use Rattle.a429_workers.specs.declared.cells.Sent.{Sent}
 use Rattle.a429_workers.specs.declared.sending.SendTotals.{SendTotals}
 use Rattle.a429_workers.specs.declared.sending.SendFault.{SendFault}
 use Rattle.a429_workers.specs.declared.sending.SendFault.TheVariants.{Change}
 use Rattle.a429_station.specs.Course.{Course, IsSentIn, heard_in, meetings}
 use Rattle.a429_station.specs.Resubmitting.{HasFewSlots, opening}
-use Rattle.a429_station.specs.Working.{IsJoined, IsReady, HasMet, meeting_of, told}
+use Rattle.a429_station.specs.Working.{IsJoined, IsReady, meeting_of, told}
 use Rattle.a429_station.proofs.Counting.{all_at, all_beginning, calls_within, not_spent}
 
 -- ---- a transmitter from its beginning on

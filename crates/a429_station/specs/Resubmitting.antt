@@ -1,5 +1,5 @@
 -- Plans that are published while a station runs: of the tables that are submitted again, those of the same station.
-use Rattle.std.specs.Prelude.{◌≡◌, ◌≤◌, ◌+◌, ◌^◌, ◌++◌, ◌∷◌, [], ⊤, ℕ, Bool, true, false, List, Option, Some, None, Ok, Err, map, length}
+use Rattle.std.specs.Prelude.{◌≡◌, ◌≤◌, ◌+◌, ◌^◌, ◌++◌, ◌∷◌, [], ⊤, ℕ, true, false, List, Option, Some, None, Ok, Err, length}
 use Rattle.std.specs.List.{AllByRecursion}
 use mathlib.Core.List.{IsPrefix}
 use Rattle.a429_equipment.specs.TableRecord.{TableRecord}

@@ -1,5 +1,5 @@
 -- What the workers of a running station do.
-use Rattle.std.specs.Prelude.{◌≡◌, ◌≢◌, ◌<◌, ◌++◌, [], ℕ, Bool, true, List, Option, Result, Ok, Err, IsTrue, OnOk, drop, length, map}
+use Rattle.std.specs.Prelude.{◌≡◌, ◌≢◌, ◌<◌, ◌++◌, [], ℕ, Bool, true, List, Option, Result, Err, OnOk, length, map}
 use Rattle.std.specs.List.{AllByRecursion}
 use mathlib.Core.List.{IsPrefix}
 use Rattle.a429_values.specs.Ends as ends

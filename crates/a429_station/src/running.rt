@@ -212,8 +212,8 @@ fn run<
 ///
 /// Then each receiver took the words that its source gave up to its end, each sink took the cells of so many whole
 /// frames, and what a group did is one run of the machine: its calls meet the premises of
-/// `a429_workers::laws::one_run`, by the equipment's plan, the plans that the control published, and what all
-/// receivers accepted.
+/// `a429_workers::laws::one_run`, by the equipment's plan from slot 0 on, the plans that were published meanwhile, and
+/// what all receivers accepted, each of which its transmitter met in the end.
 ///
 /// Refused is, in this order, an equipment without a plan (`Plan`), and more than a million frames (`TooMuch`); then
 /// nothing was started. `Join` where a thread could not be started or taken in. When all have ended: the fault of the

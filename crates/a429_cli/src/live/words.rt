@@ -1,5 +1,5 @@
 //! Files of words, one a line.
-ghost use Rattle.std.specs.Prelude.{◌≡◌, ◌<◌, IfOk, IfSome, length, map, option_map};
+ghost use Rattle.std.specs.Prelude.{◌≡◌, ◌<◌, IfOk, IfSome, length, map, option_map, vec_len};
 ghost use Rattle.std.specs.List.{range_with_len};
 ghost use Rattle.a429_filter.specs.Sources.{at_start};
 ghost use Rattle.a429_cli.specs.ScriptText.{cut};
@@ -99,7 +99,8 @@ pub fn line_sources(
     arrivals: &[Arrival],
     receivers: usize,
 ) -> Result<Vec<MemoryLine>, AllocError>
-    ensures { IfOk result (λ lines. lines.items ≡ map (λ r. at_start (words_for arrivals.now r)) (range_with_len 0 receivers)) }
+    ensures many { IfOk result (λ lines. vec_len lines ≡ receivers) }
+    ensures words { IfOk result (λ lines. lines.items ≡ map (λ r. at_start (words_for arrivals.now r)) (range_with_len 0 receivers)) }
 {
     let mut lines = Vec::new(alloc);
     for receiver in 0..receivers {

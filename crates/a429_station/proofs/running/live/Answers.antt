@@ -1,4 +1,4 @@
-use Rattle.std.proofs.Common.{rules, arith, ◌≡◌, ◌∙◌, List, ap, map, subst, sym}
+use Rattle.std.proofs.Common.{arith, ◌∙◌, List, ap, map, subst, sym}
 use Rattle.std.specs.Prelude.{IfErr, IfOk}
 use Rattle.a429_equipment.specs.TableRecord.{TableRecord}
 use Rattle.a429_workers.specs.Runs.{IsWired}

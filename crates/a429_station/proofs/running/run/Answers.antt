@@ -1,13 +1,13 @@
 use Rattle.std.proofs.Common.{rules, arith, ◌≡◌, ◌∙◌, ℕ, List, ap, subst, sym, refl, [], map, length, inl, inr}
 use Rattle.std.proofs.lemmas.Result.{err_from_is_err_and}
 use Rattle.std.proofs.lemmas.List.{length-map}
-use Rattle.std.specs.Prelude.{Result, Err, IfOk, IfErr}
-use Rattle.std.specs.List.{AllByRecursion, AllZip}
+use Rattle.std.specs.Prelude.{Result, Err, IfErr}
+use Rattle.std.specs.List.{AllByRecursion}
 use Rattle.a429_equipment.specs.TableRecord.{TableRecord}
 use Rattle.a429_values.specs.Ends as ends
 use Rattle.a429_workers.specs.Receives.{after_words}
-use Rattle.a429_station.specs.Course.{HasRun, IsHeardIn, IsSentIn, fresh}
-use Rattle.a429_station.specs.Faults.{HasStopped, IsFirst, IsRunFault, first_fault}
+use Rattle.a429_station.specs.Course.{IsHeardIn, IsSentIn, fresh}
+use Rattle.a429_station.specs.Faults.{IsFirst, IsRunFault, first_fault}
 use Rattle.a429_station.specs.Numbered.{AllNumbered, AllOfThree}
 use Rattle.a429_station.specs.Working.{HasEmitted, HasReceived, IsJoined, IsOver, IsReady, IsReceiverAt}
 use Rattle.a429_station.specs.declared.faults.LiveFault.{LiveFault}
@@ -17,7 +17,7 @@ use Rattle.a429_station.specs.declared.working.Received.{Received}
 use Rattle.a429_station.specs.declared.working.Receiving.{Receiving}
 use Rattle.a429_station.specs.declared.working.Sending.{Sending}
 use Rattle.a429_station.proofs.Ended.{AreAfter, all_stopped, course_of, taken_in, group_one, group_over, heard_one, receiver_one, receiver_stays, all_well, first_of_receivers}
-use Rattle.a429_station.proofs.Numbered.{middle, numbered_all, numbered_mapped, shown, shown_past, three_of, zip_length, zip_mapped, zip_numbered, zip_with}
+use Rattle.a429_station.proofs.Numbered.{middle, numbered_all, numbered_mapped, shown, shown_past, three_of, zip_length, zip_numbered, zip_with}
 use Rattle.a429_station.proofs.Plans.{plan_small}
 use Rattle.a429_station.proofs.running.run.Goals as goal
 

@@ -1,4 +1,4 @@
-use Rattle.std.proofs.Common.{rules, ◌<◌, ◌+◌, ap, subst, sym}
+use Rattle.std.proofs.Common.{◌<◌, ◌+◌, ap, subst, sym}
 use Rattle.std.specs.List.{AllByRecursion}
 use Rattle.std.specs.Prelude.{Err}
 use Rattle.a429_values.specs.Ends as ends

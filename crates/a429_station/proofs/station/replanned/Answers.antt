@@ -1,4 +1,4 @@
-use Rattle.std.proofs.Common.{rules, refl, sym, ◌∙◌}
+use Rattle.std.proofs.Common.{refl, sym, ◌∙◌}
 use Rattle.a429_station.proofs.station.replanned.Goals as goal
 
 pub returns-then-same_station-clause-plan : goal.returns-then-same_station-clause-plan

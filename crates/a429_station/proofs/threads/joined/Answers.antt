@@ -1,4 +1,4 @@
-use Rattle.std.proofs.Common.{rules, subst}
+use Rattle.std.proofs.Common.{rules}
 use Rattle.a429_station.proofs.Joined.{each_zipped}
 use Rattle.a429_station.proofs.threads.joined.Goals as goal
 

@@ -1,4 +1,4 @@
-use Rattle.std.proofs.Common.{rules, ◌≡◌, ◌<◌, ◌^◌, refl, sym, subst, ℕ}
+use Rattle.std.proofs.Common.{rules, ◌<◌, ◌^◌, refl, sym, subst, ℕ}
 use Rattle.std.specs.Prelude.{IfOk, IfErr}
 use Rattle.a429_station.specs.Resubmitting.{GoesOn, Running, Publishes, IsReplanFault, IsLed, of_board}
 use Rattle.a429_station.specs.declared.station.ReplanFault.{ReplanFault}

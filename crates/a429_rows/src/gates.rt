@@ -1,0 +1,117 @@
+//! A gate that holds workers until others have passed.
+ghost use Rattle.std.specs.Prelude.{◌≡◌, IfOk, length};
+
+use crate::support::standard;
+use a429_board::{Board, Planner};
+use a429_equipment::Equipment;
+use a429_filter::MemoryLine;
+use a429_slots::plan;
+use a429_values::{Hub, Receiver};
+use a429_workers::{
+    Gate, GateFault, MemorySink, Point, ReceiveFault, SendFault, Transmit, receive_all, send_frames,
+};
+use std::alloc::Global;
+use std::process::Abort;
+use std::sync::Wait;
+use std::sync::atomic::{AtomicU64, Ordering};
+use std::test::Fail;
+use std::thread;
+use std::time::{Clock, Duration};
+
+/// The equipment of one receiver, three sources and one group.
+fn three<R: Abort>(rt: &R, alloc: Global, table: &str) -> Result<Equipment, Fail>
+    ensures { IfOk result (λ e. (length e.receivers ≡ 1) × (length e.groups ≡ 1) × (length e.sources ≡ 3)) }
+{
+    let equipment = Equipment::read(alloc, table.as_bytes())?;
+    assert_eq!(rt; equipment.receivers().len(), 1);
+    assert_eq!(rt; equipment.groups().len(), 1);
+    assert_eq!(rt; equipment.sources().len(), 3);
+    Ok(equipment)
+}
+
+/// The receiver and the transmitter of such a station, and the planner of its board.
+fn opened<R: Wait>(
+    rt: &R,
+    alloc: Global,
+    equipment: &Equipment,
+) -> Result<(Receiver, Transmit, Planner), Fail>
+    requires one { (length equipment.now.receivers ≡ 1) × (length equipment.now.groups ≡ 1) }
+    requires sources { length equipment.now.sources ≡ 3 }
+    ensures { IfOk result (λ r. r.1.frame.sent ≡ 0) }
+{
+    let _groups = equipment.groups();
+    let plan = plan(alloc, equipment)?;
+    let (hub, mut desk) = Hub::<256, 41>::open(alloc, equipment)?;
+    let receiver = desk.receiver(alloc, &hub, 0)?;
+    let transmitter = desk.transmitter(&hub, 0)?;
+    let (planner, mut watchers) = Board::open(rt, alloc, plan, 1)?;
+    let Some(watcher) = watchers.pop() else {
+        planner.close(rt);
+        return Err(Fail::from("no watcher"));
+    };
+    if watcher.opened().groups() == 0 {
+        planner.close(rt);
+        return Err(Fail::from("no group"));
+    }
+    match Transmit::open(alloc, transmitter, watcher, 0, 0) {
+        Ok(transmit) => Ok((receiver, transmit, planner)),
+        Err(_) => {
+            planner.close(rt);
+            Err(Fail::from("not opened"))
+        }
+    }
+}
+
+const CELL: u64 = 1;
+
+const TAKEN: u64 = 2;
+
+const SENT: u64 = 4;
+
+/// Holds the first word until a cell is asked for, that cell until the word was taken, and the second word until the
+/// cell was sent, each for at most 10000 turns of a millisecond.
+#[derive(Drop)]
+struct InTurn<'a, R: Clock> {
+    rt: &'a R,
+    made: &'a AtomicU64,
+}
+
+impl<'a, R: Clock> Gate for InTurn<'a, R> {
+    fn pass(&self, point: Point) -> Result<(), GateFault> {
+        let (own, awaited) = match point {
+            Point::BeforeAccept(0, 0) => (0, CELL),
+            Point::AfterAccept(0, 0) => (TAKEN, 0),
+            Point::BeforeCell(0, 0) => (CELL, TAKEN),
+            Point::AfterCell(0, 0) => (SENT, 0),
+            Point::BeforeAccept(0, 1) => (0, SENT),
+            _ => (0, 0),
+        };
+        self.made.fetch_or(own, Ordering::SeqCst);
+        for _ in 0..10000 {
+            if self.made.load(Ordering::SeqCst) & awaited == awaited {
+                return Ok(());
+            }
+            thread::sleep(self.rt, Duration::from_millis(1));
+        }
+        Err(GateFault)
+    }
+}
+
+#[test]
+fn workers_one_after_another_are_held_by_the_gate(rt: HostRuntime) -> Result<(), Fail> {
+    let table = standard(&rt, 100000, &[(1, 720), (1, 1440), (1, 1440)])?;
+    let equipment = three(&rt, rt.alloc(), &table)?;
+    let mut line = MemoryLine::from_words(vec![in rt.alloc(); 0x00000080, 0x00000c80]?);
+    let made = AtomicU64::new(0);
+    let gate = InTurn {
+        rt: &rt,
+        made: &made,
+    };
+    let (mut receiver, mut transmit, planner) = opened(&rt, rt.alloc(), &equipment)?;
+    let mut sink = MemorySink::new(rt.alloc());
+    let heard = receive_all(&mut line, &mut receiver, 0, &gate);
+    let sent = send_frames(&mut transmit, &mut sink, 0, 1, &gate);
+    planner.close(&rt);
+    assert!(rt; heard == Err(ReceiveFault::Gate) && sent == Err(SendFault::Gate));
+    Ok(())
+}
