@@ -1,8 +1,10 @@
-use Rattle.std.proofs.Common.{◌≡◌, ◌∙◌, ◌∷◌, ap, inl, inr, subst, List, ℕ}
+use Rattle.std.proofs.Common.{◌∙◌, ◌∷◌, ap, inl, inr, subst, List, ℕ}
 use Rattle.std.specs.Prelude.{Err}
 use Rattle.std.proofs.lemmas.Result.{err_from_is_err_and}
 use Rattle.a429_equipment.specs.TableRecord.{TableRecord}
-use Rattle.a429_cli.specs.Files.{IsFirstUnread}
+use Rattle.std.specs.declared.vec.Vec.{Vec}
+use Rattle.std.specs.declared.alloc.Global.{Global}
+use Rattle.a429_cli.specs.Files.{IsFirstUnread, bytes_of}
 use Rattle.a429_cli.specs.LiveReplies.{IsLiveRefusal, IsNoLiveStart, IsReportOf, IsRunRefusal, IsRunReport, IsRunResult, files_of}
 use Rattle.a429_cli.specs.LiveWords.{live_of}
 use Rattle.a429_cli.specs.RefusalText.{OrMemory}
@@ -36,7 +38,10 @@ returns g c = λ tells.
     let q = c.in_ok-prepared.prepared.proposal in
     let read = c.in_ok-input.ensures tells in
     let start = c.in_ok-prepared.ensures in
-    let of_station = subst (λ (t : TableRecord). IsRunResult t _ c.run.result) c.equipment-equipment.ensures.equipment c.run.ensures in
+    let of_station : IsRunResult q.station (bytes_of c.deref-2.result.now) c.run.result =
+    subst (λ (t : TableRecord). IsRunResult t (bytes_of c.deref-2.result.now) c.run.result) c.equipment-equipment.ensures.equipment c.run.ensures in
+    let of_files : IsRunResult q.station i.further c.run.result =
+    subst (λ (tables : List (Vec ℕ Global)). IsRunResult q.station (bytes_of tables) c.run.result) c.deref-2.ensures.value of_station in
     matched_both c.run.result (λ text. IsRunReport q.station i.further text.items) (λ text. IsReportOf file r text.items) (OrMemory IsRunRefusal) (OrMemory (IsLiveRefusal file r))
     (λ text report. (i, q, c.in_ok-prepared.prepared.arrivals.items, read, start, report))
-    (λ e why. or_memory_weaker IsRunRefusal (IsLiveRefusal file r) e (λ one. inr (i, read, inr (q, c.in_ok-prepared.prepared.arrivals.items, start, one))) why) of_station
+    (λ e why. or_memory_weaker IsRunRefusal (IsLiveRefusal file r) e (λ one. inr (i, read, inr (q, c.in_ok-prepared.prepared.arrivals.items, start, one))) why) of_files

@@ -1,10 +1,10 @@
-use Rattle.std.proofs.Common.{◌⊎◌, ◌∙◌, ap, inl, inr, subst, List, ℕ}
+use Rattle.std.proofs.Common.{◌∙◌, ap, inr, subst, List, ℕ}
 use Rattle.std.specs.Prelude.{Err}
 use Rattle.std.proofs.lemmas.Result.{err_from_is_err_and}
-use Rattle.a429_cli.specs.LiveReplies.{IsNoLiveStart, IsWordsRefusal, files_of}
+use Rattle.a429_cli.specs.LiveReplies.{IsNoLiveStart, files_of}
 use Rattle.a429_cli.specs.RefusalText.{OrMemory}
 use Rattle.a429_cli.specs.Names.{Naming, naming_of}
-use Rattle.a429_cli.specs.Tables.{IsProposedBy, IsTableRefusal}
+use Rattle.a429_cli.specs.Tables.{IsProposedBy}
 use Rattle.a429_cli.specs.WordsFile.{IsWordsFault}
 use Rattle.a429_cli.proofs.Refused.{failed, or_memory_weaker}
 use Rattle.a429_cli.proofs.live.prepare.Goals as goal

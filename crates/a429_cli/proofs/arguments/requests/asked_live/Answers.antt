@@ -1,7 +1,6 @@
-use Rattle.std.proofs.Common.{◌≡◌, ◌∙◌, refl, codes, map, List, []}
-use Rattle.std.specs.Prelude.{unwrap_or}
+use Rattle.std.proofs.Common.{◌∙◌, refl, codes}
 use Rattle.std.proofs.lemmas.Option.{same_Some}
-use Rattle.clap.specs.Words.{all_of, found_of, rows_of}
+use Rattle.clap.specs.Words.{found_of, rows_of}
 use Rattle.clap.proofs.WalkLemmas.{first_value-rows, raw_values-rows}
 use Rattle.a429_cli.proofs.LiveFound.{texts_read}
 use Rattle.a429_cli.proofs.arguments.requests.asked_live.Goals.{in-Some-get_strs+in_ok-further-in-Some-get_strs, in-None}

@@ -1,7 +1,6 @@
-use Rattle.std.proofs.Common.{◌∙◌, ap, refl, codes, inl}
-use Rattle.std.specs.Prelude.{not}
+use Rattle.std.proofs.Common.{◌∙◌, refl, codes, inl}
 use Rattle.clap.specs.Words.{found_of, rows_of, subcommand_rows_of}
-use Rattle.a429_cli.proofs.Elsewhere.{is_live_by_name, live_rows_read, not_live}
+use Rattle.a429_cli.proofs.Elsewhere.{is_live_by_name, live_rows_read}
 use Rattle.a429_cli.proofs.Found.{name_of_rows, weaker_at_both}
 use Rattle.a429_cli.proofs.arguments.requests.read_live.Goals as goal
 

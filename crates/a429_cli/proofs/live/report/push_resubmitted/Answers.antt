@@ -1,7 +1,5 @@
-use Rattle.std.proofs.Common.{◌≡◌, ◌++◌, ◌∷◌, [], refl, inl, inr, rules, codes, true, false}
+use Rattle.std.proofs.Common.{◌++◌, ◌∷◌, [], refl, inl, rules}
 use Rattle.std.proofs.lemmas.Result.{on_ok_weaker}
-use Rattle.a429_equipment.specs.SameStation.{same_station}
-use Rattle.a429_cli.specs.LiveReplies.{published_line}
 use Rattle.a429_cli.specs.RefusalText.{refusal_line}
 use Rattle.a429_cli.specs.Tables.{IsTableRefusal}
 use Rattle.a429_cli.proofs.live.report.push_resubmitted.Goals as goal
