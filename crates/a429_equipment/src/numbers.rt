@@ -7,7 +7,7 @@ ghost use Rattle.toml.specs.View.{view};
 ghost use Rattle.a429_equipment.specs.Names.{number_named};
 ghost use Rattle.a429_equipment.specs.Numbers.{NumbersNames, NumbersOneMore};
 ghost use Rattle.a429_equipment.specs.Tree.{rows_at};
-ghost use Rattle.a429_equipment.specs.SourceKeys.{key_view, key_of, sender_of, senders_of, senders_view};
+ghost use Rattle.a429_equipment.specs.SourceKeys.{key_view, key_of, sender_of, senders_of, senders_view, AreSendersOfGroups};
 ghost use Rattle.a429_equipment.specs.Version.{version_of};
 ghost use Rattle.a429_equipment.specs.Chains.{AreChained};
 ghost use Rattle.a429_equipment.specs.KeyBuckets.{key_bucket};
@@ -49,21 +49,17 @@ impl<'a> Numbers<'a> {
     pub fn of(alloc: Global, root: &'a Value) -> Result<Numbers<'a>, AllocError>
         ensures { IfOk result (λ numbers. table_of numbers ≡ view root.now) }
     {
-        let receivers = number_names(alloc, rows_at(root, "receiver"))?;
-        let sources = number_names(alloc, rows_at(root, "source"))?;
-        let groups = number_names(alloc, rows_at(root, "group"))?;
-        let keys = source_keys(alloc, rows_at(root, "source"))?;
-        let key_chains = key_chains(alloc, &keys)?;
-        let senders = sender_keys(alloc, &sources, &keys, rows_at(root, "group"))?;
+        let names = names_of(alloc, root)?;
+        let sources = sources_of(alloc, root, &names.sources)?;
         Ok(Numbers {
             root,
             version: version_of(root),
-            receivers,
-            sources,
-            groups,
-            keys,
-            key_chains,
-            senders,
+            receivers: names.receivers,
+            sources: names.sources,
+            groups: names.groups,
+            keys: sources.keys,
+            key_chains: sources.chains,
+            senders: sources.senders,
         })
     }
 
@@ -94,6 +90,57 @@ impl<'a> Numbers<'a> {
     {
         sender_key(&self.sources, &self.keys, output)
     }
+}
+
+/// The numbers of a table's receivers, sources and groups by their names.
+#[derive(Drop)]
+struct Names {
+    receivers: IndexMap<String, usize>,
+    sources: IndexMap<String, usize>,
+    groups: IndexMap<String, usize>,
+}
+
+/// The keys of a table's sources, in buckets, and those of the sources of each group's outputs.
+#[derive(Drop)]
+struct KeysOf<'a> {
+    keys: Vec<SourceKey<'a>>,
+    chains: Chains,
+    senders: Vec<Senders<'a>>,
+}
+
+fn names_of(alloc: Global, root: &Value) -> Result<Names, AllocError>
+    ensures receivers { IfOk result (λ names. NumbersNames names.receivers (rows_at (codes "receiver") (view root.now))) }
+    ensures sources { IfOk result (λ names. NumbersNames names.sources (rows_at (codes "source") (view root.now))) }
+    ensures groups { IfOk result (λ names. NumbersNames names.groups (rows_at (codes "group") (view root.now))) }
+{
+    let receivers = number_names(alloc, rows_at(root, "receiver"))?;
+    let sources = number_names(alloc, rows_at(root, "source"))?;
+    let groups = number_names(alloc, rows_at(root, "group"))?;
+    Ok(Names {
+        receivers,
+        sources,
+        groups,
+    })
+}
+
+/// The keys of a root table, whose sources have these numbers.
+fn sources_of<'a>(
+    alloc: Global,
+    root: &'a Value,
+    numbers: &IndexMap<String, usize>,
+) -> Result<KeysOf<'a>, AllocError>
+    ensures keys { IfOk result (λ all. map key_view all.keys.items ≡ map key_of (rows_at (codes "source") (view root.now))) }
+    ensures chains { IfOk result (λ all. AreChained (map key_bucket all.keys.items) all.chains.last.items all.chains.before.items) }
+    ensures senders { IfOk result (λ all. AreSendersOfGroups numbers.now all.keys.items (rows_at (codes "group") (view root.now)) all.senders.items) }
+{
+    let keys = source_keys(alloc, rows_at(root, "source"))?;
+    let chains = key_chains(alloc, &keys)?;
+    let senders = sender_keys(alloc, numbers, &keys, rows_at(root, "group"))?;
+    Ok(KeysOf {
+        keys,
+        chains,
+        senders,
+    })
 }
 
 /// Gives a name a number, unless it has one.
