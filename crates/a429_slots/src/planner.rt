@@ -94,7 +94,6 @@ fn group_plan<const N: usize>(
 /// as few buses as any schedule needs. The plan has the number 0. Refused is the first group that has an
 /// output without a grid period (`Unfit`, with its first such output) or else needs more than 16 buses
 /// (`TooManyBuses`, with the fewest that it needs).
-#[tactic(auto, using(crate::proofs::Planning::rated_at, crate::proofs::Planning::fault_in, crate::proofs::Planning::planned_next, crate::proofs::Planning::could_next))]
 pub fn plan<const N: usize>(alloc: Global, equipment: &Equipment) -> Result<Plan<N>, PlanFault>
     requires { HaveRoom N equipment.now.outputs }
     ensures planned { IfOk result (λ plan. IsPlanOf equipment.now plan) }

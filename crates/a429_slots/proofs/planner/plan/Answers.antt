@@ -1,11 +1,12 @@
-use Rattle.std.proofs.Common.{◌≡◌, ◌<◌, ◌≤◌, List, length, arith, rules, subst, sym, ap}
+use Rattle.std.proofs.Common.{◌≡◌, ◌<◌, ◌≤◌, ◌∙◌, List, length, arith, rules, subst, sym, ap}
 use Rattle.std.specs.List.{AllByRecursion}
 use Rattle.a429_equipment.specs.Sound.{IsSound, IsInterval}
 use Rattle.a429_slots.specs.Tables.{groups_of}
 use Rattle.a429_slots.specs.Planned.{IsPlannedAt, rated_outputs}
 use Rattle.a429_equipment.specs.declared.rows.OutputRow.{OutputRow}
 use Rattle.a429_equipment.specs.declared.rows.SourceRow.{SourceRow}
-use Rattle.a429_slots.proofs.Planning.{rate_in_group, all_at, all_planned, length-zipped, length-rated}
+use Rattle.a429_slots.proofs.Planning.{rate_in_group, all_at, all_planned, length-zipped, length-rated, rated_at, fault_in, planned_next, could_next}
+use Rattle.a429_slots.specs.Faults.{IsFaultOf}
 use Rattle.a429_slots.proofs.planner.plan.Goals as goal
 
 pub group_plan-requires : goal.group_plan-requires
@@ -46,3 +47,22 @@ pub returns-clause-planned : goal.returns-clause-planned
 returns-clause-planned g c =
     all_planned c.args.equipment.now c.sources-sources.result.now c.groups-group-end.result.now c.loop-group.group c.loop-group.plan c.sources-sources.ensures.sound c.sources-sources.ensures.rows c.groups-group-end.ensures.rows
     (omega arith) c.loop-group.invariant.number c.loop-group.invariant.planned
+
+pub returns-in-Err-clause-fault : goal.returns-in-Err-clause-fault
+returns-in-Err-clause-fault g c =
+    let e = c.args.equipment.now in
+    let here = rated_at e c.loop-group.group c.group_rate-rate.result c.outputs.result.now c.group_rate-rate.ensures.rate c.outputs.ensures.rows in
+    subst (IsFaultOf e) (sym c.in_group.ensures)
+    (fault_in e c.loop-group.group c.group_rate-rate.result c.outputs.result.now c.in-Err.fault here c.loop-group.invariant.could c.in-Err.ensures)
+
+pub loop-group-preserved : goal.loop-group-preserved
+loop-group-preserved g c =
+    let e = c.args.equipment.now in
+    let ss = c.sources-sources.result.now in
+    let n = c.loop-group.group in
+    let rate = c.group_rate-rate.result in
+    let rows = c.outputs.result.now in record {
+      planned = planned_next e ss n rate rows (groups_of c.loop-group.plan) (groups_of c.push.new.self) c.in-Ok.table c.push.ensures.groups c.group_rate-rate.ensures.rate c.outputs.ensures.rows c.loop-group.invariant.planned c.in-Ok.ensures;
+      could = could_next e ss n rate rows c.in-Ok.table c.group_rate-rate.ensures.rate c.outputs.ensures.rows c.loop-group.invariant.could c.in-Ok.ensures;
+      number = c.push.ensures.number ∙ c.loop-group.invariant.number;
+    }
