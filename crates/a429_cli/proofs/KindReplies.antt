@@ -6,8 +6,8 @@ use Rattle.clap.specs.Words.{HasKind, IsAmong, Kinds, kind_of}
 use Rattle.clap.specs.declared.error.Error.{Error}
 use Rattle.clap.specs.declared.error.kind.ErrorKind.{ErrorKind}
 use Rattle.clap.specs.declared.error.kind.ErrorKind.TheVariants.{DisplayHelp, DisplayVersion, OutOfMemory}
-use Rattle.a429_cli.specs.Outputs.{OrNoMemory}
-use Rattle.a429_cli.specs.Usage.{IsHelpReply, IsReplyOfKind, IsUsageReply, is_help}
+use Rattle.a429_console.specs.Outputs.{OrNoMemory}
+use Rattle.a429_console.specs.Usage.{IsHelpReply, IsReplyOfKind, IsUsageReply, is_help}
 
 among_all : (k : ErrorKind) (ks : Kinds) → IsAmong k ks → list_all is_help ks ≡ true → is_help k ≡ true
 among_all k [] among all = absurd among

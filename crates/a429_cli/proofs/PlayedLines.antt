@@ -6,7 +6,7 @@ use Rattle.std.specs.Io.KnownBytes.{Appends, append_known}
 use Rattle.a429_slots.specs.Events.{Event}
 use Rattle.a429_slots.specs.History.{Opening}
 use Rattle.a429_slots.specs.Proposed.{Proposed}
-use Rattle.a429_cli.specs.Outputs.{ending, status_of}
+use Rattle.a429_console.specs.Outputs.{ending, status_of}
 use Rattle.a429_cli.specs.Playing.{Happens, Played}
 use Rattle.a429_cli.specs.Replaying.{IsOutcome, IsPlayed, ReplayInput}
 use Rattle.a429_cli.specs.declared.replay.script.ScriptEvent.{ScriptEvent}

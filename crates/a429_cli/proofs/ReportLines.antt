@@ -17,7 +17,7 @@ use Rattle.a429_equipment.specs.Stated.{filter_of}
 use Rattle.a429_line.specs.LineBytes.{symbol_of, symbols_of}
 use Rattle.a429_cli.specs.LineReports.{found_line, printed, received, word_line}
 use Rattle.a429_cli.specs.LineReplies.{IsPrinted, IsTold, IsToldInPart, filter_list}
-use Rattle.a429_cli.specs.Outputs.{ending, status_of}
+use Rattle.a429_console.specs.Outputs.{ending, status_of}
 
 -- ---- reports
 

@@ -7,7 +7,7 @@ use Rattle.std.proofs.lemmas.Option.{same_Some}
 use Rattle.std.proofs.Math.Seq.{take-append_seam}
 use Rattle.a429_cli.specs.ScriptText.{cut, joined_on, lines_of}
 use Rattle.a429_cli.specs.Script.{events_before, event_then, events_from, events_after, first_event, line_event}
-use Rattle.a429_cli.specs.Names.{Naming}
+use Rattle.a429_console.specs.Names.{Naming}
 use Rattle.a429_cli.specs.declared.replay.script.ScriptEvent.{ScriptEvent}
 
 same_Ok : {X E : Type 0} (x y : X) → ◌≡◌ {A = Result X E} (Ok x) (Ok y) → x ≡ y

@@ -1,16 +1,6 @@
-pub mod CommandLine
-pub mod Usage
-pub mod MemoryFile
-pub mod Files
-pub mod Names
-pub mod AnswerLines
 pub mod WordLines
-pub mod Nibbles
-pub mod RefusalText
-pub mod Outputs
 pub mod ScriptText
 pub mod Script
-pub mod Tables
 pub mod Playing
 pub mod Replaying
 pub mod Opened
@@ -18,8 +8,6 @@ pub mod LineFiles
 pub mod LineReports
 pub mod LineReplies
 pub mod PlanReplies
-pub mod Requests
 pub mod WordsFile
-pub mod LiveWords
 pub mod LiveReplies
-pub mod RequestRows
+pub mod Replies

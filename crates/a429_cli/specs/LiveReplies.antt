@@ -14,17 +14,17 @@ use Rattle.a429_workers.specs.Receives as receives
 use Rattle.a429_workers.specs.Receives.{answers_to}
 use Rattle.a429_workers.specs.declared.receiving.ReceiveTotals.{ReceiveTotals}
 use Rattle.a429_workers.specs.declared.sending.SendTotals.{SendTotals}
-use Rattle.a429_cli.specs.Files.{AreRead, IsFirstUnread, bytes_of}
-use Rattle.a429_cli.specs.LiveWords.{LiveAsk}
-use Rattle.a429_cli.specs.Names.{naming_of}
-use Rattle.a429_cli.specs.RefusalText.{OrMemory, refusal_line}
-use Rattle.a429_cli.specs.Tables.{IsProposedBy, IsTableRefusal}
+use Rattle.a429_console.specs.Files.{AreRead, IsFirstUnread, bytes_of}
+use Rattle.a429_console.specs.LiveWords.{LiveAsk}
+use Rattle.a429_console.specs.Names.{naming_of}
+use Rattle.a429_console.specs.RefusalText.{OrMemory, refusal_line}
+use Rattle.a429_console.specs.Tables.{IsProposedBy, IsTableRefusal}
 use Rattle.a429_cli.specs.WordsFile.{IsWordsFault, arrivals_of}
 use Rattle.a429_cli.specs.declared.live.LiveInput.{LiveInput}
 use Rattle.a429_cli.specs.declared.live.Prepared.{Prepared}
 use Rattle.a429_cli.specs.declared.live.words.Arrival.{Arrival}
-use Rattle.a429_cli.specs.declared.output.refusals.CommandRefusal.{CommandRefusal}
-use Rattle.a429_cli.specs.declared.output.refusals.CommandRefusal.TheVariants as refused
+use Rattle.a429_console.specs.declared.output.refusals.CommandRefusal.{CommandRefusal}
+use Rattle.a429_console.specs.declared.output.refusals.CommandRefusal.TheVariants as refused
 
 -- ---- before the run
 

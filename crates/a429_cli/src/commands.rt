@@ -1,17 +1,18 @@
 //! Commands, from words and files to bytes.
 ghost use Rattle.std.specs.Prelude.{◌≡◌, ◌≢◌, ◌≤◌, ◌+◌, ◌⊎◌, IfOk, IsTrue, OnOk};
 ghost use Rattle.clap.specs.Words.{kind_of};
-ghost use Rattle.a429_cli.specs.Files.{texts_of};
-ghost use Rattle.a429_cli.specs.Outputs.{CountsFault, IsPut, NoneFailed, OrNoMemory};
-ghost use Rattle.a429_cli.specs.Requests.{AsksFor, IsReplyOrMemory, RequestBytes, request_of};
-ghost use Rattle.a429_cli.specs.Usage.{AsksForHelp, IsHelpReply, IsNoRequest, IsReplyOfKind, IsUsageFault, IsUsageReply};
+ghost use Rattle.a429_console.specs.Files.{texts_of};
+ghost use Rattle.a429_console.specs.Outputs.{CountsFault, IsPut, NoneFailed, OrNoMemory};
+ghost use Rattle.a429_console.specs.Requests.{AsksFor, RequestBytes, request_of};
+ghost use Rattle.a429_cli.specs.Replies.{IsReplyOrMemory};
+ghost use Rattle.a429_console.specs.Usage.{AsksForHelp, IsHelpReply, IsNoRequest, IsReplyOfKind, IsUsageFault, IsUsageReply};
 
-use crate::arguments::requests::{Request, parse};
-use crate::files::FileReader;
-use crate::hints::{tell_failed_output, tell_hint};
+use a429_console::arguments::requests::{Request, parse};
+use a429_console::files::FileReader;
+use a429_console::hints::{tell_failed_output, tell_hint};
 use crate::lines::tell_lines;
-use crate::output::endings::{finish, refuse_memory};
-use crate::output::{Output, OutputFault};
+use a429_console::output::endings::{finish, refuse_memory};
+use a429_console::output::{Output, OutputFault};
 use crate::plan_texts::{print_plan, print_verdict};
 use crate::replay::replay;
 use crate::word::tell_word;

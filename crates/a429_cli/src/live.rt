@@ -1,10 +1,10 @@
 //! The command `live`.
 ghost use Rattle.std.specs.Prelude.{◌≡◌, ◌≤◌, IfOk, IsTrue, MatchResult, OnOk, length, vec_len};
-ghost use Rattle.a429_cli.specs.Files.{bytes_of};
+ghost use Rattle.a429_console.specs.Files.{bytes_of};
 ghost use Rattle.a429_cli.specs.LiveReplies.{IsLiveReading, IsLiveReply, IsLiving, IsNoLiveStart, IsPreparedLive, IsRunRefusal, IsRunResult, files_of};
-ghost use Rattle.a429_cli.specs.LiveWords.{live_of};
-ghost use Rattle.a429_cli.specs.Outputs.{CountsFault, IsPut};
-ghost use Rattle.a429_cli.specs.RefusalText.{OrMemory};
+ghost use Rattle.a429_console.specs.LiveWords.{live_of};
+ghost use Rattle.a429_console.specs.Outputs.{CountsFault, IsPut};
+ghost use Rattle.a429_console.specs.RefusalText.{OrMemory};
 
 pub mod commands;
 pub mod control;
@@ -12,17 +12,17 @@ pub mod hints;
 pub mod report;
 pub mod words;
 
-use crate::arguments::requests::LiveRequest;
-use crate::files::FileReader;
-use crate::files::reading::{read_file, read_files};
+use a429_console::arguments::requests::LiveRequest;
+use a429_console::files::FileReader;
+use a429_console::files::reading::{read_file, read_files};
 use crate::live::control::Resubmits;
 use crate::live::report::report_text;
 use crate::live::words::{Arrival, line_sources, read_words};
-use crate::output::endings::{finish, refuse};
-use crate::output::refusals::CommandRefusal;
-use crate::output::{Output, OutputFault};
-use crate::tables::names::Names;
-use crate::tables::propose;
+use a429_console::output::endings::{finish, refuse};
+use a429_console::output::refusals::CommandRefusal;
+use a429_console::output::{Output, OutputFault};
+use a429_console::tables::names::Names;
+use a429_console::tables::propose;
 use a429_equipment::Equipment;
 use a429_slots::{OUTPUTS, Proposal};
 use a429_station::{LiveFault, live};

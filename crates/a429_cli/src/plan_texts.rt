@@ -2,16 +2,16 @@
 ghost use Rattle.std.specs.Prelude.{◌≡◌, ◌≤◌, ◌++◌, ◌∷◌, [], IfOk, IsTrue, MatchResult, OnOk};
 ghost use Rattle.std.specs.Io.KnownBytes.{Appends};
 ghost use Rattle.a429_cert.specs.Printed.{verdict_text};
-ghost use Rattle.a429_cli.specs.Outputs.{CountsFault, IsPut, OrNoMemory};
+ghost use Rattle.a429_console.specs.Outputs.{CountsFault, IsPut, OrNoMemory};
 ghost use Rattle.a429_cli.specs.PlanReplies.{IsCheckReply, IsJudged, IsJudging, IsPlanReply, IsPlanning, IsUnjudged, IsVerdictReply, verdict_status};
-ghost use Rattle.a429_cli.specs.RefusalText.{OrMemory};
+ghost use Rattle.a429_console.specs.RefusalText.{OrMemory};
 
-use crate::files::FileReader;
-use crate::files::reading::read_file;
-use crate::output::endings::{finish, refuse, refuse_memory};
-use crate::output::refusals::CommandRefusal;
-use crate::output::{Output, OutputFault};
-use crate::tables::{propose, read_table, unfit};
+use a429_console::files::FileReader;
+use a429_console::files::reading::read_file;
+use a429_console::output::endings::{finish, refuse, refuse_memory};
+use a429_console::output::refusals::CommandRefusal;
+use a429_console::output::{Output, OutputFault};
+use a429_console::tables::{propose, read_table, unfit};
 use a429_cert::{NoVerdict, Verdict, judge, plan_text};
 use std::alloc::Global;
 use std::io;

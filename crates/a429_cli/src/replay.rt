@@ -1,8 +1,8 @@
 //! The command `replay`.
 ghost use Rattle.std.specs.Prelude.{◌≤◌, IfOk, IsTrue, MatchResult, OnOk};
-ghost use Rattle.a429_cli.specs.Files.{texts_of};
-ghost use Rattle.a429_cli.specs.Outputs.{CountsFault, IsPut};
-ghost use Rattle.a429_cli.specs.RefusalText.{OrMemory};
+ghost use Rattle.a429_console.specs.Files.{texts_of};
+ghost use Rattle.a429_console.specs.Outputs.{CountsFault, IsPut};
+ghost use Rattle.a429_console.specs.RefusalText.{OrMemory};
 ghost use Rattle.a429_cli.specs.Replaying.{IsNoStart, IsReplay};
 ghost use Rattle.a429_cli.specs.Opened.{AreTablesRead, IsInputReading, IsOutcomePut, IsPreparedFor, input_of};
 
@@ -12,12 +12,12 @@ pub mod playing;
 pub mod script;
 pub mod station;
 
-use crate::files::FileReader;
-use crate::files::reading::{read_file, read_files};
-use crate::output::endings::{finish, refuse};
-use crate::output::pending::Pending;
-use crate::output::refusals::CommandRefusal;
-use crate::output::{Output, OutputFault};
+use a429_console::files::FileReader;
+use a429_console::files::reading::{read_file, read_files};
+use a429_console::output::endings::{finish, refuse};
+use crate::pending::Pending;
+use a429_console::output::refusals::CommandRefusal;
+use a429_console::output::{Output, OutputFault};
 use crate::replay::further::{FurtherTable, plan_tables};
 use crate::replay::playing::play_all;
 use crate::replay::script::check_script;

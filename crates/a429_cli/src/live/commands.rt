@@ -1,18 +1,18 @@
 //! The command `live`, from words and files to bytes.
 ghost use Rattle.std.specs.Prelude.{◌≡◌, ◌≢◌, ◌≤◌, ◌+◌, ◌⊎◌, IfOk, IsTrue, OnOk};
-ghost use Rattle.a429_cli.specs.Files.{texts_of};
+ghost use Rattle.a429_console.specs.Files.{texts_of};
 ghost use Rattle.a429_cli.specs.LiveReplies.{IsLiveReply};
-ghost use Rattle.a429_cli.specs.LiveWords.{AsksForLive, AsksForLiveHelp, IsLiveMistake, IsNoLive, LiveAsk, live_of};
-ghost use Rattle.a429_cli.specs.Outputs.{CountsFault, IsPut, NoneFailed, OrNoMemory};
-ghost use Rattle.a429_cli.specs.Usage.{IsHelpReply, IsUsageReply};
+ghost use Rattle.a429_console.specs.LiveWords.{AsksForLive, AsksForLiveHelp, IsLiveMistake, IsNoLive, LiveAsk, live_of};
+ghost use Rattle.a429_console.specs.Outputs.{CountsFault, IsPut, NoneFailed, OrNoMemory};
+ghost use Rattle.a429_console.specs.Usage.{IsHelpReply, IsUsageReply};
 
-use crate::arguments::requests::{LiveRequest, parse_live};
+use a429_console::arguments::requests::{LiveRequest, parse_live};
 use crate::commands::explain;
-use crate::files::FileReader;
-use crate::hints::tell_failed_output;
+use a429_console::files::FileReader;
+use a429_console::hints::tell_failed_output;
 use crate::live::hints::tell_live_hint;
 use crate::live::run_station;
-use crate::output::{Output, OutputFault};
+use a429_console::output::{Output, OutputFault};
 use std::alloc::Global;
 use std::io::Write;
 use std::sync::Wait;

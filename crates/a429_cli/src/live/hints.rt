@@ -1,9 +1,9 @@
 //! What a person can do about a refusal of `live`, told as in `hints`.
 
-use crate::arguments::requests::LiveRequest;
-use crate::files::FileReader;
-use crate::hints::looks::{are_there, look_at};
-use crate::hints::plans::tell_no_plan;
+use a429_console::arguments::requests::LiveRequest;
+use a429_console::files::FileReader;
+use a429_console::hints::looks::{are_there, look_at};
+use a429_console::hints::plans::tell_no_plan;
 use std::alloc::Global;
 use std::io;
 use std::io::Write;

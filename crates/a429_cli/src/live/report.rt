@@ -1,12 +1,12 @@
 //! The report of a run.
 ghost use Rattle.std.specs.Prelude.{◌≡◌, ◌++◌, ◌∷◌, [], ℕ, List, OnOk, MatchResult};
 ghost use Rattle.std.specs.List.{AllZip, concat};
-ghost use Rattle.a429_cli.specs.Files.{bytes_of};
+ghost use Rattle.a429_console.specs.Files.{bytes_of};
 ghost use Rattle.a429_cli.specs.LiveReplies.{IsReport, IsResubmitLine, IsRunRefusal, group_line, group_lines, published_line, receiver_line, receiver_lines, refused_words};
-ghost use Rattle.a429_cli.specs.RefusalText.{OrMemory, refusal_line};
+ghost use Rattle.a429_console.specs.RefusalText.{OrMemory, refusal_line};
 
-use crate::output::refusals::CommandRefusal;
-use crate::tables::propose;
+use a429_console::output::refusals::CommandRefusal;
+use a429_console::tables::propose;
 use a429_equipment::{Equipment, GroupRow, ReceiverRow};
 use a429_filter::MemoryLine;
 use a429_station::Report;

@@ -5,8 +5,8 @@ ghost use Rattle.a429_filter.specs.Sources.{at_start};
 ghost use Rattle.a429_cli.specs.ScriptText.{cut};
 ghost use Rattle.a429_cli.specs.WordsFile.{IsWordsReading, first_arrival, line_arrival, raw_for, words_for};
 
-use crate::output::refusals::CommandRefusal;
-use crate::tables::names::Names;
+use a429_console::output::refusals::CommandRefusal;
+use a429_console::tables::names::Names;
 use a429_filter::MemoryLine;
 use a429_word::raw_word;
 use std::alloc::{AllocError, Global};

@@ -1,16 +1,16 @@
 //! Scripts played on a station.
 ghost use Rattle.std.specs.Prelude.{◌≡◌, ◌<◌, OnOk, OnErr, IfOk, IfSome, MatchResult, length};
 ghost use Rattle.a429_core.specs.Happened.{event_of};
-ghost use Rattle.a429_cli.specs.Outputs.{AppendsPending, CountsFault};
+ghost use Rattle.a429_console.specs.Outputs.{AppendsPending, CountsFault};
 ghost use Rattle.a429_cli.specs.Playing.{HasTable, IsEventOf, IsUnread, PlaysOne, PlaysScript};
-ghost use Rattle.a429_cli.specs.RefusalText.{OrMemory};
+ghost use Rattle.a429_console.specs.RefusalText.{OrMemory};
 
-use crate::output::pending::{Pending, put_if_full};
-use crate::output::refusals::CommandRefusal;
-use crate::output::{Output, OutputFault};
+use crate::pending::{Pending, put_if_full};
+use a429_console::output::refusals::CommandRefusal;
+use a429_console::output::{Output, OutputFault};
 use crate::replay::further::FurtherTable;
 use crate::replay::script::{ScriptEvent, first_event};
-use crate::tables::names::Names;
+use a429_console::tables::names::Names;
 use a429_core::{Event, StationState};
 use std::alloc::{AllocError, Global};
 

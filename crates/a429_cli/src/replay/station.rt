@@ -1,12 +1,12 @@
 //! The station of a table, opened for a script.
 ghost use Rattle.std.specs.Prelude.{MatchResult};
 ghost use Rattle.a429_cli.specs.Opened.{IsOpenedFrom};
-ghost use Rattle.a429_cli.specs.RefusalText.{OrMemory};
-ghost use Rattle.a429_cli.specs.Tables.{IsTableRefusal};
+ghost use Rattle.a429_console.specs.RefusalText.{OrMemory};
+ghost use Rattle.a429_console.specs.Tables.{IsTableRefusal};
 
-use crate::output::refusals::CommandRefusal;
-use crate::tables::names::Names;
-use crate::tables::propose;
+use a429_console::output::refusals::CommandRefusal;
+use a429_console::tables::names::Names;
+use a429_console::tables::propose;
 use a429_core::{OpenFault, StationState};
 use std::alloc::Global;
 

@@ -1,6 +1,6 @@
 use Rattle.std.proofs.Common.{inl}
 use Rattle.std.proofs.lemmas.Result.{IfOk-weaker}
-use Rattle.a429_cli.specs.Files.{texts_of}
+use Rattle.a429_console.specs.Files.{texts_of}
 use Rattle.a429_cli.specs.LineReplies.{IsLinesReply}
 use Rattle.a429_cli.specs.Replaying.{IsReplay}
 use Rattle.a429_cli.proofs.commands.answer.Goals as goal

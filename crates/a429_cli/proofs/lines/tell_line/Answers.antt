@@ -1,9 +1,9 @@
 use Rattle.std.proofs.Common.{◌++◌, ℕ, subst, sym}
 use Rattle.a429_line.specs.LineBytes.{symbols_of}
 use Rattle.a429_cli.specs.LineReplies.{IsTold}
-use Rattle.a429_cli.specs.Outputs.{ending}
+use Rattle.a429_console.specs.Outputs.{ending}
 use Rattle.a429_cli.proofs.PlayedLines.{Appends-ended}
-use Rattle.a429_cli.proofs.Refused.{both_ok}
+use Rattle.a429_console.proofs.Refused.{both_ok}
 use Rattle.a429_cli.proofs.ReportLines.{told_ended}
 use Rattle.a429_cli.proofs.lines.tell_line.Goals as goal
 

@@ -4,11 +4,11 @@ use Rattle.std.proofs.lemmas.Result.{err_from_is_err_and}
 use Rattle.a429_equipment.specs.TableRecord.{TableRecord}
 use Rattle.std.specs.declared.vec.Vec.{Vec}
 use Rattle.std.specs.declared.alloc.Global.{Global}
-use Rattle.a429_cli.specs.Files.{IsFirstUnread, bytes_of}
+use Rattle.a429_console.specs.Files.{IsFirstUnread, bytes_of}
 use Rattle.a429_cli.specs.LiveReplies.{IsLiveRefusal, IsNoLiveStart, IsReportOf, IsRunRefusal, IsRunReport, IsRunResult, files_of}
-use Rattle.a429_cli.specs.LiveWords.{live_of}
-use Rattle.a429_cli.specs.RefusalText.{OrMemory}
-use Rattle.a429_cli.proofs.Refused.{failed, matched_both, or_memory_weaker}
+use Rattle.a429_console.specs.LiveWords.{live_of}
+use Rattle.a429_console.specs.RefusalText.{OrMemory}
+use Rattle.a429_console.proofs.Refused.{failed, matched_both, or_memory_weaker}
 use Rattle.a429_cli.proofs.live.lived.Goals as goal
 
 pub returns-in_err-input : goal.returns-in_err-input

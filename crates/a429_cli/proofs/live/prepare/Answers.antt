@@ -2,11 +2,11 @@ use Rattle.std.proofs.Common.{◌∙◌, ap, inr, subst, List, ℕ}
 use Rattle.std.specs.Prelude.{Err}
 use Rattle.std.proofs.lemmas.Result.{err_from_is_err_and}
 use Rattle.a429_cli.specs.LiveReplies.{IsNoLiveStart, files_of}
-use Rattle.a429_cli.specs.RefusalText.{OrMemory}
-use Rattle.a429_cli.specs.Names.{Naming, naming_of}
-use Rattle.a429_cli.specs.Tables.{IsProposedBy}
+use Rattle.a429_console.specs.RefusalText.{OrMemory}
+use Rattle.a429_console.specs.Names.{Naming, naming_of}
+use Rattle.a429_console.specs.Tables.{IsProposedBy}
 use Rattle.a429_cli.specs.WordsFile.{IsWordsFault}
-use Rattle.a429_cli.proofs.Refused.{failed, or_memory_weaker}
+use Rattle.a429_console.proofs.Refused.{failed, or_memory_weaker}
 use Rattle.a429_cli.proofs.live.prepare.Goals as goal
 
 pub returns-in_err-arrivals : goal.returns-in_err-arrivals

@@ -1,9 +1,9 @@
 use Rattle.std.proofs.Common.{◌≡◌, ◌∙◌, length, rules}
-use Rattle.a429_cli.specs.Files.{bytes_of}
+use Rattle.a429_console.specs.Files.{bytes_of}
 use Rattle.a429_cli.specs.LiveReplies.{IsReport, IsRunRefusal, IsRunReport}
-use Rattle.a429_cli.specs.RefusalText.{OrMemory}
+use Rattle.a429_console.specs.RefusalText.{OrMemory}
 use Rattle.a429_cli.proofs.LiveRuns.{as_many, heard_rows}
-use Rattle.a429_cli.proofs.Refused.{matched_both}
+use Rattle.a429_console.proofs.Refused.{matched_both}
 use Rattle.a429_cli.proofs.live.run.Goals as goal
 
 pub returns-in-Ok : goal.returns-in-Ok

@@ -1,8 +1,8 @@
 use Rattle.std.proofs.Common.{◌∙◌, ◌∷◌, [], inr}
-use Rattle.a429_cli.specs.Files.{AreRead}
+use Rattle.a429_console.specs.Files.{AreRead}
 use Rattle.a429_cli.specs.PlanReplies.{IsJudged, IsNoVerdict, IsUnjudged, IsVerdictOf}
-use Rattle.a429_cli.specs.RefusalText.{OrMemory}
-use Rattle.a429_cli.proofs.Refused.{matched_both, or_memory_weaker}
+use Rattle.a429_console.specs.RefusalText.{OrMemory}
+use Rattle.a429_console.proofs.Refused.{matched_both, or_memory_weaker}
 use Rattle.a429_cli.proofs.plan_texts.judged_files.Goals as goal
 
 pub returns : goal.returns

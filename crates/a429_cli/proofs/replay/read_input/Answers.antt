@@ -1,9 +1,9 @@
 use Rattle.std.proofs.Common.{◌≡◌, ◌∙◌, ◌∷◌, ℕ, List, ap, map, inr}
 use Rattle.std.specs.Prelude.{Err}
 use Rattle.std.proofs.lemmas.Result.{err_from_is_err_and}
-use Rattle.a429_cli.specs.Files.{IsFirstUnread}
-use Rattle.a429_cli.specs.RefusalText.{OrMemory}
-use Rattle.a429_cli.proofs.Refused.{failed, or_memory_weaker, unread_by}
+use Rattle.a429_console.specs.Files.{IsFirstUnread}
+use Rattle.a429_console.specs.RefusalText.{OrMemory}
+use Rattle.a429_console.proofs.Refused.{failed, or_memory_weaker, unread_by}
 use Rattle.a429_cli.proofs.replay.read_input.Goals as goal
 
 pub returns-in_err-further : goal.returns-in_err-further

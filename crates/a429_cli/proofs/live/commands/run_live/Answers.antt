@@ -1,11 +1,11 @@
 use Rattle.std.proofs.Common.{◌≡◌, ◌≤◌, ℕ, List, arith, inl, inr, subst}
 use Rattle.std.proofs.lemmas.Result.{IfOk-weaker}
 use Rattle.clap.specs.declared.error.ErrorKind.{ErrorKind}
-use Rattle.a429_cli.specs.Files.{texts_of}
+use Rattle.a429_console.specs.Files.{texts_of}
 use Rattle.a429_cli.specs.LiveReplies.{IsLiveReply}
-use Rattle.a429_cli.specs.LiveWords.{LiveAsk}
-use Rattle.a429_cli.specs.Outputs.{IsMemoryReply}
-use Rattle.a429_cli.specs.Usage.{IsReplyOfKind, live_kinds_of_words}
+use Rattle.a429_console.specs.LiveWords.{LiveAsk}
+use Rattle.a429_console.specs.Outputs.{IsMemoryReply}
+use Rattle.a429_console.specs.Usage.{IsReplyOfKind, live_kinds_of_words}
 use Rattle.a429_cli.proofs.KindReplies.{help_replied, mistake_is_told, mistake_replied}
 use Rattle.a429_cli.proofs.live.commands.run_live.Goals as goal
 

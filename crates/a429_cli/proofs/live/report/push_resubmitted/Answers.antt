@@ -1,7 +1,7 @@
 use Rattle.std.proofs.Common.{◌++◌, ◌∷◌, [], refl, inl, rules}
 use Rattle.std.proofs.lemmas.Result.{on_ok_weaker}
-use Rattle.a429_cli.specs.RefusalText.{refusal_line}
-use Rattle.a429_cli.specs.Tables.{IsTableRefusal}
+use Rattle.a429_console.specs.RefusalText.{refusal_line}
+use Rattle.a429_console.specs.Tables.{IsTableRefusal}
 use Rattle.a429_cli.proofs.live.report.push_resubmitted.Goals as goal
 
 pub returns-in-Err : goal.returns-in-Err

@@ -3,7 +3,7 @@ use Rattle.std.proofs.lemmas.Grind.{common_steps}
 use Rattle.std.proofs.lemmas.List.{map-append}
 use Rattle.std.specs.declared.vec.Vec.{Vec}
 use Rattle.std.specs.declared.alloc.Global.{Global}
-use Rattle.a429_cli.specs.Files.{bytes_of}
+use Rattle.a429_console.specs.Files.{bytes_of}
 use Rattle.a429_cli.proofs.replay.further.plan_tables.Goals as goal
 
 pub loop-bytes-preserved : goal.loop-bytes-preserved

@@ -1,6 +1,6 @@
 use Rattle.std.proofs.Common.{◌≡◌, ◌++◌}
 use Rattle.std.specs.Vec.Iter.{into_iter_items}
-use Rattle.a429_cli.specs.Files.{bytes_of}
+use Rattle.a429_console.specs.Files.{bytes_of}
 use Rattle.a429_cli.proofs.replay.further.plan_tables.Given as goal
 
 abbrev pub invariant-loop-bytes : goal.invariant-loop-bytes

@@ -1,0 +1,12 @@
+pub mod PlainWords
+pub mod StoppedWords
+pub mod ManyWords
+pub mod RequestWords
+pub mod LiveRequestWords
+pub mod Elsewhere
+pub mod LiveFound
+pub mod Found
+pub mod Refused
+pub mod Numbered
+pub mod HexDigits
+pub mod HexText

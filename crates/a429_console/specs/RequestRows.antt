@@ -1,0 +1,52 @@
+-- What is asked for by the values that were read of a command's words.
+use Rattle.std.specs.Prelude.{◌≡◌, [], List, Option, None, Result, MatchResult, true, false, codes, not, if◌then◌else◌, option_and_then, option_map, unwrap_or}
+use Rattle.std.specs.Str.{bytes_eq}
+use Rattle.clap.specs.Words.{HasKind, Row, Text, first_of, all_of}
+use Rattle.clap.specs.declared.error.Error.{Error}
+use Rattle.a429_console.specs.LiveWords.{IsLiveReadOf, LiveTexts, live_texts}
+use Rattle.a429_console.specs.Requests.{IsReadOf, RequestBytes, Word, Lines, Plan, Check, Replay}
+use Rattle.a429_console.specs.Usage.{elsewhere, is_live}
+use Rattle.a429_console.specs.declared.arguments.requests.LiveRequest.{LiveRequest}
+use Rattle.a429_console.specs.declared.arguments.requests.Request.{Request}
+
+abbrev pub word_request : List Row → Option RequestBytes
+word_request rows = option_map Word (first_of (codes "HEX") rows)
+
+abbrev pub lines_request : List Row → Option RequestBytes
+lines_request rows = option_map (λ file. Lines file (unwrap_or (all_of (codes "FILTER") rows) [])) (first_of (codes "FILE") rows)
+
+abbrev pub plan_request : List Row → Option RequestBytes
+plan_request rows = option_map Plan (first_of (codes "TABLE") rows)
+
+abbrev pub check_request : List Row → Option RequestBytes
+check_request rows = option_and_then (λ table. option_map (Check table) (first_of (codes "PLAN") rows)) (first_of (codes "TABLE") rows)
+
+abbrev pub replay_request : List Row → Option RequestBytes
+replay_request rows =
+    option_and_then (λ table. option_map (λ script. Replay table script (unwrap_or (all_of (codes "FURTHER") rows) [])) (first_of (codes "SCRIPT") rows))
+    (first_of (codes "TABLE") rows)
+
+-- by the name of the command
+abbrev pub request_by : Text → List Row → Option RequestBytes
+request_by name rows =
+    if bytes_eq name (codes "word") then word_request rows
+    else (if bytes_eq name (codes "lines") then lines_request rows
+    else (if bytes_eq name (codes "plan") then plan_request rows
+    else (if bytes_eq name (codes "check") then check_request rows
+    else (if bytes_eq name (codes "replay") then replay_request rows else None))))
+
+-- by what was found of the words: the command's name and its values
+abbrev pub request_found : Option (Text × List Row) → Option RequestBytes
+request_found found = option_and_then (λ p. request_by p.0 p.1) found
+
+-- what was found is what `command` does, and it was read; or it is what another call does, or memory was refused
+abbrev pub IsRequestFound : Option (Text × List Row) → Result Request Error → Type 0
+IsRequestFound found result = MatchResult result (λ q. IsReadOf (request_found found) q × (is_live found ≡ false)) (HasKind (elsewhere (is_live found)))
+
+-- of `live`, by what was found
+abbrev pub live_found : Option (Text × List Row) → Option LiveTexts
+live_found found = option_and_then (λ p. if bytes_eq p.0 (codes "live") then live_texts p.1 else None) found
+
+-- the same of `command_live`
+abbrev pub IsLiveFound : Option (Text × List Row) → Result LiveRequest Error → Type 0
+IsLiveFound found result = MatchResult result (λ q. IsLiveReadOf (live_found found) q × (is_live found ≡ true)) (HasKind (elsewhere (not (is_live found))))

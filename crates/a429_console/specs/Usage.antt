@@ -1,0 +1,70 @@
+-- Words that ask for no command: calls for help or for the version, and mistakes (profile: status 0, 1 and 2).
+use Rattle.std.specs.Prelude.{◌≡◌, ◌≢◌, ◌∷◌, [], ℕ, Bool, true, false, not, List, Option, Some, None, codes}
+use Rattle.std.specs.List.{list_all, list_any}
+use Rattle.std.specs.Str.{bytes_eq}
+use Rattle.clap.specs.Kinds.{or_else}
+use Rattle.clap.specs.Words.{Kinds, Row, Text, fault_of, subcommand_of}
+use Rattle.clap.specs.declared.error.kind.ErrorKind.{ErrorKind}
+use Rattle.clap.specs.declared.error.kind.ErrorKind.TheVariants.{DisplayHelp, DisplayVersion, InvalidSubcommand, OutOfMemory}
+use Rattle.a429_console.specs.CommandLine.{command_line}
+use Rattle.a429_console.specs.Outputs.{IsMemoryReply, OrNoMemory}
+
+-- the command that was found is `live`
+abbrev pub is_live : Option (Text × List Row) → Bool
+is_live None = false
+is_live (Some p) = bytes_eq p.0 (codes "live")
+
+-- the command is none of the call's
+abbrev pub elsewhere : Bool → Kinds
+elsewhere true = InvalidSubcommand ∷ []
+elsewhere false = []
+
+-- what `command` may answer to words in place of a request, by the rules of the command line and in that `live` is none of its commands; nothing
+-- where they ask for something
+abbrev pub kinds_of_words : List (List ℕ) → Kinds
+kinds_of_words words = or_else (fault_of command_line words) (elsewhere (is_live (subcommand_of command_line words)))
+
+-- the same of `command_live`, of which `live` is the one command
+abbrev pub live_kinds_of_words : List (List ℕ) → Kinds
+live_kinds_of_words words = or_else (fault_of command_line words) (elsewhere (not (is_live (subcommand_of command_line words))))
+
+-- the help or the version
+abbrev pub is_help : ErrorKind → Bool
+is_help DisplayHelp = true
+is_help DisplayVersion = true
+is_help _ = false
+
+-- the words ask for no command
+abbrev pub IsNoRequest : List (List ℕ) → Type 0
+IsNoRequest words = kinds_of_words words ≢ []
+
+-- help or the version is all that may be answered
+abbrev pub AreHelp : Kinds → Type 0
+AreHelp kinds = (kinds ≢ []) × (list_all is_help kinds ≡ true)
+
+-- something is answered, and it is neither help nor the version
+abbrev pub AreMistakes : Kinds → Type 0
+AreMistakes kinds = (kinds ≢ []) × (list_any is_help kinds ≡ false)
+
+-- they ask for help or for the version, and for nothing that may be missing: `--help`, `-V`, `plan -h`
+abbrev pub AsksForHelp : List (List ℕ) → Type 0
+AsksForHelp words = AreHelp (kinds_of_words words)
+
+-- a mistake: no request, and no call for help
+abbrev pub IsUsageFault : List (List ℕ) → Type 0
+IsUsageFault words = AreMistakes (kinds_of_words words)
+
+-- a text was put, of which nothing is said
+abbrev pub IsHelpReply : ℕ → List ℕ → Type 0
+IsHelpReply status bytes = status ≡ 0
+
+-- nothing was put
+abbrev pub IsUsageReply : ℕ → List ℕ → Type 0
+IsUsageReply status bytes = (status ≡ 2) × (bytes ≡ [])
+
+-- what is put in place of an answer, by what the words are
+abbrev pub IsReplyOfKind : ErrorKind → ℕ → List ℕ → Type 0
+IsReplyOfKind OutOfMemory = IsMemoryReply
+IsReplyOfKind DisplayHelp = OrNoMemory IsHelpReply
+IsReplyOfKind DisplayVersion = OrNoMemory IsHelpReply
+IsReplyOfKind _ = IsUsageReply

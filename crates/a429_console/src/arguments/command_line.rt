@@ -1,0 +1,149 @@
+//! The command line: its commands, and the texts of their help.
+ghost use Rattle.std.specs.Prelude.{◌≡◌, IfOk};
+ghost use Rattle.clap.specs.Words.{app_of};
+ghost use Rattle.a429_console.specs.CommandLine.{HasRule, bare_line, check_app, command_line, lines_app, live_app, many_rule, number_rule, plan_app, replay_app, required_rule, word_app};
+
+use clap::builder::ValueParser;
+use clap::{Arg, ArgAction, Command};
+use std::alloc::{AllocError, Global};
+
+const PROGRAM: &str =
+    "ARINC 429 data concentrator: takes in words, and sends them on by planned slots";
+
+const VERSION: &str = "0.1.0";
+
+const WORD: &str = "Tell what a word of 32 bits says: its fields, and its data as BNR and as BCD";
+
+const HEX: &str = "The word, as eight hexadecimal digits";
+
+const LINES: &str =
+    "Tell what a reader of a line reports: words, faults of the line, and what is left of it";
+
+const FILE: &str =
+    "File of a line, a byte a symbol: `1` for Hi, `0` for Lo, `.` for Null; spaces and line feeds are skipped";
+
+const FILTER: &str =
+    "Filters of labels, `LLL/MMM` in octal, at most 32: then just the words that one of them passes are told";
+
+const PLAN: &str =
+    "Plan the slot tables of a station on the fewest buses, and print them with the bound that shows it";
+
+const CHECK: &str = "Tell whether the text of a plan shows the fewest buses for a station";
+
+const TEXT: &str = "Text of a plan, as `plan` prints it, whoever wrote it";
+
+const REPLAY: &str = "Play the events of a script on a station and print what each is answered";
+
+const TABLE: &str =
+    "Equipment table of the station (TOML): its receivers, sources and output groups";
+
+const SCRIPT: &str =
+    "Events, one a line: `arrive RECEIVER HEX`, `cell GROUP`, `frame GROUP` or `publish N`";
+
+const FURTHER: &str = "Further tables, whose plans the script may publish, numbered from 1";
+
+const LIVE: &str =
+    "Run a station on threads of its own, and print how many words and cells there were";
+
+const WORDS: &str = "Words that come in, one a line: `RECEIVER HEX`";
+
+const RESUBMITTED: &str =
+    "Further tables of the same station, whose plans are published one after another while it runs";
+
+const FRAMES: &str = "How many frames each group sends, at most 1000000";
+
+/// How many frames may be asked for (profile).
+const MOST_FRAMES: u64 = 1000000;
+
+/// An argument that must be given.
+fn required_argument<'a>(alloc: Global, id: &'a str, help: &'a str) -> Arg<'a>
+    ensures { HasRule result (required_rule id.entry.now) }
+{
+    Arg::new(alloc, id).required(true).help(help)
+}
+
+/// An argument that must be given: a whole number up to the most.
+fn number_argument<'a>(alloc: Global, id: &'a str, help: &'a str, most: u64) -> Arg<'a>
+    ensures { HasRule result (number_rule id.entry.now most) }
+{
+    required_argument(alloc, id, help).value_parser(ValueParser::unsigned(0, most))
+}
+
+/// A last argument, which takes as many values as are given.
+fn repeated_argument<'a>(alloc: Global, id: &'a str, help: &'a str) -> Arg<'a>
+    ensures { HasRule result (many_rule id.entry.now) }
+{
+    Arg::new(alloc, id).action(ArgAction::Append).help(help)
+}
+
+fn word_command<'a>(alloc: Global) -> Result<Command<'a>, AllocError>
+    ensures { IfOk result (λ c. app_of c ≡ word_app) }
+{
+    let word = Command::new(alloc, "word").about(WORD);
+    word.arg(required_argument(alloc, "HEX", HEX))
+}
+
+fn lines_command<'a>(alloc: Global) -> Result<Command<'a>, AllocError>
+    ensures { IfOk result (λ c. app_of c ≡ lines_app) }
+{
+    let lines = Command::new(alloc, "lines").about(LINES);
+    let lines = lines.arg(required_argument(alloc, "FILE", FILE))?;
+    lines.arg(repeated_argument(alloc, "FILTER", FILTER))
+}
+
+fn plan_command<'a>(alloc: Global) -> Result<Command<'a>, AllocError>
+    ensures { IfOk result (λ c. app_of c ≡ plan_app) }
+{
+    let plan = Command::new(alloc, "plan").about(PLAN);
+    plan.arg(required_argument(alloc, "TABLE", TABLE))
+}
+
+fn check_command<'a>(alloc: Global) -> Result<Command<'a>, AllocError>
+    ensures { IfOk result (λ c. app_of c ≡ check_app) }
+{
+    let check = Command::new(alloc, "check").about(CHECK);
+    let check = check.arg(required_argument(alloc, "TABLE", TABLE))?;
+    check.arg(required_argument(alloc, "PLAN", TEXT))
+}
+
+fn replay_command<'a>(alloc: Global) -> Result<Command<'a>, AllocError>
+    ensures { IfOk result (λ c. app_of c ≡ replay_app) }
+{
+    let replay = Command::new(alloc, "replay").about(REPLAY);
+    let replay = replay.arg(required_argument(alloc, "TABLE", TABLE))?;
+    let replay = replay.arg(required_argument(alloc, "SCRIPT", SCRIPT))?;
+    replay.arg(repeated_argument(alloc, "FURTHER", FURTHER))
+}
+
+fn live_command<'a>(alloc: Global) -> Result<Command<'a>, AllocError>
+    ensures { IfOk result (λ c. app_of c ≡ live_app) }
+{
+    let live = Command::new(alloc, "live").about(LIVE);
+    let live = live.arg(required_argument(alloc, "TABLE", TABLE))?;
+    let live = live.arg(required_argument(alloc, "WORDS", WORDS))?;
+    let live = live.arg(number_argument(alloc, "FRAMES", FRAMES, MOST_FRAMES))?;
+    live.arg(repeated_argument(alloc, "FURTHER", RESUBMITTED))
+}
+
+/// The command line without its commands.
+fn top_command<'a>(alloc: Global) -> Result<Command<'a>, AllocError>
+    ensures { IfOk result (λ c. app_of c ≡ bare_line) }
+{
+    let named = Command::new(alloc, "a429").bin_name("a429")?;
+    let told = named.about(PROGRAM).version(VERSION);
+    Ok(told.no_binary_name(true).subcommand_required(true))
+}
+
+/// The command line of the program.
+pub fn build_command<'a>(alloc: Global) -> Result<Command<'a>, AllocError>
+    ensures { IfOk result (λ c. app_of c ≡ command_line) }
+{
+    // one at a time: where several wait for their place, each early return drops them all, and the check takes minutes
+    let line = top_command(alloc)?;
+    let line = line.subcommand(word_command(alloc)?)?;
+    let line = line.subcommand(lines_command(alloc)?)?;
+    let line = line.subcommand(plan_command(alloc)?)?;
+    let line = line.subcommand(check_command(alloc)?)?;
+    let line = line.subcommand(replay_command(alloc)?)?;
+    line.subcommand(live_command(alloc)?)
+}

@@ -1,0 +1,45 @@
+//! Files in memory.
+ghost use Rattle.std.specs.Prelude.{◌≡◌, option_map};
+ghost use Rattle.a429_console.specs.MemoryFile.{file_of};
+
+use crate::files::{FileFault, FileReader, FileTrouble, LARGEST_FILE};
+
+/// Files by name, of which the first of a name is the one that is read.
+#[derive(Drop)]
+pub struct MemoryFiles {
+    pub files: Vec<(String, Vec<u8>)>,
+}
+
+impl FileReader for MemoryFiles {
+    ghost use Rattle.std.specs.Prelude.{true};
+    ghost use Rattle.a429_console.specs.MemoryFile.{file_of};
+
+    ghost tells = { λ _. true };
+
+    ghost file = { λ m name. file_of m.files.items name };
+
+    fn read(&mut self, name: &str) -> Result<Vec<u8>, FileFault> {
+        match found(&self.files, name) {
+            None => Err(FileFault::Refused),
+            Some(bytes) => match bytes.clone() {
+                Ok(bytes) => Ok(bytes),
+                Err(_) => Err(FileFault::NoMemory),
+            },
+        }
+    }
+
+    fn look(&mut self, name: &str) -> Result<Vec<u8>, FileTrouble> {
+        match found(&self.files, name) {
+            None => Err(FileTrouble::Missing),
+            Some(bytes) if bytes.len() > LARGEST_FILE => Err(FileTrouble::TooLarge),
+            Some(bytes) => bytes.clone().map_err(|_| FileTrouble::Unknown),
+        }
+    }
+}
+
+fn found<'a>(files: &'a [(String, Vec<u8>)], name: &str) -> Option<&'a Vec<u8>>
+    ensures { option_map (λ v. v.now.items) result ≡ file_of files.entry.now name.now }
+{
+    let (_, bytes) = files.iter().find(|file| file.0.as_str() == name)?;
+    Some(bytes)
+}

@@ -1,0 +1,69 @@
+//! How commands end.
+ghost use Rattle.std.specs.Prelude.{◌≡◌, ◌++◌, ◌∷◌, [], codes, IfOk, OnOk, IsTrue};
+ghost use Rattle.std.specs.Io.KnownBytes.{Appends};
+ghost use Rattle.a429_console.specs.Outputs.{CountsFault, ending, status_of};
+ghost use Rattle.a429_console.specs.RefusalText.{IsRefusalPut};
+
+use crate::output::refusals::CommandRefusal;
+use crate::output::{Output, OutputFault};
+use std::alloc::Global;
+use std::io::Write;
+
+/// The line that says that memory was refused: putting it takes none.
+const MEMORY_REFUSED: &[u8] = b"refused memory\n";
+
+/// Puts the line of a refusal. The status is 1.
+fn put_refused<O: Output>(line: &[u8], out: &mut O) -> Result<u8, OutputFault>
+    ensures status { IfOk result (λ status. status ≡ 1) }
+    ensures line { OnOk result (Appends (O.contents out.old) (O.contents out.new) line.now) }
+    ensures flushed { OnOk result (IsTrue (O.is_flushed out.new)) }
+    ensures faults { CountsFault result (O.failures out.old) (O.failures out.new) }
+{
+    out.put(line)?;
+    out.flush()?;
+    Ok(1)
+}
+
+/// Puts the line that says that memory was refused. The status is 1.
+pub fn refuse_memory<O: Output>(out: &mut O) -> Result<u8, OutputFault>
+    ensures status { IfOk result (λ status. status ≡ 1) }
+    ensures line { OnOk result (Appends (O.contents out.old) (O.contents out.new) (codes "refused memory" ++ 10 ∷ [])) }
+    ensures flushed { OnOk result (IsTrue (O.is_flushed out.new)) }
+    ensures faults { CountsFault result (O.failures out.old) (O.failures out.new) }
+{
+    put_refused(MEMORY_REFUSED, out)
+}
+
+/// Puts the line of a refusal, or where memory for it is refused the one that says so. The status is 1.
+pub fn refuse<O: Output>(
+    alloc: Global,
+    refusal: &CommandRefusal,
+    out: &mut O,
+) -> Result<u8, OutputFault>
+    ensures status { IfOk result (λ status. status ≡ 1) }
+    ensures line { OnOk result (IsRefusalPut refusal.now (O.contents out.old) (O.contents out.new)) }
+    ensures flushed { OnOk result (IsTrue (O.is_flushed out.new)) }
+    ensures faults { CountsFault result (O.failures out.old) (O.failures out.new) }
+{
+    let mut line = Vec::new(alloc);
+    match writeln!(line, "{refusal}") {
+        Ok(()) => put_refused(&line, out),
+        Err(_) => refuse_memory(out),
+    }
+}
+
+/// Puts the lines that are left, and behind them, where memory did not suffice for all, the one that says so.
+/// The status is 0, or 1 where memory did not suffice.
+pub fn finish<O: Output>(left: &[u8], sufficed: bool, out: &mut O) -> Result<u8, OutputFault>
+    ensures status { IfOk result (λ status. status ≡ status_of sufficed) }
+    ensures put { OnOk result (Appends (O.contents out.old) (O.contents out.new) (left.now ++ ending sufficed)) }
+    ensures flushed { OnOk result (IsTrue (O.is_flushed out.new)) }
+    ensures faults { CountsFault result (O.failures out.old) (O.failures out.new) }
+{
+    out.put(left)?;
+    if !sufficed {
+        return refuse_memory(out);
+    }
+    out.flush()?;
+    Ok(0)
+}
