@@ -5,8 +5,6 @@ mod board;
 mod front;
 mod planner;
 mod rule;
-#[cfg(test)]
-mod tests;
 mod watcher;
 
 pub use board::Board;

@@ -11,6 +11,3 @@ pub use filters::{FILTERS, Filter, FilterSet, Full};
 pub use lines::MemoryLine;
 pub use sockets::Socket;
 pub use sources::{LineSource, SourceFault};
-
-#[cfg(test)]
-mod tests;

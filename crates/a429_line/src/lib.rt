@@ -11,6 +11,3 @@ mod stretches;
 pub use found::{Found, Symbol};
 pub use reader::LineReader;
 pub use slot::{SLOT, write_slot};
-
-#[cfg(test)]
-mod tests;

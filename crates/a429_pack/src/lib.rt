@@ -8,8 +8,6 @@ pub mod laws;
 mod packed;
 mod packing;
 mod sums;
-#[cfg(test)]
-mod tests;
 
 pub use bounds::raw_bound;
 pub use demands::{BUSES, Demand, PackFault};

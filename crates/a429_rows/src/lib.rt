@@ -17,8 +17,12 @@ mod lines;
 #[cfg(test)]
 mod machine;
 #[cfg(test)]
+mod packing;
+#[cfg(test)]
 mod plans;
 #[cfg(test)]
 mod records;
+#[cfg(test)]
+mod sockets;
 #[cfg(test)]
 mod support;

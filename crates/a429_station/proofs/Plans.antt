@@ -1,5 +1,5 @@
 -- Plans of a station send its sources alone, and stay in order when one more is published.
-use Rattle.std.proofs.Common.{◌≡◌, ℕ, zero, suc, ◌+◌, ◌<◌, ◌≤◌, ◌^◌, true, List, [], ◌∷◌, ◌++◌, length, map, ◌∙◌, sym, ap, subst, refl, arith, append-nil, append_assoc}
+use Rattle.std.proofs.Common.{◌≡◌, ℕ, zero, suc, ◌+◌, ◌<◌, ◌≤◌, ◌^◌, true, List, [], ◌∷◌, ◌++◌, length, map, ◌∙◌, sym, ap, subst, refl, arith, append-nil}
 use Rattle.std.specs.Prelude.{Some, IsTrue, slice_get, ◌==◌, ◌&&◌}
 use Rattle.std.specs.List.{AllByRecursion, AllZip, zip}
 use Rattle.std.proofs.lemmas.Bool.{and_parts, eqb-true}
@@ -122,13 +122,6 @@ led_on old new bytes n P fits L =
 
 pub stays : (v : Running) → GoesOn v v
 stays v = record { station = refl; book = refl; plans = ([], append-nil v.planner.list) }
-
-pub goes_further : (u v w : Running) → GoesOn u v → GoesOn v w → GoesOn u w
-goes_further u v w p q = record {
-  station = q.station ∙ p.station;
-  book = q.book ∙ p.book;
-  plans = (p.plans.0 ++ q.plans.0, sym (append_assoc u.planner.list p.plans.0 q.plans.0) ∙ (ap (λ (l : List PlanTable). l ++ q.plans.0) p.plans.1 ∙ q.plans.1));
-}
 
 pub one_further : (old new : Running) (bytes : List ℕ) (n : ℕ) → Publishes old bytes n new → GoesOn old new
 one_further old new bytes n P = record { station = P.station; book = P.book; plans = (numbered P.of.plan n ∷ [], sym P.list) }

@@ -6,8 +6,6 @@ mod faults;
 mod reports;
 mod running;
 mod station;
-#[cfg(test)]
-mod tests;
 mod threads;
 mod working;
 

@@ -7,8 +7,6 @@ mod desk;
 mod hub;
 mod receiver;
 mod steps;
-#[cfg(test)]
-mod tests;
 mod transmitter;
 mod view;
 mod wired;

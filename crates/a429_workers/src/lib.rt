@@ -7,8 +7,6 @@ pub mod laws;
 mod receiving;
 mod sending;
 mod sinks;
-#[cfg(test)]
-mod tests;
 mod transmit;
 
 pub use cells::{ChangeFault, FrameEnd, OpenFault, Sent};

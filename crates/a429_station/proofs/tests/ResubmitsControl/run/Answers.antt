@@ -1,5 +1,0 @@
-use Rattle.a429_station.proofs.Plans.{goes_further}
-use Rattle.a429_station.proofs.tests.ResubmitsControl.run.Goals as goal
-
-pub returns-clause-station : goal.returns-clause-station
-returns-clause-station g c = goes_further _ _ _ (goes_further _ _ _ c.resubmit-first.ensures.after c.resubmit-second.ensures.after) c.resubmit-third.ensures.after

@@ -1,0 +1,191 @@
+//! Boards of real plans, and a watcher in a thread of its own.
+ghost use Rattle.std.specs.Prelude.{◌≡◌, IfOk};
+
+use crate::support::{ONE, one_of, planned};
+use a429_board::{Board, BoardFault, Planner, Watcher};
+use a429_equipment::Equipment;
+use a429_slots::{OUTPUTS, Plan};
+use std::alloc::Global;
+use std::sync::Wait;
+use std::sync::atomic::{AtomicU64, Ordering};
+use std::test::Fail;
+use std::thread::{Threads, for_each_mut, join_mut};
+
+/// The plan of one source, of number 0.
+fn opening(alloc: Global) -> Result<Plan<OUTPUTS>, Fail> {
+    planned(alloc, &Equipment::read(alloc, ONE.as_bytes())?)
+}
+
+/// A board with two watchers.
+fn two<R: Wait>(
+    rt: &R,
+    alloc: Global,
+    plan: Plan<OUTPUTS>,
+) -> Result<(Planner, Watcher, Watcher), Fail>
+    ensures { IfOk result (λ r. (r.1.book ≡ r.0.book) × (r.2.book ≡ r.0.book)) }
+{
+    let (planner, mut all) = Board::open(rt, alloc, plan, 2)?;
+    let second = one_of(&mut all, &planner);
+    let first = one_of(&mut all, &planner);
+    match (first, second) {
+        (Some(first), Some(second)) => Ok((planner, first, second)),
+        _ => {
+            planner.close(rt);
+            Err(Fail::from("two watchers"))
+        }
+    }
+}
+
+#[test]
+fn watchers_read_what_was_published(rt: HostRuntime) -> Result<(), Fail> {
+    let opening = opening(rt.alloc())?;
+    let (mut planner, mut first, mut second) = two(&rt, rt.alloc(), opening)?;
+    let before = (first.newest().0, second.newest().0);
+    let answer = planner.publish(&rt, opening.numbered(7));
+    planner.tell(&mut first);
+    // The second was never told.
+    let after = (first.newest(), second.newest());
+    let opened = (first.opened().number(), second.opened().number());
+    planner.close(&rt);
+    assert_eq!(rt; before, (0, 0));
+    assert!(rt; matches!(answer, Ok(1)));
+    let ((first, first_plan), (second, second_plan)) = after;
+    assert_eq!(rt; (first, second), (1, 1));
+    assert_eq!(rt; (first_plan.number(), second_plan.number()), (1, 1));
+    assert_eq!(rt; (first_plan.groups(), second_plan.groups()), (1, 1));
+    assert_eq!(rt; opened, (0, 0));
+    Ok(())
+}
+
+#[test]
+fn numbers_end(rt: HostRuntime) -> Result<(), Fail> {
+    let last_but_one = opening(rt.alloc())?.numbered(u64::MAX - 1);
+    let (mut planner, mut first, mut second) = two(&rt, rt.alloc(), last_but_one)?;
+    let opened = first.newest().0;
+    let answers = (
+        planner.publish(&rt, last_but_one),
+        planner.publish(&rt, last_but_one),
+    );
+    planner.tell(&mut first);
+    let after = (first.newest().0, second.newest().0);
+    planner.close(&rt);
+    assert_eq!(rt; opened, u64::MAX - 1);
+    assert!(rt; matches!(answers, (Ok(u64::MAX), Err(BoardFault::CountSpent))));
+    assert_eq!(rt; after, (u64::MAX, u64::MAX));
+    Ok(())
+}
+
+/// Reads so often, and says whether the numbers never fell.
+fn read_all(watcher: &mut Watcher, times: u64) -> bool
+    ensures { watcher.new.book ≡ watcher.old.book }
+{
+    let mut last = 0;
+    let mut rises = true;
+    for _ in 0..times {
+        let (number, _) = watcher.newest();
+        rises = rises && last <= number;
+        last = number;
+    }
+    rises
+}
+
+/// Publishes the plan so often, and counts the plans that were published.
+fn publish_all<R: Wait>(rt: &R, planner: &mut Planner, plan: Plan<OUTPUTS>, times: u64) -> u64
+    ensures { planner.new.book ≡ planner.old.book }
+{
+    let mut published = 0u64;
+    for _ in 0..times {
+        if planner.publish(rt, plan).is_ok() {
+            published = published.wrapping_add(1);
+        }
+    }
+    published
+}
+
+/// Both at once: so many plans were published, and whether the numbers that were read never fell.
+fn both<R: Threads + Wait + Sync>(
+    rt: &R,
+    planner: &mut Planner,
+    plan: Plan<OUTPUTS>,
+    watcher: &mut Watcher,
+) -> (u64, bool)
+    requires { watcher.old.book ≡ planner.old.book }
+    ensures { watcher.new.book ≡ planner.new.book }
+{
+    join_mut(
+        rt,
+        &mut || publish_all(rt, planner, plan, 20),
+        &mut || read_all(watcher, 200),
+    )
+}
+
+#[test]
+fn a_thread_reads_while_plans_are_published(rt: HostRuntime) -> Result<(), Fail> {
+    let opening = opening(rt.alloc())?;
+    let (mut planner, mut first, mut second) = two(&rt, rt.alloc(), opening)?;
+    let (published, rises) = both(&rt, &mut planner, opening, &mut first);
+    let untold = (first.newest().0, second.newest().0);
+    planner.tell(&mut first);
+    let told = first.newest().0;
+    planner.close(&rt);
+    assert!(rt; rises);
+    assert_eq!(rt; (published, untold, told), (20, (20, 20), 20));
+    Ok(())
+}
+
+/// Reads by each watcher in a thread of its own, and counts those whose numbers fell.
+fn read_by_all<R: Threads + Sync>(rt: &R, watchers: &mut [Watcher], times: u64, falls: &AtomicU64) {
+    for_each_mut(
+        rt,
+        watchers,
+        10,
+        &|_, watcher: &mut Watcher| {
+            if !read_all(watcher, times) {
+                falls.fetch_add(1, Ordering::SeqCst);
+            }
+        },
+    );
+}
+
+/// Publishes the plan so often while all watchers read; how many plans were published.
+fn soak<R: Threads + Wait + Sync>(
+    rt: &R,
+    planner: &mut Planner,
+    plan: Plan<OUTPUTS>,
+    watchers: &mut [Watcher],
+    falls: &AtomicU64,
+) -> u64 {
+    let (published, _) = join_mut(
+        rt,
+        &mut || publish_all(rt, planner, plan, 10000),
+        &mut || read_by_all(rt, watchers, 2000, falls),
+    );
+    published
+}
+
+/// The number that each watcher reads, where it is one for all.
+fn number_of_all(watchers: &mut [Watcher]) -> Option<u64> {
+    let mut common = None;
+    for watcher in watchers.iter_mut() {
+        let (number, _) = watcher.newest();
+        if common.is_some_and(|before| before != number) {
+            return None;
+        }
+        common = Some(number);
+    }
+    common
+}
+
+#[test]
+fn ten_watchers_never_go_back(rt: HostRuntime) -> Result<(), Fail> {
+    let opening = opening(rt.alloc())?;
+    let (mut planner, mut watchers) = Board::open(&rt, rt.alloc(), opening, 10)?;
+    let falls = AtomicU64::new(0);
+    let published = soak(&rt, &mut planner, opening, &mut watchers, &falls);
+    // None of them was told.
+    let last = number_of_all(&mut watchers);
+    planner.close(&rt);
+    assert_eq!(rt; falls.load(Ordering::SeqCst), 0);
+    assert_eq!(rt; (published, last), (10000, Some(10000)));
+    Ok(())
+}

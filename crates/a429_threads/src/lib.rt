@@ -1,0 +1,13 @@
+//! Tests of what threads share: the plans of a board, current values, the workers of a station, and stations that run.
+#![tactic(auto)]
+
+#[cfg(test)]
+mod boards;
+#[cfg(test)]
+mod stations;
+#[cfg(test)]
+mod support;
+#[cfg(test)]
+mod values;
+#[cfg(test)]
+mod workers;

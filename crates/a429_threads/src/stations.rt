@@ -1,0 +1,292 @@
+//! Stations that run, on threads of their own. The words: 00000080 has label 001, 00000040 has 002, 80000021 has 204.
+
+mod stopping;
+
+use crate::support::{EVEN, FIRST, ONE, SECOND, TWO, three};
+use a429_equipment::{Equipment, FaultKind, TableFault, TablePlace};
+use a429_filter::MemoryLine;
+use a429_station::{Control, LiveFault, NoControl, ReplanFault, Report, Station, live};
+use a429_workers::{Gate, GateFault, MemorySink, OpenGate, Point};
+use std::alloc::{AllocError, Global};
+use std::sync::Wait;
+use std::sync::atomic::{AtomicU64, Ordering};
+use std::test::Fail;
+use std::thread;
+use std::thread::Threads;
+use std::time::{Clock, Duration};
+
+/// What a gate holds back.
+#[derive(Clone, Copy)]
+enum Held {
+    /// The first word until a cell is asked for, that cell until the word was taken, the second word until the cell
+    /// was sent.
+    InTurn,
+    /// The first word of both receivers and the first cell of both groups, until all four and the control were entered.
+    UntilAll,
+    /// The first cell, until the control has its first answer.
+    UntilAnswered,
+}
+
+const CELL: u64 = 1;
+
+const TAKEN: u64 = 2;
+
+const SENT: u64 = 4;
+
+const WORD: u64 = 8;
+
+const SECOND_CELL: u64 = 16;
+
+const SECOND_WORD: u64 = 32;
+
+const CONTROL: u64 = 64;
+
+const ALL: u64 = CELL | WORD | SECOND_CELL | SECOND_WORD | CONTROL;
+
+/// The mark of a point, and the marks that it waits for.
+fn bits(held: Held, point: Point) -> (u64, u64) {
+    match (held, point) {
+        (Held::InTurn, Point::BeforeAccept(0, 0)) => (WORD, CELL),
+        (Held::InTurn, Point::AfterAccept(0, 0)) => (TAKEN, 0),
+        (Held::InTurn, Point::BeforeCell(0, 0)) => (CELL, TAKEN),
+        (Held::InTurn, Point::AfterCell(0, 0)) => (SENT, 0),
+        (Held::InTurn, Point::BeforeAccept(0, 1)) => (0, SENT),
+        (Held::UntilAll, Point::BeforeAccept(0, 0)) => (WORD, ALL),
+        (Held::UntilAll, Point::BeforeAccept(1, 0)) => (SECOND_WORD, ALL),
+        (Held::UntilAll, Point::BeforeCell(0, 0)) => (CELL, ALL),
+        (Held::UntilAll, Point::BeforeCell(1, 0)) => (SECOND_CELL, ALL),
+        (Held::UntilAnswered, Point::BeforeCell(0, 0)) => (CELL, CONTROL),
+        _ => (0, 0),
+    }
+}
+
+/// Holds back each point until the marks that it waits for were made, for at most 10000 turns of a millisecond.
+#[derive(Drop)]
+struct Holds<'a, R: Clock> {
+    rt: &'a R,
+    held: Held,
+    made: &'a AtomicU64,
+}
+
+impl<'a, R: Clock> Gate for Holds<'a, R> {
+    fn pass(&self, point: Point) -> Result<(), GateFault> {
+        let (own, awaited) = bits(self.held, point);
+        self.made.fetch_or(own, Ordering::SeqCst);
+        for _ in 0..10000 {
+            if self.made.load(Ordering::SeqCst) & awaited == awaited {
+                return Ok(());
+            }
+            thread::sleep(self.rt, Duration::from_millis(1));
+        }
+        Err(GateFault)
+    }
+}
+
+/// Makes the mark of the control, and publishes nothing.
+#[derive(Drop)]
+struct MarksRun<'a> {
+    made: &'a AtomicU64,
+}
+
+impl<'a, R: Wait> Control<R> for MarksRun<'a> {
+    fn run(&mut self, _station: &mut Station<'_, R>) -> Result<(), AllocError> {
+        self.made.fetch_or(CONTROL, Ordering::SeqCst);
+        Ok(())
+    }
+}
+
+/// Runs the station of a table, with these words for its receivers.
+fn ran<R: Threads + Wait, G: Gate + Sync, K: Control<R>>(
+    rt: &R,
+    alloc: Global,
+    table: &str,
+    words: &[&[u32]],
+    frames: u32,
+    gate: &G,
+    control: &mut K,
+) -> Result<Report<MemoryLine, MemorySink>, LiveFault> {
+    let Ok(equipment) = Equipment::read(alloc, table.as_bytes()) else {
+        return Err(LiveFault::NoMemory);
+    };
+    let mut lines = Vec::new(alloc);
+    for one in words {
+        let mut given = Vec::new(alloc);
+        for word in *one {
+            given.push(*word)?;
+        }
+        lines.push(MemoryLine::from_words(given))?;
+    }
+    let mut sinks = Vec::new(alloc);
+    for _ in 0..equipment.groups().len() {
+        sinks.push(MemorySink::new(alloc))?;
+    }
+    if lines.len() != equipment.receivers().len() || sinks.len() != equipment.groups().len() {
+        return Err(LiveFault::NoMemory);
+    }
+    live(rt, alloc, &equipment, lines, sinks, frames, gate, control)
+}
+
+/// How many words a receiver accepted, and how many cells the sink of a group took.
+fn accepted(report: &Report<MemoryLine, MemorySink>, receiver: usize) -> Option<u64> {
+    report.receivers.get(receiver).map(|totals| totals.accepted)
+}
+
+fn cells(report: &Report<MemoryLine, MemorySink>, group: usize) -> Option<usize> {
+    report.sinks.get(group).map(|sink| sink.sent().len())
+}
+
+/// The bus and the slot of the first cell that the first sink took, and the word in it.
+fn first_place(report: &Report<MemoryLine, MemorySink>) -> Option<(u32, u64)> {
+    let cell = report.sinks.get(0)?.sent().get(0)?;
+    Some((cell.bus, cell.slot))
+}
+
+fn first_word(report: &Report<MemoryLine, MemorySink>) -> Option<u32> {
+    let cell = report.sinks.get(0)?.sent().get(0)?;
+    let word = cell.word?;
+    Some(word.raw())
+}
+
+#[test]
+fn word_taken_before_a_cell_goes_out_in_it(rt: HostRuntime) -> Result<(), Fail> {
+    let made = AtomicU64::new(0);
+    let gate = Holds {
+        rt: &rt,
+        held: Held::InTurn,
+        made: &made,
+    };
+    let words: &[&[u32]] = &[&[FIRST, SECOND]];
+    let report = ran(&rt, rt.alloc(), ONE, words, 1, &gate, &mut NoControl)?;
+    assert_eq!(rt; accepted(&report, 0), Some(2));
+    assert_eq!(rt; cells(&report, 0), Some(1));
+    assert_eq!(rt; first_place(&report), Some((0, 0)));
+    assert_eq!(rt; first_word(&report), Some(FIRST));
+    Ok(())
+}
+
+#[test]
+fn workers_and_control_run_at_once(rt: HostRuntime) -> Result<(), Fail> {
+    let made = AtomicU64::new(0);
+    let gate = Holds {
+        rt: &rt,
+        held: Held::UntilAll,
+        made: &made,
+    };
+    let words: &[&[u32]] = &[&[0x00000080], &[0x00000040]];
+    let mut control = MarksRun { made: &made };
+    let report = ran(&rt, rt.alloc(), TWO, words, 1, &gate, &mut control)?;
+    assert_eq!(rt;
+        (accepted(&report, 0), accepted(&report, 1)),
+        (Some(1), Some(1))
+    );
+    assert_eq!(rt; (cells(&report, 0), cells(&report, 1)), (Some(1), Some(1)));
+    Ok(())
+}
+
+#[test]
+fn frames_of_one_run_are_few(rt: HostRuntime) -> Result<(), Fail> {
+    let words: &[&[u32]] = &[&[FIRST]];
+    let answer = ran(
+        &rt,
+        rt.alloc(),
+        ONE,
+        words,
+        1000001,
+        &OpenGate,
+        &mut NoControl,
+    );
+    assert!(rt; matches!(answer, Err(LiveFault::TooMuch)));
+    let report = ran(&rt, rt.alloc(), ONE, words, 0, &OpenGate, &mut NoControl)?;
+    assert_eq!(rt;
+        (accepted(&report, 0), cells(&report, 0)),
+        (Some(1), Some(0))
+    );
+    Ok(())
+}
+
+#[test]
+fn words_and_cells_are_counted(rt: HostRuntime) -> Result<(), Fail> {
+    // A frame has four slots of one bus.
+    let table = three(rt.alloc(), (1, 720), (1, 1440), (1, 1440))?;
+    let words: &[&[u32]] = &[&[0x00000080, EVEN, 0x80000021]];
+    let report = ran(
+        &rt,
+        rt.alloc(),
+        table.as_str(),
+        words,
+        2,
+        &OpenGate,
+        &mut NoControl,
+    )?;
+    let totals = report.receivers.get(0).copied();
+    assert_eq!(rt;
+        totals.map(|t| (t.accepted, t.parity, t.filtered)),
+        Some((1, 1, 0))
+    );
+    assert_eq!(rt; totals.map(|t| (t.no_source, t.spent)), Some((1, 0)));
+    assert_eq!(rt; cells(&report, 0), Some(8));
+    let sent = report.groups.get(0).copied();
+    assert_eq!(rt; sent.map(|t| (t.cells, t.plan)), Some((8, 0)));
+    Ok(())
+}
+
+/// Submits a table of its station, then one of another station and one that is no table.
+#[derive(Drop)]
+struct Resubmits<'a> {
+    faster: &'a str,
+    made: &'a AtomicU64,
+    number: Option<u64>,
+    differs: bool,
+    unread: bool,
+}
+
+impl<'a, R: Wait> Control<R> for Resubmits<'a> {
+    fn run(&mut self, station: &mut Station<'_, R>) -> Result<(), AllocError> {
+        let first = station.resubmit(self.faster.as_bytes());
+        self.made.fetch_or(CONTROL, Ordering::SeqCst);
+        self.number = first.ok();
+        let second = station.resubmit(ONE.as_bytes());
+        self.differs = matches!(second, Err(ReplanFault::StationDiffers));
+        let third = station.resubmit(b"x");
+        self.unread = matches!(
+            third,
+            Err(ReplanFault::Table(TableFault::At(FaultKind::NotToml, TablePlace::Root)))
+        );
+        Ok(())
+    }
+}
+
+#[test]
+fn resubmitted_plans_come_into_force(rt: HostRuntime) -> Result<(), Fail> {
+    let table = three(rt.alloc(), (1, 720), (1, 1440), (1, 1440))?;
+    // The same station, by a plan of two buses and eight cells.
+    let faster = three(rt.alloc(), (1, 720), (1, 720), (1, 1440))?;
+    let made = AtomicU64::new(0);
+    let gate = Holds {
+        rt: &rt,
+        held: Held::UntilAnswered,
+        made: &made,
+    };
+    let mut control = Resubmits {
+        faster: faster.as_str(),
+        made: &made,
+        number: None,
+        differs: false,
+        unread: false,
+    };
+    let words: &[&[u32]] = &[&[]];
+    let report = ran(
+        &rt,
+        rt.alloc(),
+        table.as_str(),
+        words,
+        2,
+        &gate,
+        &mut control,
+    )?;
+    let sent = report.groups.get(0).copied();
+    assert_eq!(rt; sent.map(|t| (t.cells, t.words, t.plan)), Some((12, 0, 1)));
+    assert_eq!(rt; control.number, Some(1));
+    assert!(rt; control.differs && control.unread);
+    Ok(())
+}

@@ -1,0 +1,153 @@
+//! Stations that stop: which fault is told where several workers have one.
+
+use super::ran;
+use crate::support::{FIRST, ONE, TWO};
+use a429_equipment::Equipment;
+use a429_filter::{LineSource, MemoryLine, SourceFault};
+use a429_station::{LiveFault, NoControl, live};
+use a429_workers::{BusSink, Gate, GateFault, OpenGate, Point, Sent, SinkFault};
+use std::alloc::Global;
+use std::sync::Wait;
+use std::sync::atomic::{AtomicU64, Ordering};
+use std::test::Fail;
+use std::thread::Threads;
+
+/// Shut before the first word of the first receiver.
+#[derive(Clone, Copy)]
+struct Shut;
+
+impl Gate for Shut {
+    fn pass(&self, point: Point) -> Result<(), GateFault> {
+        if point == Point::BeforeAccept(0, 0) {
+            return Err(GateFault);
+        }
+        Ok(())
+    }
+}
+
+#[test]
+fn a_shut_gate_ends_the_run(rt: HostRuntime) -> Result<(), Fail> {
+    let words: &[&[u32]] = &[&[FIRST]];
+    let answer = ran(&rt, rt.alloc(), ONE, words, 1, &Shut, &mut NoControl);
+    assert!(rt; matches!(answer, Err(LiveFault::Gate)));
+    Ok(())
+}
+
+/// Words in memory, or a source that fails in every call.
+#[derive(Drop)]
+struct Line<'a> {
+    line: MemoryLine,
+    fails: bool,
+    failures: u64,
+    ended: bool,
+    calls: &'a AtomicU64,
+}
+
+impl<'a> LineSource for Line<'a> {
+    ghost given = { λ s. s.line.given };
+
+    ghost ended = { λ s. s.ended };
+
+    ghost failed = { λ s. s.failures };
+
+    fn next(&mut self) -> Result<Option<u32>, SourceFault> {
+        self.calls.fetch_or(1, Ordering::SeqCst);
+        if self.fails {
+            self.ended = false;
+            self.failures = self.failures.saturating_add(1);
+            return Err(SourceFault::Failed);
+        }
+        let answer = self.line.next();
+        self.ended = answer == Ok(None);
+        answer
+    }
+
+    fn failures(&self) -> u64 {
+        self.failures
+    }
+}
+
+/// A sink that fails in every call.
+#[derive(Drop)]
+struct FailingSink {
+    failures: u64,
+}
+
+impl BusSink for FailingSink {
+    ghost use Rattle.std.specs.Prelude.{None};
+
+    ghost taken = { λ _. None };
+
+    ghost failed = { λ s. s.failures };
+
+    fn put(&mut self, _sent: &Sent) -> Result<(), SinkFault> {
+        self.failures = self.failures.saturating_add(1);
+        Err(SinkFault)
+    }
+
+    fn failures(&self) -> u64 {
+        self.failures
+    }
+}
+
+/// Why the station of two receivers stops where the line of the first gives so many words, that of the second fails
+/// if it is said so, and both sinks fail.
+fn stopped<R: Threads + Wait>(
+    rt: &R,
+    alloc: Global,
+    words: u32,
+    fails: bool,
+    frames: u32,
+    calls: &AtomicU64,
+) -> Option<LiveFault> {
+    let equipment = Equipment::read(alloc, TWO.as_bytes()).ok()?;
+    let mut lines = Vec::new(alloc);
+    for number in 0..2u32 {
+        let mut given = Vec::new(alloc);
+        for _ in 0..words {
+            given.push(0x00000080).ok()?;
+        }
+        lines
+            .push(Line {
+                line: MemoryLine::from_words(given),
+                fails: fails && number == 1,
+                failures: 0,
+                ended: false,
+                calls,
+            })
+            .ok()?;
+    }
+    let mut sinks = Vec::new(alloc);
+    sinks.push(FailingSink { failures: 0 }).ok()?;
+    sinks.push(FailingSink { failures: 0 }).ok()?;
+    if lines.len() != equipment.receivers().len() || sinks.len() != equipment.groups().len() {
+        return None;
+    }
+    let gate = OpenGate;
+    live(
+        rt,
+        alloc,
+        &equipment,
+        lines,
+        sinks,
+        frames,
+        &gate,
+        &mut NoControl,
+    )
+    .err()
+}
+
+#[test]
+fn the_first_fault_is_answered(rt: HostRuntime) -> Result<(), Fail> {
+    let calls = AtomicU64::new(0);
+    let none = stopped(&rt, rt.alloc(), 1, false, 1000001, &calls);
+    assert_eq!(rt; none, Some(LiveFault::TooMuch));
+    assert_eq!(rt; calls.load(Ordering::SeqCst), 0);
+    let sink = stopped(&rt, rt.alloc(), 1, false, 1, &calls);
+    assert_eq!(rt; sink, Some(LiveFault::Sink));
+    let source = stopped(&rt, rt.alloc(), 1, true, 1, &calls);
+    assert_eq!(rt; source, Some(LiveFault::Source));
+    let words = stopped(&rt, rt.alloc(), 1000001, true, 1, &calls);
+    assert_eq!(rt; words, Some(LiveFault::TooMuch));
+    Ok(())
+}

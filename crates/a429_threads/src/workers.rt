@@ -1,0 +1,291 @@
+//! A transmitter over a hub and a board, and the loops over devices. The word 800000c0 has label 003.
+ghost use Rattle.std.specs.Prelude.{◌≡◌, IfOk, length};
+ghost use Rattle.a429_workers.specs.Receives.{IsSameReceiver};
+ghost use Rattle.a429_workers.specs.Transmitting.{IsSameGroup};
+
+mod devices;
+mod loops;
+
+use crate::support::{FIRST, one_of, planned, three};
+use a429_board::{Board, Planner};
+use a429_equipment::Equipment;
+use a429_slots::{OUTPUTS, Plan};
+use a429_values::{Accept, Hub, Receiver, Transmitter};
+use a429_word::Word;
+use a429_workers::{ChangeFault, FrameEnd, OpenFault, Transmit};
+use std::alloc::Global;
+use std::process::Abort;
+use std::sync::Wait;
+use std::test::Fail;
+
+/// One receiver, one source of label 203, and one group that sends each of its words twice at most.
+const HELD: &str = r#"version = 2
+[[receiver]]
+name = "r"
+[[source]]
+name = "s"
+receiver = "r"
+label = "203"
+sdi = "any"
+[[group]]
+name = "g"
+rate = 100000
+[[group.output]]
+source = "s"
+min_us = 1
+max_us = 360
+hold = 2
+"#;
+
+/// The equipment of a table.
+fn read<R: Abort>(rt: &R, alloc: Global, table: &str) -> Result<Equipment, Fail>
+    ensures { IfOk result (λ e. (length e.receivers ≡ 1) × (length e.groups ≡ 1)) }
+{
+    let equipment = Equipment::read(alloc, table.as_bytes())?;
+    assert_eq!(rt; equipment.receivers().len(), 1);
+    assert_eq!(rt; equipment.groups().len(), 1);
+    Ok(equipment)
+}
+
+/// The equipment of the sources a, b and c, each sent within these intervals in us.
+fn standard<R: Abort>(
+    rt: &R,
+    alloc: Global,
+    a: (u32, u32),
+    b: (u32, u32),
+    c: (u32, u32),
+) -> Result<Equipment, Fail>
+    ensures { IfOk result (λ e. (length e.receivers ≡ 1) × (length e.groups ≡ 1)) }
+{
+    let table = three(alloc, a, b, c)?;
+    read(rt, alloc, table.as_str())
+}
+
+/// The two ends of a station of one receiver and one group.
+fn ends<R: Abort>(
+    rt: &R,
+    alloc: Global,
+    equipment: &Equipment,
+) -> Result<(Receiver, Transmitter), Fail>
+    requires { (length equipment.now.receivers ≡ 1) × (length equipment.now.groups ≡ 1) }
+    ensures { IfOk result (λ e. (e.0.at ≡ e.1.at) × (e.1.number ≡ 0)) }
+{
+    assert!(rt; equipment.sources().len() <= 256);
+    let (hub, mut desk) = Hub::<256, 41>::open(alloc, equipment)?;
+    let receiver = desk.receiver(alloc, &hub, 0)?;
+    let transmitter = desk.transmitter(&hub, 0)?;
+    Ok((receiver, transmitter))
+}
+
+/// A transmitter of the group that begins with this plan at this slot, and the planner of its board.
+fn opened<R: Wait>(
+    rt: &R,
+    alloc: Global,
+    transmitter: Transmitter,
+    plan: Plan<OUTPUTS>,
+    first_slot: u64,
+) -> Result<(Transmit, Planner), OpenFault>
+    requires { transmitter.number ≡ 0 }
+    ensures { IfOk result (λ r. (r.0.transmitter ≡ transmitter) × (r.0.watcher.book ≡ r.1.book) × (r.0.frame.sent ≡ 0)) }
+{
+    let (planner, mut watchers) = Board::open(rt, alloc, plan, 1)?;
+    let Some(watcher) = one_of(&mut watchers, &planner) else {
+        planner.close(rt);
+        return Err(OpenFault::NoMemory);
+    };
+    if watcher.opened().groups() == 0 {
+        planner.close(rt);
+        return Err(OpenFault::NoMemory);
+    }
+    match Transmit::open(alloc, transmitter, watcher, 0, first_slot) {
+        Ok(transmit) => Ok((transmit, planner)),
+        Err(fault) => {
+            planner.close(rt);
+            Err(fault)
+        }
+    }
+}
+
+/// A cell as a row says it: bus, slot and word.
+type Row = (u32, u64, Option<u32>);
+
+/// Whether the next cell is this.
+fn sends_next(transmit: &mut Transmit, cell: Row) -> bool
+    ensures { IsSameGroup transmit.old transmit.new }
+{
+    match transmit.cell() {
+        Ok(sent) => {
+            sent.bus == cell.0 && sent.slot == cell.1 && sent.word.map(Word::raw) == cell.2
+        }
+        Err(FrameEnd) => false,
+    }
+}
+
+/// Whether the next cells are these.
+fn sends(transmit: &mut Transmit, cells: &[Row]) -> bool
+    ensures { IsSameGroup transmit.old transmit.new }
+{
+    let mut as_said = true;
+    for cell in cells {
+        as_said = sends_next(transmit, *cell) && as_said;
+    }
+    as_said
+}
+
+/// Whether a change is answered so.
+fn changes(transmit: &mut Transmit, answer: Result<u64, ChangeFault>) -> bool
+    ensures { IsSameGroup transmit.old transmit.new }
+{
+    transmit.change() == answer
+}
+
+/// Accepts a word and meets the receiver.
+fn heard(transmit: &mut Transmit, receiver: &mut Receiver, raw: u32) -> Accept
+    requires { receiver.old.at ≡ transmit.old.transmitter.at }
+    ensures group { IsSameGroup transmit.old transmit.new }
+    ensures receiver { IsSameReceiver receiver.old receiver.new }
+{
+    let answer = receiver.accept(raw);
+    transmit.meet(receiver);
+    answer
+}
+
+/// Publishes a plan and tells the transmitter.
+fn newer<R: Wait>(
+    rt: &R,
+    transmit: &mut Transmit,
+    planner: &mut Planner,
+    plan: Plan<OUTPUTS>,
+) -> Option<u64>
+    requires { transmit.old.watcher.book ≡ planner.old.book }
+    ensures group { IsSameGroup transmit.old transmit.new }
+    ensures planner { planner.new.book ≡ planner.old.book }
+{
+    let number = planner.publish(rt, plan).ok();
+    transmit.told(planner);
+    number
+}
+
+#[test]
+fn a_plan_comes_into_force_at_a_frames_end(rt: HostRuntime) -> Result<(), Fail> {
+    let alloc = rt.alloc();
+    let equipment = standard(&rt, alloc, (1, 720), (1, 1440), (1, 1440))?;
+    let next = planned(alloc, &standard(&rt, alloc, (1, 720), (1, 720), (1, 1440))?)?;
+    let (mut receiver, transmitter) = ends(&rt, alloc, &equipment)?;
+    let (mut transmit, mut planner) = opened(
+        &rt,
+        alloc,
+        transmitter,
+        planned(alloc, &equipment)?,
+        0,
+    )?;
+    let accepted = heard(&mut transmit, &mut receiver, 0x800000c0);
+    let number = newer(&rt, &mut transmit, &mut planner, next);
+    let word = Some(0x800000c0);
+    let before = sends(
+        &mut transmit,
+        &[(0, 0, None), (0, 1, None), (0, 2, None), (0, 3, word)],
+    );
+    let over = transmit.cell() == Err(FrameEnd);
+    let changed = changes(&mut transmit, Ok(1));
+    let after = sends(&mut transmit, &[(0, 4, None), (1, 4, word)]);
+    let mid = changes(&mut transmit, Err(ChangeFault::MidFrame));
+    let force = transmit.plan();
+    planner.close(&rt);
+    assert_eq!(rt;
+        (accepted, number, force),
+        (Accept::Accepted(2), Some(1), 1)
+    );
+    assert!(rt; before && over && changed && after && mid);
+    Ok(())
+}
+
+#[test]
+fn words_keep_their_least_spacing_across_plans(rt: HostRuntime) -> Result<(), Fail> {
+    let alloc = rt.alloc();
+    let equipment = standard(&rt, alloc, (1, 720), (1, 1440), (720, 1440))?;
+    let next = planned(
+        alloc,
+        &standard(&rt, alloc, (1, 720), (1, 720), (720, 1440))?,
+    )?;
+    let (mut receiver, transmitter) = ends(&rt, alloc, &equipment)?;
+    let plan = planned(alloc, &equipment)?;
+    let (mut transmit, mut planner) = opened(&rt, alloc, transmitter, plan, 0)?;
+    let accepted = heard(&mut transmit, &mut receiver, 0x800000c0);
+    let number = newer(&rt, &mut transmit, &mut planner, next);
+    let word = Some(0x800000c0);
+    let before = sends(
+        &mut transmit,
+        &[(0, 0, None), (0, 1, None), (0, 2, None), (0, 3, word)],
+    );
+    let changed = changes(&mut transmit, Ok(1));
+    // The first cell of c under the new plan is one slot after its last: too close.
+    let frame = [
+        (0, 4, None),
+        (1, 4, None),
+        (0, 5, None),
+        (1, 5, None),
+        (0, 6, None),
+        (1, 6, None),
+        (0, 7, None),
+        (1, 7, None),
+    ];
+    let close = sends(&mut transmit, &frame);
+    let again = changes(&mut transmit, Ok(1));
+    let after = sends(&mut transmit, &[(0, 8, None), (1, 8, word)]);
+    planner.close(&rt);
+    assert_eq!(rt; (accepted, number), (Accept::Accepted(2), Some(1)));
+    assert!(rt; before && changed && close && again && after);
+    Ok(())
+}
+
+#[test]
+fn a_word_is_sent_as_often_as_it_may_be_held(rt: HostRuntime) -> Result<(), Fail> {
+    let alloc = rt.alloc();
+    let equipment = read(&rt, alloc, HELD)?;
+    let (mut receiver, transmitter) = ends(&rt, alloc, &equipment)?;
+    let (mut transmit, planner) = opened(&rt, alloc, transmitter, planned(alloc, &equipment)?, 0)?;
+    let first = heard(&mut transmit, &mut receiver, FIRST);
+    let once = sends(&mut transmit, &[(0, 0, Some(FIRST))]) && changes(&mut transmit, Ok(0));
+    let twice = sends(&mut transmit, &[(0, 1, Some(FIRST))]) && changes(&mut transmit, Ok(0));
+    let held = sends(&mut transmit, &[(0, 2, None)]);
+    // An equal word that is accepted again is another one.
+    let second = heard(&mut transmit, &mut receiver, FIRST);
+    let anew = changes(&mut transmit, Ok(0)) && sends(&mut transmit, &[(0, 3, Some(FIRST))]);
+    planner.close(&rt);
+    assert_eq!(rt; (first, second), (Accept::Accepted(0), Accept::Accepted(0)));
+    assert!(rt; once && twice && held && anew);
+    Ok(())
+}
+
+#[test]
+fn slots_are_counted_to_the_last(rt: HostRuntime) -> Result<(), Fail> {
+    let alloc = rt.alloc();
+    let equipment = standard(&rt, alloc, (1, 720), (1, 1440), (1, 1440))?;
+    let (_, transmitter) = ends(&rt, alloc, &equipment)?;
+    let opening = planned(alloc, &equipment)?;
+    let first = u64::MAX - 4;
+    let (mut transmit, planner) = opened(&rt, alloc, transmitter, opening, first)?;
+    let cells = [
+        (0, first, None),
+        (0, first + 1, None),
+        (0, first + 2, None),
+        (0, first + 3, None),
+    ];
+    let sent = sends(&mut transmit, &cells);
+    let spent = changes(&mut transmit, Err(ChangeFault::SlotsSpent));
+    let over = transmit.cell() == Err(FrameEnd);
+    planner.close(&rt);
+    assert!(rt; sent && spent && over);
+    let (_, transmitter) = ends(&rt, alloc, &equipment)?;
+    match opened(&rt, alloc, transmitter, opening, first + 1) {
+        Ok((_, planner)) => {
+            planner.close(&rt);
+            Err(Fail::from("opened where slots are spent"))
+        }
+        Err(fault) => {
+            assert_eq!(rt; fault, OpenFault::SlotsSpent);
+            Ok(())
+        }
+    }
+}

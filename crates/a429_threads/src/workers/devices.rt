@@ -1,0 +1,88 @@
+//! Devices that fail in one call and go on after it, and a gate that is shut at one point.
+use a429_filter::{LineSource, MemoryLine, SourceFault};
+use a429_workers::{BusSink, Gate, GateFault, MemorySink, Point, Sent, SinkFault};
+
+/// Words in memory, with a failure in the call of this number, counted from 1.
+#[derive(Drop)]
+pub struct FailingLine {
+    pub line: MemoryLine,
+    pub fails_in: u64,
+    pub failures: u64,
+    pub ended: bool,
+}
+
+impl LineSource for FailingLine {
+    ghost use Rattle.std.specs.Prelude.{Some};
+
+    ghost given = { λ s. s.line.given };
+
+    ghost ended = { λ s. s.ended };
+
+    ghost failed = { λ s. s.failures };
+
+    ghost left = { λ s. Some s.line.left };
+
+    fn next(&mut self) -> Result<Option<u32>, SourceFault> {
+        self.fails_in = self.fails_in.wrapping_sub(1);
+        if self.fails_in == 0 {
+            self.ended = false;
+            self.failures = self.failures.saturating_add(1);
+            return Err(SourceFault::Failed);
+        }
+        let answer = self.line.next();
+        self.ended = answer == Ok(None);
+        answer
+    }
+
+    fn failures(&self) -> u64 {
+        self.failures
+    }
+}
+
+/// A sink in memory, with a failure in the call of this number, counted from 1.
+#[derive(Drop)]
+pub struct FailingSink {
+    pub sink: MemorySink,
+    pub fails_in: u64,
+    pub failures: u64,
+}
+
+impl BusSink for FailingSink {
+    ghost use Rattle.std.specs.Prelude.{Some};
+
+    ghost taken = { λ s. Some s.sink.sent };
+
+    ghost failed = { λ s. s.failures };
+
+    fn put(&mut self, sent: &Sent) -> Result<(), SinkFault> {
+        self.fails_in = self.fails_in.wrapping_sub(1);
+        if self.fails_in == 0 {
+            self.failures = self.failures.saturating_add(1);
+            return Err(SinkFault);
+        }
+        let answer = self.sink.put(sent);
+        if answer.is_err() {
+            self.failures = self.failures.saturating_add(1);
+        }
+        answer
+    }
+
+    fn failures(&self) -> u64 {
+        self.failures
+    }
+}
+
+/// Shut at one point.
+#[derive(Clone, Copy)]
+pub struct ShutGate {
+    pub at: Point,
+}
+
+impl Gate for ShutGate {
+    fn pass(&self, point: Point) -> Result<(), GateFault> {
+        if point == self.at {
+            return Err(GateFault);
+        }
+        Ok(())
+    }
+}
