@@ -71,14 +71,14 @@ loop-sink-preserved g c =
       begins = subst (λ (v : Transmitting). BeginsWith v.transmitter v.watcher 0 v) (sym made.0) one.begins.0;
     } in
     record {
-      sinks = pushed_mapped (λ w. w.sink) c.loop-sink.workers.items _ c.group_worker.result _ _ _ _ grown made.1 c.in-Some.ensures.steps.0 was.sinks;
+      sinks = pushed_mapped (λ w. w.sink) c.loop-sink.workers.items c.push.new.self.items c.group_worker.result _ _ _ _ grown made.1 c.in-Some.ensures.steps.0 was.sinks;
       left = one_less _ _ _ _ was.left c.in-Some.ensures.steps.1;
       enough = both_less _ _ _ _ c.in-Some.ensures.steps.1 c.in-Some-pop.ensures.len was.enough;
       watchers = all_but_last (λ (w : Watched). w ≡ beginner first) c.pop.new.self.items c.in-Some-pop.watcher before;
-      count = pushed_count c.loop-sink.workers.items _ c.loop-sink.number c.group_worker.result grown was.count;
+      count = pushed_count c.loop-sink.workers.items c.push.new.self.items c.loop-sink.number c.group_worker.result grown was.count;
       desk = c.transmitter.ensures.desk ∙ was.desk;
       given = one.given;
-      ready = numbered_pushed (λ k w. IsReady hub first k w.transmit × (w.frames ≡ c.args.frames)) c.loop-sink.workers.items _ c.loop-sink.number c.group_worker.result grown was.count was.ready (ready, made.2);
+      ready = numbered_pushed (λ k w. IsReady hub first k w.transmit × (w.frames ≡ c.args.frames)) c.loop-sink.workers.items c.push.new.self.items c.loop-sink.number c.group_worker.result grown was.count was.ready (ready, made.2);
     }
 
 pub returns-clause-ready : goal.returns-clause-ready
