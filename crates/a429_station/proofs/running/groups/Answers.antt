@@ -1,4 +1,4 @@
-use Rattle.std.proofs.Common.{arith, ◌≡◌, ◌∙◌, ◌+◌, ◌<◌, ap, subst, sym, length, ℕ}
+use Rattle.std.proofs.Common.{◌≡◌, ◌∙◌, ◌<◌, ap, subst, sym, length}
 use Rattle.std.specs.List.{AllByRecursion}
 use Rattle.a429_slots.specs.Tables.{groups_of}
 use Rattle.a429_board.specs.Lists.{Watched, beginner}

@@ -1,4 +1,4 @@
-use Rattle.std.proofs.Common.{◌∙◌, List, [], ◌∷◌, ap, inl, length, map, subst, sym}
+use Rattle.std.proofs.Common.{◌∙◌, List, [], ◌∷◌, ap, length, map, rules, subst, sym}
 use Rattle.std.specs.Prelude.{IfErr, IfOk}
 use Rattle.a429_equipment.specs.TableRecord.{TableRecord}
 use Rattle.a429_slots.specs.Tables.{PlanTable}
@@ -21,12 +21,6 @@ returns-in_err-plan-clause-fault g c =
     early_err _ c.from_residual.result c.from_residual.ensures.1
     (λ e is. subst (IsLiveFault g.L.LineSource.given g.L.LineSource.ended g.L.LineSource.failed g.B.BusSink.failed c.args.equipment.now c.args.frames c.args.sources.items c.args.sinks.items) (sym is) c.in_err-plan.ensures.fault)
 
-pub returns-then-frames-gt-FRAMES-clause-ran : goal.returns-then-frames-gt-FRAMES-clause-ran
-returns-then-frames-gt-FRAMES-clause-ran g c = tt
-
-pub returns-then-frames-gt-FRAMES-clause-fault : goal.returns-then-frames-gt-FRAMES-clause-fault
-returns-then-frames-gt-FRAMES-clause-fault g c = inl (c.in_ok-plan.plan, c.in_ok-plan.ensures.planned, c.if-frames-gt-FRAMES.true)
-
 pub returns-in_err-hub-clause-ran : goal.returns-in_err-hub-clause-ran
 returns-in_err-hub-clause-ran g c = early_ok _ _ c.from_residual-in_err-hub.result c.from_residual-in_err-hub.ensures.1
 
@@ -34,7 +28,7 @@ pub returns-in_err-hub-clause-fault : goal.returns-in_err-hub-clause-fault
 returns-in_err-hub-clause-fault g c =
     early_err _ c.from_residual-in_err-hub.result c.from_residual-in_err-hub.ensures.1
     (λ e is. no_memory g.L.LineSource.given g.L.LineSource.ended g.L.LineSource.failed g.B.BusSink.failed c.args.equipment.now c.args.frames c.args.sources.items c.args.sinks.items
-    (record { plan = c.in_ok-plan.plan; planned = c.in_ok-plan.ensures.planned; few = c.if-frames-gt-FRAMES.false }) e is)
+    (record { plan = c.in_ok-plan.plan; planned = c.in_ok-plan.ensures.planned; few = search rules }) e is)
 
 pub receivers-requires-clause-hub : goal.receivers-requires-clause-hub
 receivers-requires-clause-hub g c = ap (λ (d : ends.Dealing). d.at) c.in_ok-hub.ensures.desk
@@ -52,7 +46,7 @@ pub returns-in_err-receiving-clause-fault : goal.returns-in_err-receiving-clause
 returns-in_err-receiving-clause-fault g c =
     early_err _ c.from_residual-in_err-receiving.result c.from_residual-in_err-receiving.ensures.1
     (λ e is. no_memory g.L.LineSource.given g.L.LineSource.ended g.L.LineSource.failed g.B.BusSink.failed c.args.equipment.now c.args.frames c.args.sources.items c.args.sinks.items
-    (record { plan = c.in_ok-plan.plan; planned = c.in_ok-plan.ensures.planned; few = c.if-frames-gt-FRAMES.false }) e (is ∙ c.in_err-receiving.ensures.fault))
+    (record { plan = c.in_ok-plan.plan; planned = c.in_ok-plan.ensures.planned; few = search rules }) e (is ∙ c.in_err-receiving.ensures.fault))
 
 pub returns-in_err-planner-clause-ran : goal.returns-in_err-planner-clause-ran
 returns-in_err-planner-clause-ran g c = early_ok _ _ c.from_residual-in_err-planner.result c.from_residual-in_err-planner.ensures.1
@@ -61,7 +55,7 @@ pub returns-in_err-planner-clause-fault : goal.returns-in_err-planner-clause-fau
 returns-in_err-planner-clause-fault g c =
     early_err _ c.from_residual-in_err-planner.result c.from_residual-in_err-planner.ensures.1
     (λ e is. no_memory g.L.LineSource.given g.L.LineSource.ended g.L.LineSource.failed g.B.BusSink.failed c.args.equipment.now c.args.frames c.args.sources.items c.args.sinks.items
-    (record { plan = c.in_ok-plan.plan; planned = c.in_ok-plan.ensures.planned; few = c.if-frames-gt-FRAMES.false }) e is)
+    (record { plan = c.in_ok-plan.plan; planned = c.in_ok-plan.ensures.planned; few = search rules }) e is)
 
 pub begun-station-requires-clause-planned : goal.begun-station-requires-clause-planned
 begun-station-requires-clause-planned g c = subst (IsPlanOf c.args.equipment.now) (sym c.in_ok-planner.ensures.planner.1) c.in_ok-plan.ensures.planned
@@ -85,9 +79,6 @@ run-answer-requires-clause-begun g c κs lives =
 
 pub run-answer-requires-clause-sinks : goal.run-answer-requires-clause-sinks
 run-answer-requires-clause-sinks g c κs lives = c.requires.sinks ∙ sym (ap (λ (t : TableRecord). length t.groups) c.in_ok-hub.ensures.station)
-
-pub run-answer-requires-clause-few : goal.run-answer-requires-clause-few
-run-answer-requires-clause-few g c κs lives = c.if-frames-gt-FRAMES.false
 
 pub run-answer-requires-clause-hub : goal.run-answer-requires-clause-hub
 run-answer-requires-clause-hub g c κs lives = (
@@ -113,5 +104,5 @@ returns-clause-fault g c =
     let sources = c.args.sources.items in
     let sinks = c.args.sinks.items in
     weaker (IsRunFault given ended failed failed_sink sources sinks) (IsLiveFault given ended failed failed_sink t c.args.frames sources sinks) c.run-answer.result
-    (live_fault given ended failed failed_sink t c.args.frames sources sinks (record { plan = c.in_ok-plan.plan; planned = c.in_ok-plan.ensures.planned; few = c.if-frames-gt-FRAMES.false }))
+    (live_fault given ended failed failed_sink t c.args.frames sources sinks (record { plan = c.in_ok-plan.plan; planned = c.in_ok-plan.ensures.planned; few = search rules }))
     (subst (λ (l : List g.row.L.Denot). IfErr c.run-answer.result (IsRunFault given ended failed failed_sink l sinks)) c.in_ok-receiving.ensures.lines c.run-answer.ensures.fault)
