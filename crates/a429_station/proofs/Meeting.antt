@@ -12,7 +12,8 @@ use Rattle.a429_workers.specs.Calls.{Call, Meets}
 use Rattle.a429_workers.specs.Transmitting.{Transmitting, GoesOnBy, StandsFor, loads_since, met}
 use mathlib.Core.List.{IsPrefix}
 use Rattle.a429_slots.specs.Tables.{PlanTable}
-use Rattle.a429_station.specs.Working.{HasMet, IsJoined, meeting_of, told}
+use Rattle.a429_station.specs.Numbered.{AllNumbered}
+use Rattle.a429_station.specs.Working.{HasMet, IsJoined, IsReceiverAt, meeting_of, told}
 use Rattle.a429_station.proofs.Plans.{all_more}
 
 pub met_none : (t : TableRecord) (v : Transmitting) → HasMet t [] v v
@@ -63,3 +64,8 @@ joined_one t list rs v w z beginning stands is here met = record {
   end = z;
   met = subst (λ (x : Transmitting). HasMet t rs x z) is (subst (λ (x : TableRecord). HasMet x rs w z) (ap (λ (x : Transmitting). x.transmitter.at.station) is ∙ here) met);
 }
+
+pub receivers_there : (at : ends.Place) (list : List PlanTable) (v w : Transmitting) (rs later : List ends.Receiving) → w ≡ told v list → v.transmitter.at ≡ at → later ≡ rs → AllNumbered (IsReceiverAt at) rs
+    → AllNumbered (IsReceiverAt w.transmitter.at) later
+receivers_there at list v w rs later is here same all =
+    subst (λ (x : ends.Place). AllNumbered (IsReceiverAt x) later) (sym (ap (λ (x : Transmitting). x.transmitter.at) is ∙ here)) (subst (AllNumbered (IsReceiverAt at)) (sym same) all)

@@ -1,8 +1,9 @@
 -- Items by their places, in lists that grow, that workers lead to others, and that are three in a row.
-use Rattle.std.proofs.Common.{◌≡◌, ℕ, zero, suc, ◌+◌, ◌<◌, ◌≤◌, List, [], ◌∷◌, ◌++◌, length, get_or, take, map, ap, subst, sym, refl, ◌∙◌, drop, arith}
+use Rattle.std.proofs.Common.{◌≡◌, ℕ, zero, suc, ◌+◌, ◌<◌, ◌≤◌, List, [], ◌∷◌, ◌++◌, length, get_or, take, map, ap, subst, sym, refl, ◌∙◌, drop, arith, append_assoc}
 use Rattle.std.specs.Prelude.{◌==◌, ◌||◌, Bool, false, IsTrue, Result, Ok, slice_get}
 use Rattle.std.specs.List.{AllByRecursion, AllZip, list_any, range_with_len}
 use Rattle.std.proofs.lemmas.Bool.{ne_eqb}
+use Rattle.std.proofs.lemmas.List.{length-append, map-append}
 use Rattle.std.proofs.lemmas.Option.{same_Some}
 use Rattle.a429_station.specs.Numbered.{AllNumbered, AllOfThree}
 
@@ -39,6 +40,36 @@ pub numbered_get : {X : Type 0} (P : ℕ → X → Type 0) (xs : List X) (k : �
 numbered_get P [] k d inside all = absurd (omega (arith, inside))
 numbered_get P (y ∷ ys) zero d inside all = all.0
 numbered_get P (y ∷ ys) (suc k) d inside all = numbered_get (λ j. P (suc j)) ys k d (omega (arith, inside)) all.1
+
+-- a list with one more item at its end
+pub numbered_pushed : {X : Type 0} (P : ℕ → X → Type 0) (xs ys : List X) (n : ℕ) (x : X) → ys ≡ xs ++ x ∷ [] → n ≡ length xs → AllNumbered P xs → P n x → AllNumbered P ys
+numbered_pushed P xs ys n x grown count all one = subst (AllNumbered P) (sym grown) (numbered_push P xs x all (subst (λ (k : ℕ). P k x) count one))
+
+pub pushed_count : {X : Type 0} (xs ys : List X) (n : ℕ) (x : X) → ys ≡ xs ++ x ∷ [] → n ≡ length xs → n + 1 ≡ length ys
+pushed_count {X} xs ys n x grown count = ap (λ (k : ℕ). k + 1) count ∙ (sym (length-append xs (x ∷ [])) ∙ ap (λ (l : List X). length l) (sym grown))
+
+-- the item before the rest of a list that is mapped
+pub pushed_mapped : {X Y : Type 0} (f : X → Y) (xs ys : List X) (x : X) (y : Y) (before rest all : List Y) → ys ≡ xs ++ x ∷ [] → f x ≡ y → before ≡ y ∷ rest → map f xs ++ before ≡ all → map f ys ++ rest ≡ all
+pushed_mapped {X} {Y} f xs ys x y before rest all grown is next so_far =
+    ap (λ (l : List X). map f l ++ rest) grown
+    ∙ (ap (λ (l : List Y). l ++ rest) (map-append f xs (x ∷ []))
+    ∙ (append_assoc (map f xs) (f x ∷ []) rest
+    ∙ (ap (λ (z : Y). map f xs ++ z ∷ rest) is ∙ (ap (λ (l : List Y). map f xs ++ l) (sym next) ∙ so_far))))
+
+-- ---- counts of what is left
+
+-- so many come after it of those that are left
+pub inside_of : (n more now all most : ℕ) → n + now ≡ all → more + 1 ≡ now → all ≤ most → n < most
+inside_of n more now all most left one few = omega (arith, left, one, few)
+
+pub one_less : (n more now all : ℕ) → n + now ≡ all → more + 1 ≡ now → n + 1 + more ≡ all
+one_less n more now all left one = omega (arith, left, one)
+
+pub both_less : (more now rest have : ℕ) → more + 1 ≡ now → rest + 1 ≡ have → now ≤ have → more ≤ rest
+both_less more now rest have one other enough = omega (arith, one, other, enough)
+
+pub at_most : (n m k : ℕ) → n ≡ m → k ≡ m → n ≤ k
+at_most n m k one other = omega (arith, one, other)
 
 -- what holds of a place alone
 pub numbered_place : {X : Type 0} (P : ℕ → Type 0) (xs : List X) (k : ℕ) → k < length xs → AllNumbered (λ j x. P j) xs → P k

@@ -1,5 +1,5 @@
 -- Why a run did not come to its end.
-use Rattle.std.proofs.Common.{◌≡◌, ℕ, Bool, List, inl, inr}
+use Rattle.std.proofs.Common.{◌≡◌, ℕ, Bool, List, inl, inr, subst, sym}
 use Rattle.std.specs.Prelude.{Option, Some, None, Result, Ok, Err, IfErr}
 use Rattle.a429_equipment.specs.TableRecord.{TableRecord}
 use Rattle.a429_slots.specs.declared.planner.PlanFault.{PlanFault}
@@ -39,3 +39,6 @@ module _ {L B : Type 0} (given : L → List ℕ) (ended : L → Bool) (failed : 
   live_fault Sink h = (start, stopped Sink (λ e. absurd (cc e)) (λ e. absurd (cc e)) h)
   live_fault Join h = start
   live_fault NoMemory h = start
+
+  pub no_memory : (fault : LiveFault) → fault ≡ NoMemory → IsLiveFault given ended failed failed_sink t frames sources sinks fault
+  no_memory fault is = subst (IsLiveFault given ended failed failed_sink t frames sources sinks) (sym is) start

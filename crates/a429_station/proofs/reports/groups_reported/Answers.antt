@@ -1,11 +1,57 @@
-use Rattle.std.proofs.Common.{rules, arith, List, ap, subst, sym}
+use Rattle.std.proofs.Common.{rules, arith, ◌∙◌, List, ap, inl, subst, sym}
 use Rattle.std.specs.List.{AllByRecursion}
 use Rattle.std.proofs.lemmas.Grind.{common_steps}
 use Rattle.a429_values.specs.Ends as ends
 use Rattle.a429_station.specs.Resubmitting.{Running}
 use Rattle.a429_station.specs.Working.{IsJoined, IsOver}
-use Rattle.a429_station.proofs.Meeting.{joined_one}
+use Rattle.a429_station.proofs.Meeting.{joined_one, receivers_there}
+use Rattle.a429_station.proofs.Returned.{early_err, early_ok}
 use Rattle.a429_station.proofs.reports.groups_reported.Goals as goal
+
+pub tell-requires : goal.tell-requires
+tell-requires g c =
+    let was = c.loop-done.invariant in
+    let over = subst (AllByRecursion (λ d. IsOver c.args.hub.now c.args.station.now.planner d.transmit d.answer)) c.in-Some.ensures.steps.0 was.3 in
+    record { board = over.0.board ∙ ap (λ (s : Running). s.planner.book) (sym was.6) }
+
+pub meet_all-requires : goal.meet_all-requires
+meet_all-requires g c =
+    let was = c.loop-done.invariant in
+    let over = subst (AllByRecursion (λ d. IsOver c.args.hub.now c.args.station.now.planner d.transmit d.answer)) c.in-Some.ensures.steps.0 was.3 in
+    record { receivers = receivers_there c.args.hub.now c.loop-done.station.planner.list c.in-Some.done.transmit c.tell.new.transmit c.args.receivers.now c.loop-done.receivers c.tell.ensures.transmit over.0.hub was.5 c.requires.receivers }
+
+pub returns-in-Err-clause-totals : goal.returns-in-Err-clause-totals
+returns-in-Err-clause-totals g c = tt
+
+pub returns-in-Err-clause-sinks : goal.returns-in-Err-clause-sinks
+returns-in-Err-clause-sinks g c = tt
+
+pub returns-in-Err-clause-joined : goal.returns-in-Err-clause-joined
+returns-in-Err-clause-joined g c = tt
+
+pub returns-in_err-push-clause-totals : goal.returns-in_err-push-clause-totals
+returns-in_err-push-clause-totals g c = early_ok _ _ c.from_residual.result c.from_residual.ensures.1
+
+pub returns-in_err-push-clause-sinks : goal.returns-in_err-push-clause-sinks
+returns-in_err-push-clause-sinks g c = early_ok _ _ c.from_residual.result c.from_residual.ensures.1
+
+pub returns-in_err-push-clause-joined : goal.returns-in_err-push-clause-joined
+returns-in_err-push-clause-joined g c = early_ok _ _ c.from_residual.result c.from_residual.ensures.1
+
+pub returns-in_err-push-clause-fault : goal.returns-in_err-push-clause-fault
+returns-in_err-push-clause-fault g c = early_err _ c.from_residual.result c.from_residual.ensures.1 (λ e is. inl is)
+
+pub returns-in_err-push-2-clause-totals : goal.returns-in_err-push-2-clause-totals
+returns-in_err-push-2-clause-totals g c = early_ok _ _ c.from_residual-in_err-push-2.result c.from_residual-in_err-push-2.ensures.1
+
+pub returns-in_err-push-2-clause-sinks : goal.returns-in_err-push-2-clause-sinks
+returns-in_err-push-2-clause-sinks g c = early_ok _ _ c.from_residual-in_err-push-2.result c.from_residual-in_err-push-2.ensures.1
+
+pub returns-in_err-push-2-clause-joined : goal.returns-in_err-push-2-clause-joined
+returns-in_err-push-2-clause-joined g c = early_ok _ _ c.from_residual-in_err-push-2.result c.from_residual-in_err-push-2.ensures.1
+
+pub returns-in_err-push-2-clause-fault : goal.returns-in_err-push-2-clause-fault
+returns-in_err-push-2-clause-fault g c = early_err _ c.from_residual-in_err-push-2.result c.from_residual-in_err-push-2.ensures.1 (λ e is. inl is)
 
 pub loop-done-preserved : goal.loop-done-preserved
 loop-done-preserved g c =
@@ -23,3 +69,6 @@ loop-done-preserved g c =
       first_of (search rules, grind (arith, common_steps)),
       first_of (search rules, grind (arith, common_steps)),
     )
+
+pub returns-clause-fault : goal.returns-clause-fault
+returns-clause-fault g c = tt

@@ -1,12 +1,84 @@
-use Rattle.std.proofs.Common.{arith, ◌∙◌, List, ap, map, subst, sym}
+use Rattle.std.proofs.Common.{◌∙◌, List, [], ◌∷◌, ap, length, map, rules, subst, sym}
 use Rattle.std.specs.Prelude.{IfErr, IfOk}
 use Rattle.a429_equipment.specs.TableRecord.{TableRecord}
+use Rattle.a429_slots.specs.Tables.{PlanTable}
+use Rattle.a429_slots.specs.Planned.{IsPlanOf}
+use Rattle.a429_values.specs.Ends as ends
 use Rattle.a429_workers.specs.Runs.{IsWired}
 use Rattle.a429_station.specs.Course.{HasRun}
 use Rattle.a429_station.specs.Faults.{IsLiveFault, IsRunFault}
-use Rattle.a429_station.specs.Resubmitting.{Running}
-use Rattle.a429_station.proofs.Stopping.{live_fault, weaker}
+use Rattle.a429_station.specs.Resubmitting.{IsBegun, Running}
+use Rattle.a429_station.proofs.Numbered.{at_most}
+use Rattle.a429_station.proofs.Returned.{early_err, early_ok}
+use Rattle.a429_station.proofs.Stopping.{live_fault, no_memory, weaker}
 use Rattle.a429_station.proofs.running.live.Goals as goal
+
+pub returns-in_err-plan-clause-ran : goal.returns-in_err-plan-clause-ran
+returns-in_err-plan-clause-ran g c = early_ok _ _ c.from_residual.result c.from_residual.ensures.1
+
+pub returns-in_err-plan-clause-fault : goal.returns-in_err-plan-clause-fault
+returns-in_err-plan-clause-fault g c =
+    early_err _ c.from_residual.result c.from_residual.ensures.1
+    (λ e is. subst (IsLiveFault g.L.LineSource.given g.L.LineSource.ended g.L.LineSource.failed g.B.BusSink.failed c.args.equipment.now c.args.frames c.args.sources.items c.args.sinks.items) (sym is) c.in_err-plan.ensures.fault)
+
+pub returns-in_err-hub-clause-ran : goal.returns-in_err-hub-clause-ran
+returns-in_err-hub-clause-ran g c = early_ok _ _ c.from_residual-in_err-hub.result c.from_residual-in_err-hub.ensures.1
+
+pub returns-in_err-hub-clause-fault : goal.returns-in_err-hub-clause-fault
+returns-in_err-hub-clause-fault g c =
+    early_err _ c.from_residual-in_err-hub.result c.from_residual-in_err-hub.ensures.1
+    (λ e is. no_memory g.L.LineSource.given g.L.LineSource.ended g.L.LineSource.failed g.B.BusSink.failed c.args.equipment.now c.args.frames c.args.sources.items c.args.sinks.items
+    (record { plan = c.in_ok-plan.plan; planned = c.in_ok-plan.ensures.planned; few = search rules }) e is)
+
+pub receivers-requires-clause-hub : goal.receivers-requires-clause-hub
+receivers-requires-clause-hub g c = ap (λ (d : ends.Dealing). d.at) c.in_ok-hub.ensures.desk
+
+pub receivers-requires-clause-none : goal.receivers-requires-clause-none
+receivers-requires-clause-none g c = ap (λ (d : ends.Dealing). d.receivers) c.in_ok-hub.ensures.desk
+
+pub receivers-requires-clause-sources : goal.receivers-requires-clause-sources
+receivers-requires-clause-sources g c = at_most _ _ _ c.requires.sources (ap (λ (t : TableRecord). length t.receivers) c.in_ok-hub.ensures.station)
+
+pub returns-in_err-receiving-clause-ran : goal.returns-in_err-receiving-clause-ran
+returns-in_err-receiving-clause-ran g c = early_ok _ _ c.from_residual-in_err-receiving.result c.from_residual-in_err-receiving.ensures.1
+
+pub returns-in_err-receiving-clause-fault : goal.returns-in_err-receiving-clause-fault
+returns-in_err-receiving-clause-fault g c =
+    early_err _ c.from_residual-in_err-receiving.result c.from_residual-in_err-receiving.ensures.1
+    (λ e is. no_memory g.L.LineSource.given g.L.LineSource.ended g.L.LineSource.failed g.B.BusSink.failed c.args.equipment.now c.args.frames c.args.sources.items c.args.sinks.items
+    (record { plan = c.in_ok-plan.plan; planned = c.in_ok-plan.ensures.planned; few = search rules }) e (is ∙ c.in_err-receiving.ensures.fault))
+
+pub returns-in_err-planner-clause-ran : goal.returns-in_err-planner-clause-ran
+returns-in_err-planner-clause-ran g c = early_ok _ _ c.from_residual-in_err-planner.result c.from_residual-in_err-planner.ensures.1
+
+pub returns-in_err-planner-clause-fault : goal.returns-in_err-planner-clause-fault
+returns-in_err-planner-clause-fault g c =
+    early_err _ c.from_residual-in_err-planner.result c.from_residual-in_err-planner.ensures.1
+    (λ e is. no_memory g.L.LineSource.given g.L.LineSource.ended g.L.LineSource.failed g.B.BusSink.failed c.args.equipment.now c.args.frames c.args.sources.items c.args.sinks.items
+    (record { plan = c.in_ok-plan.plan; planned = c.in_ok-plan.ensures.planned; few = search rules }) e is)
+
+pub begun-station-requires-clause-planned : goal.begun-station-requires-clause-planned
+begun-station-requires-clause-planned g c = subst (IsPlanOf c.args.equipment.now) (sym c.in_ok-planner.ensures.planner.1) c.in_ok-plan.ensures.planned
+
+pub begun-station-requires-clause-first : goal.begun-station-requires-clause-first
+begun-station-requires-clause-first g c = c.in_ok-planner.ensures.planner.0 ∙ ap (λ (p : PlanTable). p ∷ []) (sym c.in_ok-planner.ensures.planner.1)
+
+pub run-answer-requires-clause-receivers : goal.run-answer-requires-clause-receivers
+run-answer-requires-clause-receivers g c κs lives = c.in_ok-receiving.ensures.fresh
+
+pub run-answer-requires-clause-desk : goal.run-answer-requires-clause-desk
+run-answer-requires-clause-desk g c κs lives =
+    (c.receivers.ensures.desk ∙ ap (λ (d : ends.Dealing). d.at) c.in_ok-hub.ensures.desk, c.receivers.ensures.transmitters ∙ ap (λ (d : ends.Dealing). d.transmitters) c.in_ok-hub.ensures.desk)
+
+pub run-answer-requires-clause-begun : goal.run-answer-requires-clause-begun
+run-answer-requires-clause-begun g c κs lives =
+    subst IsBegun (sym c.begun-station.ensures) (record {
+      planned = subst (IsPlanOf c.args.equipment.now) (sym c.in_ok-planner.ensures.planner.1) c.in_ok-plan.ensures.planned;
+      first = c.in_ok-planner.ensures.planner.0 ∙ ap (λ (p : PlanTable). p ∷ []) (sym c.in_ok-planner.ensures.planner.1);
+    })
+
+pub run-answer-requires-clause-sinks : goal.run-answer-requires-clause-sinks
+run-answer-requires-clause-sinks g c κs lives = c.requires.sinks ∙ sym (ap (λ (t : TableRecord). length t.groups) c.in_ok-hub.ensures.station)
 
 pub run-answer-requires-clause-hub : goal.run-answer-requires-clause-hub
 run-answer-requires-clause-hub g c κs lives = (
@@ -32,5 +104,5 @@ returns-clause-fault g c =
     let sources = c.args.sources.items in
     let sinks = c.args.sinks.items in
     weaker (IsRunFault given ended failed failed_sink sources sinks) (IsLiveFault given ended failed failed_sink t c.args.frames sources sinks) c.run-answer.result
-    (live_fault given ended failed failed_sink t c.args.frames sources sinks (record { plan = c.in_ok-plan.plan; planned = c.in_ok-plan.ensures.planned; few = omega (arith, c.if-frames-gt-FRAMES.false) }))
+    (live_fault given ended failed failed_sink t c.args.frames sources sinks (record { plan = c.in_ok-plan.plan; planned = c.in_ok-plan.ensures.planned; few = search rules }))
     (subst (λ (l : List g.row.L.Denot). IfErr c.run-answer.result (IsRunFault given ended failed failed_sink l sinks)) c.in_ok-receiving.ensures.lines c.run-answer.ensures.fault)

@@ -17,9 +17,25 @@ use Rattle.a429_station.specs.declared.working.Received.{Received}
 use Rattle.a429_station.specs.declared.working.Receiving.{Receiving}
 use Rattle.a429_station.specs.declared.working.Sending.{Sending}
 use Rattle.a429_station.proofs.Ended.{AreAfter, all_stopped, course_of, taken_in, group_one, group_over, heard_one, receiver_one, receiver_stays, all_well, first_of_receivers}
-use Rattle.a429_station.proofs.Numbered.{middle, numbered_all, numbered_mapped, shown, shown_past, three_of, zip_length, zip_numbered, zip_with}
+use Rattle.a429_station.proofs.Numbered.{at_most, middle, numbered_all, numbered_mapped, shown, shown_past, three_of, zip_length, zip_numbered, zip_with}
 use Rattle.a429_station.proofs.Plans.{plan_small}
+use Rattle.a429_station.proofs.Returned.{early_err, early_ok}
 use Rattle.a429_station.proofs.running.run.Goals as goal
+
+pub groups-requires-clause-hub : goal.groups-requires-clause-hub
+groups-requires-clause-hub g c = c.requires.desk.0
+
+pub groups-requires-clause-none : goal.groups-requires-clause-none
+groups-requires-clause-none g c = c.requires.desk.1
+
+pub groups-requires-clause-sinks : goal.groups-requires-clause-sinks
+groups-requires-clause-sinks g c = at_most _ _ _ c.requires.sinks refl
+
+pub groups-requires-clause-watchers : goal.groups-requires-clause-watchers
+groups-requires-clause-watchers g c = c.requires.watchers
+
+pub groups-requires-clause-enough : goal.groups-requires-clause-enough
+groups-requires-clause-enough g c = c.requires.enough
 
 pub groups-requires-clause-planned : goal.groups-requires-clause-planned
 groups-requires-clause-planned g c =
@@ -124,3 +140,30 @@ returns-in_err-told-clause-fault g c =
       | inl none ↦ inl none
       | inr first ↦ inr (inr (stop (subst (λ x. IsFirst x (first_fault (map (λ d. d.answer) c.in-Ok.done.second.items)) fault) (sym well) first)))
     ])
+
+pub returns-in_err-sending-clause-ran : goal.returns-in_err-sending-clause-ran
+returns-in_err-sending-clause-ran g c = early_ok _ _ c.from_residual.result c.from_residual.ensures.1
+
+pub returns-in_err-heard-clause-ran : goal.returns-in_err-heard-clause-ran
+returns-in_err-heard-clause-ran g c = early_ok _ _ c.from_residual-in_err-heard.result c.from_residual-in_err-heard.ensures.1
+
+pub returns-in_err-told-clause-ran : goal.returns-in_err-told-clause-ran
+returns-in_err-told-clause-ran g c = early_ok _ _ c.from_residual-in_err-told.result c.from_residual-in_err-told.ensures.1
+
+pub returns-in_err-answer-clause-ran : goal.returns-in_err-answer-clause-ran
+returns-in_err-answer-clause-ran g c = early_ok _ _ c.from_residual-in_err-answer.result c.from_residual-in_err-answer.ensures.1
+
+pub returns-in_err-sending-clause-fault : goal.returns-in_err-sending-clause-fault
+returns-in_err-sending-clause-fault g c = early_err _ c.from_residual.result c.from_residual.ensures.1 (λ e is. inl (is ∙ c.in_err-sending.ensures.fault))
+
+pub returns-in_err-answer-clause-fault : goal.returns-in_err-answer-clause-fault
+returns-in_err-answer-clause-fault g c = early_err _ c.from_residual-in_err-answer.result c.from_residual-in_err-answer.ensures.1 (λ e is. inl is)
+
+pub returns-in_default-clause-ran : goal.returns-in_default-clause-ran
+returns-in_default-clause-ran g c = tt
+
+pub returns-in_default-clause-fault : goal.returns-in_default-clause-fault
+returns-in_default-clause-fault g c = inr (inl refl)
+
+pub returns-clause-fault : goal.returns-clause-fault
+returns-clause-fault g c = tt
