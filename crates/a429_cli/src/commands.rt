@@ -7,15 +7,15 @@ ghost use Rattle.a429_console.specs.Requests.{AsksFor, RequestBytes, request_of}
 ghost use Rattle.a429_cli.specs.Replies.{IsReplyOrMemory};
 ghost use Rattle.a429_console.specs.Usage.{AsksForHelp, IsHelpReply, IsNoRequest, IsReplyOfKind, IsUsageFault, IsUsageReply};
 
-use a429_console::arguments::requests::{Request, parse};
-use a429_console::files::FileReader;
-use a429_console::hints::{tell_failed_output, tell_hint};
 use crate::lines::tell_lines;
-use a429_console::output::endings::{finish, refuse_memory};
-use a429_console::output::{Output, OutputFault};
 use crate::plan_texts::{print_plan, print_verdict};
 use crate::replay::replay;
 use crate::word::tell_word;
+use a429_console::arguments::requests::{Request, parse};
+use a429_console::files::FileReader;
+use a429_console::hints::{tell_failed_output, tell_hint};
+use a429_console::output::endings::{finish, refuse_memory};
+use a429_console::output::{Output, OutputFault};
 use clap::Error;
 use clap::error::ErrorKind;
 use std::alloc::Global;

@@ -11,12 +11,12 @@ ghost use Rattle.a429_console.specs.Outputs.{CountsFault, IsPut};
 pub mod line_bytes;
 pub mod reports;
 
-use a429_console::files::FileReader;
-use a429_console::files::reading::read_file;
 use crate::lines::line_bytes::first_bad_byte;
 use crate::lines::reports::{print_report, push_rest};
-use a429_console::output::endings::{finish, refuse};
 use crate::pending::Pending;
+use a429_console::files::FileReader;
+use a429_console::files::reading::read_file;
+use a429_console::output::endings::{finish, refuse};
 use a429_console::output::refusals::CommandRefusal;
 use a429_console::output::{Output, OutputFault};
 use a429_equipment::filter_of_text;

@@ -12,12 +12,12 @@ pub mod hints;
 pub mod report;
 pub mod words;
 
-use a429_console::arguments::requests::LiveRequest;
-use a429_console::files::FileReader;
-use a429_console::files::reading::{read_file, read_files};
 use crate::live::control::Resubmits;
 use crate::live::report::report_text;
 use crate::live::words::{Arrival, line_sources, read_words};
+use a429_console::arguments::requests::LiveRequest;
+use a429_console::files::FileReader;
+use a429_console::files::reading::{read_file, read_files};
 use a429_console::output::endings::{finish, refuse};
 use a429_console::output::refusals::CommandRefusal;
 use a429_console::output::{Output, OutputFault};

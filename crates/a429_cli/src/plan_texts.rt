@@ -6,13 +6,13 @@ ghost use Rattle.a429_console.specs.Outputs.{CountsFault, IsPut, OrNoMemory};
 ghost use Rattle.a429_cli.specs.PlanReplies.{IsCheckReply, IsJudged, IsJudging, IsPlanReply, IsPlanning, IsUnjudged, IsVerdictReply, verdict_status};
 ghost use Rattle.a429_console.specs.RefusalText.{OrMemory};
 
+use a429_cert::{NoVerdict, Verdict, judge, plan_text};
 use a429_console::files::FileReader;
 use a429_console::files::reading::read_file;
 use a429_console::output::endings::{finish, refuse, refuse_memory};
 use a429_console::output::refusals::CommandRefusal;
 use a429_console::output::{Output, OutputFault};
 use a429_console::tables::{propose, read_table, unfit};
-use a429_cert::{NoVerdict, Verdict, judge, plan_text};
 use std::alloc::Global;
 use std::io;
 use std::io::Write;

@@ -12,16 +12,16 @@ pub mod playing;
 pub mod script;
 pub mod station;
 
-use a429_console::files::FileReader;
-use a429_console::files::reading::{read_file, read_files};
-use a429_console::output::endings::{finish, refuse};
 use crate::pending::Pending;
-use a429_console::output::refusals::CommandRefusal;
-use a429_console::output::{Output, OutputFault};
 use crate::replay::further::{FurtherTable, plan_tables};
 use crate::replay::playing::play_all;
 use crate::replay::script::check_script;
 use crate::replay::station::Station;
+use a429_console::files::FileReader;
+use a429_console::files::reading::{read_file, read_files};
+use a429_console::output::endings::{finish, refuse};
+use a429_console::output::refusals::CommandRefusal;
+use a429_console::output::{Output, OutputFault};
 use std::alloc::Global;
 
 /// The bytes of the files that a replay reads; of the further tables also what they come to.

@@ -4,8 +4,8 @@ ghost use Rattle.std.specs.Option.{option_to_list};
 ghost use Rattle.a429_cli.specs.LineReports.{found_line, printed, printed_if, received, rest_line};
 ghost use Rattle.a429_console.specs.Outputs.{AppendsPending, CountsFault};
 
-use a429_console::output::from_end::{push_hex, push_number};
 use crate::pending::{Pending, put_if_full};
+use a429_console::output::from_end::{push_hex, push_number};
 use a429_console::output::{Output, OutputFault};
 use a429_filter::FilterSet;
 use a429_line::Found;

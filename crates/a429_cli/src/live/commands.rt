@@ -6,12 +6,12 @@ ghost use Rattle.a429_console.specs.LiveWords.{AsksForLive, AsksForLiveHelp, IsL
 ghost use Rattle.a429_console.specs.Outputs.{CountsFault, IsPut, NoneFailed, OrNoMemory};
 ghost use Rattle.a429_console.specs.Usage.{IsHelpReply, IsUsageReply};
 
-use a429_console::arguments::requests::{LiveRequest, parse_live};
 use crate::commands::explain;
-use a429_console::files::FileReader;
-use a429_console::hints::tell_failed_output;
 use crate::live::hints::tell_live_hint;
 use crate::live::run_station;
+use a429_console::arguments::requests::{LiveRequest, parse_live};
+use a429_console::files::FileReader;
+use a429_console::hints::tell_failed_output;
 use a429_console::output::{Output, OutputFault};
 use std::alloc::Global;
 use std::io::Write;

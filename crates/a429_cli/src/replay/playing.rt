@@ -6,10 +6,10 @@ ghost use Rattle.a429_cli.specs.Playing.{HasTable, IsEventOf, IsUnread, PlaysOne
 ghost use Rattle.a429_console.specs.RefusalText.{OrMemory};
 
 use crate::pending::{Pending, put_if_full};
-use a429_console::output::refusals::CommandRefusal;
-use a429_console::output::{Output, OutputFault};
 use crate::replay::further::FurtherTable;
 use crate::replay::script::{ScriptEvent, first_event};
+use a429_console::output::refusals::CommandRefusal;
+use a429_console::output::{Output, OutputFault};
 use a429_console::tables::names::Names;
 use a429_core::{Event, StationState};
 use std::alloc::{AllocError, Global};
