@@ -106,6 +106,22 @@ fn opened<R: Wait>(
     }
 }
 
+/// The receiver of an equipment, the transmitter of its group by the equipment's plan from slot 0 on, and the planner of
+/// its board.
+fn begun<R: Wait + Abort>(
+    rt: &R,
+    alloc: Global,
+    equipment: &Equipment,
+) -> Result<(Receiver, Transmit, Planner), Fail>
+    requires { (length equipment.now.receivers ≡ 1) × (length equipment.now.groups ≡ 1) }
+    ensures { IfOk result (λ r. (r.0.at ≡ r.1.transmitter.at) × (r.1.watcher.book ≡ r.2.book) × (r.1.frame.sent ≡ 0)) }
+{
+    let plan = planned(alloc, equipment)?;
+    let (receiver, transmitter) = ends(rt, alloc, equipment)?;
+    let (transmit, planner) = opened(rt, alloc, transmitter, plan, 0)?;
+    Ok((receiver, transmit, planner))
+}
+
 /// A cell as a row says it: bus, slot and word.
 type Row = (u32, u64, Option<u32>);
 
@@ -169,16 +185,9 @@ fn newer<R: Wait>(
 #[test]
 fn a_plan_comes_into_force_at_a_frames_end(rt: HostRuntime) -> Result<(), Fail> {
     let alloc = rt.alloc();
-    let equipment = standard(&rt, alloc, (1, 720), (1, 1440), (1, 1440))?;
     let next = planned(alloc, &standard(&rt, alloc, (1, 720), (1, 720), (1, 1440))?)?;
-    let (mut receiver, transmitter) = ends(&rt, alloc, &equipment)?;
-    let (mut transmit, mut planner) = opened(
-        &rt,
-        alloc,
-        transmitter,
-        planned(alloc, &equipment)?,
-        0,
-    )?;
+    let equipment = standard(&rt, alloc, (1, 720), (1, 1440), (1, 1440))?;
+    let (mut receiver, mut transmit, mut planner) = begun(&rt, alloc, &equipment)?;
     let accepted = heard(&mut transmit, &mut receiver, 0x800000c0);
     let number = newer(&rt, &mut transmit, &mut planner, next);
     let word = Some(0x800000c0);
@@ -203,14 +212,12 @@ fn a_plan_comes_into_force_at_a_frames_end(rt: HostRuntime) -> Result<(), Fail> 
 #[test]
 fn words_keep_their_least_spacing_across_plans(rt: HostRuntime) -> Result<(), Fail> {
     let alloc = rt.alloc();
-    let equipment = standard(&rt, alloc, (1, 720), (1, 1440), (720, 1440))?;
     let next = planned(
         alloc,
         &standard(&rt, alloc, (1, 720), (1, 720), (720, 1440))?,
     )?;
-    let (mut receiver, transmitter) = ends(&rt, alloc, &equipment)?;
-    let plan = planned(alloc, &equipment)?;
-    let (mut transmit, mut planner) = opened(&rt, alloc, transmitter, plan, 0)?;
+    let equipment = standard(&rt, alloc, (1, 720), (1, 1440), (720, 1440))?;
+    let (mut receiver, mut transmit, mut planner) = begun(&rt, alloc, &equipment)?;
     let accepted = heard(&mut transmit, &mut receiver, 0x800000c0);
     let number = newer(&rt, &mut transmit, &mut planner, next);
     let word = Some(0x800000c0);
@@ -243,8 +250,7 @@ fn words_keep_their_least_spacing_across_plans(rt: HostRuntime) -> Result<(), Fa
 fn a_word_is_sent_as_often_as_it_may_be_held(rt: HostRuntime) -> Result<(), Fail> {
     let alloc = rt.alloc();
     let equipment = read(&rt, alloc, HELD)?;
-    let (mut receiver, transmitter) = ends(&rt, alloc, &equipment)?;
-    let (mut transmit, planner) = opened(&rt, alloc, transmitter, planned(alloc, &equipment)?, 0)?;
+    let (mut receiver, mut transmit, planner) = begun(&rt, alloc, &equipment)?;
     let first = heard(&mut transmit, &mut receiver, FIRST);
     let once = sends(&mut transmit, &[(0, 0, Some(FIRST))]) && changes(&mut transmit, Ok(0));
     let twice = sends(&mut transmit, &[(0, 1, Some(FIRST))]) && changes(&mut transmit, Ok(0));

@@ -2,8 +2,8 @@
 ghost use Rattle.std.specs.Prelude.{◌≡◌, ◌<◌, IfOk, length};
 
 use super::devices::{FailingLine, FailingSink, ShutGate};
-use super::{ends, opened, standard};
-use crate::support::{EVEN, FIRST, ONE, SECOND, planned};
+use super::{begun, ends, standard};
+use crate::support::{EVEN, FIRST, ONE, SECOND};
 use a429_equipment::Equipment;
 use a429_filter::MemoryLine;
 use a429_values::{Receiver, Transmitter};
@@ -136,8 +136,7 @@ fn two_frames<R: Wait + Abort, G: Gate>(
 ) -> Result<(Result<SendTotals, SendFault>, usize), Fail>
     requires { (length equipment.now.receivers ≡ 1) × (length equipment.now.groups ≡ 1) }
 {
-    let (_, transmitter) = ends(rt, alloc, equipment)?;
-    let (mut transmit, planner) = opened(rt, alloc, transmitter, planned(alloc, equipment)?, 0)?;
+    let (_, mut transmit, planner) = begun(rt, alloc, equipment)?;
     let mut sink = FailingSink {
         sink: MemorySink::new(alloc),
         fails_in,
@@ -174,9 +173,7 @@ fn a_sink_takes_all_cells_before_it_fails(rt: HostRuntime) -> Result<(), Fail> {
 #[test]
 fn a_count_sink_counts(rt: HostRuntime) -> Result<(), Fail> {
     let equipment = standard(&rt, rt.alloc(), (1, 720), (1, 1440), (1, 1440))?;
-    let (_, transmitter) = ends(&rt, rt.alloc(), &equipment)?;
-    let opening = planned(rt.alloc(), &equipment)?;
-    let (mut transmit, planner) = opened(&rt, rt.alloc(), transmitter, opening, 0)?;
+    let (_, mut transmit, planner) = begun(&rt, rt.alloc(), &equipment)?;
     let mut sink = CountSink::new();
     let answer = send_frames(&mut transmit, &mut sink, 0, 3, &OpenGate);
     planner.close(&rt);
