@@ -61,6 +61,10 @@ within h ds es order same =
     listed_within h ds is same k d below =
         subst (λ (e : Entry). e.exponent ≤ h) (sym (get_or-map (λ i. entry_of i (demand_at ds i)) is k 0 d below)) (omega (arith, below_frame ds (get_or is k 0)))
 
+-- entries that are read again are in the same order
+pub still_in_order : (ds : List Demand) (es xs : List Entry) → xs ≡ es → AreInOrder ds es → AreInOrder ds xs
+still_in_order ds es xs same order = subst (λ (ys : List Entry). AreInOrder ds ys) (sym same) order
+
 -- ---- stretches
 
 -- what is known of a layout by its numbers: n outputs, order, exponents and starts

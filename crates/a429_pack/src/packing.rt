@@ -120,10 +120,39 @@ fn inputs_in<const N: usize>(entries: &[Entry]) -> [usize; N]
     inputs
 }
 
+/// The layout of the outputs of a group in layout order, on the buses that they need, at most 16.
+fn laid_out<const N: usize>(
+    demands: &[Demand],
+    entries: &[Entry],
+    frame: Period,
+    needed: usize,
+) -> Packed<N>
+    requires some { 1 ≤ length demands.now }
+    requires room { length demands.now ≤ N }
+    requires order { AreInOrder demands.now entries.now }
+    requires frame { frame ≡ frame_of demands.now }
+    requires short { frame ≤ 13 }
+    requires needed { needed ≡ div_ceil (sum (demands_of frame entries.now)) (2 ^ frame) }
+    requires few { needed ≤ 16 }
+    ensures frame { result.frame ≡ frame }
+    ensures buses { result.buses ≡ needed }
+    ensures inputs { result.inputs ≡ inputs_of entries.now }
+    ensures demands { result.demands ≡ map (λ i. 2 ^ frame / period_of (demand_at demands.now i)) (inputs_of entries.now) }
+{
+    blocks_are_periodic();
+    Packed {
+        frame,
+        buses: needed as u32,
+        sums: sums_of(entries, frame),
+        inputs: inputs_in(entries),
+    }
+}
+
 /// Packs the outputs of a group onto as few buses as any schedule needs. Outputs are numbered in the order
 /// given; at least one and at most `N` are asked for. Refused is a group that has an output without a grid
 /// period (`Unfit`, with the first such output) or else needs more than 16 buses (`TooManyBuses`, with the
 /// fewest that it needs).
+#[tactic(auto, using(crate::proofs::Packings::still_in_order))]
 pub fn pack<const N: usize>(alloc: Global, demands: &[Demand]) -> Result<Packed<N>, PackFault>
     requires some { 1 ≤ length demands.now }
     requires room { length demands.now ≤ N }
@@ -135,17 +164,11 @@ pub fn pack<const N: usize>(alloc: Global, demands: &[Demand]) -> Result<Packed<
     ensures few { IfOk result (λ p. p.buses ≤ 16) }
     ensures fault { IfErr result (IsFaultOf demands.now) }
 {
-    blocks_are_periodic();
     let entries = in_order(alloc, demands)?;
     let frame = greatest_period(demands);
     let needed = fewest_buses(demands, &entries, frame);
     if needed > BUSES {
         return Err(PackFault::TooManyBuses(needed));
     }
-    Ok(Packed {
-        frame,
-        buses: needed as u32,
-        sums: sums_of(&entries, frame),
-        inputs: inputs_in(&entries),
-    })
+    Ok(laid_out(demands, &entries, frame, needed))
 }

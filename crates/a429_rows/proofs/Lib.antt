@@ -1,1 +1,6 @@
 pub mod OneRuns
+pub mod Served
+pub mod Shown
+pub mod OwnPlans
+pub mod Latest
+pub mod Replays

@@ -1,1 +1,3 @@
 pub mod OneRun
+pub mod Replayed
+pub mod Serving

@@ -4,6 +4,7 @@
 #![tactic(auto)]
 
 pub mod client;
+pub mod conclusions;
 #[cfg(test)]
 mod fields;
 #[cfg(test)]

@@ -1,0 +1,14 @@
+-- A replay that came to its end.
+use Rattle.std.specs.Prelude.{ℕ, List, [], Option}
+use Rattle.a429_slots.specs.Proposed.{Proposed}
+use Rattle.a429_cli.specs.Replaying.{IsInput, IsPlayed, IsStart, ReplayInput}
+use Rattle.a429_cli.specs.declared.replay.script.ScriptEvent.{ScriptEvent}
+
+-- the files of these names are a table with a plan and a script, and the bytes are what all of its events come to
+pub record IsPlayedToTheEnd (file : List ℕ → Option (List ℕ)) (table script bytes : List ℕ) : Type 0 where
+  pub input : ReplayInput
+  pub proposal : Proposed
+  pub events : List ScriptEvent
+  pub read : IsInput file table script [] input
+  pub start : IsStart input proposal events
+  pub played : IsPlayed input proposal events bytes

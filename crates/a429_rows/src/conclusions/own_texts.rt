@@ -1,0 +1,27 @@
+//! The text of a table's own plan.
+ghost use Rattle.std.specs.Prelude.{◌≡◌, ◌⊎◌, Ok, Err, IfSome};
+
+use a429_cert::laws::own_text_is_fewest;
+use a429_cert::{CheckFault, Verdict, check, plan_text};
+use a429_equipment::Equipment;
+use a429_slots::Proposal;
+use std::alloc::Global;
+
+/// What the check of the text of a table's own plan answers, where there is a plan: that it shows the fewest buses, or
+/// that memory was refused.
+pub fn own_text_checked(alloc: Global, table: &[u8]) -> Option<Result<Verdict, CheckFault>>
+    ensures { IfSome result (λ r. (r ≡ Ok Verdict.Fewest) ⊎ (r ≡ Err CheckFault.NoMemory)) }
+{
+    own_text_is_fewest();
+    let Ok(equipment) = Equipment::read(alloc, table) else {
+        return None;
+    };
+    let _rate = equipment.rate();
+    let Ok(proposal) = Proposal::of(alloc, equipment) else {
+        return None;
+    };
+    let Ok(text) = plan_text(alloc, &proposal) else {
+        return None;
+    };
+    Some(check(alloc, table, &text))
+}
