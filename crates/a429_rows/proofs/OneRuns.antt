@@ -1,6 +1,7 @@
 -- What was done at the ends of a station of two receivers is one run of the machine, by the law of one run.
-use Rattle.std.proofs.Common.{◌≡◌, ◌∙◌, ℕ, zero, suc, ◌+◌, ◌-◌, ◌^◌, ◌<◌, ◌≤◌, true, List, [], ◌∷◌, ◌++◌, length, map, refl, sym, ap, subst, arith, append-nil, append_assoc}
-use Rattle.std.specs.Prelude.{◌≢◌, Option, Some, slice_get, filter_map, Result, Ok, Err, IfOk, OnErr}
+use Rattle.std.proofs.Common.{◌≡◌, ◌∙◌, ℕ, zero, suc, ◌+◌, ◌-◌, ◌^◌, ◌<◌, ◌≤◌, Bool, true, List, [], ◌∷◌, ◌++◌, length, map, refl, sym, ap, subst, arith, append-nil, append_assoc}
+use Rattle.std.specs.Prelude.{◌≢◌, Option, Some, slice_get, Result, Ok, Err, IfOk, IfSome, OnErr}
+use Rattle.std.specs.Result.{result_ok}
 use Rattle.std.specs.List.{AllByRecursion, AllZip, zip}
 use Rattle.std.proofs.lemmas.List.Elements.{filter_map-append}
 use Rattle.std.proofs.lemmas.Option.{none-some, same_Some}
@@ -20,15 +21,22 @@ use Rattle.a429_slots.specs.Proposed.{Proposed}
 use Rattle.a429_slots.specs.History.{Opening}
 use Rattle.a429_board.specs.Lists.{Planning, Watched, numbered}
 use Rattle.a429_board.specs.declared.planner.BoardFault.{BoardFault}
-use Rattle.a429_values.specs.Ends.{Place, Receiving}
+use Rattle.a429_values.specs.Ends.{Place, Receiving, Sending}
 use Rattle.a429_values.specs.Later.{OthersStayAgreed}
 use Rattle.a429_workers.specs.Calls.{Call, Meets, loads_of}
 use Rattle.a429_workers.specs.Receives.{after_words}
-use Rattle.a429_workers.specs.Runs.{AreHeard, HasRun, IsWired, IsWorking, plans_of}
+use Rattle.a429_workers.specs.Runs.{HasRun, IsWired, IsWorking}
 use Rattle.a429_workers.specs.Sends.{HasSent, sent_in, with_cells}
 use Rattle.a429_workers.specs.Transmitting.{BeginsWith, GoesOnBy, HasMade, IsKnownPlan, IsKnownTable, Outset, StandsFor, Transmitting, led_by, met}
 use Rattle.a429_workers.specs.declared.cells.Sent.{Sent}
-use Rattle.a429_rows.specs.OneRun.{AreShown, HasMet, IsOneRun, fresh, heard_of, opening, two}
+use Rattle.a429_rows.specs.OneRun.{AreShown, EndsRunOnce, HasHeard, HasMet, HasSentAll, IsOneRun, IsRunOver, fresh, heard_of, opening, two}
+
+-- ---- answers
+
+-- what is known of an answer is known of the value in it
+pub some_of_ok : {T E : Type 0} (P : T → Type 0) (r : Result T E) (o : Option T) → o ≡ result_ok r → IfOk r P → IfSome o P
+some_of_ok P (Ok x) o is h = subst (λ o. IfSome o P) (sym is) h
+some_of_ok P (Err e) o is h = subst (λ o. IfSome o P) (sym is) tt
 
 -- ---- plans of a station send its sources alone
 
@@ -211,3 +219,31 @@ shown_after t e old new plan (Ok n) sound other planned after same one first nex
     shown_next t e old.last plan n new.list sound other planned after same one.1 next (list ∙ ap (λ (l : List PlanTable). l ++ numbered plan n ∷ []) first)
 shown_after t e old new plan (Err fault) sound other planned after same one first next list stays =
     shown_first t old.last new.list sound planned (ap (λ (v : Planning). v.list) stays ∙ first)
+
+-- ---- what was done on threads
+
+-- the receivers and the transmitter are of one hub, and the transmitter began by the planner's board
+pub run_over : {L B : Type 0} (given : L → List ℕ) (taken : B → Option (List Sent)) (law : EndsRunOnce) (t : TableRecord) (at : Place) (w : Watched) (list : List PlanTable)
+    (end : Sending) (begun sent done : Transmitting) (one one' other other' : Receiving) (heard also took : Bool) (f f' s s' : L) (b b' : B)
+    → at.station ≡ t → IsWired t → length t.receivers ≡ 2 → 0 < length t.groups → IsPlanOf t w.opened
+    → end ≡ record { at = at; number = 0; loads = [] } → BeginsWith end w 0 begun → begun.transmitter ≡ end
+    → one ≡ fresh at 0 → other ≡ fresh at 1 → HasHeard given f f' one one' heard → HasHeard given s s' other other' also → HasSentAll begun sent (taken b) (taken b') took
+    → AreShown (opening t w.opened) list → HasMet sent done one' other' list → heard ≡ true → also ≡ true → took ≡ true → IsRunOver given taken t f f' s s' b b'
+run_over given taken law t at w list end begun sent done one one' other other' heard also took f f' s s' b b' here wired few some planned is_end begins ends is_one is_other first second S shown M all_first all_second all_sent =
+    let x = first.words in
+    let y = second.words in
+    let was_one : one' ≡ heard_at at 0 x = first.taken all_first ∙ ap (λ (r : Receiving). after_words r x) is_one in
+    let was_other : other' ≡ heard_at at 1 y = second.taken all_second ∙ ap (λ (r : Receiving). after_words r y) is_other in
+    let met : HasMet sent done (heard_at at 0 x) (heard_at at 1 y) list = subst (λ (r : Receiving). HasMet sent done (heard_at at 0 x) r list) was_other (subst (λ (r : Receiving). HasMet sent done r other' list) was_one M) in
+    let back = sym here in
+    record {
+      one = x;
+      other = y;
+      gave_one = first.gave;
+      gave_other = second.gave;
+      run = subst (λ (k : TableRecord). IsOneRun k (two x y) (taken b) (taken b')) here (
+          law at w list begun sent done x y S.calls (taken b) (taken b')
+          (subst IsWired back wired) (subst (λ (k : TableRecord). length k.receivers ≡ 2) back few) (subst (λ (k : TableRecord). 0 < length k.groups) back some) (subst (λ (k : TableRecord). IsPlanOf k w.opened) back planned)
+          (subst (λ (e : Sending). BeginsWith e w 0 begun) is_end begins) (ap (λ (e : Sending). e.at) (ends ∙ is_end)) (S.sent all_sent)
+          (subst (λ (k : TableRecord). AreShown (opening k w.opened) list) back shown) met);
+    }

@@ -4,12 +4,13 @@ use Rattle.std.specs.List.{AllByRecursion}
 use Rattle.a429_equipment.specs.declared.loads.Load.{Load}
 use Rattle.a429_equipment.specs.TableRecord.{TableRecord}
 use Rattle.a429_equipment.specs.Agreement.{Agrees}
+use Rattle.a429_equipment.specs.SameStation.{same_station}
 use Rattle.a429_equipment.specs.Receiving.{IsReceived, accepted_after}
 use Rattle.a429_slots.specs.Tables.{PlanTable}
 use Rattle.a429_slots.specs.Planned.{IsPlanOf}
 use Rattle.a429_slots.specs.Proposed.{Proposed}
 use Rattle.a429_slots.specs.History.{Opening}
-use Rattle.a429_board.specs.Lists.{Watched}
+use Rattle.a429_board.specs.Lists.{Planning, Watched}
 use Rattle.a429_values.specs.Ends.{Place, Receiving}
 use Rattle.a429_workers.specs.Calls.{Call, Meets}
 use Rattle.a429_workers.specs.Runs.{ArePublished, HasRun, IsWired, plans_of}
@@ -42,6 +43,14 @@ pub record IsOneRun (t : TableRecord) (words : ℕ → List ℕ) (before after :
   pub run : HasRun 41 (opening t plan) 0 later calls (heard_of t words)
   pub cells : after ≡ with_cells before (sent_in calls)
 
+-- two lines gave words, and a sink took cells: that was one run
+pub record IsRunOver {L : Type 0} {B : Type 0} (given : L → List ℕ) (taken : B → Option (List Sent)) (t : TableRecord) (first first' second second' : L) (sink sink' : B) : Type 0 where
+  pub one : List ℕ
+  pub other : List ℕ
+  pub gave_one : given first' ≡ given first ++ one
+  pub gave_other : given second' ≡ given second ++ other
+  pub run : IsOneRun t (two one other) (taken sink) (taken sink')
+
 -- ---- pieces of it
 
 -- a receiver that accepted nothing yet
@@ -49,13 +58,22 @@ abbrev pub fresh : Place → ℕ → Receiving
 fresh at number = record { at = at; number = number; limit = 2 ^ 41 - 1; accepted = [] }
 
 -- the line gave words, and where it came to its end the receiver took them all
-abbrev pub HasHeard : {L : Type 0} → (L → List ℕ) → L → L → Receiving → Receiving → Bool → Type 0
-HasHeard given line rest old new done =
-    (words : List ℕ) × (given rest ≡ given line ++ words) × (done ≡ true → new ≡ after_words old words)
+pub record HasHeard {L : Type 0} (given : L → List ℕ) (line rest : L) (old new : Receiving) (done : Bool) : Type 0 where
+  pub words : List ℕ
+  pub gave : given rest ≡ given line ++ words
+  pub taken : done ≡ true → new ≡ after_words old words
 
 -- the transmitter answered cells and changes, and where they are all that was asked for the sink took the cells
-abbrev pub HasSentAll : Transmitting → Transmitting → Option (List Sent) → Option (List Sent) → Bool → Type 0
-HasSentAll old new before after done = done ≡ true → (calls : List Call) × HasSent old new before after calls []
+pub record HasSentAll (old new : Transmitting) (before after : Option (List Sent)) (done : Bool) : Type 0 where
+  pub calls : List Call
+  pub sent : done ≡ true → HasSent old new before after calls []
+
+-- a planner that published nothing yet can publish this plan: both are plans of one station
+pub record CanPublish (t next : TableRecord) (p : Planning) (plan : PlanTable) : Type 0 where
+  pub first : p.list ≡ p.last ∷ []
+  pub planned : IsPlanOf t p.last
+  pub next_planned : IsPlanOf next plan
+  pub same : same_station t next ≡ true
 
 -- a planner's list: the opening plan and those published after it, all of the station
 pub record AreShown (o : Opening) (list : List PlanTable) : Type 0 where
