@@ -1,6 +1,8 @@
 /* Counts the requests for memory that a program makes, and refuses the one whose number stands in REFUSED, counted
    from 1. At its end the program writes to descriptor 3 how many it made. It goes before a program by LD_PRELOAD. */
 
+#include <errno.h>
+
 typedef __SIZE_TYPE__ size_t;
 
 extern void *__libc_malloc(size_t size);
@@ -9,12 +11,16 @@ extern void *__libc_calloc(size_t count, size_t size);
 extern char *getenv(const char *name);
 extern unsigned long strtoul(const char *text, char **end, int base);
 extern int dprintf(int descriptor, const char *form, ...);
+extern _Noreturn void _Exit(int status);
 
 static unsigned long made;
 static unsigned long refused;
 
+/* The C library looks at the error where it starts a thread. */
 static int is_refused(void) {
-    return __atomic_add_fetch(&made, 1, __ATOMIC_SEQ_CST) == refused;
+    if (__atomic_add_fetch(&made, 1, __ATOMIC_SEQ_CST) != refused) return 0;
+    errno = ENOMEM;
+    return 1;
 }
 
 void *malloc(size_t size) {
@@ -38,4 +44,10 @@ __attribute__((constructor)) static void begin(void) {
 __attribute__((destructor)) static void end(void) {
     unsigned long count = made;
     dprintf(3, "%lu\n", count);
+}
+
+/* So ends a program that may have threads: without destructors. */
+_Noreturn void _exit(int status) {
+    end();
+    _Exit(status);
 }
