@@ -1,7 +1,8 @@
 -- A replay of status 0 came to its end.
 use Rattle.std.proofs.Common.{inl, inr, ◌≡◌, ℕ, List, [], arith}
 use Rattle.std.specs.Prelude.{Option}
-use Rattle.a429_cli.specs.Requests.{IsReplyOrMemory, Replay}
+use Rattle.a429_console.specs.Requests.{Replay}
+use Rattle.a429_cli.specs.Replies.{IsReplyOrMemory}
 use Rattle.a429_rows.specs.Replayed.{IsPlayedToTheEnd}
 
 pub played_to_the_end : (file : List ℕ → Option (List ℕ)) (table script bytes : List ℕ) (status : ℕ) → IsReplyOrMemory file (Replay table script []) status bytes → status ≡ 0

@@ -1,8 +1,9 @@
 //! A replay over files in memory.
 ghost use Rattle.std.specs.Prelude.{◌≡◌, [], IfSome};
-ghost use Rattle.a429_cli.specs.CommandLine.{IsName};
-ghost use Rattle.a429_cli.specs.MemoryFile.{file_of};
-ghost use Rattle.a429_cli.specs.Requests.{IsReplyOrMemory, Replay};
+ghost use Rattle.a429_console.specs.CommandLine.{IsName};
+ghost use Rattle.a429_console.specs.MemoryFile.{file_of};
+ghost use Rattle.a429_console.specs.Requests.{Replay};
+ghost use Rattle.a429_cli.specs.Replies.{IsReplyOrMemory};
 ghost use Rattle.a429_rows.specs.Replayed.{IsPlayedToTheEnd};
 
 use a429_cli::{CountedWriter, MemoryFiles, command};

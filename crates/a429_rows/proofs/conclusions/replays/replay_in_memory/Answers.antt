@@ -1,8 +1,9 @@
 use Rattle.std.proofs.Common.{rules, ◌≡◌, ◌∙◌, ◌++◌, ℕ, List, [], refl, sym, subst, ap}
 use Rattle.std.specs.declared.vec.Vec.{Vec}
 use Rattle.std.specs.declared.alloc.Global.{Global}
-use Rattle.a429_cli.specs.MemoryFile.{file_of}
-use Rattle.a429_cli.specs.Requests.{IsReplyOrMemory, Replay}
+use Rattle.a429_console.specs.MemoryFile.{file_of}
+use Rattle.a429_console.specs.Requests.{Replay}
+use Rattle.a429_cli.specs.Replies.{IsReplyOrMemory}
 use Rattle.a429_rows.proofs.Replays.{played_to_the_end}
 use Rattle.a429_rows.proofs.conclusions.replays.replay_in_memory.Goals as goal
 
