@@ -21,4 +21,6 @@ mod plans;
 #[cfg(test)]
 mod records;
 #[cfg(test)]
+mod runs;
+#[cfg(test)]
 mod support;
