@@ -1,6 +1,6 @@
 //! Tests across crates of what no command reaches: last slots and counts, writers and readers that fail, and
-//! public functions called by themselves. What commands write is stated by the cases of `a429_cases`. `client` is a
-//! caller that stands on what the crates below promise, and on nothing else.
+//! public functions called by themselves. What commands write is stated by the cases of `a429_cases`. `client` and
+//! `conclusions` are callers that stand on what the crates below promise, and on nothing else.
 #![tactic(auto)]
 
 pub mod client;
@@ -23,6 +23,8 @@ mod packing;
 mod plans;
 #[cfg(test)]
 mod records;
+#[cfg(test)]
+mod runs;
 #[cfg(test)]
 mod sockets;
 #[cfg(test)]
