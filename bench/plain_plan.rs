@@ -1,0 +1,332 @@
+//! Plans a table as `a429 plan` does, or checks the text of its plan as `a429 check` does, in plain Rust: what
+//! bench/plan compares the program with, in time and in every byte. It shares no code with the program, reads tables of
+//! version 1 line by line in the form that bench/plan writes, where the program reads any TOML document, and asks of a
+//! table and of a text what the program asks of them.
+//!
+//! Words: `plan` and the table; or `check`, the table and the text.
+
+use std::collections::{HashMap, HashSet};
+use std::error::Error;
+use std::fmt::Write as _;
+use std::io::{self, Write as _};
+use std::{env, fs};
+
+type Fault = Box<dyn Error>;
+
+/// The greatest number of slots in a period, and of buses in a group.
+const SLOTS: u64 = 8192;
+const BUSES: u64 = 16;
+
+struct Source {
+    name: String,
+    label: u32,
+    sdi: Option<u32>,
+}
+
+struct Output {
+    source: usize,
+    min_us: u64,
+    max_us: u64,
+}
+
+struct Group {
+    name: String,
+    outputs: Vec<Output>,
+}
+
+struct Table {
+    rate: u64,
+    sources: Vec<Source>,
+    groups: Vec<Group>,
+}
+
+/// An output in its place: its number in the group, its period, bus and offset.
+struct Placed {
+    output: usize,
+    period: u64,
+    bus: u64,
+    offset: u64,
+}
+
+struct Plan {
+    frame: u64,
+    buses: u64,
+    demand: u64,
+    placed: Vec<Placed>,
+}
+
+/// A table of the document: the array that it is of, and its keys.
+type Section<'a> = (&'a str, HashMap<&'a str, &'a str>);
+
+fn sections(text: &str) -> Result<Vec<Section<'_>>, Fault> {
+    let mut all: Vec<Section> = vec![("", HashMap::new())];
+    for line in text.lines() {
+        if let Some(head) = line.strip_prefix("[[") {
+            all.push((head.strip_suffix("]]").ok_or("a head")?, HashMap::new()));
+        } else {
+            let (key, value) = line.split_once(" = ").ok_or("a key")?;
+            if all.last_mut().ok_or("a table")?.1.insert(key, value).is_some() {
+                return Err("a key stands twice".into());
+            }
+        }
+    }
+    Ok(all)
+}
+
+/// The value of a key, and that no other keys stand there.
+fn value<'a>(keys: &HashMap<&str, &'a str>, key: &str) -> Result<&'a str, Fault> {
+    keys.get(key).copied().ok_or_else(|| format!("no {key}").into())
+}
+
+fn text<'a>(keys: &HashMap<&str, &'a str>, key: &str) -> Result<&'a str, Fault> {
+    value(keys, key)?.strip_prefix('"').and_then(|rest| rest.strip_suffix('"')).ok_or_else(|| "no text".into())
+}
+
+fn name(keys: &HashMap<&str, &str>) -> Result<String, Fault> {
+    let name = text(keys, "name")?;
+    let fits = |c: char| c.is_ascii_lowercase() || c.is_ascii_digit() || c == '-' || c == '_';
+    if (1..=16).contains(&name.len()) && name.chars().all(fits) { Ok(name.into()) } else { Err("a name".into()) }
+}
+
+/// Gives a name the next number, unless it has one.
+fn number(numbers: &mut HashMap<String, usize>, name: &str) -> Result<(), Fault> {
+    let next = numbers.len();
+    if numbers.insert(name.into(), next).is_some() { Err("a name stands twice".into()) } else { Ok(()) }
+}
+
+fn table(text_of: &str) -> Result<Table, Fault> {
+    let (mut receivers, mut sources, mut groups) = (HashMap::new(), HashMap::new(), HashMap::new());
+    let mut table = Table { rate: 0, sources: Vec::new(), groups: Vec::new() };
+    let (mut heard, mut sent) = (HashSet::new(), HashSet::new());
+    for (head, keys) in sections(text_of)? {
+        let only = |count: usize| if keys.len() == count { Ok(()) } else { Err("unknown keys") };
+        match head {
+            "" => {
+                only(2)?;
+                table.rate = value(&keys, "rate")?.parse()?;
+                if value(&keys, "version")? != "1" || !matches!(table.rate, 100000 | 12000..=14500) {
+                    return Err("version or rate".into());
+                }
+            }
+            "receiver" => {
+                only(1)?;
+                number(&mut receivers, &name(&keys)?)?;
+            }
+            "source" => {
+                only(4)?;
+                let source = Source {
+                    name: name(&keys)?,
+                    label: u32::from_str_radix(text(&keys, "label")?, 8)?,
+                    sdi: if value(&keys, "sdi")? == "\"any\"" { None } else { Some(value(&keys, "sdi")?.parse()?) },
+                };
+                number(&mut sources, &source.name)?;
+                let receiver = *receivers.get(text(&keys, "receiver")?).ok_or("unknown receiver")?;
+                let (label, sdi) = (source.label, source.sdi);
+                let taken = sdi.is_none() && (0..4).any(|sdi| heard.contains(&(receiver, label, Some(sdi))));
+                if label > 255 || sdi > Some(3) || taken || sdi.is_some() && heard.contains(&(receiver, label, None)) {
+                    return Err("a source".into());
+                }
+                if !heard.insert((receiver, label, sdi)) {
+                    return Err("a source stands twice".into());
+                }
+                table.sources.push(source);
+            }
+            "group" => {
+                only(1)?;
+                let name = name(&keys)?;
+                number(&mut groups, &name)?;
+                sent.clear();
+                table.groups.push(Group { name, outputs: Vec::new() });
+            }
+            "group.output" => {
+                only(3)?;
+                let output = Output {
+                    source: *sources.get(text(&keys, "source")?).ok_or("unknown source")?,
+                    min_us: value(&keys, "min_us")?.parse()?,
+                    max_us: value(&keys, "max_us")?.parse()?,
+                };
+                let source = &table.sources[output.source];
+                if !(1..=output.max_us).contains(&output.min_us) || output.max_us > 30_000_000 {
+                    return Err("an interval".into());
+                }
+                if !sent.insert((source.label, source.sdi)) {
+                    return Err("an output stands twice".into());
+                }
+                table.groups.last_mut().ok_or("an output before its group")?.outputs.push(output);
+            }
+            _ => return Err("unknown table".into()),
+        }
+    }
+    let many = receivers.len() > 16 || table.sources.len() > 256 || table.groups.len() > 8;
+    if many || table.groups.iter().any(|group| !(1..=128).contains(&group.outputs.len())) {
+        return Err("too many or no rows".into());
+    }
+    Ok(table)
+}
+
+/// The greatest period that the interval of an output admits.
+fn grid_period(rate: u64, output: &Output) -> Result<u64, Fault> {
+    let fits = |period: &u64| {
+        let time = 36_000_000 * period;
+        output.min_us * rate <= time && time <= output.max_us * rate
+    };
+    (0..14).rev().map(|digits| 1 << digits).find(fits).ok_or_else(|| "unfit".into())
+}
+
+fn plan(table: &Table, group: &Group) -> Result<Plan, Fault> {
+    let mut order = Vec::with_capacity(group.outputs.len());
+    for (number, output) in group.outputs.iter().enumerate() {
+        let source = &table.sources[output.source];
+        order.push((grid_period(table.rate, output)?, source.label, source.sdi, number));
+    }
+    order.sort_unstable();
+    let frame = order.iter().map(|entry| entry.0).max().unwrap_or(1);
+    let (mut start, mut placed) = (0, Vec::with_capacity(order.len()));
+    for (period, _, _, output) in order {
+        let place = start % frame;
+        // the digits of the place in reverse, where there are any
+        let offset = if frame == 1 { 0 } else { place.reverse_bits() >> (64 - frame.trailing_zeros()) };
+        placed.push(Placed { output, period, bus: start / frame, offset });
+        start += frame / period;
+    }
+    let buses = start.div_ceil(frame);
+    if buses > BUSES || frame > SLOTS { Err("too many buses".into()) } else { Ok(Plan { frame, buses, demand: start, placed }) }
+}
+
+fn plan_text(table: &Table) -> Result<String, Fault> {
+    let mut text = format!("plan 1\nrate {}\n", table.rate);
+    for group in &table.groups {
+        let plan = plan(table, group)?;
+        writeln!(text, "group {} frame {} buses {}", group.name, plan.frame, plan.buses)?;
+        for placed in &plan.placed {
+            let source = &table.sources[group.outputs[placed.output].source].name;
+            writeln!(text, "output {source} period {} bus {} offset {}", placed.period, placed.bus, placed.offset)?;
+        }
+        writeln!(text, "bound {} > {} * {}", plan.demand, plan.buses - 1, plan.frame)?;
+    }
+    Ok(text)
+}
+
+/// The number of a text: decimal, without sign or leading zeros, of at most ten digits.
+fn decimal(text: &str) -> Option<u64> {
+    let plain = text.len() <= 10 && text.bytes().all(|b| b.is_ascii_digit()) && (text.len() == 1 || !text.starts_with('0'));
+    if plain { text.parse().ok() } else { None }
+}
+
+/// The first line of a text that fails, from 1, and why; none where it shows the fewest buses.
+fn check<'a>(table: &Table, text: &'a str) -> Result<Option<(&'static str, usize)>, Fault> {
+    let mut lines = text.split_inclusive('\n').map(|line| line.strip_suffix('\n'));
+    let mut at = 0;
+    let mut line: Vec<&str> = Vec::new();
+    let mut words = |into: &mut Vec<&'a str>| {
+        at += 1;
+        into.clear();
+        into.extend(lines.next().flatten().unwrap_or("").split(' '));
+        at
+    };
+    let number = words(&mut line);
+    if line != ["plan", "1"] {
+        return Ok(Some(("form", number)));
+    }
+    let number = words(&mut line);
+    match line[..] {
+        ["rate", rate] if decimal(rate).is_some() => {
+            if decimal(rate) != Some(table.rate) {
+                return Ok(Some(("rate", number)));
+            }
+        }
+        _ => return Ok(Some(("form", number))),
+    }
+    let names: HashMap<&str, usize> = table.sources.iter().enumerate().map(|(at, it)| (it.name.as_str(), at)).collect();
+    for group in &table.groups {
+        let mut periods = HashMap::with_capacity(group.outputs.len());
+        for output in &group.outputs {
+            periods.insert(output.source, grid_period(table.rate, output)?);
+        }
+        let greatest = periods.values().copied().max().unwrap_or(1);
+        let number = words(&mut line);
+        let (name, frame, buses) = match line[..] {
+            ["group", name, "frame", frame, "buses", buses] => match (decimal(frame), decimal(buses)) {
+                (Some(frame), Some(buses)) => (name, frame, buses),
+                _ => return Ok(Some(("form", number))),
+            },
+            _ => return Ok(Some(("form", number))),
+        };
+        if name != group.name {
+            return Ok(Some(("group", number)));
+        }
+        if frame != greatest {
+            return Ok(Some(("frame", number)));
+        }
+        if !(1..=BUSES).contains(&buses) {
+            return Ok(Some(("buses", number)));
+        }
+        let mut listed: HashSet<usize> = HashSet::new();
+        let mut places: Vec<(u64, u64, u64)> = Vec::with_capacity(group.outputs.len());
+        let mut demand = 0;
+        for _ in &group.outputs {
+            let number = words(&mut line);
+            let (name, period, bus, offset) = match line[..] {
+                ["output", name, "period", period, "bus", bus, "offset", offset] => {
+                    match (decimal(period), decimal(bus), decimal(offset)) {
+                        (Some(period), Some(bus), Some(offset)) => (name, period, bus, offset),
+                        _ => return Ok(Some(("form", number))),
+                    }
+                }
+                _ => return Ok(Some(("form", number))),
+            };
+            let due = names.get(name).and_then(|source| Some((*source, *periods.get(source)?)));
+            let Some((source, due)) = due else {
+                return Ok(Some(("output", number)));
+            };
+            if !listed.insert(source) {
+                return Ok(Some(("output", number)));
+            }
+            if period != due {
+                return Ok(Some(("period", number)));
+            }
+            if bus >= buses || offset >= period {
+                return Ok(Some(("place", number)));
+            }
+            let meets = |place: &(u64, u64, u64)| {
+                let smaller = place.1.min(period);
+                place.0 == bus && place.2 % smaller == offset % smaller
+            };
+            if places.iter().any(meets) {
+                return Ok(Some(("shared", number)));
+            }
+            places.push((bus, period, offset));
+            demand += frame / period;
+        }
+        let number = words(&mut line);
+        let bound = match line[..] {
+            ["bound", cells, ">", full, "*", slots] => match (decimal(cells), decimal(full), decimal(slots)) {
+                (Some(cells), Some(full), Some(slots)) => (cells, full, slots),
+                _ => return Ok(Some(("form", number))),
+            },
+            _ => return Ok(Some(("form", number))),
+        };
+        if bound != (demand, buses - 1, frame) || demand <= (buses - 1) * frame || demand > buses * frame {
+            return Ok(Some(("bound", number)));
+        }
+    }
+    let number = words(&mut line);
+    Ok(if line == [""] { None } else { Some(("form", number)) })
+}
+
+fn main() -> Result<(), Fault> {
+    let words: Vec<String> = env::args().skip(1).collect();
+    let told = match &words[..] {
+        [command, name] if command == "plan" => plan_text(&table(&fs::read_to_string(name)?)?)?,
+        [command, name, text] if command == "check" => {
+            let table = table(&fs::read_to_string(name)?)?;
+            match check(&table, &fs::read_to_string(text)?)? {
+                None => "fewest\n".into(),
+                Some((reason, line)) => format!("no {reason} {line}\n"),
+            }
+        }
+        _ => return Err("words: plan TABLE, or check TABLE TEXT".into()),
+    };
+    io::stdout().write_all(told.as_bytes())?;
+    Ok(())
+}
