@@ -130,11 +130,11 @@ pub(crate) fn open(plan: Plan<OUTPUTS>) -> (Head, Front)
 
 impl Front {
     /// The last plan.
-    pub(crate) fn plan(&self) -> Plan<OUTPUTS>
-        ensures last { result ≡ self.now.last }
-        ensures ends { EndsWith self.now.log result }
+    pub(crate) fn last(&self) -> &Plan<OUTPUTS>
+        ensures last { result.now ≡ self.now.last }
+        ensures ends { EndsWith self.now.log result.now }
     {
-        self.plan
+        &self.plan
     }
 
     /// Its number.

@@ -121,7 +121,7 @@ impl Planner {
         Ok(Watcher {
             reader,
             front: self.front.again(),
-            opened: self.front.plan(),
+            opened: *self.front.last(),
         })
     }
 

@@ -106,14 +106,15 @@ fn newest_table(watcher: &mut Watcher, group: usize) -> (u64, GroupPlan<OUTPUTS>
     ensures book { watcher.new.book ≡ watcher.old.book }
     ensures opened { watcher.new.opened ≡ watcher.old.opened }
 {
-    let (number, plan) = watcher.newest();
+    watcher.look();
+    let plan = watcher.last();
     let opened = watcher.opened();
     let table = if group < plan.groups() {
         *plan.group(group)
     } else {
         *opened.group(group)
     };
-    (number, table)
+    (plan.number(), table)
 }
 
 impl Transmit {

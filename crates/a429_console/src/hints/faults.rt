@@ -25,6 +25,8 @@ pub fn tell_table_fault<V: Write>(
             Some(row) => tell_row(alloc, kind, row, err),
             None => Ok(()),
         },
+        // the hint is for what the command refused, and that was not want of memory
+        Err(error) if error.is_memory() => Ok(()),
         Err(error) => tell_not_toml(alloc, &error, err),
     }
 }
