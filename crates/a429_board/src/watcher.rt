@@ -42,7 +42,11 @@ fn read(reader: PlanReader, count: u64) -> (PlanReader, Option<Front>)
     match reader.enter_as::<Learns>() {
         Ok(reading) => {
             let shown = &reading.get().front;
-            let longer = if count < shown.count() { Some(shown.again()) } else { None };
+            let longer = if count < shown.count() {
+                Some(shown.again())
+            } else {
+                None
+            };
             (reading.leave(), longer)
         }
         Err(reader) => (reader, None),
