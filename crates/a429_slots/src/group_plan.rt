@@ -203,12 +203,13 @@ impl<const N: usize> GroupPlan<N> {
     /// The output in a cell: on this bus, in this slot counted from the frame's start. Slots past the
     /// frame are those of the frames that follow. None is an empty cell, or a bus outside the plan. Beside it
     /// stands how many running sums were read to find it: at most as many as the number of outputs has binary
-    /// digits, and at least one fewer where there is an output. It takes no memory.
+    /// digits, at least one fewer where there is an output, and none where there is none. It takes no memory.
     pub fn at_counted(&self, bus: u32, slot: u64) -> (Option<OutputId>, u32)
         ensures cell { result.0 ≡ cell_at self.now bus slot }
         ensures known { IfSome result.0 (λ output. output < length (outputs_of self.now)) }
         ensures probes { (digits : ℕ) → length (outputs_of self.now) < 2 ^ digits → result.1 ≤ digits }
         ensures least { IfSome result.0 (λ _. length (outputs_of self.now) < 2 ^ (result.1 + 1)) }
+        ensures outside { result.0 ≡ None → result.1 ≡ 0 }
     {
         orders_name_each_once();
         stretches_are_apart();
