@@ -7,6 +7,11 @@ abbrev pub taken_by : {A E : Type 0} → Sent → Result A E → List Sent
 taken_by sent (Ok done) = sent ∷ []
 taken_by sent (Err fault) = []
 
+-- the count of cells after an answer: it rises by one at a cell that is taken and at no other, and stays at the last value of 64 bits
+abbrev pub counted_by : {A E : Type 0} → ℕ → Result A E → ℕ
+counted_by n (Ok done) = min (n + 1) (2 ^ 64 - 1)
+counted_by n (Err fault) = n
+
 -- the count of failures after an answer: it rises by one at a fault and at no other, and stays at the last value of 64 bits
 abbrev pub failures_by : {A E : Type 0} → ℕ → Result A E → ℕ
 failures_by n (Ok done) = n

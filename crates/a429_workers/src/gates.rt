@@ -1,4 +1,6 @@
 //! Gates, which the loops of a station pass at each word and each cell.
+ghost use Rattle.std.specs.Prelude.{⊤, OnErr};
+ghost use Rattle.a429_workers.specs.declared.gates.Point.{Point as At};
 
 use thiserror::Error;
 
@@ -22,8 +24,12 @@ pub struct GateFault;
 
 /// Lets loops pass, or holds them for a while, or ends them (profile: for tests of what runs at once).
 pub trait Gate {
+    /// The points at which it may end a loop: all, where it does not say.
+    ghost shuts: { Self → At → Type 0 } = { λ _ _. ⊤ };
+
     /// Lets the loop at this point go on, or ends it.
-    fn pass(&self, point: Point) -> Result<(), GateFault>;
+    fn pass(&self, point: Point) -> Result<(), GateFault>
+        ensures { OnErr result (shuts self.now point) };
 }
 
 /// A gate that always lets pass.
@@ -31,6 +37,8 @@ pub trait Gate {
 pub struct OpenGate;
 
 impl Gate for OpenGate {
+    ghost shuts = { λ _ _. ⊥ };
+
     fn pass(&self, _point: Point) -> Result<(), GateFault> {
         Ok(())
     }

@@ -1,6 +1,8 @@
 //! The loop of a receiver.
-ghost use Rattle.std.specs.Prelude.{◌≡◌, ◌≤◌, ◌+◌, ◌<◌, ◌++◌, ◌∷◌, [], ◌⊎◌, ℕ, List, true, OnOk, MatchResult};
+ghost use Rattle.std.specs.Prelude.{◌≡◌, ◌≤◌, ◌+◌, ◌<◌, ◌++◌, ◌∷◌, [], ◌⊎◌, ℕ, List, true, OnOk, OnErr, MatchResult};
 ghost use Rattle.a429_values.specs.Ends.{accept_answer};
+ghost use Rattle.a429_workers.specs.declared.gates.Point.{Point as At};
+ghost use Rattle.a429_workers.specs.Gates.{IsOfReceiver, MayEndReceiver};
 ghost use Rattle.a429_workers.specs.Receives.{AreAtMost, AreTaken, IsSameReceiver, after_words, counted, source_failures};
 
 use crate::gates::{Gate, GateFault, Point};
@@ -63,6 +65,7 @@ fn receive<G: Gate>(
     ensures totals { OnOk result (totals.new ≡ counted totals.old (accept_answer receiver.old raw)) }
     ensures same { IsSameReceiver receiver.old receiver.new }
     ensures either { (receiver.new ≡ receiver.old) ⊎ (receiver.new ≡ after_words receiver.old (raw ∷ [])) }
+    ensures gate { OnErr result ((at : At) × IsOfReceiver number at × G.shuts gate.now at) }
 {
     gate.pass(Point::BeforeAccept(number, place))?;
     let answer = receiver.accept(raw);
@@ -84,6 +87,7 @@ pub fn receive_all<L: LineSource, G: Gate>(
     ensures same { IsSameReceiver receiver.old receiver.new }
     ensures ended { OnOk result (L.ended line.new ≡ true) }
     ensures failed { L.failed line.new ≡ source_failures (L.failed line.old) result }
+    ensures gate { MayEndReceiver (G.shuts gate.now) number result }
 {
     let mut totals = ReceiveTotals {
         accepted: 0,

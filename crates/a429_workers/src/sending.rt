@@ -1,7 +1,9 @@
 //! The loop of a group.
-ghost use Rattle.std.specs.Prelude.{◌≡◌, ◌≤◌, ◌+◌, ◌<◌, ◌^◌, OnOk};
+ghost use Rattle.std.specs.Prelude.{◌≡◌, ◌≤◌, ◌+◌, ◌<◌, ◌^◌, OnOk, IfErr};
 ghost use Rattle.a429_slots.specs.Tables.{cells_of};
+ghost use Rattle.a429_workers.specs.Gates.{MayEndGroup};
 ghost use Rattle.a429_workers.specs.Transmitting.{IsSameGroup};
+ghost use Rattle.a429_workers.specs.declared.sending.SendFault.TheVariants.{Change};
 ghost use Rattle.a429_workers.specs.Sends.{AreSent, IsCell, IsFrame, IsTurn, sink_failures};
 
 use crate::gates::{Gate, Point};
@@ -45,13 +47,13 @@ fn send_cell<B: BusSink, G: Gate>(
     ensures same { IsSameGroup transmit.old transmit.new }
     ensures few { OnOk result ((totals.new.words ≤ totals.new.cells) × (totals.new.cells ≡ totals.old.cells + 1)) }
     ensures failed { B.failed sink.new ≡ sink_failures (B.failed sink.old) result }
+    ensures gate { MayEndGroup (G.shuts gate.now) group result }
 {
     if let Err(_) = gate.pass(Point::BeforeCell(group, totals.cells)) {
         return Err(SendFault::Gate);
     }
     let Ok(sent) = transmit.cell() else {
-        // It is due, so this is never reached.
-        return Err(SendFault::Gate);
+        unreachable!()
     };
     if let Err(_) = sink.put(&sent) {
         return Err(SendFault::Sink);
@@ -79,6 +81,7 @@ fn send_frame<B: BusSink, G: Gate>(
     ensures same { IsSameGroup transmit.old transmit.new }
     ensures few { OnOk result ((totals.new.words ≤ totals.new.cells) × (totals.new.cells ≤ totals.old.cells + 131072)) }
     ensures failed { B.failed sink.new ≡ sink_failures (B.failed sink.old) result }
+    ensures gate { MayEndGroup (G.shuts gate.now) group result }
 {
     for _ in 0..transmit.cells() {
         send_cell(transmit, sink, group, totals, gate)?;
@@ -91,6 +94,7 @@ fn next_frame(transmit: &mut Transmit) -> Result<(), SendFault>
     requires over { transmit.old.frame.sent ≡ cells_of transmit.old.frame.table }
     ensures turn { IsTurn transmit.old transmit.new result }
     ensures same { IsSameGroup transmit.old transmit.new }
+    ensures change { IfErr result (λ fault. fault ≡ Change) }
 {
     match transmit.change() {
         Ok(_) => Ok(()),
@@ -114,6 +118,7 @@ pub fn send_frames<B: BusSink, G: Gate>(
     ensures same { IsSameGroup transmit.old transmit.new }
     ensures sent { AreSent frames transmit.old transmit.new (B.taken sink.old) (B.taken sink.new) result }
     ensures failed { B.failed sink.new ≡ sink_failures (B.failed sink.old) result }
+    ensures gate { MayEndGroup (G.shuts gate.now) group result }
 {
     let mut totals = SendTotals {
         cells: 0,

@@ -1,6 +1,6 @@
 //! Where a group's cells go.
-ghost use Rattle.std.specs.Prelude.{◌≡◌, ◌++◌, [], List, ℕ, Option, option_map};
-ghost use Rattle.a429_workers.specs.Sinks.{failures_by, taken_by};
+ghost use Rattle.std.specs.Prelude.{◌≡◌, ◌++◌, [], List, ℕ, Option, None, option_map};
+ghost use Rattle.a429_workers.specs.Sinks.{counted_by, failures_by, taken_by};
 ghost use Rattle.a429_workers.specs.declared.cells.Sent.{Sent as Cell};
 
 use crate::cells::Sent;
@@ -18,12 +18,16 @@ pub trait BusSink {
     /// The cells that it took so far, where it tells them.
     ghost taken: { Self → Option (List Cell) };
 
+    /// How many cells it took so far, where it counts them, as far as 64 bits count.
+    ghost counted: { Self → Option ℕ } = { λ _. None };
+
     /// How many of its calls answered a fault, as far as 64 bits count.
     ghost failed: { Self → ℕ };
 
     /// Takes the next cell. A call that answers a fault takes nothing.
     fn put(&mut self, sent: &Sent) -> Result<(), SinkFault>
         ensures taken { taken self.new ≡ option_map (λ cells. cells ++ taken_by sent.now result) (taken self.old) }
+        ensures counted { counted self.new ≡ option_map (λ n. counted_by n result) (counted self.old) }
         ensures failed { failed self.new ≡ failures_by (failed self.old) result };
 
     /// How many calls of `put` answered a fault. At the last value of 64 bits it counts no more.
@@ -131,9 +135,11 @@ impl CountSink {
 }
 
 impl BusSink for CountSink {
-    ghost use Rattle.std.specs.Prelude.{None};
+    ghost use Rattle.std.specs.Prelude.{None, Some};
 
     ghost taken = { λ _. None };
+
+    ghost counted = { λ s. Some s };
 
     ghost failed = { λ _. 0 };
 
