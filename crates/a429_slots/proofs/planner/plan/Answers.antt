@@ -26,7 +26,7 @@ group_plan-requires g c =
             subst (λ (ss : List SourceRow). AllByRecursion (λ (o : OutputRow). o.source < length ss) c.outputs.result.now) (sym c.sources-sources.ensures.rows) known,
             (
               all_at (AllByRecursion IsInterval) e.outputs c.loop-group.group c.outputs.result.now sound.intervals c.outputs.ensures.rows,
-              rate_in_group e c.loop-group.group c.group_rate-rate.result sound c.group_rate-rate.ensures.rate,
+              rate_in_group e _ c.group_rate-rate.result sound c.group_rate-rate.ensures.rate,
             ),
           ),
         ),
