@@ -27,7 +27,7 @@ use Rattle.a429_workers.specs.declared.sending.SendFault.{SendFault}
 use Rattle.a429_station.specs.Course.{Course, IsHeardIn, IsSentIn, fresh, heard_in, meeting}
 use Rattle.a429_station.specs.Faults.{EndsGroup, EndsLine, GaveTooMuch, HasStopped, IsFirst, first_fault, of_receiver}
 use Rattle.a429_station.specs.Numbered.{AllNumbered}
-use Rattle.a429_station.specs.Resubmitting.{GoesOn, IsBegun, IsLed, Running, opening}
+use Rattle.a429_station.specs.Resubmitting.{GoesOn, IsBegun, IsLed, Running, TellsLater, TellsPlans, opening}
 use Rattle.a429_station.specs.Working.{HasEmitted, HasReceived, IsJoined, IsOver, IsReady, IsReceiverAt, meeting_of}
 use Rattle.a429_station.specs.declared.faults.LiveFault.{LiveFault}
 use Rattle.a429_station.proofs.Numbered.{mapped_range, numbered_also, numbered_both, numbered_place, numbered_weaker, zip_mapped}
@@ -127,6 +127,13 @@ began_so old new B G N =
       published = subst (λ (q : PlanTable). ArePublished (opening old.station q) N.later) first (subst (λ (t : TableRecord). ArePublished (opening t N.opened) N.later) G.station N.published);
       station = G.station;
     }
+
+-- who tells the plans that it published since the station began tells those after the first
+pub told_later : (old new : Running) (before after : Option (List PlanTable)) → IsBegun old → (N : IsLed new) → TellsPlans before old new after → TellsLater before N.later after
+told_later old new None after B N T = T
+told_later old new (Some before) after B N T =
+    let more : old.planner.last ∷ T.0 ≡ N.opened ∷ map (λ (q : Proposed). q.plan) N.later = ap (λ (l : List PlanTable). l ++ T.0) (sym B.first) ∙ (sym T.2 ∙ N.plans) in
+    T.1 ∙ ap (λ (ps : List PlanTable). Some (before ++ ps)) (rest_of old.planner.last N.opened T.0 (map (λ (q : Proposed). q.plan) N.later) more).1
 
 -- each receiver is what it was before its first word, with the words that came to it
 abbrev pub AreAfter : ends.Place → (ℕ → List ℕ) → List ends.Receiving → Type 0

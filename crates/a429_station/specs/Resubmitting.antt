@@ -1,5 +1,5 @@
 -- Plans that are published while a station runs: of the tables that are submitted again, those of the same station.
-use Rattle.std.specs.Prelude.{◌≡◌, ◌≤◌, ◌+◌, ◌^◌, ◌++◌, ◌∷◌, [], ⊤, ℕ, true, false, List, Option, Some, None, Ok, Err, length}
+use Rattle.std.specs.Prelude.{◌≡◌, ◌≤◌, ◌+◌, ◌^◌, ◌++◌, ◌∷◌, [], ⊤, ℕ, true, false, List, Option, Some, None, Ok, Err, length, map}
 use Rattle.std.specs.List.{AllByRecursion}
 use mathlib.Core.List.{IsPrefix}
 use Rattle.a429_equipment.specs.TableRecord.{TableRecord}
@@ -62,6 +62,11 @@ pub record GoesOn (old new : Running) : Type 0 where
 abbrev pub TellsPlans : Option (List PlanTable) → Running → Running → Option (List PlanTable) → Type 0
 TellsPlans None old new after = after ≡ None
 TellsPlans (Some before) old new after = (plans : List PlanTable) × (after ≡ Some (before ++ plans)) × (new.planner.list ≡ old.planner.list ++ plans)
+
+-- who tells the plans that it published tells these too, each under its number, in order
+abbrev pub TellsLater : Option (List PlanTable) → List Proposed → Option (List PlanTable) → Type 0
+TellsLater None later after = after ≡ None
+TellsLater (Some before) later after = after ≡ Some (before ++ map (λ q. q.plan) later)
 
 -- ---- a table that is submitted again
 

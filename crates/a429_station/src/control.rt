@@ -29,25 +29,12 @@ impl<R: Wait> Control<R> for NoControl {
     }
 }
 
-/// A station and its control, lent for a while.
-#[derive(Drop)]
-pub struct Lent<'b, 'a, R: Wait, K: Control<R>> {
-    pub station: &'b mut Station<'a, R>,
-    pub control: &'b mut K,
-}
-
-impl<'b, 'a, R: Wait, K: Control<R>> Meanwhile for Lent<'b, 'a, R, K> {
-    ghost use Rattle.std.specs.Prelude.{◌≡◌};
+impl<'a, R: Wait, K: Control<R>> Meanwhile<Station<'a, R>> for K {
     ghost use Rattle.a429_station.specs.Resubmitting.{GoesOn, TellsPlans};
 
-    type Done = (Lent<'b, 'a, R, K>, Result<(), AllocError>);
+    ghost did = { λ before old new after. GoesOn old new × TellsPlans (K.published before) old new (K.published after) };
 
-    ghost did = { λ l d. (d.0.station.ghost_name ≡ l.station.ghost_name) × (d.0.control.ghost_name ≡ l.control.ghost_name)
-        × GoesOn l.station.now d.0.station.now × TellsPlans (K.published l.control.now) l.station.now d.0.station.now (K.published d.0.control.now) };
-
-    fn run(self) -> (Lent<'b, 'a, R, K>, Result<(), AllocError>) {
-        let Lent { station, control } = self;
-        let answer = control.run(station);
-        (Lent { station, control }, answer)
+    fn meanwhile(&mut self, station: &mut Station<'a, R>) -> Result<(), AllocError> {
+        self.run(station)
     }
 }

@@ -8,15 +8,15 @@ ghost use Rattle.a429_workers.specs.Transmitting.{BeginsWith};
 ghost use Rattle.a429_station.specs.Course.{HasRun, fresh};
 ghost use Rattle.a429_station.specs.Faults.{IsLiveFault, IsRunFault};
 ghost use Rattle.a429_station.specs.Numbered.{AllNumbered};
-ghost use Rattle.a429_station.specs.Resubmitting.{HasFewSlots, IsBegun};
+ghost use Rattle.a429_station.specs.Resubmitting.{HasFewSlots, IsBegun, TellsLater};
 ghost use Rattle.a429_station.specs.Working.{IsReady};
 ghost use Rattle.a429_station.specs.declared.faults.LiveFault.TheVariants.{NoMemory};
 
-use crate::control::{Control, Lent};
+use crate::control::Control;
 use crate::faults::LiveFault;
 use crate::reports::{Heard, Report, Told, groups_reported, receivers_reported};
 use crate::station::Station;
-use crate::threads::{AtOnce, at_once};
+use crate::threads::{Ended, at_once};
 use crate::working::{Receiving, Sending, group_worker};
 use a429_board::{Board, Watcher};
 use a429_equipment::Equipment;
@@ -171,21 +171,19 @@ fn run<
     requires few { frames ≤ 1000000 }
     requires watchers { AllByRecursion (λ w. w ≡ beginner station.old.planner) watchers.items }
     requires enough { vec_len sinks ≤ vec_len watchers }
-    ensures ran { IfOk result (HasRun L.given L.ended B.taken hub.now.station frames (map (λ w. w.line) receiving.entry.items) sinks.items) }
+    ensures ran { IfOk result (λ report. (ran : HasRun L.given L.ended B.taken hub.now.station frames (map (λ w. w.line) receiving.entry.items) sinks.items report) × TellsLater (K.published control.old) ran.course.later (K.published control.new)) }
     ensures fault { IfErr result (IsRunFault L.given L.ended L.failed B.failed (map (λ w. w.line) receiving.entry.items) sinks.items) }
 {
     let sending = groups(alloc, hub, desk, station, watchers, sinks, frames, gate)?;
-    let lent = Lent { station, control };
-    let Ok(done) = at_once(rt, alloc, receiving, sending, lent) else {
+    let Ok(done) = at_once(rt, alloc, receiving, sending, station, control) else {
         return Err(LiveFault::Join);
     };
-    let AtOnce {
+    station.led();
+    let Ended {
         first,
         second,
-        meanwhile: (lent, answer),
+        answer,
     } = done;
-    let Lent { station, .. } = lent;
-    station.led();
     let mut heard = receivers_reported(alloc, first)?;
     let told = groups_reported(alloc, hub, station, heard.receivers.as_mut_slice(), second)?;
     answer?;
@@ -213,7 +211,8 @@ fn run<
 /// Then each receiver took the words that its source gave up to its end, each sink took the cells of so many whole
 /// frames, and what a group did is one run of the machine: its calls meet the premises of
 /// `a429_workers::laws::one_run`, by the equipment's plan from slot 0 on, the plans that were published meanwhile, and
-/// what all receivers accepted, each of which its transmitter met in the end.
+/// what all receivers accepted, each of which its transmitter met in the end. Where the control tells the plans that it
+/// published, these are the ones that it told meanwhile.
 ///
 /// Refused is, in this order, an equipment without a plan (`Plan`), and more than a million frames (`TooMuch`); then
 /// nothing was started. `Join` where a thread could not be started or taken in. When all have ended: the fault of the
@@ -239,6 +238,7 @@ pub fn live<
     requires sources { vec_len sources ≡ length equipment.now.receivers }
     requires sinks { vec_len sinks ≡ length equipment.now.groups }
     ensures ran { IfOk result (HasRun L.given L.ended B.taken equipment.now frames sources.items sinks.items) }
+    ensures told { IfOk result (λ report. (ran : HasRun L.given L.ended B.taken equipment.now frames sources.items sinks.items report) × TellsLater (K.published control.old) ran.course.later (K.published control.new)) }
     ensures fault { IfErr result (IsLiveFault L.given L.ended L.failed B.failed equipment.now frames sources.items sinks.items) }
 {
     numbers_in_range(equipment);

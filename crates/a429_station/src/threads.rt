@@ -3,7 +3,7 @@ ghost use Rattle.std.specs.Prelude.{◌≡◌, IfOk, map};
 ghost use Rattle.std.specs.List.{AllZip};
 
 use core::scope::{Scope, scope_env, scoped};
-use std::alloc::Global;
+use std::alloc::{AllocError, Global};
 use std::snapshot::Snapshot;
 use std::sync::Wait;
 use std::thread::{Promise, PromisedHandle, Threads, join_promised};
@@ -67,24 +67,21 @@ fn joined<R: Threads, W: Work>(rt: &R, handles: Handles<W>) -> Result<Vec<W::Don
     }
 }
 
-/// What the calling thread does while workers run.
-pub trait Meanwhile: Drop {
-    /// What is there when it is done.
-    type Done: Drop;
+/// What the calling thread does while workers run, to a value.
+pub trait Meanwhile<S> {
+    /// Whether it and the value can so change.
+    ghost did: { Self → S → S → Self → Type 0 };
 
-    /// Whether what began so can end so.
-    ghost did: { Self → Self.Done → Type 0 };
-
-    fn run(self) -> Self::Done
-        ensures { did self result };
+    fn meanwhile(&mut self, to: &mut S) -> Result<(), AllocError>
+        ensures { did self.old to.old to.new self.new };
 }
 
-/// What workers did at once, and the calling thread meanwhile.
+/// What workers did at once, and what the calling thread answered meanwhile.
 #[derive(Drop)]
-pub struct AtOnce<X: Drop, Y: Drop, Z: Drop> {
+pub struct Ended<X: Drop, Y: Drop> {
     pub first: Vec<X>,
     pub second: Vec<Y>,
-    pub meanwhile: Z,
+    pub answer: Result<(), AllocError>,
 }
 
 // Starts the workers, does what is to be done meanwhile, and takes the workers in.
@@ -94,30 +91,115 @@ fn worked<
     R: Threads,
     W: Work<Done = X> + 's,
     V: Work<Done = Y> + 's,
-    M: Meanwhile<Done = Z>,
+    S,
+    M: Meanwhile<S>,
     X: Send + Drop,
     Y: Send + Drop,
-    Z: Drop,
 >(
     scope: &'s Scope<'s, E>,
     rt: &R,
     alloc: Global,
     first: Vec<W>,
     second: Vec<V>,
-    meanwhile: M,
-) -> Result<AtOnce<X, Y, Z>, NotJoined>
+    to: &mut S,
+    meanwhile: &mut M,
+) -> Result<Ended<X, Y>, NotJoined>
     ensures first { IfOk result (λ done. AllZip W.did first.items done.first.items) }
     ensures second { IfOk result (λ done. AllZip V.did second.items done.second.items) }
-    ensures meanwhile { IfOk result (λ done. M.did meanwhile done.meanwhile) }
+    ensures meanwhile { IfOk result (λ done. M.did meanwhile.old to.old to.new meanwhile.new) }
 {
     let first = started(scope, alloc, first)?;
     let second = started(scope, alloc, second)?;
-    let meanwhile = meanwhile.run();
-    Ok(AtOnce {
+    let answer = meanwhile.meanwhile(to);
+    Ok(Ended {
         first: joined(rt, first)?,
         second: joined(rt, second)?,
-        meanwhile,
+        answer,
     })
+}
+
+// What is lent to a scope of threads, and given back.
+#[derive(Drop)]
+struct Lent<'b, S, M, X: Drop, Y: Drop> {
+    to: &'b mut S,
+    meanwhile: &'b mut M,
+    ended: &'b mut Result<Ended<X, Y>, NotJoined>,
+}
+
+// Works as `worked` does, on what is lent.
+fn lent_worked<
+    's,
+    E,
+    R: Threads,
+    W: Work<Done = X> + 's,
+    V: Work<Done = Y> + 's,
+    S,
+    M: Meanwhile<S>,
+    X: Send + Drop,
+    Y: Send + Drop,
+>(
+    scope: &'s Scope<'s, E>,
+    rt: &R,
+    alloc: Global,
+    first: Vec<W>,
+    second: Vec<V>,
+    lent: &mut Lent<'_, S, M, X, Y>,
+)
+    ensures same { (lent.new.to.ghost_name ≡ lent.old.to.ghost_name) × (lent.new.meanwhile.ghost_name ≡ lent.old.meanwhile.ghost_name)
+        × (lent.new.ended.ghost_name ≡ lent.old.ended.ghost_name) }
+    ensures first { IfOk lent.new.ended.now (λ done. AllZip W.did first.items done.first.items) }
+    ensures second { IfOk lent.new.ended.now (λ done. AllZip V.did second.items done.second.items) }
+    ensures meanwhile { IfOk lent.new.ended.now (λ done. M.did lent.old.meanwhile.now lent.old.to.now lent.new.to.now lent.new.meanwhile.now) }
+{
+    *lent.ended = worked(
+        scope,
+        rt,
+        alloc,
+        first,
+        second,
+        &mut *lent.to,
+        &mut *lent.meanwhile,
+    );
+}
+
+// Works in a scope of threads, and gives back what was lent.
+fn given_back<
+    'b,
+    R: Threads + Wait,
+    W: Work<Done = X>,
+    V: Work<Done = Y>,
+    S,
+    M: Meanwhile<S>,
+    X: Send + Drop,
+    Y: Send + Drop,
+>(
+    rt: &R,
+    alloc: Global,
+    first: Vec<W>,
+    second: Vec<V>,
+    lent: Lent<'b, S, M, X, Y>,
+) -> Lent<'b, S, M, X, Y>
+    ensures same { (result.to.ghost_name ≡ lent.entry.to.ghost_name) × (result.meanwhile.ghost_name ≡ lent.entry.meanwhile.ghost_name)
+        × (result.ended.ghost_name ≡ lent.entry.ended.ghost_name) }
+    ensures first { IfOk result.ended.now (λ done. AllZip W.did first.items done.first.items) }
+    ensures second { IfOk result.ended.now (λ done. AllZip V.did second.items done.second.items) }
+    ensures meanwhile { IfOk result.ended.now (λ done. M.did lent.entry.meanwhile.now lent.entry.to.now result.to.now result.meanwhile.now) }
+{
+    scoped(
+        scope_env(),
+        rt,
+        move |scope| -> Lent<S, M, X, Y>
+            ensures same { (result.to.ghost_name ≡ lent.entry.to.ghost_name) × (result.meanwhile.ghost_name ≡ lent.entry.meanwhile.ghost_name)
+                × (result.ended.ghost_name ≡ lent.entry.ended.ghost_name) }
+            ensures first { IfOk result.ended.now (λ done. AllZip W.did first.items done.first.items) }
+            ensures second { IfOk result.ended.now (λ done. AllZip V.did second.items done.second.items) }
+            ensures meanwhile { IfOk result.ended.now (λ done. M.did lent.entry.meanwhile.now lent.entry.to.now result.to.now result.meanwhile.now) }
+        {
+            let mut lent = lent;
+            lent_worked(scope, rt, alloc, first, second, &mut lent);
+            lent
+        },
+    )
 }
 
 /// Runs each worker on a thread of its own, all at once, and what is to be done meanwhile on the calling thread.
@@ -127,28 +209,30 @@ pub fn at_once<
     R: Threads + Wait,
     W: Work<Done = X>,
     V: Work<Done = Y>,
-    M: Meanwhile<Done = Z>,
+    S,
+    M: Meanwhile<S>,
     X: Send + Drop,
     Y: Send + Drop,
-    Z: Drop,
 >(
     rt: &R,
     alloc: Global,
     first: Vec<W>,
     second: Vec<V>,
-    meanwhile: M,
-) -> Result<AtOnce<X, Y, Z>, NotJoined>
+    to: &mut S,
+    meanwhile: &mut M,
+) -> Result<Ended<X, Y>, NotJoined>
     ensures first { IfOk result (λ done. AllZip W.did first.items done.first.items) }
     ensures second { IfOk result (λ done. AllZip V.did second.items done.second.items) }
-    ensures meanwhile { IfOk result (λ done. M.did meanwhile done.meanwhile) }
+    ensures meanwhile { IfOk result (λ done. M.did meanwhile.old to.old to.new meanwhile.new) }
 {
-    scoped(
-        scope_env(),
-        rt,
-        move |scope| -> Result<AtOnce<X, Y, Z>, NotJoined>
-            ensures first { IfOk result (λ done. AllZip W.did first.items done.first.items) }
-            ensures second { IfOk result (λ done. AllZip V.did second.items done.second.items) }
-            ensures meanwhile { IfOk result (λ done. M.did meanwhile done.meanwhile) }
-        { worked(scope, rt, alloc, first, second, meanwhile) },
-    )
+    let mut ended = Err(NotJoined);
+    {
+        let lent = Lent {
+            to,
+            meanwhile,
+            ended: &mut ended,
+        };
+        let _back = given_back(rt, alloc, first, second, lent);
+    }
+    ended
 }

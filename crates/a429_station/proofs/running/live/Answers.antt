@@ -1,4 +1,5 @@
 use Rattle.std.proofs.Common.{◌∙◌, List, [], ◌∷◌, ap, length, map, rules, subst, sym}
+use Rattle.std.proofs.lemmas.Result.{IfOk-weaker}
 use Rattle.std.specs.Prelude.{IfErr, IfOk}
 use Rattle.a429_equipment.specs.TableRecord.{TableRecord}
 use Rattle.a429_slots.specs.Tables.{PlanTable}
@@ -7,7 +8,8 @@ use Rattle.a429_values.specs.Ends as ends
 use Rattle.a429_workers.specs.Runs.{IsWired}
 use Rattle.a429_station.specs.Course.{HasRun}
 use Rattle.a429_station.specs.Faults.{IsLiveFault, IsRunFault}
-use Rattle.a429_station.specs.Resubmitting.{IsBegun, Running}
+use Rattle.a429_station.specs.Resubmitting.{IsBegun, Running, TellsLater}
+use Rattle.a429_station.specs.declared.reports.Report.{Report}
 use Rattle.a429_station.proofs.Numbered.{at_most}
 use Rattle.a429_station.proofs.Returned.{early_err, early_ok}
 use Rattle.a429_station.proofs.Stopping.{live_fault, no_memory, weaker}
@@ -16,6 +18,9 @@ use Rattle.a429_station.proofs.running.live.Goals as goal
 pub returns-in_err-plan-clause-ran : goal.returns-in_err-plan-clause-ran
 returns-in_err-plan-clause-ran g c = early_ok _ _ c.from_residual.result c.from_residual.ensures.1
 
+pub returns-in_err-plan-clause-told : goal.returns-in_err-plan-clause-told
+returns-in_err-plan-clause-told g c = early_ok _ _ c.from_residual.result c.from_residual.ensures.1
+
 pub returns-in_err-plan-clause-fault : goal.returns-in_err-plan-clause-fault
 returns-in_err-plan-clause-fault g c =
     early_err _ c.from_residual.result c.from_residual.ensures.1
@@ -23,6 +28,9 @@ returns-in_err-plan-clause-fault g c =
 
 pub returns-in_err-hub-clause-ran : goal.returns-in_err-hub-clause-ran
 returns-in_err-hub-clause-ran g c = early_ok _ _ c.from_residual-in_err-hub.result c.from_residual-in_err-hub.ensures.1
+
+pub returns-in_err-hub-clause-told : goal.returns-in_err-hub-clause-told
+returns-in_err-hub-clause-told g c = early_ok _ _ c.from_residual-in_err-hub.result c.from_residual-in_err-hub.ensures.1
 
 pub returns-in_err-hub-clause-fault : goal.returns-in_err-hub-clause-fault
 returns-in_err-hub-clause-fault g c =
@@ -42,6 +50,9 @@ receivers-requires-clause-sources g c = at_most _ _ _ c.requires.sources (ap (λ
 pub returns-in_err-receiving-clause-ran : goal.returns-in_err-receiving-clause-ran
 returns-in_err-receiving-clause-ran g c = early_ok _ _ c.from_residual-in_err-receiving.result c.from_residual-in_err-receiving.ensures.1
 
+pub returns-in_err-receiving-clause-told : goal.returns-in_err-receiving-clause-told
+returns-in_err-receiving-clause-told g c = early_ok _ _ c.from_residual-in_err-receiving.result c.from_residual-in_err-receiving.ensures.1
+
 pub returns-in_err-receiving-clause-fault : goal.returns-in_err-receiving-clause-fault
 returns-in_err-receiving-clause-fault g c =
     early_err _ c.from_residual-in_err-receiving.result c.from_residual-in_err-receiving.ensures.1
@@ -50,6 +61,9 @@ returns-in_err-receiving-clause-fault g c =
 
 pub returns-in_err-planner-clause-ran : goal.returns-in_err-planner-clause-ran
 returns-in_err-planner-clause-ran g c = early_ok _ _ c.from_residual-in_err-planner.result c.from_residual-in_err-planner.ensures.1
+
+pub returns-in_err-planner-clause-told : goal.returns-in_err-planner-clause-told
+returns-in_err-planner-clause-told g c = early_ok _ _ c.from_residual-in_err-planner.result c.from_residual-in_err-planner.ensures.1
 
 pub returns-in_err-planner-clause-fault : goal.returns-in_err-planner-clause-fault
 returns-in_err-planner-clause-fault g c =
@@ -86,13 +100,19 @@ run-answer-requires-clause-hub g c κs lives = (
   c.in_ok-hub.ensures.station ∙ sym (ap (λ (r : Running). r.station) c.begun-station.ensures),
 )
 
-pub returns-clause-ran : goal.returns-clause-ran
-returns-clause-ran g c =
+pub returns-clause-told : goal.returns-clause-told
+returns-clause-told g c =
     let given = g.L.LineSource.given in
     let ended = g.L.LineSource.ended in
     let taken = g.B.BusSink.taken in
-    subst (λ (l : List g.row.L.Denot). IfOk c.run-answer.result (HasRun given ended taken c.args.equipment.now c.args.frames l c.args.sinks.items)) c.in_ok-receiving.ensures.lines
-    (subst (λ (t : TableRecord). IfOk c.run-answer.result (HasRun given ended taken t c.args.frames (map (λ w. w.line) c.in_ok-receiving.receiving.items) c.args.sinks.items)) c.in_ok-hub.ensures.station c.run-answer.ensures.ran)
+    let before = g.K.Control.published c.args.control.now in
+    let after = g.K.Control.published c.run-answer.new.control in
+    let ran : TableRecord → List g.row.L.Denot → Report g.row.L.Denot g.row.B.Denot → Type 0 = λ t l report. (x : HasRun given ended taken t c.args.frames l c.args.sinks.items report) × TellsLater before x.course.later after in
+    subst (λ (l : List g.row.L.Denot). IfOk c.run-answer.result (ran c.args.equipment.now l)) c.in_ok-receiving.ensures.lines
+    (subst (λ (t : TableRecord). IfOk c.run-answer.result (ran t (map (λ w. w.line) c.in_ok-receiving.receiving.items))) c.in_ok-hub.ensures.station c.run-answer.ensures.ran)
+
+pub returns-clause-ran : goal.returns-clause-ran
+returns-clause-ran g c = IfOk-weaker c.run-answer.result _ _ (λ report ran. ran.0) (returns-clause-told g c)
 
 pub returns-clause-fault : goal.returns-clause-fault
 returns-clause-fault g c =

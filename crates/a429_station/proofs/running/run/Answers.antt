@@ -16,7 +16,7 @@ use Rattle.a429_station.specs.declared.working.Emitted.{Emitted}
 use Rattle.a429_station.specs.declared.working.Received.{Received}
 use Rattle.a429_station.specs.declared.working.Receiving.{Receiving}
 use Rattle.a429_station.specs.declared.working.Sending.{Sending}
-use Rattle.a429_station.proofs.Ended.{AreAfter, all_stopped, course_of, taken_in, group_one, group_over, heard_one, receiver_one, receiver_stays, all_well, first_of_receivers}
+use Rattle.a429_station.proofs.Ended.{AreAfter, all_stopped, course_of, taken_in, group_one, group_over, heard_one, receiver_one, receiver_stays, all_well, first_of_receivers, told_later}
 use Rattle.a429_station.proofs.Numbered.{at_most, middle, numbered_all, numbered_mapped, shown, shown_past, three_of, zip_length, zip_numbered, zip_with}
 use Rattle.a429_station.proofs.Plans.{plan_small}
 use Rattle.a429_station.proofs.Returned.{early_err, early_ok}
@@ -55,11 +55,11 @@ pub groups_reported-requires-clause-groups : goal.groups_reported-requires-claus
 groups_reported-requires-clause-groups g c =
     let hub = c.args.hub.now in
     let old = c.args.station.now in
-    let on = c.in-Ok.ensures.meanwhile.2 in
-    let over = zip_numbered _ (λ k w. IsReady hub old.planner k w.transmit × (w.frames ≡ c.args.frames)) (λ k d. IsOver hub c.in-Ok.done.meanwhile.0.station.now.planner d.transmit d.answer)
-    (λ k w d h p. group_over g.B.BusSink.taken g.B.BusSink.failed hub old c.in-Ok.done.meanwhile.0.station.now k w.frames w.transmit d.transmit w.sink d.sink d.answer c.requires.hub.1 c.requires.begun on c.led.ensures (omega (arith, p.1, c.requires.few)) h p.0)
+    let on = c.in-Ok.ensures.meanwhile.0 in
+    let over = zip_numbered _ (λ k w. IsReady hub old.planner k w.transmit × (w.frames ≡ c.args.frames)) (λ k d. IsOver hub c.at_once.new.to.planner d.transmit d.answer)
+    (λ k w d h p. group_over g.B.BusSink.taken g.B.BusSink.failed hub old c.at_once.new.to k w.frames w.transmit d.transmit w.sink d.sink d.answer c.requires.hub.1 c.requires.begun on c.led.ensures (omega (arith, p.1, c.requires.few)) h p.0)
     c.in_ok-sending.sending.items c.in-Ok.done.second.items c.in-Ok.ensures.second c.in_ok-sending.ensures.ready in
-    numbered_all (λ d. IsOver hub c.in-Ok.done.meanwhile.0.station.now.planner d.transmit d.answer) c.in-Ok.done.second.items over
+    numbered_all (λ d. IsOver hub c.at_once.new.to.planner d.transmit d.answer) c.in-Ok.done.second.items over
 
 pub returns-clause-ran : goal.returns-clause-ran
 returns-clause-ran g c =
@@ -69,7 +69,7 @@ returns-clause-ran g c =
     let taken = g.B.BusSink.taken in
     let hub = c.args.hub.now in
     let old = c.args.station.now in
-    let new = c.in-Ok.done.meanwhile.0.station.now in
+    let new = c.at_once.new.to in
     let did : Receiving g.row.L.Denot g.row.G.Denot → Received g.row.L.Denot → Type 0 = λ w d. HasReceived given ended failed w.line w.receiver d.line d.receiver d.answer in
     let first = c.in-Ok.ensures.first in
     let ws = c.args.receiving.items in
@@ -88,7 +88,7 @@ returns-clause-ran g c =
     let rs = map (λ d. d.receiver) ds in
     let each : AreAfter hub came rs = middle (λ k r. r ≡ after_words (fresh hub k) (came k)) (map (λ w. w.line) ws) rs heard.totals.items after in
     let many : length ds ≡ length hub.station.receivers = omega (arith, zip_length did ws ds first, c.requires.all) in
-    let K = taken_in hub old new came rs c.requires.hub.1 c.requires.begun c.in-Ok.ensures.meanwhile.2 c.led.ensures c.requires.hub.0 each (omega (arith, many, length-map ds (λ d. d.receiver)))
+    let K = taken_in hub old new came rs c.requires.hub.1 c.requires.begun c.in-Ok.ensures.meanwhile.0 c.led.ensures c.requires.hub.0 each (omega (arith, many, length-map ds (λ d. d.receiver)))
     (λ k past. shown_past did show ws ds first k (omega (arith, past, c.requires.all))) in
     let joined = subst (λ (l : List ends.Receiving). AllByRecursion (λ d. IsJoined hub.station new.planner.list l d.transmit) c.in-Ok.done.second.items) (search rules) c.in_ok-told.ensures.joined in
     let sent : Sending g.row.B.Denot g.row.G.Denot g.B.BusSink → Emitted g.row.B.Denot → Type 0 = λ w d. HasEmitted taken g.B.BusSink.failed w.frames w.transmit w.sink d.transmit d.sink d.answer in
@@ -100,15 +100,17 @@ returns-clause-ran g c =
     let cells = three_of both none (λ w. w.sink) (λ d. d.sink) (λ d. d.answer)
     (λ k w. IsReady hub old.planner k w.transmit × (w.frames ≡ c.args.frames)) (IsSentIn taken c.args.frames hub.station course) (shown both none vs es pairs)
     (λ k w d t h p same is. group_one taken g.B.BusSink.failed hub old.planner new.planner course rs c.args.frames w.frames k w.transmit d.transmit w.sink d.sink d.answer t K h.0 h.1 p.0 p.1 same)
-    vs es told.totals.items pairs c.in_ok-sending.ensures.ready c.in_ok-told.ensures.totals (λ k. refl) in
-    record {
-      course = course;
-      planned = K.planned;
-      few = c.requires.few;
-      heard = subst (λ l. AllOfThree (IsHeardIn given ended hub.station course) (map (λ w. w.line) ws) l heard.totals.items) (sym c.in_ok-heard.ensures.sources) lines;
-      sent = subst (λ l. AllOfThree (IsSentIn taken c.args.frames hub.station course) c.args.sinks.items l told.totals.items) (sym c.in_ok-told.ensures.sinks)
-          (subst (λ l. AllOfThree (IsSentIn taken c.args.frames hub.station course) l (map (λ d. d.sink) c.in-Ok.done.second.items) told.totals.items) c.in_ok-sending.ensures.sinks cells);
-    }
+    vs es told.totals.items pairs c.in_ok-sending.ensures.ready c.in_ok-told.ensures.totals (λ k. refl) in (
+      record {
+        course = course;
+        planned = K.planned;
+        few = c.requires.few;
+        heard = subst (λ l. AllOfThree (IsHeardIn given ended hub.station course) (map (λ w. w.line) ws) l heard.totals.items) (sym c.in_ok-heard.ensures.sources) lines;
+        sent = subst (λ l. AllOfThree (IsSentIn taken c.args.frames hub.station course) c.args.sinks.items l told.totals.items) (sym c.in_ok-told.ensures.sinks)
+            (subst (λ l. AllOfThree (IsSentIn taken c.args.frames hub.station course) l (map (λ d. d.sink) c.in-Ok.done.second.items) told.totals.items) c.in_ok-sending.ensures.sinks cells);
+      },
+      told_later old new (g.K.Control.published c.args.control.now) (g.K.Control.published c.at_once.new.meanwhile) c.requires.begun c.led.ensures c.in-Ok.ensures.meanwhile.1,
+    )
 
 pub returns-in_err-heard-clause-fault : goal.returns-in_err-heard-clause-fault
 returns-in_err-heard-clause-fault g c =

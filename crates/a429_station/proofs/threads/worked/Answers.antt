@@ -36,6 +36,3 @@ returns-in_err-joined-2-clause-second g c = early_ok _ _ c.from_residual-in_err-
 
 pub returns-in_err-joined-2-clause-meanwhile : goal.returns-in_err-joined-2-clause-meanwhile
 returns-in_err-joined-2-clause-meanwhile g c = early_ok _ _ c.from_residual-in_err-joined-2.result c.from_residual-in_err-joined-2.ensures.1
-
-pub returns-clause-meanwhile : goal.returns-clause-meanwhile
-returns-clause-meanwhile g c = c.run-meanwhile.ensures
