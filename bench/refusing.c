@@ -1,5 +1,6 @@
 /* Counts the requests for memory that a program makes, and refuses the one whose number stands in REFUSED, counted
-   from 1. At its end the program writes to descriptor 3 how many it made. It goes before a program by LD_PRELOAD. */
+   from 1; with a minus behind the number, each from there on. At its end the program writes to descriptor 3 how many
+   it made. It goes before a program by LD_PRELOAD. */
 
 #include <errno.h>
 
@@ -15,10 +16,12 @@ extern _Noreturn void _Exit(int status);
 
 static unsigned long made;
 static unsigned long refused;
+static int and_later;
 
 /* The C library looks at the error where it starts a thread. */
 static int is_refused(void) {
-    if (__atomic_add_fetch(&made, 1, __ATOMIC_SEQ_CST) != refused) return 0;
+    unsigned long number = __atomic_add_fetch(&made, 1, __ATOMIC_SEQ_CST);
+    if (number != refused && !(and_later && number > refused)) return 0;
     errno = ENOMEM;
     return 1;
 }
@@ -37,8 +40,10 @@ void *calloc(size_t count, size_t size) {
 
 __attribute__((constructor)) static void begin(void) {
     const char *number = getenv("REFUSED");
+    char *rest;
     made = 0;
-    refused = number ? strtoul(number, 0, 10) : 0;
+    refused = number ? strtoul(number, &rest, 10) : 0;
+    and_later = number && *rest == '-';
 }
 
 __attribute__((destructor)) static void end(void) {
