@@ -1,9 +1,13 @@
-use Rattle.std.proofs.Common.{rules, arith, ◌∙◌, List, ap, inl, subst, sym}
+use Rattle.std.proofs.Common.{rules, arith, ◌≡◌, ◌∙◌, ◌++◌, [], List, ap, append-nil, inl, map, subst, sym}
+use Rattle.std.specs.Prelude.{Ok}
 use Rattle.std.specs.List.{AllByRecursion}
+use Rattle.std.specs.Vec.Iter.{into_iter_items}
+use Rattle.std.proofs.lemmas.List.{nil_from_length}
 use Rattle.std.proofs.lemmas.Grind.{common_steps}
 use Rattle.a429_values.specs.Ends as ends
 use Rattle.a429_station.specs.Resubmitting.{Running}
 use Rattle.a429_station.specs.Working.{IsJoined, IsOver}
+use Rattle.a429_station.specs.declared.working.Emitted.{Emitted}
 use Rattle.a429_station.proofs.Meeting.{joined_one, receivers_there}
 use Rattle.a429_station.proofs.Returned.{early_err, early_ok}
 use Rattle.a429_station.proofs.reports.groups_reported.Goals as goal
@@ -72,3 +76,18 @@ loop-done-preserved g c =
 
 pub returns-clause-fault : goal.returns-clause-fault
 returns-clause-fault g c = tt
+
+pub returns-clause-totals : goal.returns-clause-totals
+returns-clause-totals g c =
+    let empty : into_iter_items c.loop-done.done-iterator ≡ [] = nil_from_length (into_iter_items c.loop-done.done-iterator) (search rules) in
+    sym (append-nil _) ∙ (ap (λ (l : List (Emitted g.row.B.Denot)). map (λ t. Ok t) c.loop-done.totals.items ++ map (λ d. d.answer) l) (sym empty) ∙ c.loop-done.invariant.0)
+
+pub returns-clause-sinks : goal.returns-clause-sinks
+returns-clause-sinks g c =
+    let empty : into_iter_items c.loop-done.done-iterator ≡ [] = nil_from_length (into_iter_items c.loop-done.done-iterator) (search rules) in
+    sym (append-nil _) ∙ (ap (λ (l : List (Emitted g.row.B.Denot)). c.loop-done.sinks.items ++ map (λ d. d.sink) l) (sym empty) ∙ c.loop-done.invariant.1)
+
+pub returns-clause-joined : goal.returns-clause-joined
+returns-clause-joined g c =
+    let empty : into_iter_items c.loop-done.done-iterator ≡ [] = nil_from_length (into_iter_items c.loop-done.done-iterator) (search rules) in
+    c.loop-done.invariant.4 (subst (AllByRecursion (λ (d : Emitted g.row.B.Denot). IsJoined c.args.hub.now.station c.args.station.now.planner.list c.args.receivers.now d.transmit)) (sym empty) tt)
