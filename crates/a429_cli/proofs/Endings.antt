@@ -1,12 +1,14 @@
 -- How a command ends, by the calls that end it.
-use Rattle.std.proofs.Common.{◌≡◌, ◌≤◌, ◌∙◌, ◌++◌, ◌∷◌, [], ◌+◌, ◌-◌, ◌^◌, ℕ, List, append-nil, arith, sym, subst}
+use Rattle.std.proofs.Common.{◌≡◌, ◌≤◌, ap, inl, inr, ◌∙◌, ◌++◌, ◌∷◌, [], ◌+◌, ◌-◌, ◌^◌, ℕ, List, append-nil, arith, sym, subst}
 use Rattle.std.specs.Prelude.{Option, Result, Ok, Err, IfOk, OnOk, min}
 use Rattle.std.specs.Io.KnownBytes.{Appends}
 use Rattle.std.proofs.lemmas.Grind.{common_steps}
-use Rattle.a429_console.specs.Outputs.{IsPut, NoneFailed}
+use Rattle.a429_console.specs.Outputs.{IsPut, NoneFailed, OrNoMemory}
 use Rattle.a429_console.specs.RefusalText.{IsRefusalPut, OrMemory, refusal_line}
 use Rattle.a429_console.specs.declared.output.refusals.CommandRefusal.{CommandRefusal}
+use Rattle.a429_console.specs.declared.output.refusals.CommandRefusal.TheVariants as refused
 use Rattle.a429_console.proofs.Refused.{told_or_memory}
+use Rattle.a429_cli.specs.WordLines.{IsWordReply, word_lines, word_reply}
 
 -- a text was put whole
 pub text_put : {E : Type 0} (result : Result ℕ E) (Says : ℕ → List ℕ → Type 0) (old new : Option (List ℕ)) (left text : List ℕ) → left ≡ text → Says 0 text
@@ -37,3 +39,18 @@ failure_shows old new counted none = grind (arith, common_steps)
 
 pub counted_once : (old new : ℕ) → new ≡ min (old + 1) (2 ^ 64 - 1) → new ≤ old + 1
 counted_once old new counted = grind (arith, common_steps)
+
+-- a word was refused
+pub word_refused : {E : Type 0} (result : Result ℕ E) (text : List ℕ) (refusal : CommandRefusal) (old new : Option (List ℕ)) → word_reply text ≡ (1, refusal_line refusal ++ 10 ∷ [])
+    → IfOk result (λ status. status ≡ 1) → OnOk result (IsRefusalPut refusal old new) → IfOk result (IsPut (OrNoMemory (IsWordReply text)) old new)
+word_refused (Ok status) text refusal old new reply one (told, inl is, put) =
+    (refusal_line told ++ 10 ∷ [], inl (one ∙ sym (ap (λ (r : ℕ × List ℕ). r.0) reply), ap (λ (r : CommandRefusal). refusal_line r ++ 10 ∷ []) is ∙ sym (ap (λ (r : ℕ × List ℕ). r.1) reply)), put)
+word_refused (Ok status) text refusal old new reply one (told, inr is, put) =
+    (refusal_line told ++ 10 ∷ [], inr (one, ap (λ (r : CommandRefusal). refusal_line r ++ 10 ∷ []) is), put)
+word_refused (Err e) text refusal old new reply one put = tt
+
+-- what a word says was put
+pub word_told : {E : Type 0} (result : Result ℕ E) (text : List ℕ) (raw : ℕ) (old new : Option (List ℕ)) (left : List ℕ) → left ≡ word_lines raw → word_reply text ≡ (0, word_lines raw)
+    → IfOk result (λ status. status ≡ 0) → OnOk result (Appends old new (left ++ [])) → IfOk result (IsPut (OrNoMemory (IsWordReply text)) old new)
+word_told result text raw old new left is reply =
+    text_put result (OrNoMemory (IsWordReply text)) old new left (word_lines raw) is (inl (sym (ap (λ (r : ℕ × List ℕ). r.0) reply), sym (ap (λ (r : ℕ × List ℕ). r.1) reply)))
