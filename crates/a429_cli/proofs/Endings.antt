@@ -6,7 +6,6 @@ use Rattle.std.proofs.lemmas.Grind.{common_steps}
 use Rattle.a429_console.specs.Outputs.{IsPut, NoneFailed, OrNoMemory}
 use Rattle.a429_console.specs.RefusalText.{IsRefusalPut, OrMemory, refusal_line}
 use Rattle.a429_console.specs.declared.output.refusals.CommandRefusal.{CommandRefusal}
-use Rattle.a429_console.specs.declared.output.refusals.CommandRefusal.TheVariants as refused
 use Rattle.a429_console.proofs.Refused.{told_or_memory}
 use Rattle.a429_cli.specs.WordLines.{IsWordReply, word_lines, word_reply}
 

@@ -1,5 +1,5 @@
 -- A station goes on by tables that are resubmitted one after another.
-use Rattle.std.proofs.Common.{◌≡◌, ◌∙◌, [], ◌++◌, ℕ, List, ap, sym, refl, append_assoc, append-nil}
+use Rattle.std.proofs.Common.{◌≡◌, ◌∙◌, [], ◌++◌, List, ap, sym, refl, append_assoc, append-nil}
 use mathlib.Core.List.{IsPrefix}
 use Rattle.a429_station.specs.Resubmitting.{GoesOn, Running}
 

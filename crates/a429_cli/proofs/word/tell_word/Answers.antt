@@ -1,4 +1,4 @@
-use Rattle.std.proofs.Common.{rules, codes, refl, inr, ap, ◌≡◌, ◌∙◌, ◌++◌, ◌∷◌, [], arith, sym, true, false, List, ℕ, subst}
+use Rattle.std.proofs.Common.{rules, codes, refl, inr, ap, ◌≡◌, ◌∙◌, ◌++◌, ◌∷◌, [], arith, true, false}
 use Rattle.std.specs.Prelude.{None, Some}
 use Rattle.std.proofs.lemmas.Grind.{common_steps}
 use Rattle.a429_word.specs.Bits.{has_odd_parity}
