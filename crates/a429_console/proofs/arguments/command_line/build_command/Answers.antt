@@ -1,7 +1,7 @@
-use Rattle.std.proofs.Common.{ap, refl, ◌≡◌, ◌∙◌}
+use Rattle.std.proofs.Common.{ap, refl, ◌∙◌}
 use Rattle.std.proofs.lemmas.Result.{IfOk-weaker}
-use Rattle.clap.specs.Words.{App, app_of, with_subcommand}
-use Rattle.a429_console.specs.CommandLine.{bare_line, check_app, lines_app, live_app, plan_app, replay_app, word_app, command_line}
+use Rattle.clap.specs.Words.{App, with_subcommand}
+use Rattle.a429_console.specs.CommandLine.{check_app, lines_app, live_app, plan_app, replay_app, word_app, command_line}
 use Rattle.a429_console.proofs.arguments.command_line.build_command.Goals as goal
 
 pub returns : goal.returns
