@@ -3,6 +3,7 @@ pub mod Resubmitted
 pub mod LiveRuns
 pub mod ReportParts
 pub mod Refused
+pub mod Endings
 pub mod KindReplies
 pub mod ScriptLines
 pub mod PlayedLines

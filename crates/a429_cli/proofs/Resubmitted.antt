@@ -1,7 +1,7 @@
 -- A station goes on by tables that are resubmitted one after another.
-use Rattle.std.proofs.Common.{◌≡◌, ◌∙◌, [], ◌++◌, ℕ, List, ap, sym, refl, append_assoc, append-nil}
+use Rattle.std.proofs.Common.{◌≡◌, ◌∙◌, [], ◌++◌, List, ap, sym, refl, append_assoc, append-nil}
 use mathlib.Core.List.{IsPrefix}
-use Rattle.a429_station.specs.Resubmitting.{GoesOn, Publishes, Running}
+use Rattle.a429_station.specs.Resubmitting.{GoesOn, Running}
 
 prefix_on : {A : Type 0} (xs ys zs more : List A) → IsPrefix xs ys → zs ≡ ys ++ more → IsPrefix xs zs
 prefix_on xs ys zs more p is = (p.0 ++ more, sym (append_assoc xs p.0 more) ∙ (ap (λ l. l ++ more) p.1 ∙ sym is))
@@ -9,9 +9,9 @@ prefix_on xs ys zs more p is = (p.0 ++ more, sym (append_assoc xs p.0 more) ∙ 
 pub goes_on_self : (v : Running) → GoesOn v v
 goes_on_self v = record { station = refl; book = refl; plans = ([], append-nil v.planner.list) }
 
-pub goes_on_by : (u v w : Running) (bytes : List ℕ) (number : ℕ) → GoesOn u v → Publishes v bytes number w → GoesOn u w
-goes_on_by u v w bytes number so is = record {
-  station = is.station ∙ so.station;
-  book = is.book ∙ so.book;
-  plans = prefix_on _ _ _ _ so.plans is.list;
+pub goes_on_on : (u v w : Running) → GoesOn u v → GoesOn v w → GoesOn u w
+goes_on_on u v w so on = record {
+  station = on.station ∙ so.station;
+  book = on.book ∙ so.book;
+  plans = prefix_on _ _ _ _ so.plans (sym on.plans.1);
 }

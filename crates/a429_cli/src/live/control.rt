@@ -23,7 +23,6 @@ impl<'a> Resubmits<'a> {
 }
 
 impl<'a, R: Wait> Control<R> for Resubmits<'a> {
-    #[tactic(auto, using(crate::proofs::Resubmitted::goes_on_self, crate::proofs::Resubmitted::goes_on_by))]
     fn run(&mut self, station: &mut Station<'_, R>) -> Result<(), AllocError> {
         for table in self.tables {
             let answer = match station.resubmit(table) {

@@ -1,6 +1,6 @@
 //! The command line: its commands, and the texts of their help.
-ghost use Rattle.std.specs.Prelude.{◌≡◌, IfOk};
-ghost use Rattle.clap.specs.Words.{app_of};
+ghost use Rattle.std.specs.Prelude.{◌≡◌, IfOk, IsTrue};
+ghost use Rattle.clap.specs.Words.{App, app_of, with_subcommand};
 ghost use Rattle.a429_console.specs.CommandLine.{HasRule, bare_line, check_app, command_line, lines_app, live_app, many_rule, number_rule, plan_app, replay_app, required_rule, word_app};
 
 use clap::builder::ValueParser;
@@ -134,16 +134,28 @@ fn top_command<'a>(alloc: Global) -> Result<Command<'a>, AllocError>
     Ok(told.no_binary_name(true).subcommand_required(true))
 }
 
+/// A command line with one more command, if that was made.
+fn with_command<'a>(
+    line: Command<'a>,
+    command: Result<Command<'a>, AllocError>,
+) -> Result<Command<'a>, AllocError>
+    ensures { (a : App) → IfOk command.entry (λ c. app_of c ≡ a) → IsTrue a.top.is_plain
+        → IfOk result (λ r. app_of r ≡ with_subcommand (app_of line.entry) a.top) }
+{
+    let command = command?;
+    line.subcommand(command)
+}
+
 /// The command line of the program.
 pub fn build_command<'a>(alloc: Global) -> Result<Command<'a>, AllocError>
     ensures { IfOk result (λ c. app_of c ≡ command_line) }
 {
-    // one at a time: where several wait for their place, each early return drops them all, and the check takes minutes
+    // one at a time, and none beside a call that may fail: each early return would drop it, and the check takes minutes
     let line = top_command(alloc)?;
-    let line = line.subcommand(word_command(alloc)?)?;
-    let line = line.subcommand(lines_command(alloc)?)?;
-    let line = line.subcommand(plan_command(alloc)?)?;
-    let line = line.subcommand(check_command(alloc)?)?;
-    let line = line.subcommand(replay_command(alloc)?)?;
-    line.subcommand(live_command(alloc)?)
+    let line = with_command(line, word_command(alloc))?;
+    let line = with_command(line, lines_command(alloc))?;
+    let line = with_command(line, plan_command(alloc))?;
+    let line = with_command(line, check_command(alloc))?;
+    let line = with_command(line, replay_command(alloc))?;
+    with_command(line, live_command(alloc))
 }

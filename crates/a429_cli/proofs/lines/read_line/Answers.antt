@@ -1,0 +1,17 @@
+use Rattle.std.proofs.Common.{◌∙◌, ap, inl, map}
+use Rattle.std.specs.Prelude.{Err}
+use Rattle.std.proofs.lemmas.Result.{err_from_is_err_and}
+use Rattle.a429_console.specs.Files.{IsFileRefusal}
+use Rattle.a429_console.specs.RefusalText.{OrMemory}
+use Rattle.a429_console.proofs.Refused.{failed, or_memory_weaker}
+use Rattle.a429_cli.specs.LineReplies.{IsLinesRefusal}
+use Rattle.a429_cli.proofs.lines.read_line.Goals as goal
+
+pub returns-in_err-bytes : goal.returns-in_err-bytes
+returns-in_err-bytes g c = λ tells.
+    let file = g.F.FileReader.file c.args.files.now in
+    let none = IsLinesRefusal file c.args.name.now (map (λ f. f.now) c.args.filters.now) in
+    let e = c.in_err-bytes.field-0.0 in
+    let p = err_from_is_err_and c.from_residual.result c.from_residual.ensures.1 in
+    failed c.from_residual.result _ (OrMemory none) e (p.1 ∙ ap Err p.2)
+    (or_memory_weaker (IsFileRefusal file c.args.name.now) none e (λ one. inl one) (c.in_err-bytes.ensures.read tells))
