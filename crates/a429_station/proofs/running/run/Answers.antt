@@ -91,9 +91,9 @@ returns-clause-ran g c =
     let K = taken_in hub old new came rs c.requires.hub.1 c.requires.begun c.in-Ok.ensures.meanwhile.0 c.led.ensures c.requires.hub.0 each (omega (arith, many, length-map ds (λ d. d.receiver)))
     (λ k past. shown_past did show ws ds first k (omega (arith, past, c.requires.all))) in
     let joined = subst (λ (l : List ends.Receiving). AllByRecursion (λ d. IsJoined hub.station new.planner.list l d.transmit) c.in-Ok.done.second.items) (search rules) c.in_ok-told.ensures.joined in
-    let sent : Sending g.row.B.Denot g.row.G.Denot g.B.BusSink → Emitted g.row.B.Denot → Type 0 = λ w d. HasEmitted taken g.B.BusSink.failed w.frames w.transmit w.sink d.transmit d.sink d.answer in
-    let both : Sending g.row.B.Denot g.row.G.Denot g.B.BusSink → Emitted g.row.B.Denot → Type 0 = λ w d. sent w d × IsJoined hub.station new.planner.list rs d.transmit in
-    let none : (w : Sending g.row.B.Denot g.row.G.Denot g.B.BusSink) (d : Emitted g.row.B.Denot) → both w d → List ℕ = λ w d h. [] in
+    let sent : Sending g.row.B.Denot g.row.G.Denot g.B.BusSink g.G.Gate → Emitted g.row.B.Denot → Type 0 = λ w d. HasEmitted taken g.B.BusSink.failed w.frames w.transmit w.sink d.transmit d.sink d.answer in
+    let both : Sending g.row.B.Denot g.row.G.Denot g.B.BusSink g.G.Gate → Emitted g.row.B.Denot → Type 0 = λ w d. sent w d × IsJoined hub.station new.planner.list rs d.transmit in
+    let none : (w : Sending g.row.B.Denot g.row.G.Denot g.B.BusSink g.G.Gate) (d : Emitted g.row.B.Denot) → both w d → List ℕ = λ w d h. [] in
     let vs = c.in_ok-sending.sending.items in
     let es = c.in-Ok.done.second.items in
     let pairs = zip_with sent (λ d. IsJoined hub.station new.planner.list rs d.transmit) vs es c.in-Ok.ensures.second joined in
