@@ -2,6 +2,8 @@
 //! are the hexadecimal digits of the data.
 
 use a429_word::{DataRange, Label, Parity, Sdi, Ssm, Word};
+use std::alloc::Global;
+use std::process::Abort;
 
 #[test]
 fn words_have_their_fields(rt: HostRuntime) {
@@ -23,18 +25,19 @@ fn words_have_their_fields(rt: HostRuntime) {
     ];
     for (raw, label, sdi, ssm, data) in cases {
         let word = Word::from_raw(raw).expect(&rt, "a word");
-        assert_eq!(rt; word.raw(), raw);
         let label = Label::parse(label).expect(&rt, "a label");
-        assert_eq!(rt; word.label(), label, "{raw:08x}");
-        assert_eq!(rt; word.sdi().value(), sdi, "{raw:08x}");
-        assert_eq!(rt; word.ssm().value(), ssm, "{raw:08x}");
-        assert_eq!(rt; word.data(), data, "{raw:08x}");
-        let built = Word::build(word.label(), word.sdi(), data, word.ssm()).expect(&rt, "a word");
-        assert_eq!(rt; built, word, "{raw:08x}");
+        assert_eq!(rt; (word.raw(), word.label(), word.data()), (raw, label, data));
+        let (own_sdi, own_ssm) = (word.sdi(), word.ssm());
+        assert!(rt;
+            (own_sdi.value(), own_ssm.value()) == (sdi, ssm),
+            "{raw:08x}"
+        );
+        let built = Word::build(label, own_sdi, data, own_ssm);
+        assert!(rt; built == Ok(word), "{raw:08x}");
     }
-    assert_eq!(rt; Word::from_raw(0x800000c1), Err(Parity));
-    assert_eq!(rt; Word::from_raw(0), Err(Parity));
-    assert_eq!(rt; Word::from_raw(0xffffffff), Err(Parity));
+    for raw in [0x800000c1, 0, 0xffffffff] {
+        assert!(rt; Word::from_raw(raw) == Err(Parity), "{raw:08x}");
+    }
     let most = Word::build(Label::new(0), Sdi::new(0), 524288, Ssm::new(0));
     assert_eq!(rt; most, Err(DataRange));
 }
@@ -78,6 +81,14 @@ fn data_reads_as_numbers_and_digits(rt: HostRuntime) {
     }
 }
 
+/// The text is read as the label of this value, which is printed so.
+fn stands_for(rt: &impl Abort, alloc: Global, text: &str, value: u8) {
+    let label = Label::parse(text).expect(rt, "a label");
+    assert_eq!(rt; (label, label.value()), (Label::new(value), value));
+    let printed = label.to_string(alloc).expect(rt, "memory");
+    assert_eq!(rt; printed.as_str(), text);
+}
+
 #[test]
 fn labels_are_three_octal_digits(rt: HostRuntime) {
     let mut value = 0u8;
@@ -85,13 +96,7 @@ fn labels_are_three_octal_digits(rt: HostRuntime) {
         for middle in '0'..='7' {
             for low in '0'..='7' {
                 let text = format!(in rt.alloc(); "{high}{middle}{low}").expect(&rt, "memory");
-                let label = Label::parse(&text).expect(&rt, "a label");
-                assert_eq!(rt; label, Label::new(value));
-                assert_eq!(rt; Label::new(value).value(), value);
-                let printed = Label::new(value)
-                    .to_string(rt.alloc())
-                    .expect(&rt, "memory");
-                assert_eq!(rt; printed.as_str(), text.as_str());
+                stands_for(&rt, rt.alloc(), &text, value);
                 value = value.wrapping_add(1);
             }
         }

@@ -53,19 +53,25 @@ fn intervals_admit_their_greatest_period(rt: HostRuntime) {
         (1, 9932, 14500, Some(4)),
     ];
     for (min_us, max_us, rate, slots) in cases {
-        let period = grid_period(min_us, max_us, rate).map(|period| period.slots());
-        assert_eq!(rt; period, slots, "{min_us}/{max_us} at {rate}");
+        let period = grid_period(min_us, max_us, rate).map(Period::slots);
+        assert!(rt; period == slots, "{min_us}/{max_us} at {rate}");
     }
     let two = Period::of_digits(1);
     assert_eq!(rt; (two.slots(), two.digits()), (2, 1));
-    assert!(rt; fits(two, 720, 720, 100000));
-    assert!(rt; !fits(two, 721, 800, 100000) && !fits(two, 1, 719, 100000));
+    let (late, soon) = (fits(two, 721, 800, 100000), fits(two, 1, 719, 100000));
+    assert!(rt; fits(two, 720, 720, 100000) && !late && !soon);
     // at 100000 bit/s a slot is 360 us, at 12500 bit/s 2880 us
-    assert_eq!(rt; (spacing(1, 100000), spacing(360, 100000)), (1, 1));
-    assert_eq!(rt; (spacing(361, 100000), spacing(720, 100000)), (2, 2));
-    assert_eq!(rt; (spacing(2880, 12500), spacing(2881, 12500)), (1, 2));
-    assert_eq!(rt; reverse(1, 2), 2);
-    assert_eq!(rt; reverse(3, 4), 12);
-    assert_eq!(rt; reverse(1, 13), 4096);
-    assert_eq!(rt; reverse(0, 0), 0);
+    let one = (
+        spacing(1, 100000),
+        spacing(360, 100000),
+        spacing(2880, 12500),
+    );
+    let next = (
+        spacing(361, 100000),
+        spacing(720, 100000),
+        spacing(2881, 12500),
+    );
+    assert_eq!(rt; (one, next), ((1, 1, 1), (2, 2, 2)));
+    let small = (reverse(0, 0), reverse(1, 2), reverse(3, 4));
+    assert_eq!(rt; (small, reverse(1, 13)), ((0, 2, 12), 4096));
 }

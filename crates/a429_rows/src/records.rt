@@ -6,25 +6,33 @@ use a429_equipment::{Equipment, OutputRow};
 use std::alloc::{AllocError, Global};
 use std::process::Abort;
 
+/// The receiver `r` with the filter 200/370.
+fn has_receiver(rt: &impl Abort, equipment: &Equipment) {
+    assert!(rt; equipment.receivers().len() == 1);
+    let receiver = &equipment.receivers()[0];
+    assert_eq!(rt; receiver.name.as_str(), "r");
+    let filters = receiver.filters.list().expect(rt, "a list");
+    assert!(rt; filters.len() == 1);
+    assert_eq!(rt; (filters[0].label.value(), filters[0].mask), (0o200, 0o370));
+}
+
+/// The source `s` of label 203 and any SDI.
+fn has_source(rt: &impl Abort, equipment: &Equipment) {
+    assert!(rt; equipment.sources().len() == 1);
+    let source = &equipment.sources()[0];
+    assert_eq!(rt; source.name.as_str(), "s");
+    assert_eq!(rt; (source.receiver, source.label.value()), (0, 0o203));
+    assert!(rt; source.sdi.is_none());
+}
+
 #[test]
 fn gives_the_rows(rt: HostRuntime) {
     let filters = "name = \"r\"\nfilters = [\"200/370\"]";
     let table = edited(&rt, rt.alloc(), ONE, "name = \"r\"", filters);
     let equipment = Equipment::read(rt.alloc(), table.as_bytes()).expect(&rt, "a table");
     assert_eq!(rt; (equipment.version(), equipment.rate()), (1, Some(100000)));
-    assert!(rt; equipment.receivers().len() == 1);
-    let receiver = &equipment.receivers()[0];
-    assert_eq!(rt; receiver.name.as_str(), "r");
-    let filters = receiver.filters.list().expect(&rt, "a list");
-    assert_eq!(rt; filters.len(), 1);
-    assert_eq!(rt; filters[0].label.value(), 0o200);
-    assert_eq!(rt; filters[0].mask, 0o370);
-    assert!(rt; equipment.sources().len() == 1);
-    let source = &equipment.sources()[0];
-    assert_eq!(rt; source.name.as_str(), "s");
-    assert_eq!(rt; source.receiver, 0);
-    assert_eq!(rt; source.label.value(), 0o203);
-    assert!(rt; source.sdi.is_none());
+    has_receiver(&rt, &equipment);
+    has_source(&rt, &equipment);
     assert!(rt; equipment.groups().len() == 1);
     assert_eq!(rt; equipment.groups()[0].name.as_str(), "g");
     let stated = OutputRow {
@@ -87,15 +95,16 @@ fn largest(rt: &impl Abort, alloc: Global, interval: u32) -> String {
 fn takes_the_largest_table(rt: HostRuntime) {
     let table = largest(&rt, rt.alloc(), 30000000);
     let equipment = Equipment::read(rt.alloc(), table.as_bytes()).expect(&rt, "a table");
-    assert_eq!(rt; equipment.receivers().len(), 16);
-    assert_eq!(rt; equipment.sources().len(), 256);
-    assert_eq!(rt; equipment.sources()[255].receiver, 15);
-    assert_eq!(rt; equipment.sources()[255].label.value(), 255);
+    assert_eq!(rt;
+        (equipment.receivers().len(), equipment.sources().len()),
+        (16, 256)
+    );
+    let source = &equipment.sources()[255];
+    assert_eq!(rt; (source.receiver, source.label.value()), (15, 255));
     assert!(rt; equipment.groups().len() == 8);
     let last = equipment.outputs(7);
     assert!(rt; last.len() == 128);
-    assert_eq!(rt; last[127].source, 128);
-    assert_eq!(rt; last[127].max_us, 30000000);
+    assert_eq!(rt; (last[127].source, last[127].max_us), (128, 30000000));
 }
 
 /// 128 outputs that are due in every slot fill 128 buses.
