@@ -2,10 +2,11 @@
 //! are the hexadecimal digits of the data.
 
 use a429_word::{DataRange, Label, Parity, Sdi, Ssm, Word};
-use std::test::Fail;
+use std::alloc::Global;
+use std::process::Abort;
 
 #[test]
-fn words_have_their_fields(rt: HostRuntime) -> Result<(), Fail> {
+fn words_have_their_fields(rt: HostRuntime) {
     // raw, label in octal, SDI, SSM, data
     let cases = [
         (0x600000c1, "203", 0, 3, 0x00000),
@@ -23,25 +24,26 @@ fn words_have_their_fields(rt: HostRuntime) -> Result<(), Fail> {
         (0x00000040, "002", 0, 0, 0x00000),
     ];
     for (raw, label, sdi, ssm, data) in cases {
-        let word = Word::from_raw(raw)?;
-        assert_eq!(rt; word.raw(), raw);
-        assert_eq!(rt; word.label(), Label::parse(label)?, "{raw:08x}");
-        assert_eq!(rt; word.sdi().value(), sdi, "{raw:08x}");
-        assert_eq!(rt; word.ssm().value(), ssm, "{raw:08x}");
-        assert_eq!(rt; word.data(), data, "{raw:08x}");
-        let built = Word::build(word.label(), word.sdi(), data, word.ssm())?;
-        assert_eq!(rt; built, word, "{raw:08x}");
+        let word = Word::from_raw(raw).expect(&rt, "a word");
+        let label = Label::parse(label).expect(&rt, "a label");
+        assert_eq!(rt; (word.raw(), word.label(), word.data()), (raw, label, data));
+        let (own_sdi, own_ssm) = (word.sdi(), word.ssm());
+        assert!(rt;
+            (own_sdi.value(), own_ssm.value()) == (sdi, ssm),
+            "{raw:08x}"
+        );
+        let built = Word::build(label, own_sdi, data, own_ssm);
+        assert!(rt; built == Ok(word), "{raw:08x}");
     }
-    assert_eq!(rt; Word::from_raw(0x800000c1), Err(Parity));
-    assert_eq!(rt; Word::from_raw(0), Err(Parity));
-    assert_eq!(rt; Word::from_raw(0xffffffff), Err(Parity));
+    for raw in [0x800000c1, 0, 0xffffffff] {
+        assert!(rt; Word::from_raw(raw) == Err(Parity), "{raw:08x}");
+    }
     let most = Word::build(Label::new(0), Sdi::new(0), 524288, Ssm::new(0));
     assert_eq!(rt; most, Err(DataRange));
-    Ok(())
 }
 
 #[test]
-fn data_reads_as_numbers_and_digits(rt: HostRuntime) -> Result<(), Fail> {
+fn data_reads_as_numbers_and_digits(rt: HostRuntime) {
     // data, how many bits below the sign, the number
     let numbers = [
         (0x00000, 18, 0),
@@ -59,7 +61,7 @@ fn data_reads_as_numbers_and_digits(rt: HostRuntime) -> Result<(), Fail> {
         (0x20000, 2, 2),
     ];
     for (data, bits, number) in numbers {
-        let word = Word::build(Label::new(0), Sdi::new(0), data, Ssm::new(0))?;
+        let word = Word::build(Label::new(0), Sdi::new(0), data, Ssm::new(0)).expect(&rt, "a word");
         assert!(rt; 1 <= bits && bits <= 18);
         assert_eq!(rt; word.bnr(bits), number, "{data:05x} {bits}");
     }
@@ -74,23 +76,27 @@ fn data_reads_as_numbers_and_digits(rt: HostRuntime) -> Result<(), Fail> {
         (0x7ffff, None),
     ];
     for (data, shown) in digits {
-        let word = Word::build(Label::new(0), Sdi::new(0), data, Ssm::new(0))?;
+        let word = Word::build(Label::new(0), Sdi::new(0), data, Ssm::new(0)).expect(&rt, "a word");
         assert_eq!(rt; word.bcd(), shown, "{data:05x}");
     }
-    Ok(())
+}
+
+/// The text is read as the label of this value, which is printed so.
+fn stands_for(rt: &impl Abort, alloc: Global, text: &str, value: u8) {
+    let label = Label::parse(text).expect(rt, "a label");
+    assert_eq!(rt; (label, label.value()), (Label::new(value), value));
+    let printed = label.to_string(alloc).expect(rt, "memory");
+    assert_eq!(rt; printed.as_str(), text);
 }
 
 #[test]
-fn labels_are_three_octal_digits(rt: HostRuntime) -> Result<(), Fail> {
+fn labels_are_three_octal_digits(rt: HostRuntime) {
     let mut value = 0u8;
     for high in '0'..='3' {
         for middle in '0'..='7' {
             for low in '0'..='7' {
-                let text = format!(in rt.alloc(); "{high}{middle}{low}")?;
-                assert_eq!(rt; Label::parse(&text)?, Label::new(value));
-                assert_eq!(rt; Label::new(value).value(), value);
-                let printed = Label::new(value).to_string(rt.alloc())?;
-                assert_eq!(rt; printed.as_str(), text.as_str());
+                let text = format!(in rt.alloc(); "{high}{middle}{low}").expect(&rt, "memory");
+                stands_for(&rt, rt.alloc(), &text, value);
                 value = value.wrapping_add(1);
             }
         }
@@ -101,5 +107,4 @@ fn labels_are_three_octal_digits(rt: HostRuntime) -> Result<(), Fail> {
     ] {
         assert!(rt; Label::parse(text).is_err(), "{text}");
     }
-    Ok(())
 }

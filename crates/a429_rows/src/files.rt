@@ -1,11 +1,11 @@
 //! Readers that refuse a file, and writers that fail.
 
-use crate::support::{ONE, repeated};
-use a429_cli::{CountedWriter, FileFault, FileReader, MemoryFiles, command};
+use crate::support::{ONE, memory_files, repeated};
+use a429_cli::{CountedWriter, FileFault, FileReader, command};
 use std::alloc::Global;
 use std::io;
 use std::io::{ErrorKind, Write};
-use std::test::Fail;
+use std::process::Abort;
 
 /// Gives empty files, and refuses the one that it is asked for after so many.
 #[derive(Drop)]
@@ -33,10 +33,10 @@ impl FileReader for Refusing {
 }
 
 #[test]
-fn a_reader_may_refuse_any_file(rt: HostRuntime) -> Result<(), Fail> {
+fn a_reader_may_refuse_any_file(rt: HostRuntime) {
     let names = ["t", "s", "u", "v"];
     for given in 0..names.len() {
-        let file = format!(in rt.alloc(); "refused file {}\n", names[given])?;
+        let file = format!(in rt.alloc(); "refused file {}\n", names[given]).expect(&rt, "memory");
         for (fault, line) in [
             (FileFault::Refused, file.as_str()),
             (FileFault::NoMemory, "refused memory\n"),
@@ -59,11 +59,10 @@ fn a_reader_may_refuse_any_file(rt: HostRuntime) -> Result<(), Fail> {
             assert!(rt; files.reads == given + 1, "after {given} files");
         }
     }
-    Ok(())
 }
 
 #[test]
-fn each_file_is_read_once(rt: HostRuntime) -> Result<(), Fail> {
+fn each_file_is_read_once(rt: HostRuntime) {
     let commands: [(&[&str], usize); 5] = [
         (&["word", "600000c1"], 0),
         (&["lines", "t"], 1),
@@ -84,7 +83,6 @@ fn each_file_is_read_once(rt: HostRuntime) -> Result<(), Fail> {
         assert!(rt; status <= 1, "{words:?}");
         assert_eq!(rt; files.reads, reads, "{words:?}");
     }
-    Ok(())
 }
 
 /// Takes so many bytes in one call, and fails at the call, a flush too, that comes after so many.
@@ -139,24 +137,14 @@ struct CutShort {
 
 /// Does a command whose two writers each fail after so many calls.
 fn cut_short(
-    rt: &HostRuntime,
+    rt: &impl Abort,
+    alloc: Global,
     words: &[&str],
     script: &str,
     piece: usize,
     good_calls: usize,
-) -> Result<CutShort, Fail> {
-    let alloc = rt.alloc();
-    let table = (
-        String::from_str(alloc, "t")?,
-        Vec::from_slice(alloc, ONE.as_bytes())?,
-    );
-    let script = (
-        String::from_str(alloc, "s")?,
-        Vec::from_slice(alloc, script.as_bytes())?,
-    );
-    let mut files = MemoryFiles {
-        files: vec![in alloc; table, script]?,
-    };
+) -> CutShort {
+    let mut files = memory_files(rt, alloc, ONE, script);
     let mut out = CountedWriter::new(Failing::new(alloc, piece, good_calls));
     let mut err = Failing::new(alloc, piece, good_calls);
     let status = command(alloc, words, &mut files, &mut out, &mut err);
@@ -165,12 +153,12 @@ fn cut_short(
         failures,
         ..
     } = out;
-    Ok(CutShort {
+    CutShort {
         status,
         failures,
         out,
         err,
-    })
+    }
 }
 
 /// What is told on standard error of an output that failed.
@@ -195,9 +183,9 @@ const WRITTEN: &[(&[&str], &str, usize, &str)] = &[
 ];
 
 #[test]
-fn a_writer_may_fail_at_any_call(rt: HostRuntime) -> Result<(), Fail> {
+fn a_writer_may_fail_at_any_call(rt: HostRuntime) {
     for (words, script, piece, lines) in WRITTEN {
-        let whole = cut_short(&rt, words, script, *piece, usize::MAX)?;
+        let whole = cut_short(&rt, rt.alloc(), words, script, *piece, usize::MAX);
         assert!(rt; whole.status == 0 || lines.starts_with("refused "));
         assert!(rt;
             whole.out.taken.as_slice() == lines.as_bytes(),
@@ -205,7 +193,7 @@ fn a_writer_may_fail_at_any_call(rt: HostRuntime) -> Result<(), Fail> {
         );
         assert!(rt; whole.failures == 0, "for {words:?}");
         for good_calls in 0..whole.out.calls {
-            let cut = cut_short(&rt, words, script, *piece, good_calls)?;
+            let cut = cut_short(&rt, rt.alloc(), words, script, *piece, good_calls);
             assert!(rt; cut.status == 1, "for {words:?}, {good_calls}");
             assert!(rt;
                 OUTPUT_FAILED.starts_with(&cut.err.taken),
@@ -222,68 +210,62 @@ fn a_writer_may_fail_at_any_call(rt: HostRuntime) -> Result<(), Fail> {
             );
         }
     }
-    Ok(())
 }
 
 #[test]
-fn help_ends_where_the_output_fails(rt: HostRuntime) -> Result<(), Fail> {
-    let whole = cut_short(&rt, &["--help"], "", 64, usize::MAX)?;
+fn help_ends_where_the_output_fails(rt: HostRuntime) {
+    let whole = cut_short(&rt, rt.alloc(), &["--help"], "", 64, usize::MAX);
     assert!(rt; whole.status == 0 && whole.err.calls == 0);
     for good_calls in 0..whole.out.calls {
-        let cut = cut_short(&rt, &["--help"], "", 64, good_calls)?;
+        let cut = cut_short(&rt, rt.alloc(), &["--help"], "", 64, good_calls);
         assert!(rt; cut.status == 1, "{good_calls}");
         assert!(rt; OUTPUT_FAILED.starts_with(&cut.err.taken), "{good_calls}");
         assert!(rt; cut.out.calls == good_calls + 1, "{good_calls}");
     }
-    Ok(())
 }
 
 #[test]
-fn a_mistake_is_one_where_nobody_can_be_told(rt: HostRuntime) -> Result<(), Fail> {
-    let whole = cut_short(&rt, &["odd"], "", 64, usize::MAX)?;
+fn a_mistake_is_one_where_nobody_can_be_told(rt: HostRuntime) {
+    let whole = cut_short(&rt, rt.alloc(), &["odd"], "", 64, usize::MAX);
     assert!(rt; whole.status == 2 && whole.out.calls == 0);
     for good_calls in 0..whole.err.calls {
-        let cut = cut_short(&rt, &["odd"], "", 64, good_calls)?;
+        let cut = cut_short(&rt, rt.alloc(), &["odd"], "", 64, good_calls);
         assert!(rt; cut.status == 2 && cut.out.calls == 0, "{good_calls}");
         assert!(rt; cut.err.calls == good_calls + 1, "{good_calls}");
     }
-    Ok(())
 }
 
 #[test]
-fn an_output_that_failed_is_told(rt: HostRuntime) -> Result<(), Fail> {
-    let cut = cut_short(&rt, &["word", "600000c1"], "", usize::MAX, 1)?;
+fn an_output_that_failed_is_told(rt: HostRuntime) {
+    let cut = cut_short(&rt, rt.alloc(), &["word", "600000c1"], "", usize::MAX, 1);
     assert!(rt; cut.status == 1 && cut.failures == 1);
     assert!(rt; cut.err.taken.as_slice() == OUTPUT_FAILED);
-    Ok(())
 }
 
 #[test]
-fn a_refusal_is_one_line_whatever_the_name(rt: HostRuntime) -> Result<(), Fail> {
+fn a_refusal_is_one_line_whatever_the_name(rt: HostRuntime) {
     let words = ["plan", "a\nb\u{1b}[2J\u{7f}\u{85}\u{e9} ?\r"];
-    let whole = cut_short(&rt, &words, "", usize::MAX, usize::MAX)?;
+    let whole = cut_short(&rt, rt.alloc(), &words, "", usize::MAX, usize::MAX);
     assert!(rt; whole.status == 1);
     let line = "refused file a?b?[2J??\u{e9} ??\n".as_bytes();
     assert!(rt; whole.out.taken.as_slice() == line);
-    Ok(())
 }
 
 #[test]
-fn many_answers_are_written_in_pieces(rt: HostRuntime) -> Result<(), Fail> {
-    let script = repeated(&rt, "cell g\nframe g\n", 20000)?;
+fn many_answers_are_written_in_pieces(rt: HostRuntime) {
+    let script = repeated(&rt, rt.alloc(), "cell g\nframe g\n", 20000);
     let words = ["replay", "t", "s"];
-    let whole = cut_short(&rt, &words, &script, usize::MAX, usize::MAX)?;
+    let whole = cut_short(&rt, rt.alloc(), &words, &script, usize::MAX, usize::MAX);
     let lines = whole.out.taken.as_slice();
     assert!(rt; whole.status == 0 && whole.out.calls > 3);
     assert!(rt; lines.starts_with(b"sent 0 0 none\nchanged 0\nsent 0 1 none\n"));
     assert!(rt; lines.ends_with(b"\nsent 0 19999 none\nchanged 0\n"));
     for good_calls in 0..whole.out.calls {
-        let cut = cut_short(&rt, &words, &script, usize::MAX, good_calls)?;
+        let cut = cut_short(&rt, rt.alloc(), &words, &script, usize::MAX, good_calls);
         assert!(rt;
             cut.status == 1 && cut.out.calls == good_calls + 1,
             "{good_calls}"
         );
         assert!(rt; lines.starts_with(&cut.out.taken), "{good_calls}");
     }
-    Ok(())
 }

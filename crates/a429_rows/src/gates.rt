@@ -1,5 +1,5 @@
 //! A gate that holds workers until others have passed.
-ghost use Rattle.std.specs.Prelude.{◌≡◌, IfOk, length};
+ghost use Rattle.std.specs.Prelude.{◌≡◌, length};
 
 use crate::support::standard;
 use a429_board::{Board, Planner};
@@ -14,52 +14,40 @@ use std::alloc::Global;
 use std::process::Abort;
 use std::sync::Wait;
 use std::sync::atomic::{AtomicU64, Ordering};
-use std::test::Fail;
 use std::thread;
 use std::time::{Clock, Duration};
 
 /// The equipment of one receiver, three sources and one group.
-fn three<R: Abort>(rt: &R, alloc: Global, table: &str) -> Result<Equipment, Fail>
-    ensures { IfOk result (λ e. (length e.receivers ≡ 1) × (length e.groups ≡ 1) × (length e.sources ≡ 3)) }
+fn three<R: Abort>(rt: &R, alloc: Global, table: &str) -> Equipment
+    ensures { (length result.receivers ≡ 1) × (length result.groups ≡ 1) × (length result.sources ≡ 3) }
 {
-    let equipment = Equipment::read(alloc, table.as_bytes())?;
+    let equipment = Equipment::read(alloc, table.as_bytes()).expect(rt, "a table");
     assert_eq!(rt; equipment.receivers().len(), 1);
     assert_eq!(rt; equipment.groups().len(), 1);
     assert_eq!(rt; equipment.sources().len(), 3);
-    Ok(equipment)
+    equipment
 }
 
 /// The receiver and the transmitter of such a station, and the planner of its board.
-fn opened<R: Wait>(
+fn opened<R: Wait + Abort>(
     rt: &R,
     alloc: Global,
     equipment: &Equipment,
-) -> Result<(Receiver, Transmit, Planner), Fail>
+) -> (Receiver, Transmit, Planner)
     requires one { (length equipment.now.receivers ≡ 1) × (length equipment.now.groups ≡ 1) }
     requires sources { length equipment.now.sources ≡ 3 }
-    ensures { IfOk result (λ r. r.1.frame.sent ≡ 0) }
+    ensures { result.1.frame.sent ≡ 0 }
 {
     let _groups = equipment.groups();
-    let plan = plan(alloc, equipment)?;
-    let (hub, mut desk) = Hub::<256, 41>::open(alloc, equipment)?;
-    let receiver = desk.receiver(alloc, &hub, 0)?;
-    let transmitter = desk.transmitter(&hub, 0)?;
-    let (planner, mut watchers) = Board::open(rt, alloc, plan, 1)?;
-    let Some(watcher) = watchers.pop() else {
-        planner.close(rt);
-        return Err(Fail::from("no watcher"));
-    };
-    if watcher.opened().groups() == 0 {
-        planner.close(rt);
-        return Err(Fail::from("no group"));
-    }
-    match Transmit::open(alloc, transmitter, watcher, 0, 0) {
-        Ok(transmit) => Ok((receiver, transmit, planner)),
-        Err(_) => {
-            planner.close(rt);
-            Err(Fail::from("not opened"))
-        }
-    }
+    let plan = plan(alloc, equipment).expect(rt, "a plan");
+    let (hub, mut desk) = Hub::<256, 41>::open(alloc, equipment).expect(rt, "a hub");
+    let receiver = desk.receiver(alloc, &hub, 0).expect(rt, "a receiver");
+    let transmitter = desk.transmitter(&hub, 0).expect(rt, "a transmitter");
+    let (planner, mut watchers) = Board::open(rt, alloc, plan, 1).expect(rt, "a board");
+    let watcher = watchers.pop().expect(rt, "a watcher");
+    assert!(rt; watcher.opened().groups() > 0);
+    let transmit = Transmit::open(alloc, transmitter, watcher, 0, 0).expect(rt, "a transmitter");
+    (receiver, transmit, planner)
 }
 
 const CELL: u64 = 1;
@@ -98,20 +86,20 @@ impl<'a, R: Clock> Gate for InTurn<'a, R> {
 }
 
 #[test]
-fn workers_one_after_another_are_held_by_the_gate(rt: HostRuntime) -> Result<(), Fail> {
-    let table = standard(&rt, 100000, &[(1, 720), (1, 1440), (1, 1440)])?;
-    let equipment = three(&rt, rt.alloc(), &table)?;
-    let mut line = MemoryLine::from_words(vec![in rt.alloc(); 0x00000080, 0x00000c80]?);
+fn workers_one_after_another_are_held_by_the_gate(rt: HostRuntime) {
+    let table = standard(&rt, rt.alloc(), 100000, &[(1, 720), (1, 1440), (1, 1440)]);
+    let equipment = three(&rt, rt.alloc(), &table);
+    let words = vec![in rt.alloc(); 0x00000080, 0x00000c80].expect(&rt, "memory");
+    let mut line = MemoryLine::from_words(words);
     let made = AtomicU64::new(0);
     let gate = InTurn {
         rt: &rt,
         made: &made,
     };
-    let (mut receiver, mut transmit, planner) = opened(&rt, rt.alloc(), &equipment)?;
+    let (mut receiver, mut transmit, planner) = opened(&rt, rt.alloc(), &equipment);
     let mut sink = MemorySink::new(rt.alloc());
     let heard = receive_all(&mut line, &mut receiver, 0, &gate);
     let sent = send_frames(&mut transmit, &mut sink, 0, 1, &gate);
     planner.close(&rt);
     assert!(rt; heard == Err(ReceiveFault::Gate) && sent == Err(SendFault::Gate));
-    Ok(())
 }

@@ -3,11 +3,10 @@
 use a429_filter::{Filter, FilterSet};
 use a429_grid::{Period, fits, grid_period, reverse, spacing};
 use a429_word::Label;
-use std::test::Fail;
 
 #[test]
-fn filters_pass_what_their_masks_leave(rt: HostRuntime) -> Result<(), Fail> {
-    let (group, one) = (Label::parse("200")?, Label::parse("203")?);
+fn filters_pass_what_their_masks_leave(rt: HostRuntime) {
+    let (group, one) = (Label::new(0o200), Label::new(0o203));
     let mut none = FilterSet::none();
     let all = FilterSet::all();
     for value in 0..=255 {
@@ -18,23 +17,22 @@ fn filters_pass_what_their_masks_leave(rt: HostRuntime) -> Result<(), Fail> {
         label: group,
         mask: 0o370,
     };
-    none.add(eight)?;
-    assert!(rt; none.passes(Label::parse("207")?) && !none.passes(Label::parse("210")?));
+    none.add(eight).expect(&rt, "room");
+    assert!(rt; none.passes(Label::new(0o207)) && !none.passes(Label::new(0o210)));
     let exact = Filter {
         label: one,
         mask: 0o377,
     };
     let mut only = FilterSet::all();
-    only.add(exact)?;
-    assert!(rt; only.passes(one) && !only.passes(Label::parse("204")?));
+    only.add(exact).expect(&rt, "room");
+    assert!(rt; only.passes(one) && !only.passes(Label::new(0o204)));
     let mut many = FilterSet::none();
     for _ in 0..32 {
-        many.add(exact)?;
+        many.add(exact).expect(&rt, "room");
     }
     assert!(rt; many.add(eight).is_err());
     assert!(rt; many.passes(one) && !many.passes(group));
     assert_eq!(rt; many.list().map(|filters| filters.len()), Some(32));
-    Ok(())
 }
 
 #[test]
@@ -55,19 +53,25 @@ fn intervals_admit_their_greatest_period(rt: HostRuntime) {
         (1, 9932, 14500, Some(4)),
     ];
     for (min_us, max_us, rate, slots) in cases {
-        let period = grid_period(min_us, max_us, rate).map(|period| period.slots());
-        assert_eq!(rt; period, slots, "{min_us}/{max_us} at {rate}");
+        let period = grid_period(min_us, max_us, rate).map(Period::slots);
+        assert!(rt; period == slots, "{min_us}/{max_us} at {rate}");
     }
     let two = Period::of_digits(1);
     assert_eq!(rt; (two.slots(), two.digits()), (2, 1));
-    assert!(rt; fits(two, 720, 720, 100000));
-    assert!(rt; !fits(two, 721, 800, 100000) && !fits(two, 1, 719, 100000));
+    let (late, soon) = (fits(two, 721, 800, 100000), fits(two, 1, 719, 100000));
+    assert!(rt; fits(two, 720, 720, 100000) && !late && !soon);
     // at 100000 bit/s a slot is 360 us, at 12500 bit/s 2880 us
-    assert_eq!(rt; (spacing(1, 100000), spacing(360, 100000)), (1, 1));
-    assert_eq!(rt; (spacing(361, 100000), spacing(720, 100000)), (2, 2));
-    assert_eq!(rt; (spacing(2880, 12500), spacing(2881, 12500)), (1, 2));
-    assert_eq!(rt; reverse(1, 2), 2);
-    assert_eq!(rt; reverse(3, 4), 12);
-    assert_eq!(rt; reverse(1, 13), 4096);
-    assert_eq!(rt; reverse(0, 0), 0);
+    let one = (
+        spacing(1, 100000),
+        spacing(360, 100000),
+        spacing(2880, 12500),
+    );
+    let next = (
+        spacing(361, 100000),
+        spacing(720, 100000),
+        spacing(2881, 12500),
+    );
+    assert_eq!(rt; (one, next), ((1, 1, 1), (2, 2, 2)));
+    let small = (reverse(0, 0), reverse(1, 2), reverse(3, 4));
+    assert_eq!(rt; (small, reverse(1, 13)), ((0, 2, 12), 4096));
 }

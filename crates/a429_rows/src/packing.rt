@@ -4,7 +4,6 @@ ghost use Rattle.std.specs.Prelude.{◌≤◌};
 use a429_grid::Period;
 use a429_pack::{Demand, PackFault, SumTable, pack, raw_bound};
 use a429_word::Label;
-use std::test::Fail;
 
 /// An output of label 001 and any SDI.
 fn output(period: Option<Period>) -> Demand {
@@ -40,8 +39,9 @@ fn stretches_are_found(rt: HostRuntime) {
 }
 
 #[test]
-fn outputs_are_packed_in_order(rt: HostRuntime) -> Result<(), Fail> {
-    let packed = pack::<4>(rt.alloc(), &[demand(3), demand(1), demand(2), demand(3)])?;
+fn outputs_are_packed_in_order(rt: HostRuntime) {
+    let demands = [demand(3), demand(1), demand(2), demand(3)];
+    let packed = pack::<4>(rt.alloc(), &demands).expect(&rt, "a layout");
     assert_eq!(rt;
         (packed.frame().slots(), packed.buses(), packed.len()),
         (8, 1, 4)
@@ -53,7 +53,6 @@ fn outputs_are_packed_in_order(rt: HostRuntime) -> Result<(), Fail> {
             assert_eq!(rt; (packed.input(k), sums.demand(k), sums.start(k)), place);
         }
     }
-    Ok(())
 }
 
 #[test]

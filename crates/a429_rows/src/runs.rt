@@ -1,5 +1,5 @@
 //! One run of a station, by threads of its receivers, its group and its planner.
-ghost use Rattle.std.specs.Prelude.{◌≡◌, IfOk, length};
+ghost use Rattle.std.specs.Prelude.{◌≡◌, length};
 
 use crate::client::run_once;
 use a429_equipment::Equipment;
@@ -8,7 +8,6 @@ use a429_word::Word;
 use a429_workers::{MemorySink, Sent};
 use std::alloc::Global;
 use std::process::Abort;
-use std::test::Fail;
 
 /// Receivers r and q with a source each, of the labels 001 and 002, and a group that sends both in every second slot.
 const SLOW: &str = r#"version = 1
@@ -48,13 +47,13 @@ const X: u32 = 0x00000080;
 const Y: u32 = 0x00000040;
 
 /// The equipment of one of these tables.
-fn read<R: Abort>(rt: &R, alloc: Global, table: &str) -> Result<Equipment, Fail>
-    ensures { IfOk result (λ e. (length e.receivers ≡ 2) × (length e.groups ≡ 1)) }
+fn read<R: Abort>(rt: &R, alloc: Global, table: &str) -> Equipment
+    ensures { (length result.receivers ≡ 2) × (length result.groups ≡ 1) }
 {
-    let equipment = Equipment::read(alloc, table.as_bytes())?;
+    let equipment = Equipment::read(alloc, table.as_bytes()).expect(rt, "a table");
     assert_eq!(rt; equipment.receivers().len(), 2);
     assert_eq!(rt; equipment.groups().len(), 1);
-    Ok(equipment)
+    equipment
 }
 
 /// Whether the cell is empty or has one of the two words.
@@ -63,13 +62,13 @@ fn is_known(sent: &Sent) -> bool {
 }
 
 #[test]
-fn receivers_group_and_planner_do_one_run(rt: HostRuntime) -> Result<(), Fail> {
+fn receivers_group_and_planner_do_one_run(rt: HostRuntime) {
     let alloc = rt.alloc();
-    let station = read(&rt, alloc, SLOW)?;
-    let next = read(&rt, alloc, FAST)?;
+    let station = read(&rt, alloc, SLOW);
+    let next = read(&rt, alloc, FAST);
     assert!(rt; station.same_station(&next));
-    let mut first = MemoryLine::from_words(vec![in alloc; X; 100]?);
-    let mut second = MemoryLine::from_words(vec![in alloc; Y; 100]?);
+    let mut first = MemoryLine::from_words(vec![in alloc; X; 100].expect(&rt, "memory"));
+    let mut second = MemoryLine::from_words(vec![in alloc; Y; 100].expect(&rt, "memory"));
     let mut sink = MemorySink::new(alloc);
     let ran = run_once(
         &rt,
@@ -84,5 +83,4 @@ fn receivers_group_and_planner_do_one_run(rt: HostRuntime) -> Result<(), Fail> {
     assert!(rt; ran.is_some());
     assert_eq!(rt; sink.sent().len(), 100);
     assert!(rt; sink.sent().iter().all(is_known));
-    Ok(())
 }

@@ -1,6 +1,8 @@
-//! Tables, and texts made of them.
+//! Tables, and texts and files made of them.
 
-use std::test::Fail;
+use a429_cli::MemoryFiles;
+use std::alloc::Global;
+use std::process::Abort;
 
 /// One receiver, one source of label 203 and any SDI, and one group that sends it in every slot.
 pub const ONE: &str = r#"version = 1
@@ -32,37 +34,55 @@ output = [{ source = "s", min_us = 2881, max_us = 5760, hold = 7 }]
 "#;
 
 /// A text with one piece of it replaced, where it first stands.
-pub fn edited(rt: &HostRuntime, text: &str, old: &str, new: &str) -> Result<String, Fail> {
-    let (front, back) = text.split_once(old).ok_or("no such text")?;
-    Ok(format!(in rt.alloc(); "{front}{new}{back}")?)
+pub fn edited(rt: &impl Abort, alloc: Global, text: &str, old: &str, new: &str) -> String {
+    let (front, back) = text.split_once(old).expect(rt, "such a text");
+    format!(in alloc; "{front}{new}{back}").expect(rt, "memory")
 }
 
 /// Receiver `r`, sources `a`, `b`, `c` and so on of labels 001, 002, 003 and so on with any SDI, and group
 /// `g` that sends each in turn in these intervals, in microseconds.
-pub fn standard(rt: &HostRuntime, rate: u32, intervals: &[(u32, u32)]) -> Result<String, Fail> {
-    let alloc = rt.alloc();
-    let mut table = format!(in alloc; "version = 1\nrate = {rate}\n[[receiver]]\nname = \"r\"\n")?;
+pub fn standard(rt: &impl Abort, alloc: Global, rate: u32, intervals: &[(u32, u32)]) -> String {
+    let mut table = format!(in alloc;
+        "version = 1\nrate = {rate}\n[[receiver]]\nname = \"r\"\n"
+    ).expect(rt, "memory");
     for (label, name) in (1u32..=26).zip('a'..='z').take(intervals.len()) {
         let source = format!(in alloc;
             "[[source]]\nname = \"{name}\"\nreceiver = \"r\"\nlabel = \"{label:03o}\"\nsdi = \"any\"\n"
-        )?;
-        table.push_str(&source)?;
+        ).expect(rt, "memory");
+        table.push_str(&source).expect(rt, "memory");
     }
-    table.push_str("[[group]]\nname = \"g\"\n")?;
+    table
+        .push_str("[[group]]\nname = \"g\"\n")
+        .expect(rt, "memory");
     for (name, (min_us, max_us)) in ('a'..='z').zip(intervals.iter()) {
         let output = format!(in alloc;
             "[[group.output]]\nsource = \"{name}\"\nmin_us = {min_us}\nmax_us = {max_us}\n"
-        )?;
-        table.push_str(&output)?;
+        ).expect(rt, "memory");
+        table.push_str(&output).expect(rt, "memory");
     }
-    Ok(table)
+    table
 }
 
 /// A text so many times.
-pub fn repeated(rt: &HostRuntime, text: &str, times: usize) -> Result<String, Fail> {
-    let mut all = String::new(rt.alloc());
+pub fn repeated(rt: &impl Abort, alloc: Global, text: &str, times: usize) -> String {
+    let mut all = String::new(alloc);
     for _ in 0..times {
-        all.push_str(text)?;
+        all.push_str(text).expect(rt, "memory");
     }
-    Ok(all)
+    all
+}
+
+/// A file of this name and text.
+fn file(rt: &impl Abort, alloc: Global, name: &str, text: &str) -> (String, Vec<u8>) {
+    let name = String::from_str(alloc, name).expect(rt, "memory");
+    let bytes = Vec::from_slice(alloc, text.as_bytes()).expect(rt, "memory");
+    (name, bytes)
+}
+
+/// Files in memory: the table `t` and the script `s`.
+pub fn memory_files(rt: &impl Abort, alloc: Global, table: &str, script: &str) -> MemoryFiles {
+    let (table, script) = (file(rt, alloc, "t", table), file(rt, alloc, "s", script));
+    MemoryFiles {
+        files: vec![in alloc; table, script].expect(rt, "memory"),
+    }
 }

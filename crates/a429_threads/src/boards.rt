@@ -1,66 +1,60 @@
 //! Boards of real plans, and a watcher in a thread of its own.
-ghost use Rattle.std.specs.Prelude.{◌≡◌, IfOk};
+ghost use Rattle.std.specs.Prelude.{◌≡◌};
 
 use crate::support::{ONE, one_of, planned};
 use a429_board::{Board, BoardFault, Planner, Watcher};
 use a429_equipment::Equipment;
 use a429_slots::{OUTPUTS, Plan};
 use std::alloc::Global;
+use std::process::Abort;
 use std::sync::Wait;
 use std::sync::atomic::{AtomicU64, Ordering};
-use std::test::Fail;
 use std::thread::{Threads, for_each_mut, join_mut};
 
 /// The plan of one source, of number 0.
-fn opening(alloc: Global) -> Result<Plan<OUTPUTS>, Fail> {
-    planned(alloc, &Equipment::read(alloc, ONE.as_bytes())?)
+fn opening<R: Abort>(rt: &R, alloc: Global) -> Plan<OUTPUTS> {
+    let equipment = Equipment::read(alloc, ONE.as_bytes()).expect(rt, "a table");
+    planned(rt, alloc, &equipment)
 }
 
 /// A board with two watchers.
-fn two<R: Wait>(
-    rt: &R,
-    alloc: Global,
-    plan: Plan<OUTPUTS>,
-) -> Result<(Planner, Watcher, Watcher), Fail>
-    ensures { IfOk result (λ r. (r.1.book ≡ r.0.book) × (r.2.book ≡ r.0.book)) }
+fn two<R: Wait + Abort>(rt: &R, alloc: Global, plan: Plan<OUTPUTS>) -> (Planner, Watcher, Watcher)
+    ensures { (result.1.book ≡ result.0.book) × (result.2.book ≡ result.0.book) }
 {
-    let (planner, mut all) = Board::open(rt, alloc, plan, 2)?;
-    let second = one_of(&mut all, &planner);
-    let first = one_of(&mut all, &planner);
-    match (first, second) {
-        (Some(first), Some(second)) => Ok((planner, first, second)),
-        _ => {
-            planner.close(rt);
-            Err(Fail::from("two watchers"))
-        }
-    }
+    let (planner, mut all) = Board::open(rt, alloc, plan, 2).expect(rt, "a board");
+    let second = one_of(&mut all, &planner).expect(rt, "two watchers");
+    let first = one_of(&mut all, &planner).expect(rt, "two watchers");
+    (planner, first, second)
+}
+
+/// The number of the newest plan, and the number and the groups in it.
+fn newest(watcher: &mut Watcher) -> (u64, u64, usize)
+    ensures { watcher.new.book ≡ watcher.old.book }
+{
+    let (number, plan) = watcher.newest();
+    (number, plan.number(), plan.groups())
 }
 
 #[test]
-fn watchers_read_what_was_published(rt: HostRuntime) -> Result<(), Fail> {
-    let opening = opening(rt.alloc())?;
-    let (mut planner, mut first, mut second) = two(&rt, rt.alloc(), opening)?;
+fn watchers_read_what_was_published(rt: HostRuntime) {
+    let opening = opening(&rt, rt.alloc());
+    let (mut planner, mut first, mut second) = two(&rt, rt.alloc(), opening);
     let before = (first.newest().0, second.newest().0);
     let answer = planner.publish(&rt, opening.numbered(7));
     planner.tell(&mut first);
     // The second was never told.
-    let after = (first.newest(), second.newest());
+    let after = (newest(&mut first), newest(&mut second));
     let opened = (first.opened().number(), second.opened().number());
     planner.close(&rt);
-    assert_eq!(rt; before, (0, 0));
     assert!(rt; matches!(answer, Ok(1)));
-    let ((first, first_plan), (second, second_plan)) = after;
-    assert_eq!(rt; (first, second), (1, 1));
-    assert_eq!(rt; (first_plan.number(), second_plan.number()), (1, 1));
-    assert_eq!(rt; (first_plan.groups(), second_plan.groups()), (1, 1));
-    assert_eq!(rt; opened, (0, 0));
-    Ok(())
+    assert_eq!(rt; (before, opened), ((0, 0), (0, 0)));
+    assert_eq!(rt; after, ((1, 1, 1), (1, 1, 1)));
 }
 
 #[test]
-fn numbers_end(rt: HostRuntime) -> Result<(), Fail> {
-    let last_but_one = opening(rt.alloc())?.numbered(u64::MAX - 1);
-    let (mut planner, mut first, mut second) = two(&rt, rt.alloc(), last_but_one)?;
+fn numbers_end(rt: HostRuntime) {
+    let last_but_one = opening(&rt, rt.alloc()).numbered(u64::MAX - 1);
+    let (mut planner, mut first, mut second) = two(&rt, rt.alloc(), last_but_one);
     let opened = first.newest().0;
     let answers = (
         planner.publish(&rt, last_but_one),
@@ -72,7 +66,6 @@ fn numbers_end(rt: HostRuntime) -> Result<(), Fail> {
     assert_eq!(rt; opened, u64::MAX - 1);
     assert!(rt; matches!(answers, (Ok(u64::MAX), Err(BoardFault::CountSpent))));
     assert_eq!(rt; after, (u64::MAX, u64::MAX));
-    Ok(())
 }
 
 /// Reads so often, and says whether the numbers never fell.
@@ -120,9 +113,9 @@ fn both<R: Threads + Wait + Sync>(
 }
 
 #[test]
-fn a_thread_reads_while_plans_are_published(rt: HostRuntime) -> Result<(), Fail> {
-    let opening = opening(rt.alloc())?;
-    let (mut planner, mut first, mut second) = two(&rt, rt.alloc(), opening)?;
+fn a_thread_reads_while_plans_are_published(rt: HostRuntime) {
+    let opening = opening(&rt, rt.alloc());
+    let (mut planner, mut first, mut second) = two(&rt, rt.alloc(), opening);
     let (published, rises) = both(&rt, &mut planner, opening, &mut first);
     let untold = (first.newest().0, second.newest().0);
     planner.tell(&mut first);
@@ -130,7 +123,6 @@ fn a_thread_reads_while_plans_are_published(rt: HostRuntime) -> Result<(), Fail>
     planner.close(&rt);
     assert!(rt; rises);
     assert_eq!(rt; (published, untold, told), (20, (20, 20), 20));
-    Ok(())
 }
 
 /// Reads by each watcher in a thread of its own, and counts those whose numbers fell.
@@ -168,7 +160,7 @@ fn number_of_all(watchers: &mut [Watcher]) -> Option<u64> {
     let mut common = None;
     for watcher in watchers.iter_mut() {
         let (number, _) = watcher.newest();
-        if common.is_some_and(|before| before != number) {
+        if common.unwrap_or(number) != number {
             return None;
         }
         common = Some(number);
@@ -177,9 +169,11 @@ fn number_of_all(watchers: &mut [Watcher]) -> Option<u64> {
 }
 
 #[test]
-fn ten_watchers_never_go_back(rt: HostRuntime) -> Result<(), Fail> {
-    let opening = opening(rt.alloc())?;
-    let (mut planner, mut watchers) = Board::open(&rt, rt.alloc(), opening, 10)?;
+fn ten_watchers_never_go_back(rt: HostRuntime) {
+    let opening = opening(&rt, rt.alloc());
+    let (mut planner, mut watchers) = Board::open(&rt, rt.alloc(), opening, 10).expect(
+        &rt, "a board",
+    );
     let falls = AtomicU64::new(0);
     let published = soak(&rt, &mut planner, opening, &mut watchers, &falls);
     // None of them was told.
@@ -187,5 +181,4 @@ fn ten_watchers_never_go_back(rt: HostRuntime) -> Result<(), Fail> {
     planner.close(&rt);
     assert_eq!(rt; falls.load(Ordering::SeqCst), 0);
     assert_eq!(rt; (published, last), (10000, Some(10000)));
-    Ok(())
 }

@@ -6,11 +6,12 @@ use crate::support::{EVEN, FIRST, ONE, SECOND, TWO, three};
 use a429_equipment::{Equipment, FaultKind, TableFault, TablePlace};
 use a429_filter::MemoryLine;
 use a429_station::{Control, LiveFault, NoControl, ReplanFault, Report, Station, live};
-use a429_workers::{Gate, GateFault, MemorySink, OpenGate, Point};
+use a429_word::Word;
+use a429_workers::{Gate, GateFault, MemorySink, OpenGate, Point, Sent};
 use std::alloc::{AllocError, Global};
+use std::process::Abort;
 use std::sync::Wait;
 use std::sync::atomic::{AtomicU64, Ordering};
-use std::test::Fail;
 use std::thread;
 use std::thread::Threads;
 use std::time::{Clock, Duration};
@@ -96,7 +97,7 @@ impl<'a, R: Wait> Control<R> for MarksRun<'a> {
 }
 
 /// Runs the station of a table, with these words for its receivers.
-fn ran<R: Threads + Wait, G: Gate + Sync, K: Control<R>>(
+fn ran<R: Threads + Wait + Abort, G: Gate + Sync, K: Control<R>>(
     rt: &R,
     alloc: Global,
     table: &str,
@@ -105,50 +106,42 @@ fn ran<R: Threads + Wait, G: Gate + Sync, K: Control<R>>(
     gate: &G,
     control: &mut K,
 ) -> Result<Report<MemoryLine, MemorySink>, LiveFault> {
-    let Ok(equipment) = Equipment::read(alloc, table.as_bytes()) else {
-        return Err(LiveFault::NoMemory);
-    };
+    let equipment = Equipment::read(alloc, table.as_bytes()).expect(rt, "a table");
     let mut lines = Vec::new(alloc);
     for one in words {
         let mut given = Vec::new(alloc);
         for word in *one {
-            given.push(*word)?;
+            given.push(*word).expect(rt, "memory");
         }
-        lines.push(MemoryLine::from_words(given))?;
+        lines
+            .push(MemoryLine::from_words(given))
+            .expect(rt, "memory");
     }
     let mut sinks = Vec::new(alloc);
     for _ in 0..equipment.groups().len() {
-        sinks.push(MemorySink::new(alloc))?;
+        sinks.push(MemorySink::new(alloc)).expect(rt, "memory");
     }
-    if lines.len() != equipment.receivers().len() || sinks.len() != equipment.groups().len() {
-        return Err(LiveFault::NoMemory);
-    }
+    assert!(rt; lines.len() == equipment.receivers().len());
+    assert!(rt; sinks.len() == equipment.groups().len());
     live(rt, alloc, &equipment, lines, sinks, frames, gate, control)
 }
 
 /// How many words a receiver accepted, and how many cells the sink of a group took.
 fn accepted(report: &Report<MemoryLine, MemorySink>, receiver: usize) -> Option<u64> {
-    report.receivers.get(receiver).map(|totals| totals.accepted)
+    Some(report.receivers.get(receiver)?.accepted)
 }
 
 fn cells(report: &Report<MemoryLine, MemorySink>, group: usize) -> Option<usize> {
-    report.sinks.get(group).map(|sink| sink.sent().len())
+    Some(report.sinks.get(group)?.sent().len())
 }
 
-/// The bus and the slot of the first cell that the first sink took, and the word in it.
-fn first_place(report: &Report<MemoryLine, MemorySink>) -> Option<(u32, u64)> {
-    let cell = report.sinks.get(0)?.sent().get(0)?;
-    Some((cell.bus, cell.slot))
-}
-
-fn first_word(report: &Report<MemoryLine, MemorySink>) -> Option<u32> {
-    let cell = report.sinks.get(0)?.sent().get(0)?;
-    let word = cell.word?;
-    Some(word.raw())
+/// The first cell that the first sink took.
+fn first_cell(report: &Report<MemoryLine, MemorySink>) -> Option<Sent> {
+    report.sinks.get(0)?.sent().get(0).copied()
 }
 
 #[test]
-fn word_taken_before_a_cell_goes_out_in_it(rt: HostRuntime) -> Result<(), Fail> {
+fn word_taken_before_a_cell_goes_out_in_it(rt: HostRuntime) {
     let made = AtomicU64::new(0);
     let gate = Holds {
         rt: &rt,
@@ -156,16 +149,16 @@ fn word_taken_before_a_cell_goes_out_in_it(rt: HostRuntime) -> Result<(), Fail> 
         made: &made,
     };
     let words: &[&[u32]] = &[&[FIRST, SECOND]];
-    let report = ran(&rt, rt.alloc(), ONE, words, 1, &gate, &mut NoControl)?;
+    let report = ran(&rt, rt.alloc(), ONE, words, 1, &gate, &mut NoControl).expect(&rt, "a report");
     assert_eq!(rt; accepted(&report, 0), Some(2));
     assert_eq!(rt; cells(&report, 0), Some(1));
-    assert_eq!(rt; first_place(&report), Some((0, 0)));
-    assert_eq!(rt; first_word(&report), Some(FIRST));
-    Ok(())
+    let first = first_cell(&report).expect(&rt, "a cell");
+    assert_eq!(rt; (first.bus, first.slot), (0, 0));
+    assert_eq!(rt; first.word.map(Word::raw), Some(FIRST));
 }
 
 #[test]
-fn workers_and_control_run_at_once(rt: HostRuntime) -> Result<(), Fail> {
+fn workers_and_control_run_at_once(rt: HostRuntime) {
     let made = AtomicU64::new(0);
     let gate = Holds {
         rt: &rt,
@@ -174,17 +167,16 @@ fn workers_and_control_run_at_once(rt: HostRuntime) -> Result<(), Fail> {
     };
     let words: &[&[u32]] = &[&[0x00000080], &[0x00000040]];
     let mut control = MarksRun { made: &made };
-    let report = ran(&rt, rt.alloc(), TWO, words, 1, &gate, &mut control)?;
+    let report = ran(&rt, rt.alloc(), TWO, words, 1, &gate, &mut control).expect(&rt, "a report");
     assert_eq!(rt;
         (accepted(&report, 0), accepted(&report, 1)),
         (Some(1), Some(1))
     );
     assert_eq!(rt; (cells(&report, 0), cells(&report, 1)), (Some(1), Some(1)));
-    Ok(())
 }
 
 #[test]
-fn frames_of_one_run_are_few(rt: HostRuntime) -> Result<(), Fail> {
+fn frames_of_one_run_are_few(rt: HostRuntime) {
     let words: &[&[u32]] = &[&[FIRST]];
     let answer = ran(
         &rt,
@@ -195,19 +187,20 @@ fn frames_of_one_run_are_few(rt: HostRuntime) -> Result<(), Fail> {
         &OpenGate,
         &mut NoControl,
     );
-    assert!(rt; matches!(answer, Err(LiveFault::TooMuch)));
-    let report = ran(&rt, rt.alloc(), ONE, words, 0, &OpenGate, &mut NoControl)?;
+    assert!(rt; answer.err() == Some(LiveFault::TooMuch));
+    let report = ran(&rt, rt.alloc(), ONE, words, 0, &OpenGate, &mut NoControl).expect(
+        &rt, "a report",
+    );
     assert_eq!(rt;
         (accepted(&report, 0), cells(&report, 0)),
         (Some(1), Some(0))
     );
-    Ok(())
 }
 
 #[test]
-fn words_and_cells_are_counted(rt: HostRuntime) -> Result<(), Fail> {
+fn words_and_cells_are_counted(rt: HostRuntime) {
     // A frame has four slots of one bus.
-    let table = three(rt.alloc(), (1, 720), (1, 1440), (1, 1440))?;
+    let table = three(&rt, rt.alloc(), (1, 720), (1, 1440), (1, 1440));
     let words: &[&[u32]] = &[&[0x00000080, EVEN, 0x80000021]];
     let report = ran(
         &rt,
@@ -217,17 +210,14 @@ fn words_and_cells_are_counted(rt: HostRuntime) -> Result<(), Fail> {
         2,
         &OpenGate,
         &mut NoControl,
-    )?;
-    let totals = report.receivers.get(0).copied();
-    assert_eq!(rt;
-        totals.map(|t| (t.accepted, t.parity, t.filtered)),
-        Some((1, 1, 0))
-    );
-    assert_eq!(rt; totals.map(|t| (t.no_source, t.spent)), Some((1, 0)));
+    )
+    .expect(&rt, "a report");
+    let heard = report.receivers.get(0).copied().expect(&rt, "a receiver");
+    assert_eq!(rt; (heard.accepted, heard.parity, heard.filtered), (1, 1, 0));
+    assert_eq!(rt; (heard.no_source, heard.spent), (1, 0));
     assert_eq!(rt; cells(&report, 0), Some(8));
-    let sent = report.groups.get(0).copied();
-    assert_eq!(rt; sent.map(|t| (t.cells, t.plan)), Some((8, 0)));
-    Ok(())
+    let sent = report.groups.get(0).copied().expect(&rt, "a group");
+    assert_eq!(rt; (sent.cells, sent.plan), (8, 0));
 }
 
 /// Submits a table of its station, then one of another station and one that is no table.
@@ -257,10 +247,10 @@ impl<'a, R: Wait> Control<R> for Resubmits<'a> {
 }
 
 #[test]
-fn resubmitted_plans_come_into_force(rt: HostRuntime) -> Result<(), Fail> {
-    let table = three(rt.alloc(), (1, 720), (1, 1440), (1, 1440))?;
+fn resubmitted_plans_come_into_force(rt: HostRuntime) {
+    let table = three(&rt, rt.alloc(), (1, 720), (1, 1440), (1, 1440));
     // The same station, by a plan of two buses and eight cells.
-    let faster = three(rt.alloc(), (1, 720), (1, 720), (1, 1440))?;
+    let faster = three(&rt, rt.alloc(), (1, 720), (1, 720), (1, 1440));
     let made = AtomicU64::new(0);
     let gate = Holds {
         rt: &rt,
@@ -283,10 +273,10 @@ fn resubmitted_plans_come_into_force(rt: HostRuntime) -> Result<(), Fail> {
         2,
         &gate,
         &mut control,
-    )?;
-    let sent = report.groups.get(0).copied();
-    assert_eq!(rt; sent.map(|t| (t.cells, t.words, t.plan)), Some((12, 0, 1)));
+    )
+    .expect(&rt, "a report");
+    let sent = report.groups.get(0).copied().expect(&rt, "a group");
+    assert_eq!(rt; (sent.cells, sent.words, sent.plan), (12, 0, 1));
     assert_eq!(rt; control.number, Some(1));
     assert!(rt; control.differs && control.unread);
-    Ok(())
 }

@@ -5,7 +5,7 @@ use a429_board::{Planner, Watcher};
 use a429_equipment::Equipment;
 use a429_slots::{OUTPUTS, Plan, plan};
 use std::alloc::Global;
-use std::test::Fail;
+use std::process::Abort;
 
 /// A word of label 203.
 pub const FIRST: u32 = 0x600000c1;
@@ -90,23 +90,29 @@ name = "g"
 "#;
 
 /// The table of these sources, each sent within these intervals in us.
-pub fn three(alloc: Global, a: (u32, u32), b: (u32, u32), c: (u32, u32)) -> Result<String, Fail> {
+pub fn three<R: Abort>(
+    rt: &R,
+    alloc: Global,
+    a: (u32, u32),
+    b: (u32, u32),
+    c: (u32, u32),
+) -> String {
     let mut table = String::new(alloc);
-    table.push_str(HEAD)?;
+    table.push_str(HEAD).expect(rt, "memory");
     for (source, (min, max)) in [("a", a), ("b", b), ("c", c)] {
         let output = format!(in alloc;
             "[[group.output]]\nsource = \"{source}\"\nmin_us = {min}\nmax_us = {max}\n"
-        )?;
-        table.push_str(output.as_str())?;
+        ).expect(rt, "memory");
+        table.push_str(output.as_str()).expect(rt, "memory");
     }
-    Ok(table)
+    table
 }
 
 /// The plan of an equipment, of number 0.
-pub fn planned(alloc: Global, equipment: &Equipment) -> Result<Plan<OUTPUTS>, Fail> {
+pub fn planned<R: Abort>(rt: &R, alloc: Global, equipment: &Equipment) -> Plan<OUTPUTS> {
     // A reader tells that the tables of groups have room.
     let _groups = equipment.groups();
-    Ok(plan(alloc, equipment)?)
+    plan(alloc, equipment).expect(rt, "a plan")
 }
 
 /// The last of the watchers, which are of the planner's board.

@@ -1,5 +1,5 @@
 //! Ends of a hub on one thread and on two.
-ghost use Rattle.std.specs.Prelude.{◌≡◌, ◌<◌, ◌≤◌, length, IfOk};
+ghost use Rattle.std.specs.Prelude.{◌≡◌, ◌<◌, ◌≤◌, length};
 
 use crate::support::{EVEN, FIRST, SECOND, TWO};
 use a429_equipment::Equipment;
@@ -7,7 +7,6 @@ use a429_values::{Accept, Hub, HubFault, Receiver, Transmitter};
 use a429_word::Word;
 use std::alloc::Global;
 use std::process::Abort;
-use std::test::Fail;
 use std::thread::join;
 
 /// One receiver with a filter, one source of label 203 and any SDI, and one group that sends it.
@@ -30,22 +29,22 @@ max_us = 360
 "#;
 
 /// A station of one receiver, one source and one group: its two ends.
-fn ends<R: Abort, const C: u32>(rt: &R, alloc: Global) -> Result<(Receiver, Transmitter), Fail>
+fn ends<R: Abort, const C: u32>(rt: &R, alloc: Global) -> (Receiver, Transmitter)
     requires { (1 ≤ C) × (C ≤ 41) }
-    ensures { IfOk result (λ ends. (ends.0.at ≡ ends.1.at) × (0 < length ends.1.at.station.sources)) }
+    ensures { (result.0.at ≡ result.1.at) × (0 < length result.1.at.station.sources) }
 {
-    let equipment = Equipment::read(alloc, FILTERED.as_bytes())?;
+    let equipment = Equipment::read(alloc, FILTERED.as_bytes()).expect(rt, "a table");
     assert_eq!(rt; equipment.receivers().len(), 1);
     assert_eq!(rt; equipment.sources().len(), 1);
     assert_eq!(rt; equipment.groups().len(), 1);
-    let (hub, mut desk) = Hub::<256, C>::open(alloc, &equipment)?;
-    let receiver = desk.receiver(alloc, &hub, 0)?;
-    let transmitter = desk.transmitter(&hub, 0)?;
-    let again = desk.receiver(alloc, &hub, 0);
-    assert!(rt; again.is_err_and(|fault| fault == HubFault::AlreadyTaken));
-    let again = desk.transmitter(&hub, 0);
-    assert!(rt; again.is_err_and(|fault| fault == HubFault::AlreadyTaken));
-    Ok((receiver, transmitter))
+    let (hub, mut desk) = Hub::<256, C>::open(alloc, &equipment).expect(rt, "a hub");
+    let receiver = desk.receiver(alloc, &hub, 0).expect(rt, "a receiver");
+    let transmitter = desk.transmitter(&hub, 0).expect(rt, "a transmitter");
+    let again = desk.receiver(alloc, &hub, 0).err();
+    assert!(rt; again == Some(HubFault::AlreadyTaken));
+    let again = desk.transmitter(&hub, 0).err();
+    assert!(rt; again == Some(HubFault::AlreadyTaken));
+    (receiver, transmitter)
 }
 
 /// Whether these raw words, one after another, are answered so.
@@ -75,8 +74,8 @@ fn meet(transmitter: &mut Transmitter, receiver: &mut Receiver)
 }
 
 #[test]
-fn a_load_is_the_last_accepted_word(rt: HostRuntime) -> Result<(), Fail> {
-    let (mut receiver, mut transmitter) = ends::<_, 41>(&rt, rt.alloc())?;
+fn a_load_is_the_last_accepted_word(rt: HostRuntime) {
+    let (mut receiver, mut transmitter) = ends::<_, 41>(&rt, rt.alloc());
     let before = load(&mut transmitter, 0);
     let first = answers(&mut receiver, &[(FIRST, Accept::Accepted(0))]);
     meet(&mut transmitter, &mut receiver);
@@ -87,12 +86,11 @@ fn a_load_is_the_last_accepted_word(rt: HostRuntime) -> Result<(), Fail> {
     assert!(rt; first && second);
     assert_eq!(rt; (before, met, word), (None, Some((1, FIRST)), Some(SECOND)));
     assert_eq!(rt; (receiver.number(), transmitter.number()), (0, 0));
-    Ok(())
 }
 
 #[test]
-fn refused_words_change_nothing(rt: HostRuntime) -> Result<(), Fail> {
-    let (mut receiver, mut transmitter) = ends::<_, 1>(&rt, rt.alloc())?;
+fn refused_words_change_nothing(rt: HostRuntime) {
+    let (mut receiver, mut transmitter) = ends::<_, 1>(&rt, rt.alloc());
     // Label 001 is outside the filter, label 204 within it, without a source.
     let words = [
         (FIRST, Accept::Accepted(0)),
@@ -104,12 +102,11 @@ fn refused_words_change_nothing(rt: HostRuntime) -> Result<(), Fail> {
     assert!(rt; answers(&mut receiver, &words));
     meet(&mut transmitter, &mut receiver);
     assert_eq!(rt; load(&mut transmitter, 0), Some((1, FIRST)));
-    Ok(())
 }
 
 #[test]
-fn words_are_counted_to_the_last(rt: HostRuntime) -> Result<(), Fail> {
-    let (mut receiver, mut transmitter) = ends::<_, 2>(&rt, rt.alloc())?;
+fn words_are_counted_to_the_last(rt: HostRuntime) {
+    let (mut receiver, mut transmitter) = ends::<_, 2>(&rt, rt.alloc());
     let words = [
         (FIRST, Accept::Accepted(0)),
         (SECOND, Accept::Accepted(0)),
@@ -118,31 +115,38 @@ fn words_are_counted_to_the_last(rt: HostRuntime) -> Result<(), Fail> {
     ];
     assert!(rt; answers(&mut receiver, &words));
     assert_eq!(rt; load(&mut transmitter, 0), Some((3, FIRST)));
-    Ok(())
+}
+
+/// Whether the transmitter loads the words of both sources, once it met one receiver and then the other.
+fn loads_both(transmitter: &mut Transmitter, one: &mut Receiver, other: &mut Receiver) -> bool
+    requires one { one.old.at ≡ transmitter.old.at }
+    requires other { other.old.at ≡ transmitter.old.at }
+    requires sources { length transmitter.old.at.station.sources ≡ 2 }
+    ensures one { one.new.at ≡ one.old.at }
+    ensures other { other.new.at ≡ other.old.at }
+{
+    meet(transmitter, one);
+    meet(transmitter, other);
+    let first = load(transmitter, 0) == Some((1, 0x00000080));
+    let second = load(transmitter, 1) == Some((1, 0x00000040));
+    first && second
 }
 
 #[test]
-fn every_transmitter_meets_every_receiver(rt: HostRuntime) -> Result<(), Fail> {
-    let equipment = Equipment::read(rt.alloc(), TWO.as_bytes())?;
+fn every_transmitter_meets_every_receiver(rt: HostRuntime) {
+    let equipment = Equipment::read(rt.alloc(), TWO.as_bytes()).expect(&rt, "a table");
     assert_eq!(rt; equipment.receivers().len(), 2);
     assert_eq!(rt; equipment.sources().len(), 2);
     assert_eq!(rt; equipment.groups().len(), 2);
-    let (hub, mut desk) = Hub::<256, 41>::open(rt.alloc(), &equipment)?;
-    let mut r = desk.receiver(rt.alloc(), &hub, 0)?;
-    let mut q = desk.receiver(rt.alloc(), &hub, 1)?;
-    let mut g = desk.transmitter(&hub, 0)?;
-    let mut h = desk.transmitter(&hub, 1)?;
+    let (hub, mut desk) = Hub::<256, 41>::open(rt.alloc(), &equipment).expect(&rt, "a hub");
+    let mut r = desk.receiver(rt.alloc(), &hub, 0).expect(&rt, "a receiver");
+    let mut q = desk.receiver(rt.alloc(), &hub, 1).expect(&rt, "a receiver");
+    let mut g = desk.transmitter(&hub, 0).expect(&rt, "a transmitter");
+    let mut h = desk.transmitter(&hub, 1).expect(&rt, "a transmitter");
     let accepted = answers(&mut r, &[(0x00000080, Accept::Accepted(0))])
         && answers(&mut q, &[(0x00000040, Accept::Accepted(1))]);
     assert!(rt; accepted);
-    meet(&mut g, &mut r);
-    meet(&mut g, &mut q);
-    meet(&mut h, &mut q);
-    meet(&mut h, &mut r);
-    let (x, y) = (Some((1, 0x00000080)), Some((1, 0x00000040)));
-    assert_eq!(rt; (load(&mut g, 0), load(&mut g, 1)), (x, y));
-    assert_eq!(rt; (load(&mut h, 0), load(&mut h, 1)), (x, y));
-    Ok(())
+    assert!(rt; loads_both(&mut g, &mut r, &mut q) && loads_both(&mut h, &mut q, &mut r));
 }
 
 fn accept_all(mut receiver: Receiver, words: &[(u32, Accept)]) -> (Receiver, bool)
@@ -170,8 +174,8 @@ fn load_many(mut transmitter: Transmitter, times: u32) -> (Transmitter, bool)
 }
 
 #[test]
-fn loads_beside_accepts_never_go_back(rt: HostRuntime) -> Result<(), Fail> {
-    let (receiver, transmitter) = ends::<_, 41>(&rt, rt.alloc())?;
+fn loads_beside_accepts_never_go_back(rt: HostRuntime) {
+    let (receiver, transmitter) = ends::<_, 41>(&rt, rt.alloc());
     let words = [
         (FIRST, Accept::Accepted(0)),
         (EVEN, Accept::Parity),
@@ -185,5 +189,4 @@ fn loads_beside_accepts_never_go_back(rt: HostRuntime) -> Result<(), Fail> {
     assert!(rt; as_said && rises);
     meet(&mut transmitter, &mut receiver);
     assert_eq!(rt; load(&mut transmitter, 0), Some((2, SECOND)));
-    Ok(())
 }

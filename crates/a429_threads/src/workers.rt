@@ -16,7 +16,6 @@ use a429_workers::{ChangeFault, FrameEnd, OpenFault, Transmit};
 use std::alloc::Global;
 use std::process::Abort;
 use std::sync::Wait;
-use std::test::Fail;
 
 /// One receiver, one source of label 203, and one group that sends each of its words twice at most.
 const HELD: &str = r#"version = 2
@@ -38,13 +37,13 @@ hold = 2
 "#;
 
 /// The equipment of a table.
-fn read<R: Abort>(rt: &R, alloc: Global, table: &str) -> Result<Equipment, Fail>
-    ensures { IfOk result (λ e. (length e.receivers ≡ 1) × (length e.groups ≡ 1)) }
+fn read<R: Abort>(rt: &R, alloc: Global, table: &str) -> Equipment
+    ensures { (length result.receivers ≡ 1) × (length result.groups ≡ 1) }
 {
-    let equipment = Equipment::read(alloc, table.as_bytes())?;
+    let equipment = Equipment::read(alloc, table.as_bytes()).expect(rt, "a table");
     assert_eq!(rt; equipment.receivers().len(), 1);
     assert_eq!(rt; equipment.groups().len(), 1);
-    Ok(equipment)
+    equipment
 }
 
 /// The equipment of the sources a, b and c, each sent within these intervals in us.
@@ -54,56 +53,41 @@ fn standard<R: Abort>(
     a: (u32, u32),
     b: (u32, u32),
     c: (u32, u32),
-) -> Result<Equipment, Fail>
-    ensures { IfOk result (λ e. (length e.receivers ≡ 1) × (length e.groups ≡ 1)) }
+) -> Equipment
+    ensures { (length result.receivers ≡ 1) × (length result.groups ≡ 1) }
 {
-    let table = three(alloc, a, b, c)?;
+    let table = three(rt, alloc, a, b, c);
     read(rt, alloc, table.as_str())
 }
 
 /// The two ends of a station of one receiver and one group.
-fn ends<R: Abort>(
-    rt: &R,
-    alloc: Global,
-    equipment: &Equipment,
-) -> Result<(Receiver, Transmitter), Fail>
+fn ends<R: Abort>(rt: &R, alloc: Global, equipment: &Equipment) -> (Receiver, Transmitter)
     requires { (length equipment.now.receivers ≡ 1) × (length equipment.now.groups ≡ 1) }
-    ensures { IfOk result (λ e. (e.0.at ≡ e.1.at) × (e.1.number ≡ 0)) }
+    ensures { (result.0.at ≡ result.1.at) × (result.1.number ≡ 0) }
 {
     assert!(rt; equipment.sources().len() <= 256);
-    let (hub, mut desk) = Hub::<256, 41>::open(alloc, equipment)?;
-    let receiver = desk.receiver(alloc, &hub, 0)?;
-    let transmitter = desk.transmitter(&hub, 0)?;
-    Ok((receiver, transmitter))
+    let (hub, mut desk) = Hub::<256, 41>::open(alloc, equipment).expect(rt, "a hub");
+    let receiver = desk.receiver(alloc, &hub, 0).expect(rt, "a receiver");
+    let transmitter = desk.transmitter(&hub, 0).expect(rt, "a transmitter");
+    (receiver, transmitter)
 }
 
-/// A transmitter of the group that begins with this plan at this slot, and the planner of its board.
-fn opened<R: Wait>(
+/// A transmitter of the group that begins with this plan at this slot, where slots are left, and the planner of its board.
+fn opened<R: Wait + Abort>(
     rt: &R,
     alloc: Global,
     transmitter: Transmitter,
     plan: Plan<OUTPUTS>,
     first_slot: u64,
-) -> Result<(Transmit, Planner), OpenFault>
+) -> (Result<Transmit, OpenFault>, Planner)
     requires { transmitter.number ≡ 0 }
-    ensures { IfOk result (λ r. (r.0.transmitter ≡ transmitter) × (r.0.watcher.book ≡ r.1.book) × (r.0.frame.sent ≡ 0)) }
+    ensures { IfOk result.0 (λ t. (t.transmitter ≡ transmitter) × (t.watcher.book ≡ result.1.book) × (t.frame.sent ≡ 0)) }
 {
-    let (planner, mut watchers) = Board::open(rt, alloc, plan, 1)?;
-    let Some(watcher) = one_of(&mut watchers, &planner) else {
-        planner.close(rt);
-        return Err(OpenFault::NoMemory);
-    };
-    if watcher.opened().groups() == 0 {
-        planner.close(rt);
-        return Err(OpenFault::NoMemory);
-    }
-    match Transmit::open(alloc, transmitter, watcher, 0, first_slot) {
-        Ok(transmit) => Ok((transmit, planner)),
-        Err(fault) => {
-            planner.close(rt);
-            Err(fault)
-        }
-    }
+    let (planner, mut watchers) = Board::open(rt, alloc, plan, 1).expect(rt, "a board");
+    let watcher = one_of(&mut watchers, &planner).expect(rt, "a watcher");
+    assert!(rt; watcher.opened().groups() > 0);
+    let transmit = Transmit::open(alloc, transmitter, watcher, 0, first_slot);
+    (transmit, planner)
 }
 
 /// The receiver of an equipment, the transmitter of its group by the equipment's plan from slot 0 on, and the planner of
@@ -112,14 +96,15 @@ fn begun<R: Wait + Abort>(
     rt: &R,
     alloc: Global,
     equipment: &Equipment,
-) -> Result<(Receiver, Transmit, Planner), Fail>
+) -> (Receiver, Transmit, Planner)
     requires { (length equipment.now.receivers ≡ 1) × (length equipment.now.groups ≡ 1) }
-    ensures { IfOk result (λ r. (r.0.at ≡ r.1.transmitter.at) × (r.1.watcher.book ≡ r.2.book) × (r.1.frame.sent ≡ 0)) }
+    ensures receiver { result.0.at ≡ result.1.transmitter.at }
+    ensures group { (result.1.watcher.book ≡ result.2.book) × (result.1.frame.sent ≡ 0) }
 {
-    let plan = planned(alloc, equipment)?;
-    let (receiver, transmitter) = ends(rt, alloc, equipment)?;
-    let (transmit, planner) = opened(rt, alloc, transmitter, plan, 0)?;
-    Ok((receiver, transmit, planner))
+    let plan = planned(rt, alloc, equipment);
+    let (receiver, transmitter) = ends(rt, alloc, equipment);
+    let (transmit, planner) = opened(rt, alloc, transmitter, plan, 0);
+    (receiver, transmit.expect(rt, "a transmitter"), planner)
 }
 
 /// A cell as a row says it: bus, slot and word.
@@ -182,75 +167,65 @@ fn newer<R: Wait>(
     number
 }
 
+/// The word of c, and the first frame, in which it goes out last.
+const WORD: u32 = 0x800000c0;
+
+const FRAME: &[Row] = &[(0, 0, None), (0, 1, None), (0, 2, None), (0, 3, Some(WORD))];
+
+/// The first frame of a plan of two buses, without a word.
+const EMPTY: &[Row] = &[
+    (0, 4, None),
+    (1, 4, None),
+    (0, 5, None),
+    (1, 5, None),
+    (0, 6, None),
+    (1, 6, None),
+    (0, 7, None),
+    (1, 7, None),
+];
+
+/// A transmitter that has sent its first frame, with c in these intervals in us, and the planner that has published a
+/// plan of two buses meanwhile.
+fn after_a_frame<R: Wait + Abort>(rt: &R, alloc: Global, c: (u32, u32)) -> (Transmit, Planner) {
+    let next = planned(rt, alloc, &standard(rt, alloc, (1, 720), (1, 720), c));
+    let equipment = standard(rt, alloc, (1, 720), (1, 1440), c);
+    let (mut receiver, mut transmit, mut planner) = begun(rt, alloc, &equipment);
+    let accepted = heard(&mut transmit, &mut receiver, WORD);
+    let number = newer(rt, &mut transmit, &mut planner, next);
+    assert!(rt; accepted == Accept::Accepted(2) && number == Some(1));
+    assert!(rt; sends(&mut transmit, FRAME));
+    (transmit, planner)
+}
+
 #[test]
-fn a_plan_comes_into_force_at_a_frames_end(rt: HostRuntime) -> Result<(), Fail> {
-    let alloc = rt.alloc();
-    let next = planned(alloc, &standard(&rt, alloc, (1, 720), (1, 720), (1, 1440))?)?;
-    let equipment = standard(&rt, alloc, (1, 720), (1, 1440), (1, 1440))?;
-    let (mut receiver, mut transmit, mut planner) = begun(&rt, alloc, &equipment)?;
-    let accepted = heard(&mut transmit, &mut receiver, 0x800000c0);
-    let number = newer(&rt, &mut transmit, &mut planner, next);
-    let word = Some(0x800000c0);
-    let before = sends(
-        &mut transmit,
-        &[(0, 0, None), (0, 1, None), (0, 2, None), (0, 3, word)],
-    );
+fn a_plan_comes_into_force_at_a_frames_end(rt: HostRuntime) {
+    let (mut transmit, planner) = after_a_frame(&rt, rt.alloc(), (1, 1440));
     let over = transmit.cell() == Err(FrameEnd);
     let changed = changes(&mut transmit, Ok(1));
-    let after = sends(&mut transmit, &[(0, 4, None), (1, 4, word)]);
+    let after = sends(&mut transmit, &[(0, 4, None), (1, 4, Some(WORD))]);
     let mid = changes(&mut transmit, Err(ChangeFault::MidFrame));
     let force = transmit.plan();
     planner.close(&rt);
-    assert_eq!(rt;
-        (accepted, number, force),
-        (Accept::Accepted(2), Some(1), 1)
-    );
-    assert!(rt; before && over && changed && after && mid);
-    Ok(())
+    assert!(rt; over && changed && after && mid && force == 1);
 }
 
 #[test]
-fn words_keep_their_least_spacing_across_plans(rt: HostRuntime) -> Result<(), Fail> {
-    let alloc = rt.alloc();
-    let next = planned(
-        alloc,
-        &standard(&rt, alloc, (1, 720), (1, 720), (720, 1440))?,
-    )?;
-    let equipment = standard(&rt, alloc, (1, 720), (1, 1440), (720, 1440))?;
-    let (mut receiver, mut transmit, mut planner) = begun(&rt, alloc, &equipment)?;
-    let accepted = heard(&mut transmit, &mut receiver, 0x800000c0);
-    let number = newer(&rt, &mut transmit, &mut planner, next);
-    let word = Some(0x800000c0);
-    let before = sends(
-        &mut transmit,
-        &[(0, 0, None), (0, 1, None), (0, 2, None), (0, 3, word)],
-    );
+fn words_keep_their_least_spacing_across_plans(rt: HostRuntime) {
+    let (mut transmit, planner) = after_a_frame(&rt, rt.alloc(), (720, 1440));
     let changed = changes(&mut transmit, Ok(1));
     // The first cell of c under the new plan is one slot after its last: too close.
-    let frame = [
-        (0, 4, None),
-        (1, 4, None),
-        (0, 5, None),
-        (1, 5, None),
-        (0, 6, None),
-        (1, 6, None),
-        (0, 7, None),
-        (1, 7, None),
-    ];
-    let close = sends(&mut transmit, &frame);
+    let close = sends(&mut transmit, EMPTY);
     let again = changes(&mut transmit, Ok(1));
-    let after = sends(&mut transmit, &[(0, 8, None), (1, 8, word)]);
+    let after = sends(&mut transmit, &[(0, 8, None), (1, 8, Some(WORD))]);
     planner.close(&rt);
-    assert_eq!(rt; (accepted, number), (Accept::Accepted(2), Some(1)));
-    assert!(rt; before && changed && close && again && after);
-    Ok(())
+    assert!(rt; changed && close && again && after);
 }
 
 #[test]
-fn a_word_is_sent_as_often_as_it_may_be_held(rt: HostRuntime) -> Result<(), Fail> {
+fn a_word_is_sent_as_often_as_it_may_be_held(rt: HostRuntime) {
     let alloc = rt.alloc();
-    let equipment = read(&rt, alloc, HELD)?;
-    let (mut receiver, mut transmit, planner) = begun(&rt, alloc, &equipment)?;
+    let equipment = read(&rt, alloc, HELD);
+    let (mut receiver, mut transmit, planner) = begun(&rt, alloc, &equipment);
     let first = heard(&mut transmit, &mut receiver, FIRST);
     let once = sends(&mut transmit, &[(0, 0, Some(FIRST))]) && changes(&mut transmit, Ok(0));
     let twice = sends(&mut transmit, &[(0, 1, Some(FIRST))]) && changes(&mut transmit, Ok(0));
@@ -261,17 +236,17 @@ fn a_word_is_sent_as_often_as_it_may_be_held(rt: HostRuntime) -> Result<(), Fail
     planner.close(&rt);
     assert_eq!(rt; (first, second), (Accept::Accepted(0), Accept::Accepted(0)));
     assert!(rt; once && twice && held && anew);
-    Ok(())
 }
 
 #[test]
-fn slots_are_counted_to_the_last(rt: HostRuntime) -> Result<(), Fail> {
+fn slots_are_counted_to_the_last(rt: HostRuntime) {
     let alloc = rt.alloc();
-    let equipment = standard(&rt, alloc, (1, 720), (1, 1440), (1, 1440))?;
-    let (_, transmitter) = ends(&rt, alloc, &equipment)?;
-    let opening = planned(alloc, &equipment)?;
+    let equipment = standard(&rt, alloc, (1, 720), (1, 1440), (1, 1440));
+    let (_, transmitter) = ends(&rt, alloc, &equipment);
+    let opening = planned(&rt, alloc, &equipment);
     let first = u64::MAX - 4;
-    let (mut transmit, planner) = opened(&rt, alloc, transmitter, opening, first)?;
+    let (transmit, planner) = opened(&rt, alloc, transmitter, opening, first);
+    let mut transmit = transmit.expect(&rt, "a transmitter");
     let cells = [
         (0, first, None),
         (0, first + 1, None),
@@ -283,15 +258,8 @@ fn slots_are_counted_to_the_last(rt: HostRuntime) -> Result<(), Fail> {
     let over = transmit.cell() == Err(FrameEnd);
     planner.close(&rt);
     assert!(rt; sent && spent && over);
-    let (_, transmitter) = ends(&rt, alloc, &equipment)?;
-    match opened(&rt, alloc, transmitter, opening, first + 1) {
-        Ok((_, planner)) => {
-            planner.close(&rt);
-            Err(Fail::from("opened where slots are spent"))
-        }
-        Err(fault) => {
-            assert_eq!(rt; fault, OpenFault::SlotsSpent);
-            Ok(())
-        }
-    }
+    let (_, transmitter) = ends(&rt, alloc, &equipment);
+    let (refused, planner) = opened(&rt, alloc, transmitter, opening, first + 1);
+    planner.close(&rt);
+    assert!(rt; refused.err() == Some(OpenFault::SlotsSpent));
 }

@@ -7,9 +7,9 @@ use a429_filter::{LineSource, MemoryLine, SourceFault};
 use a429_station::{LiveFault, NoControl, live};
 use a429_workers::{BusSink, Gate, GateFault, OpenGate, Point, Sent, SinkFault};
 use std::alloc::Global;
+use std::process::Abort;
 use std::sync::Wait;
 use std::sync::atomic::{AtomicU64, Ordering};
-use std::test::Fail;
 use std::thread::Threads;
 
 /// Shut before the first word of the first receiver.
@@ -26,11 +26,10 @@ impl Gate for Shut {
 }
 
 #[test]
-fn a_shut_gate_ends_the_run(rt: HostRuntime) -> Result<(), Fail> {
+fn a_shut_gate_ends_the_run(rt: HostRuntime) {
     let words: &[&[u32]] = &[&[FIRST]];
     let answer = ran(&rt, rt.alloc(), ONE, words, 1, &Shut, &mut NoControl);
-    assert!(rt; matches!(answer, Err(LiveFault::Gate)));
-    Ok(())
+    assert!(rt; answer.err() == Some(LiveFault::Gate));
 }
 
 /// Words in memory, or a source that fails in every call.
@@ -92,7 +91,7 @@ impl BusSink for FailingSink {
 
 /// Why the station of two receivers stops where the line of the first gives so many words, that of the second fails
 /// if it is said so, and both sinks fail.
-fn stopped<R: Threads + Wait>(
+fn stopped<R: Threads + Wait + Abort>(
     rt: &R,
     alloc: Global,
     words: u32,
@@ -100,12 +99,12 @@ fn stopped<R: Threads + Wait>(
     frames: u32,
     calls: &AtomicU64,
 ) -> Option<LiveFault> {
-    let equipment = Equipment::read(alloc, TWO.as_bytes()).ok()?;
+    let equipment = Equipment::read(alloc, TWO.as_bytes()).expect(rt, "a table");
     let mut lines = Vec::new(alloc);
     for number in 0..2u32 {
         let mut given = Vec::new(alloc);
         for _ in 0..words {
-            given.push(0x00000080).ok()?;
+            given.push(0x00000080).expect(rt, "memory");
         }
         lines
             .push(Line {
@@ -115,14 +114,13 @@ fn stopped<R: Threads + Wait>(
                 ended: false,
                 calls,
             })
-            .ok()?;
+            .expect(rt, "memory");
     }
     let mut sinks = Vec::new(alloc);
-    sinks.push(FailingSink { failures: 0 }).ok()?;
-    sinks.push(FailingSink { failures: 0 }).ok()?;
-    if lines.len() != equipment.receivers().len() || sinks.len() != equipment.groups().len() {
-        return None;
-    }
+    sinks.push(FailingSink { failures: 0 }).expect(rt, "memory");
+    sinks.push(FailingSink { failures: 0 }).expect(rt, "memory");
+    assert!(rt; lines.len() == equipment.receivers().len());
+    assert!(rt; sinks.len() == equipment.groups().len());
     let gate = OpenGate;
     live(
         rt,
@@ -138,7 +136,7 @@ fn stopped<R: Threads + Wait>(
 }
 
 #[test]
-fn the_first_fault_is_answered(rt: HostRuntime) -> Result<(), Fail> {
+fn the_first_fault_is_answered(rt: HostRuntime) {
     let calls = AtomicU64::new(0);
     let none = stopped(&rt, rt.alloc(), 1, false, 1000001, &calls);
     assert_eq!(rt; none, Some(LiveFault::TooMuch));
@@ -149,5 +147,4 @@ fn the_first_fault_is_answered(rt: HostRuntime) -> Result<(), Fail> {
     assert_eq!(rt; source, Some(LiveFault::Source));
     let words = stopped(&rt, rt.alloc(), 1000001, true, 1, &calls);
     assert_eq!(rt; words, Some(LiveFault::TooMuch));
-    Ok(())
 }

@@ -1,5 +1,5 @@
 //! The loops of a station over devices.
-ghost use Rattle.std.specs.Prelude.{◌≡◌, ◌<◌, IfOk, length};
+ghost use Rattle.std.specs.Prelude.{◌≡◌, ◌<◌, length};
 
 use super::devices::{FailingLine, FailingSink, ShutGate};
 use super::{begun, ends, standard};
@@ -15,17 +15,16 @@ use a429_workers::{
 use std::alloc::Global;
 use std::process::Abort;
 use std::sync::Wait;
-use std::test::Fail;
 use std::thread::join;
 
 /// The ends of a station of one receiver, one source and one group.
-fn one<R: Abort>(rt: &R, alloc: Global) -> Result<(Receiver, Transmitter), Fail>
-    ensures { IfOk result (λ e. (e.0.at ≡ e.1.at) × (0 < length e.1.at.station.sources)) }
+fn one<R: Abort>(rt: &R, alloc: Global) -> (Receiver, Transmitter)
+    ensures { (result.0.at ≡ result.1.at) × (0 < length result.1.at.station.sources) }
 {
-    let equipment = super::read(rt, alloc, ONE)?;
-    let (receiver, transmitter) = ends(rt, alloc, &equipment)?;
+    let equipment = super::read(rt, alloc, ONE);
+    let (receiver, transmitter) = ends(rt, alloc, &equipment);
     assert!(rt; transmitter.sources() == 1);
-    Ok((receiver, transmitter))
+    (receiver, transmitter)
 }
 
 /// What the source loads once the transmitter met the receiver.
@@ -68,9 +67,10 @@ fn load_many(mut transmitter: Transmitter, times: u32) -> (Transmitter, bool)
 }
 
 #[test]
-fn a_receiver_takes_its_line_beside_loads(rt: HostRuntime) -> Result<(), Fail> {
-    let (receiver, transmitter) = one(&rt, rt.alloc())?;
-    let line = MemoryLine::from_words(vec![in rt.alloc(); FIRST, EVEN, SECOND]?);
+fn a_receiver_takes_its_line_beside_loads(rt: HostRuntime) {
+    let (receiver, transmitter) = one(&rt, rt.alloc());
+    let words = vec![in rt.alloc(); FIRST, EVEN, SECOND].expect(&rt, "memory");
+    let line = MemoryLine::from_words(words);
     let ((mut receiver, answer), (mut transmitter, rises)) = join(
         &rt,
         || take_all(receiver, line),
@@ -85,14 +85,14 @@ fn a_receiver_takes_its_line_beside_loads(rt: HostRuntime) -> Result<(), Fail> {
     };
     assert!(rt; rises && answer == Ok(totals));
     assert_eq!(rt; met(&mut transmitter, &mut receiver), Some(SECOND));
-    Ok(())
 }
 
 #[test]
-fn what_was_taken_before_a_fault_stays(rt: HostRuntime) -> Result<(), Fail> {
-    let (mut receiver, mut transmitter) = one(&rt, rt.alloc())?;
+fn what_was_taken_before_a_fault_stays(rt: HostRuntime) {
+    let (mut receiver, mut transmitter) = one(&rt, rt.alloc());
+    let words = vec![in rt.alloc(); FIRST, SECOND].expect(&rt, "memory");
     let mut line = FailingLine {
-        line: MemoryLine::from_words(vec![in rt.alloc(); FIRST, SECOND]?),
+        line: MemoryLine::from_words(words),
         fails_in: 2,
         failures: 0,
         ended: false,
@@ -100,29 +100,28 @@ fn what_was_taken_before_a_fault_stays(rt: HostRuntime) -> Result<(), Fail> {
     let answer = receive_all(&mut line, &mut receiver, 0, &OpenGate);
     assert!(rt; answer == Err(ReceiveFault::Source));
     assert_eq!(rt; met(&mut transmitter, &mut receiver), Some(FIRST));
-    Ok(())
 }
 
 #[test]
-fn a_shut_gate_ends_a_receiver(rt: HostRuntime) -> Result<(), Fail> {
-    let (mut receiver, mut transmitter) = one(&rt, rt.alloc())?;
-    let mut line = MemoryLine::from_words(vec![in rt.alloc(); FIRST, SECOND]?);
+fn a_shut_gate_ends_a_receiver(rt: HostRuntime) {
+    let (mut receiver, mut transmitter) = one(&rt, rt.alloc());
+    let words = vec![in rt.alloc(); FIRST, SECOND].expect(&rt, "memory");
+    let mut line = MemoryLine::from_words(words);
     let gate = ShutGate {
         at: Point::AfterAccept(7, 0),
     };
     let answer = receive_all(&mut line, &mut receiver, 7, &gate);
     assert!(rt; answer == Err(ReceiveFault::Gate));
     assert_eq!(rt; met(&mut transmitter, &mut receiver), Some(FIRST));
-    Ok(())
 }
 
 #[test]
-fn a_million_words_are_enough(rt: HostRuntime) -> Result<(), Fail> {
-    let (mut receiver, _) = one(&rt, rt.alloc())?;
-    let mut line = MemoryLine::from_words(vec![in rt.alloc(); EVEN; WORDS as usize + 1]?);
+fn a_million_words_are_enough(rt: HostRuntime) {
+    let (mut receiver, _) = one(&rt, rt.alloc());
+    let words = vec![in rt.alloc(); EVEN; WORDS as usize + 1].expect(&rt, "memory");
+    let mut line = MemoryLine::from_words(words);
     let answer = receive_all(&mut line, &mut receiver, 0, &OpenGate);
     assert!(rt; answer == Err(ReceiveFault::TooMuch));
-    Ok(())
 }
 
 /// What two frames of a group come to, which sends a, b and c to a sink that fails in this call, or in none; and how
@@ -133,10 +132,10 @@ fn two_frames<R: Wait + Abort, G: Gate>(
     equipment: &Equipment,
     fails_in: u64,
     gate: &G,
-) -> Result<(Result<SendTotals, SendFault>, usize), Fail>
+) -> (Result<SendTotals, SendFault>, usize)
     requires { (length equipment.now.receivers ≡ 1) × (length equipment.now.groups ≡ 1) }
 {
-    let (_, mut transmit, planner) = begun(rt, alloc, equipment)?;
+    let (_, mut transmit, planner) = begun(rt, alloc, equipment);
     let mut sink = FailingSink {
         sink: MemorySink::new(alloc),
         fails_in,
@@ -144,18 +143,18 @@ fn two_frames<R: Wait + Abort, G: Gate>(
     };
     let answer = send_frames(&mut transmit, &mut sink, 0, 2, gate);
     planner.close(rt);
-    Ok((answer, sink.sink.sent().len()))
+    (answer, sink.sink.sent().len())
 }
 
 #[test]
-fn a_sink_takes_all_cells_before_it_fails(rt: HostRuntime) -> Result<(), Fail> {
-    let equipment = standard(&rt, rt.alloc(), (1, 720), (1, 1440), (1, 1440))?;
+fn a_sink_takes_all_cells_before_it_fails(rt: HostRuntime) {
+    let equipment = standard(&rt, rt.alloc(), (1, 720), (1, 1440), (1, 1440));
     for call in 1u64..9 {
-        let (answer, took) = two_frames(&rt, rt.alloc(), &equipment, call, &OpenGate)?;
+        let (answer, took) = two_frames(&rt, rt.alloc(), &equipment, call, &OpenGate);
         assert!(rt; answer == Err(SendFault::Sink));
         assert_eq!(rt; took as u64, call.saturating_sub(1));
     }
-    let (answer, took) = two_frames(&rt, rt.alloc(), &equipment, 0, &OpenGate)?;
+    let (answer, took) = two_frames(&rt, rt.alloc(), &equipment, 0, &OpenGate);
     let totals = SendTotals {
         cells: 8,
         words: 0,
@@ -165,19 +164,17 @@ fn a_sink_takes_all_cells_before_it_fails(rt: HostRuntime) -> Result<(), Fail> {
     let gate = ShutGate {
         at: Point::BeforeCell(0, 3),
     };
-    let (answer, took) = two_frames(&rt, rt.alloc(), &equipment, 0, &gate)?;
+    let (answer, took) = two_frames(&rt, rt.alloc(), &equipment, 0, &gate);
     assert!(rt; answer == Err(SendFault::Gate) && took == 3);
-    Ok(())
 }
 
 #[test]
-fn a_count_sink_counts(rt: HostRuntime) -> Result<(), Fail> {
-    let equipment = standard(&rt, rt.alloc(), (1, 720), (1, 1440), (1, 1440))?;
-    let (_, mut transmit, planner) = begun(&rt, rt.alloc(), &equipment)?;
+fn a_count_sink_counts(rt: HostRuntime) {
+    let equipment = standard(&rt, rt.alloc(), (1, 720), (1, 1440), (1, 1440));
+    let (_, mut transmit, planner) = begun(&rt, rt.alloc(), &equipment);
     let mut sink = CountSink::new();
     let answer = send_frames(&mut transmit, &mut sink, 0, 3, &OpenGate);
     planner.close(&rt);
-    assert!(rt; answer.is_ok_and(|totals| totals.cells == 12));
+    assert_eq!(rt; answer.expect(&rt, "totals").cells, 12);
     assert_eq!(rt; sink.count(), 12);
-    Ok(())
 }
