@@ -1,5 +1,6 @@
 //! Stations that run, on threads of their own. The words: 00000080 has label 001, 00000040 has 002, 80000021 has 204.
 
+mod spacing;
 mod stopping;
 
 use crate::support::{EVEN, FIRST, ONE, SECOND, TWO, three};
