@@ -3,7 +3,8 @@
 
 ghost use Rattle.std.specs.Prelude.{◌≡◌, ◌≢◌, ◌≤◌, IsTrue};
 
-use a429_cli::{CountedWriter, DiskFiles, Output, command, command_live};
+use a429_cli::{CountedWriter, DiskFiles, Output, command};
+use a429_live::command_live;
 use std::alloc::{AllocError, Global};
 use std::env::{Env, FillError};
 use std::io::{ErrorKind, Write};

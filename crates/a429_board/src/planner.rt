@@ -8,7 +8,7 @@ ghost use Rattle.a429_board.specs.Showing.{knower};
 use crate::front;
 use crate::front::{Front, Head};
 use crate::rule::{Copies, Learns, PlanWriter, Shown};
-use crate::watcher::Watcher;
+use crate::watcher::{Sight, Watcher};
 use a429_slots::{OUTPUTS, Plan};
 use core::mem::{replace, replace_with};
 use left_right::writer::Writer;
@@ -111,17 +111,18 @@ impl Planner {
     }
 
     // A watcher that begins with the planner's list, of one plan.
-    fn watcher(&mut self) -> Result<Watcher, AllocError>
+    fn watcher(&mut self, alloc: Global) -> Result<Watcher, AllocError>
         requires { self.old.list ≡ self.old.last ∷ [] }
         ensures planner { self.new ≡ self.old }
         ensures watcher { IfOk result (λ w. w ≡ beginner self.old) }
     {
+        let front = Box::new(alloc, self.front.again())?;
+        let opened = Box::new(alloc, *self.front.last())?;
         let mut reader = self.writer.factory().reader()?;
         reader.learn::<Copies>(self.writer.tell::<Copies>());
         Ok(Watcher {
-            reader,
-            front: self.front.again(),
-            opened: *self.front.last(),
+            sight: Sight { reader, front },
+            opened,
         })
     }
 
@@ -133,7 +134,7 @@ impl Planner {
     {
         let mut all = Vec::new(alloc);
         for _ in 0..count {
-            all.push(self.watcher()?)?;
+            all.push(self.watcher(alloc)?)?;
         }
         Ok(all)
     }
@@ -191,8 +192,8 @@ impl Planner {
             front,
             ..
         } = self;
-        front.is_whole(head, pen, &watcher.front);
-        watcher.front = front.again();
+        front.is_whole(head, pen, &watcher.sight.front);
+        *watcher.sight.front = front.again();
     }
 
     /// Ends the board, and changes no list. It may wait for watchers that read.

@@ -1,8 +1,8 @@
 //! The end of a board that reads.
-ghost use Rattle.std.specs.Prelude.{◌≡◌, ◌∷◌, [], true, IfSome};
+ghost use Rattle.std.specs.Prelude.{◌≡◌, ◌∷◌, []};
 ghost use mathlib.Core.List.{IsPrefix};
 ghost use Rattle.a429_board.specs.Lists.{EndsWith};
-ghost use Rattle.a429_board.specs.Showing.{named};
+ghost use Rattle.a429_board.specs.Showing.{knower};
 
 use crate::front::Front;
 use crate::rule::{Learns, PlanReader};
@@ -14,9 +14,16 @@ use std::marker::Model;
 /// opening one first. The list only grows.
 #[derive(Drop)]
 pub struct Watcher {
+    pub(crate) sight: Sight,
+    pub(crate) opened: Box<Plan<OUTPUTS>>,
+}
+
+/// What a watcher reads by, and the last that it saw or was told.
+// Plans are boxed: each is as large as all slot tables, and a watcher is handed on by value.
+#[derive(Drop)]
+pub(crate) struct Sight {
     pub(crate) reader: PlanReader,
-    pub(crate) front: Front,
-    pub(crate) opened: Plan<OUTPUTS>,
+    pub(crate) front: Box<Front>,
 }
 
 impl Model for Watcher {
@@ -27,42 +34,42 @@ impl Model for Watcher {
 
     ghost Value = { Watched };
 
-    ghost view = { λ w. record { book = w.front.book; list = w.front.log; opened = w.opened } };
+    ghost view = { λ w. record { book = w.sight.front.value.book; list = w.sight.front.value.log; opened = w.opened.value } };
 
-    ghost invariant = { λ w. (w.reader.place.me.0.client ≡ knower w.front.book) × IsPrefix (w.opened ∷ []) w.front.log };
+    ghost invariant = { λ w. (w.sight.reader.place.me.0.client ≡ knower w.sight.front.value.book) × IsPrefix (w.opened.value ∷ []) w.sight.front.value.log };
 }
 
-// What is shown now, where its list has more plans than this, unless the entry is refused: a front is as large as all
-// slot tables, and few entries find a new one.
-fn read(reader: PlanReader, count: u64) -> (PlanReader, Option<Front>)
-    requires { reader.place.me.0.client.knows ≡ true }
-    ensures reader { result.0.place.me.0.client ≡ reader.place.me.0.client }
-    ensures front { IfSome result.1 (λ f. reader.place.me.0.client.book ≡ named f.book) }
+// Takes over what is shown now, where its list has more plans, unless the entry is refused. Nothing is copied where
+// it has no more: few entries find a new one.
+fn read(reader: PlanReader, front: &mut Front) -> PlanReader
+    requires { reader.place.me.0.client ≡ knower front.old.book }
+    ensures reader { result.place.me.0.client ≡ reader.place.me.0.client }
+    ensures grows { IsPrefix front.old.log front.new.log }
+    ensures book { front.new.book ≡ front.old.book }
 {
     match reader.enter_as::<Learns>() {
         Ok(reading) => {
             let shown = &reading.get().front;
-            let longer = if count < shown.count() {
-                Some(shown.again())
-            } else {
-                None
-            };
-            (reading.leave(), longer)
+            if front.is_behind(shown) {
+                *front = shown.again();
+            }
+            reading.leave()
         }
-        Err(reader) => (reader, None),
+        Err(reader) => reader,
     }
 }
 
-// Goes on by what was found, where that goes further.
-fn go_on(front: &mut Front, found: Option<Front>)
-    requires { IfSome found (λ next. front.old.book ≡ next.book) }
-    ensures grows { IsPrefix front.old.log front.new.log }
-    ensures book { front.new.book ≡ front.old.book }
+// The same, of both together.
+fn look(sight: Sight) -> Sight
+    requires { sight.reader.place.me.0.client ≡ knower sight.front.value.book }
+    ensures reader { result.reader.place.me.0.client ≡ knower result.front.value.book }
+    ensures grows { IsPrefix sight.front.value.log result.front.value.log }
+    ensures book { result.front.value.book ≡ sight.front.value.book }
 {
-    if let Some(next) = found {
-        if front.is_behind(&next) {
-            *front = next;
-        }
+    let Sight { reader, mut front } = sight;
+    Sight {
+        reader: read(reader, &mut *front),
+        front,
     }
 }
 
@@ -72,7 +79,7 @@ impl Watcher {
         ensures opened { result.now ≡ self.now.opened }
         ensures first { IsPrefix (result.now ∷ []) self.now.list }
     {
-        let _ = &self.front;
+        let _ = &self.sight;
         &self.opened
     }
 
@@ -83,17 +90,14 @@ impl Watcher {
         ensures book { self.new.book ≡ self.old.book }
         ensures opened { self.new.opened ≡ self.old.opened }
     {
-        let Watcher { reader, front, .. } = self;
-        let count = front.count();
-        let found = replace_with(reader, (), |reader, _| read(reader, count));
-        go_on(front, found);
+        replace_with(&mut self.sight, (), |sight, _| (look(sight), ()));
     }
 
     /// The last plan that the watcher saw or was told.
     pub fn last(&self) -> &Plan<OUTPUTS>
         ensures last { EndsWith self.now.list result.now }
     {
-        self.front.last()
+        self.sight.front.last()
     }
 
     /// The newest plan and its number, as they are now. Where the entry is refused, it is the last plan that the

@@ -7,6 +7,7 @@ use Rattle.std.proofs.lemmas.List.{length-map, take_at, length-append, map-appen
 use Rattle.std.proofs.Math.Nat.{mod-eq_of_lt}
 use Rattle.std.proofs.lemmas.Bool.Decides.{nat_tests}
 use Rattle.std.proofs.lemmas.Slice.Eq.{bytes_eq-Decides}
+use Rattle.a429_word.proofs.Lists.{false_unless}
 use Rattle.a429_cert.specs.declared.due.DueGroup.{DueGroup}
 use Rattle.a429_cert.specs.Spelling.{Heading, Listing, Bounding, when, says_more, group_text, output_text, bound_text, FitsHeading, FitsListing, FitsBounding}
 use Rattle.a429_cert.specs.Reading.{output_line}
@@ -76,13 +77,9 @@ meet_there : (k l : Listing) → k.offset < k.period → l.offset < l.period →
 meet_there k l small-k small-l bus same apart =
     apart k.bus l.offset (record { on_bus = refl; at_offset = same ∙ small_rest k.offset k.period small-k }) (record { on_bus = sym bus; at_offset = small_rest l.offset l.period small-l })
 
-false_from : (b : Bool) → (b ≡ true → ⊥) → b ≡ false
-false_from true h = absurd (h refl)
-false_from false h = refl
-
 pub apart_passes : (k l : Listing) → k.offset < k.period → l.offset < l.period → AreApart k l → shares l k ≡ false
 apart_passes k l small-k small-l apart =
-    false_from (shares l k) (λ t.
+    false_unless (shares l k) (λ t.
     let p = and_parts _ _ t in
     let bus = eqb-true l.bus k.bus p.0 in
     let same = eqb-true (l.offset % min l.period k.period) (k.offset % min l.period k.period) p.1 in
@@ -134,7 +131,7 @@ pair_before R [] y ys h = tt
 pair_before R (x ∷ xs) y ys h = (all_at (R x) xs y ys h.0, pair_before R xs y ys h.1)
 
 differ_again : (xs ys : List ℕ) → xs ≢ ys → bytes_eq xs ys ≡ false
-differ_again xs ys h = false_from (bytes_eq xs ys) (λ t. h (same_bytes xs ys t))
+differ_again xs ys h = false_unless (bytes_eq xs ys) (λ t. h (same_bytes xs ys t))
 
 new_again : (earlier : List Listing) (l : Listing) → AllByRecursion (λ k. k.source ≢ l.source) earlier → is_listed earlier l.source ≡ false
 new_again [] l h = refl

@@ -8,6 +8,7 @@ use Rattle.std.proofs.lemmas.Bool.Decides.{nat_tests}
 use Rattle.std.proofs.lemmas.Slice.Eq.{bytes_eq-Decides}
 use Rattle.std.proofs.lemmas.List.{length-append}
 use Rattle.std.proofs.Math.Nat.{mul_assoc, mul-add-mod_self_left}
+use Rattle.a429_word.proofs.Lists.{all_push}
 use Rattle.a429_cert.specs.declared.verdicts.Reason.{Reason}
 use Rattle.a429_cert.specs.declared.due.DueTable.{DueTable}
 use Rattle.a429_cert.specs.declared.due.DueGroup.{DueGroup}
@@ -135,10 +136,6 @@ listing_holds version g buses earlier line e =
     (a.0, a.1, record { placed = record { listed = found_some _ _ known.0 (not_false _ b.1); hold = hold; bus = within.0; offset = within.1 }; new = known.1; alone = b.3 })
 
 -- ---- the listings together
-
-all_push : {X : Type 0} (P : X → Type 0) (xs : List X) (y : X) → AllByRecursion P xs → P y → AllByRecursion P (xs ++ y ∷ [])
-all_push P [] y h p = (p, tt)
-all_push P (x ∷ xs) y h p = (h.0, all_push P xs y h.1 p)
 
 pair_push : (R : Listing → Listing → Type 0) (xs : List Listing) (y : Listing) → EachPair R xs → AllByRecursion (λ x. R x y) xs → EachPair R (xs ++ y ∷ [])
 pair_push R [] y h p = (tt, tt)

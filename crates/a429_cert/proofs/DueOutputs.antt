@@ -7,11 +7,12 @@ use Rattle.std.specs.Str.{bytes_eq}
 use Rattle.std.proofs.Math.Nat.{pow-le-pow_right}
 use Rattle.std.proofs.lemmas.Bool.{cases_lt}
 use Rattle.std.proofs.lemmas.List.Folds.{fold-map}
-use Rattle.std.proofs.lemmas.List.FromFn.{length-map-range_with_len, get_or-map-range_with_len}
+use Rattle.std.proofs.lemmas.List.FromFn.{length-map-range_with_len}
 use Rattle.std.proofs.lemmas.List.Sums.{sum-map}
 use Rattle.std.proofs.lemmas.Option.{slice_get-get_or}
 use Rattle.std.proofs.lemmas.Simd.{map-map}
 use Rattle.std.proofs.lemmas.Slice.Zip.{AllZip-long}
+use Rattle.a429_word.proofs.Lists.{zipped_at}
 use Rattle.a429_equipment.specs.TableRecord.{TableRecord}
 use Rattle.a429_equipment.specs.declared.rows.OutputRow.{OutputRow}
 use Rattle.a429_equipment.specs.declared.rows.SourceRow.{SourceRow}
@@ -29,6 +30,7 @@ use Rattle.a429_cert.specs.PlanText.{source_name}
 use Rattle.a429_cert.proofs.Again.{same_again}
 use Rattle.a429_cert.proofs.CheckedPlans.{same_bytes}
 use Rattle.a429_cert.proofs.Gathered.{blank}
+use Rattle.a429_slots.proofs.Cells.{output_at}
 
 abbrev pub row_at : List OutputRow → ℕ → OutputRow
 row_at rows i = get_or rows i blank
@@ -39,14 +41,6 @@ due_at g i = get_or g.outputs.items i (record { source = []; period = 0; hold = 
 -- the periods of a table's outputs, as exponents, by their numbers
 abbrev pub exponents_of : GroupTable → List ℕ
 exponents_of t = map (λ p. p.place.period) (outputs_of t)
-
--- ---- lists beside one another
-
-pub zipped_at : {A B : Type 0} (R : A → B → Type 0) (xs : List A) (ys : List B) (i : ℕ) (d : A) (e : B) → i < length xs → AllZip R xs ys → R (get_or xs i d) (get_or ys i e)
-zipped_at R [] ys i d e below all = absurd (omega arith)
-zipped_at R (x ∷ xs) [] i d e below all = absurd all
-zipped_at R (x ∷ xs) (y ∷ ys) zero d e below all = all.0
-zipped_at R (x ∷ xs) (y ∷ ys) (suc i) d e below all = zipped_at R xs ys i d e (omega arith) all.1
 
 -- ---- the periods
 
@@ -107,9 +101,6 @@ demand_is g ks some same =
 
 pub length-outputs : (t : GroupTable) → length (outputs_of t) ≡ length t.demands
 length-outputs t = length-map-range_with_len (placed_at t) 0 (length t.demands)
-
-pub output_at : (t : GroupTable) (o : ℕ) (d : Placed) → o < length t.demands → get_or (outputs_of t) o d ≡ placed_at t o
-output_at t o d below = get_or-map-range_with_len (placed_at t) 0 (length t.demands) o o d below (omega arith)
 
 -- the outputs of a planned group, and those that are due for it
 pub record AreSame (e : TableRecord) (rate : ℕ) (rows : List OutputRow) (t : GroupTable) (g : DueGroup) : Type 0 where

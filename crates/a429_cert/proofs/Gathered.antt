@@ -1,13 +1,11 @@
 -- What is due of a table, gathered row by row.
-use Rattle.std.proofs.Common.{◌≡◌, ℕ, zero, suc, ◌+◌, ◌<◌, ◌∷◌, [], ◌++◌, List, length, take, map, get_or, ap, ap₂, ◌∙◌, sym, subst}
+use Rattle.std.proofs.Common.{◌≡◌, ℕ, ◌+◌, ◌∷◌, [], ◌++◌, List, take, map, ap, ◌∙◌, sym, subst}
 use Rattle.std.specs.Prelude.{Some, None, slice_get, option_map}
-use Rattle.std.specs.List.{AllZip, AllByRecursion, zip}
-use Rattle.std.proofs.lemmas.List.{take_more, map-append}
-use Rattle.std.proofs.lemmas.Slice.Zip.{all_zipped_more}
-use Rattle.std.proofs.lemmas.Option.{slice_get-get_or, slice_get-map, get_or_from_slice_get, slice_get_within, same_Some, none-some}
+use Rattle.std.specs.List.{AllZip, AllByRecursion}
+use Rattle.std.proofs.lemmas.List.{map-append}
+use Rattle.a429_word.proofs.Lists.{take_next}
 use Rattle.a429_grid.specs.Grid.{IsGridPeriod}
 use Rattle.a429_equipment.specs.TableRecord.{TableRecord}
-use Rattle.a429_equipment.specs.declared.rows.GroupRow.{GroupRow}
 use Rattle.a429_equipment.specs.declared.rows.OutputRow.{OutputRow}
 use Rattle.a429_slots.specs.Planned.{IsFit, rated_outputs}
 use Rattle.a429_cert.specs.declared.due.DueOutput.{DueOutput}
@@ -16,6 +14,7 @@ use Rattle.a429_cert.specs.declared.judging.NoVerdict.{NoVerdict}
 use Rattle.a429_cert.specs.declared.judging.NoVerdict.TheVariants as judge
 use Rattle.a429_cert.specs.Due.{IsDueOutput, IsDueGroup, AreFit}
 use Rattle.a429_cert.specs.Judged.{IsNoVerdict, IsGroupUnfit}
+use Rattle.a429_slots.proofs.Planning.{rated_at}
 
 -- the row that a read past the end gives
 abbrev pub blank : OutputRow
@@ -23,33 +22,11 @@ blank = record { source = 0; min_us = 0; max_us = 0; hold = None }
 
 -- ---- lists element by element
 
-pub read_is : {X : Type 0} (xs : List X) (i : ℕ) (x : X) → i < length xs → x ≡ get_or xs i x → slice_get xs i ≡ Some x
-read_is xs i x below is = slice_get-get_or xs i x below ∙ ap (λ y. Some y) (sym is)
-
-take_next : {X : Type 0} (xs : List X) (i : ℕ) (x : X) → slice_get xs i ≡ Some x → take (i + 1) xs ≡ take i xs ++ x ∷ []
-take_next xs i x h = take_more xs i x (slice_get_within xs i x h) ∙ ap (λ y. take i xs ++ y ∷ []) (get_or_from_slice_get xs i x x h)
-
-pub zip_next : {A B : Type 0} (R : A → B → Type 0) (xs : List A) (ys : List B) (i : ℕ) (x : A) (y : B) → slice_get xs i ≡ Some x → AllZip R (take i xs) ys → R x y → AllZip R (take (i + 1) xs) (ys ++ y ∷ [])
-zip_next {A} {B} R xs ys i x y h old new =
-    subst (λ (zs : List A). AllZip R zs (ys ++ y ∷ [])) (sym (take_next xs i x h)) (all_zipped_more R (take i xs) ys x y old new)
-
 pub map_next : {A B C : Type 0} (f : A → C) (g : B → C) (xs : List A) (ys : List B) (i : ℕ) (x : A) (y : B) → slice_get xs i ≡ Some x → map g ys ≡ map f (take i xs) → g y ≡ f x
     → map g (ys ++ y ∷ []) ≡ map f (take (i + 1) xs)
 map_next {A} {B} {C} f g xs ys i x y h old new =
     map-append g ys (y ∷ []) ∙ ap (λ (zs : List C). zs ++ g y ∷ []) old ∙ ap (λ (z : C). map f (take i xs) ++ z ∷ []) new
     ∙ sym (map-append f (take i xs) (x ∷ [])) ∙ ap (map f) (sym (take_next xs i x h))
-
--- ---- outputs beside their rates
-
-zip_at : {X Y : Type 0} (xs : List X) (ys : List Y) (i : ℕ) (x : X) (y : Y) → slice_get xs i ≡ Some x → slice_get ys i ≡ Some y → slice_get (zip xs ys) i ≡ Some (x, y)
-zip_at [] ys i x y here there = absurd (none-some x here)
-zip_at (a ∷ xs) [] i x y here there = absurd (none-some y there)
-zip_at (a ∷ xs) (b ∷ ys) zero x y here there = ap₂ (λ s t. Some (s, t)) (same_Some a x here) (same_Some b y there)
-zip_at (a ∷ xs) (b ∷ ys) (suc i) x y here there = zip_at xs ys i x y here there
-
-pub rated_at : (e : TableRecord) (g rate : ℕ) (rows : List OutputRow) → option_map (λ row. row.rate) (slice_get e.groups g) ≡ Some rate → slice_get e.outputs g ≡ Some rows
-    → slice_get (rated_outputs e) g ≡ Some (rate, rows)
-rated_at e g rate rows here there = zip_at (map (λ (row : GroupRow). row.rate) e.groups) e.outputs g rate rows (slice_get-map (λ row. row.rate) e.groups g ∙ here) there
 
 -- ---- what is due has its grid period
 

@@ -9,7 +9,7 @@ use Rattle.std.proofs.lemmas.List.Sums.{sum_by-le}
 use Rattle.std.proofs.lemmas.Slice.Zip.{AllZip-long, length-zip}
 use Rattle.std.proofs.lemmas.Option.{same_Some, none-some}
 use Rattle.std.proofs.lemmas.Nat.{pow_pos, pow_below, pow-add}
-use Rattle.std.proofs.Math.Nat.{div-le_self, pow-le-pow_right}
+use Rattle.std.proofs.Math.Nat.{div-le_self}
 use Rattle.a429_grid.specs.Grid.{IsPeriod}
 use Rattle.a429_pack.specs.Demanded.{AreFewestBuses, IsBusCount}
 use Rattle.a429_equipment.specs.TableRecord.{TableRecord}
@@ -23,6 +23,7 @@ use Rattle.a429_cert.specs.declared.due.DueTable.{DueTable}
 use Rattle.a429_cert.specs.Due.{IsDueOutput, IsDueGroup, IsDue}
 use Rattle.a429_cert.specs.Faults.{IsModest, frame, demand, due}
 use Rattle.a429_cert.proofs.DuePlans.{PeriodsNest}
+use Rattle.a429_grid.proofs.Reversing.{pow_few}
 
 abbrev pub HavePeriods : List DueOutput → Type 0
 HavePeriods = AllByRecursion (λ o. IsPeriod o.period)
@@ -62,11 +63,8 @@ on_grid e t sound d = groups_on_grid e (map (λ (g : GroupRow). g.rate) e.groups
 
 -- ---- no sum of a check leaves 64 bits
 
-few_slots : (k : ℕ) → k ≤ 13 → 2 ^ k ≤ 8192
-few_slots k few = let two : 0 < 2 = omega arith in pow-le-pow_right {n = 2} two {i = k} {j = 13} few
-
 period_few : (p : ℕ) → IsPeriod p → p ≤ 8192
-period_few p h = subst (λ (q : ℕ). q ≤ 8192) (sym h.2) (few_slots h.0 h.1)
+period_few p h = subst (λ (q : ℕ). q ≤ 8192) (sym h.2) (pow_few h.0 h.1)
 
 pub period_some : (p : ℕ) → IsPeriod p → 0 < p
 period_some p h = subst (λ (q : ℕ). 0 < q) (sym h.2) (pow_pos h.0)

@@ -13,8 +13,8 @@ use Rattle.a429_cert.specs.Spelling.{Heading, Listing, Bounding, said_in}
 use Rattle.a429_cert.specs.Checked.{Stated, stated_text}
 use Rattle.a429_cert.specs.PlanText.{bound_of, head_text, heading_of, listing_of, placed_listing, plan_text_of, source_name, stated_groups, stated_of}
 use Rattle.a429_cert.proofs.Arranged.{order_below}
-use Rattle.a429_cert.proofs.DueOutputs.{output_at}
 use Rattle.a429_cert.proofs.OwnGroups.{order_moved}
+use Rattle.a429_slots.proofs.Cells.{output_at}
 
 -- an output of one of two tables is that of the other
 output_same : (t u : GroupTable) → IsSameTable t u → (o : ℕ) → o < length t.demands → placed_at t o ≡ placed_at u o

@@ -1,19 +1,20 @@
 -- What the text of a plan states for a group is a checked plan.
 use Rattle.std.proofs.Common.{◌≡◌, ◌≢◌, ℕ, zero, suc, ◌-◌, ◌*◌, ◌/◌, ◌^◌, ◌<◌, ◌≤◌, true, false, leb, List, [], ◌∷◌, length, get_or, map, Option, Some, None, inl, inr, refl, sym, ap, ap₂, subst, ◌∙◌, arith}
-use Rattle.std.specs.Prelude.{slice_get, sum, IfSome}
+use Rattle.std.specs.Prelude.{sum, IfSome}
 use Rattle.std.specs.Option.{option_map_or}
 use Rattle.std.specs.List.{AllZip, AllByRecursion, sum_by, range_with_len, list_all}
 use Rattle.std.specs.List.Sorted.{IsPermutation}
 use Rattle.std.proofs.Math.Nat.{pow-le-pow_right, mul-le-mul}
-use Rattle.std.proofs.lemmas.Bool.{and_parts, cases_lt, leb-true}
+use Rattle.std.proofs.lemmas.Bool.{and_parts, leb-true}
 use Rattle.std.proofs.lemmas.Bool.Decides.{nat_tests}
 use Rattle.std.proofs.lemmas.List.{length-map, get_or-map, get_or-take}
 use Rattle.std.proofs.lemmas.List.FromFn.{get_or-map-range_with_len, length-range_with_len}
 use Rattle.std.proofs.lemmas.List.Sorted.{length_permutation, sum_by-IsPermutation}
 use Rattle.std.proofs.lemmas.List.Elements.{All-from_recursion}
 use Rattle.std.proofs.lemmas.List.Sums.{sum-map, sum_by_more_le}
-use Rattle.std.proofs.lemmas.Nat.{div_below, le-div, pow_below, pow_pos}
+use Rattle.std.proofs.lemmas.Nat.{div_below, le-div, pow_pos}
 use Rattle.std.proofs.lemmas.Simd.{map-map}
+use Rattle.a429_word.proofs.Lists.{all_at, same_power}
 use Rattle.a429_equipment.specs.TableRecord.{TableRecord}
 use Rattle.a429_equipment.specs.declared.rows.GroupRow.{GroupRow}
 use Rattle.a429_equipment.specs.declared.rows.OutputRow.{OutputRow}
@@ -38,6 +39,7 @@ use Rattle.a429_cert.proofs.Arranged.{order_below, order_once, each_pair, each_p
 use Rattle.a429_cert.proofs.DueOutputs.{AreSame, exponents_of, grid_same, length-outputs, counts, periods_same, frame_is, demand_is, due_here, source_there, period_due, row_at, row_hold, hold_due, names_differ}
 use Rattle.a429_cert.proofs.Gathered.{blank}
 use Rattle.a429_cert.proofs.Parts.{part_said}
+use Rattle.a429_pack.proofs.Entries.{up_to_greatest}
 
 -- the fewest buses of a schedule carry the demand, and one fewer do not
 abbrev pub FewestCarry : Type 0
@@ -78,11 +80,6 @@ name_is_word s h =
     let q = and_parts _ _ p.0 in
     record { some_byte = some_length (length s) q.0; unbroken = name_bytes s p.1 }
 
-row_of : {X : Type 0} (P : X → Type 0) (xs : List X) (i : ℕ) (x : X) → AllByRecursion P xs → slice_get xs i ≡ Some x → P x
-row_of P [] i x all e = absurd cc
-row_of P (y ∷ ys) zero x all e = let same : y ≡ x = cc in subst P same all.0
-row_of P (y ∷ ys) (suc i) x all e = row_of P ys i x all.1 e
-
 -- ---- the exponents of the periods
 
 asked_exponents : (sources : List SourceRow) (t : GroupTable) → map exponent_of (asked_of sources t) ≡ exponents_of t
@@ -93,15 +90,6 @@ length-exponents t = length-map (outputs_of t) (λ p. p.place.period) ∙ length
 
 frame_greatest : (e : TableRecord) (rate : ℕ) (rows : List OutputRow) (t : GroupTable) → IsPlannedFor rate e.sources rows t → frame_of t ≡ 2 ^ greatest (exponents_of t)
 frame_greatest e rate rows t p = ap (λ (k : ℕ). 2 ^ k) (p.layout.frame ∙ ap greatest (asked_exponents e.sources t))
-
-same_power : (i j : ℕ) → 2 ^ i ≡ 2 ^ j → i ≡ j
-same_power i j same = elim (cases_lt i j) [
-  | inl less ↦ absurd (omega (arith, pow_below i j less, same))
-  | inr most ↦ elim (cases_lt j i) [
-    | inl more ↦ absurd (omega (arith, pow_below j i more, same))
-    | inr equal ↦ omega (arith, most, equal)
-  ]
-]
 
 -- rows have one grid period each
 same_exponents : (rate : ℕ) (rows : List OutputRow) (ks : List ℕ) (os : List Placed) → AllZip (HasPeriod rate) rows ks → AllZip (IsServed rate) rows os → ks ≡ map (λ o. o.place.period) os
@@ -125,16 +113,11 @@ exponent_at t o below =
     get_or-map (λ p. p.place.period) (outputs_of t) o d 0 (omega (arith, length-outputs t))
     ∙ ap (λ (p : Placed). p.place.period) (get_or-map-range_with_len (placed_at t) 0 (length t.demands) o o d below (omega arith))
 
-at_most_greatest : (ks : List ℕ) (i : ℕ) → i < length ks → get_or ks i 0 ≤ greatest ks
-at_most_greatest [] i below = absurd (omega arith)
-at_most_greatest (k ∷ ks) zero below = omega arith
-at_most_greatest (k ∷ ks) (suc i) below = let rest = at_most_greatest ks i (omega arith) in omega arith
-
 -- a period is at most a frame
 period_within : (e : TableRecord) (rate : ℕ) (rows : List OutputRow) (t : GroupTable) → IsPlannedFor rate e.sources rows t → (o : ℕ) → o < length t.demands → 2 ^ (placed_at t o).place.period ≤ frame_of t
 period_within e rate rows t p o below =
     let one : 0 < 2 = omega arith in
-    let most = at_most_greatest (exponents_of t) o (omega (arith, length-exponents t)) in
+    let most = up_to_greatest (exponents_of t) o (omega (arith, length-exponents t)) in
     let le : (placed_at t o).place.period ≤ greatest (exponents_of t) = omega (arith, most, exponent_at t o below) in
     let powers : 2 ^ (placed_at t o).place.period ≤ 2 ^ greatest (exponents_of t) = pow-le-pow_right {n = 2} one {i = (placed_at t o).place.period} {j = greatest (exponents_of t)} le in
     omega (arith, powers, frame_greatest e rate rows t p)
@@ -254,7 +237,7 @@ own_listings e row rows t g law o =
     let known : n < length t.demands = ordered_below e row.rate rows t o.planned k below in
     let here = due_here e row.rate rows t g s n (omega arith) in
     let there = source_there e row.rate rows t g s n (omega arith) in
-    let word : IsWord here.source.name = name_is_word here.source.name (row_of IsSourceRow e.sources (placed_at t n).source here.source o.words there).0 in
+    let word : IsWord here.source.name = name_is_word here.source.name (all_at IsSourceRow e.sources (placed_at t n).source here.source o.words there).0 in
     let named : here.source.name ≡ source_name e.sources (placed_at t n).source = sym (ap (λ (o : Option SourceRow). option_map_or (λ (s : SourceRow). s.name) o []) there) in
     let period = period_within e row.rate rows t o.planned n known in
     let limit : IsShortLimit (row_at rows n).hold = limit_short (row_at rows n).hold (All-from_recursion IsHold rows o.holds n blank (omega arith)) in

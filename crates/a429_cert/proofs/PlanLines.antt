@@ -3,9 +3,10 @@ use Rattle.std.proofs.Common.{◌≡◌, ℕ, zero, suc, ◌+◌, ◌<◌, ◌�
 use Rattle.std.specs.Prelude.{slice_get, option_map}
 use Rattle.std.specs.List.{AllByRecursion, AllZip, flat_map, zip}
 use Rattle.std.specs.Option.{option_map_or}
-use Rattle.std.proofs.lemmas.List.{take_all, length-take, take_more, drop_more, map-append, flat_map_more}
+use Rattle.std.proofs.lemmas.List.{take_all, length-take, map-append, flat_map_more}
 use Rattle.std.proofs.lemmas.List.Concat.{flat_map-cons}
 use Rattle.std.proofs.lemmas.Option.{same_Some, slice_get_within, slice_get-get_or}
+use Rattle.a429_word.proofs.Lists.{drop_at, take_next}
 use Rattle.a429_equipment.specs.declared.rows.GroupRow.{GroupRow}
 use Rattle.a429_equipment.specs.declared.rows.OutputRow.{OutputRow}
 use Rattle.a429_equipment.specs.declared.rows.SourceRow.{SourceRow}
@@ -14,11 +15,13 @@ use Rattle.a429_equipment.specs.TableRecord.{TableRecord}
 use Rattle.a429_slots.specs.declared.group_plan.SlotPlace.{SlotPlace}
 use Rattle.a429_slots.specs.declared.group_plan.SendLimits.{SendLimits}
 use Rattle.a429_slots.specs.Tables.{Placed, GroupTable, PlanTable, placed_at, outputs_of, order_of, place_of, source_of, limits_of, groups_of}
-use Rattle.a429_slots.specs.Planned.{IsServed, IsPlannedAt, IsPlanOf}
+use Rattle.a429_slots.specs.Planned.{IsPlannedAt, IsPlanOf}
 use Rattle.a429_cert.specs.Spelling.{Listing, output_text}
 use Rattle.a429_cert.specs.Checked.{Stated, stated_text}
 use Rattle.a429_cert.specs.PlanText.{source_name, placed_listing, listing_of, stated_of, stated_groups}
-use Rattle.a429_cert.proofs.DueOutputs.{output_at, length-outputs}
+use Rattle.a429_cert.proofs.DueOutputs.{length-outputs}
+use Rattle.a429_slots.proofs.Known.{served_known}
+use Rattle.a429_slots.proofs.Cells.{output_at}
 
 -- ---- an output
 
@@ -47,28 +50,15 @@ at_place xs i x e =
     let below = slice_get_within xs i x e in
     (below, same_Some _ _ (sym (slice_get-get_or xs i x below) ∙ e))
 
-taken_more : {X : Type 0} (xs : List X) (i : ℕ) (x : X) → slice_get xs i ≡ Some x → take (i + 1) xs ≡ take i xs ++ x ∷ []
-taken_more xs i x e = let p = at_place xs i x e in take_more xs i x p.0 ∙ ap (λ y. take i xs ++ y ∷ []) p.1
-
-left_from : {X : Type 0} (xs : List X) (i : ℕ) (x : X) → slice_get xs i ≡ Some x → drop i xs ≡ x ∷ drop (i + 1) xs
-left_from xs i x e = let p = at_place xs i x e in drop_more xs i x p.0 ∙ ap (λ y. y ∷ drop (i + 1) xs) p.1
-
 -- ---- the outputs of a group
 
 pub outputs_more : (text new old : List ℕ) (f : ℕ → Listing) (order : List ℕ) (k o : ℕ) → slice_get order k ≡ Some o → text ≡ old ++ flat_map output_text (map f (take k order)) → new ≡ text ++ output_text (f o)
     → new ≡ old ++ flat_map output_text (map f (take (k + 1) order))
 outputs_more text new old f order k o there so now =
-    let more : map f (take (k + 1) order) ≡ map f (take k order) ++ f o ∷ [] = ap (map f) (taken_more order k o there) ∙ map-append f (take k order) (o ∷ []) in
+    let more : map f (take (k + 1) order) ≡ map f (take k order) ++ f o ∷ [] = ap (map f) (take_next order k o there) ∙ map-append f (take k order) (o ∷ []) in
     now ∙ ap (λ (x : List ℕ). x ++ output_text (f o)) so ∙ flat_map_more output_text old (map f (take k order)) (f o) ∙ ap (λ (ls : List Listing). old ++ flat_map output_text ls) (sym more)
 
 -- ---- the groups
-
--- the sources of a group's outputs are known
-pub known_sources : (n rate : ℕ) (rows : List OutputRow) (ps : List Placed) → AllZip (IsServed rate) rows ps → AllByRecursion (λ o. o.source < n) rows → AllByRecursion (λ p. p.source < n) ps
-known_sources n rate [] [] served known = tt
-known_sources n rate [] (p ∷ ps) served known = absurd served
-known_sources n rate (r ∷ rows) [] served known = absurd served
-known_sources n rate (r ∷ rows) (p ∷ ps) served known = (omega (arith, served.0.0, known.0), known_sources n rate rows ps served.1 known.1)
 
 pub known_in_group : (n i : ℕ) (sources : List SourceRow) (rates : List ℕ) (rowss : List (List OutputRow)) (ts : List GroupTable) (t : GroupTable) → AllZip (IsPlannedAt sources) (zip rates rowss) ts
     → AllByRecursion (AllByRecursion (λ o. o.source < n)) rowss → slice_get ts i ≡ Some t → AllByRecursion (λ p. p.source < n) (outputs_of t)
@@ -77,7 +67,7 @@ known_in_group n i sources [] rowss (u ∷ ts) t planned known e = absurd planne
 known_in_group n i sources (rate ∷ rates) [] (u ∷ ts) t planned known e = absurd planned
 known_in_group n zero sources (rate ∷ rates) (rows ∷ rowss) (u ∷ ts) t planned known e =
     let same : u ≡ t = cc in
-    subst (λ (v : GroupTable). AllByRecursion (λ p. p.source < n) (outputs_of v)) same (known_sources n rate rows (outputs_of u) planned.0.served known.0)
+    subst (λ (v : GroupTable). AllByRecursion (λ p. p.source < n) (outputs_of v)) same (served_known n rate rows (outputs_of u) planned.0.served known.0)
 known_in_group n (suc i) sources (rate ∷ rates) (rows ∷ rowss) (u ∷ ts) t planned known e = known_in_group n i sources rates rowss ts t planned.1 known.1 e
 
 -- one more group is written
@@ -85,16 +75,13 @@ pub groups_more : (version : ℕ) (sources : List SourceRow) (groups : List Grou
     → text ++ flat_map stated_text (stated_groups version sources (drop i groups) (drop i ts)) ≡ whole → new ≡ text ++ stated_text (stated_of version sources row t)
     → new ++ flat_map stated_text (stated_groups version sources (drop (i + 1) groups) (drop (i + 1) ts)) ≡ whole
 groups_more version sources groups ts i row t text new whole here there so now =
-    let left : stated_groups version sources (drop i groups) (drop i ts) ≡ stated_of version sources row t ∷ stated_groups version sources (drop (i + 1) groups) (drop (i + 1) ts) = rw (left_from groups i row here, left_from ts i t there) refl in
+    let left : stated_groups version sources (drop i groups) (drop i ts) ≡ stated_of version sources row t ∷ stated_groups version sources (drop (i + 1) groups) (drop (i + 1) ts) = rw (drop_at groups i row here, drop_at ts i t there) refl in
     ap (λ (x : List ℕ). x ++ flat_map stated_text (stated_groups version sources (drop (i + 1) groups) (drop (i + 1) ts))) now
     ∙ append_assoc text (stated_text (stated_of version sources row t)) (flat_map stated_text (stated_groups version sources (drop (i + 1) groups) (drop (i + 1) ts)))
     ∙ ap (λ (x : List ℕ). text ++ x) (sym (flat_map-cons stated_text (stated_of version sources row t) (stated_groups version sources (drop (i + 1) groups) (drop (i + 1) ts))))
     ∙ ap (λ (ss : List Stated). text ++ flat_map stated_text ss) (sym left) ∙ so
 
 -- ---- what is read
-
-pub read_is : {X : Type 0} (xs : List X) (i : ℕ) (x : X) → i < length xs → x ≡ get_or xs i x → slice_get xs i ≡ Some x
-read_is xs i x below is = slice_get-get_or xs i x below ∙ ap (λ y. Some y) (sym is)
 
 -- the whole order
 pub order_whole : (t : GroupTable) (k : ℕ) → length (outputs_of t) ≤ k → take k (order_of t) ≡ order_of t

@@ -1,10 +1,5 @@
-pub mod WordsLines
-pub mod Resubmitted
-pub mod LiveRuns
-pub mod ReportParts
 pub mod Refused
-pub mod Endings
-pub mod KindReplies
+pub mod WordEndings
 pub mod ScriptLines
 pub mod PlayedLines
 pub mod ReportLines

@@ -1,6 +1,6 @@
 -- Lines that are written one after another.
 use Rattle.std.proofs.Common.{◌≡◌, ◌∙◌, ℕ, Bool, true, false, List, [], ◌∷◌, ◌++◌, refl, sym, ap, subst, append_assoc, append-nil, arith, codes, inl, inr, length, take}
-use Rattle.std.specs.Prelude.{Option, Some, None, Result, Ok, IsTrue}
+use Rattle.std.specs.Prelude.{Option, Some, None, IsTrue}
 use Rattle.std.proofs.lemmas.List.{take_all}
 use Rattle.std.specs.Io.KnownBytes.{Appends, append_known}
 use Rattle.a429_slots.specs.Events.{Event}
@@ -39,9 +39,6 @@ pub Appends-out : (old new : Option (List ℕ)) (text : List ℕ) → Appends ol
 Appends-out None new text out = tt
 Appends-out (Some a) None text out = out
 Appends-out (Some a) (Some b) text out = rw out refl
-
-pub same_Ok : {X E : Type 0} (x y : X) → ◌≡◌ {A = Result X E} (Ok x) (Ok y) → x ≡ y
-same_Ok x y same = cc
 
 -- what was kept back goes out with what was there, and then the end
 pub Appends-ended : (old mid new : Option (List ℕ)) (text bytes end : List ℕ) → Appends (append_known old []) (append_known mid text) bytes → Appends mid new (text ++ end) → Appends old new (bytes ++ end)

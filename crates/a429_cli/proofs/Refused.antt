@@ -6,7 +6,6 @@ use Rattle.a429_equipment.specs.Reading.{reading}
 use Rattle.a429_cert.specs.Due.{IsFirstUnfitOf}
 use Rattle.a429_cert.specs.declared.verdicts.Verdict.{Verdict}
 use Rattle.a429_slots.specs.Proposed.{Proposed}
-use Rattle.a429_console.specs.Files.{AreRead}
 use Rattle.a429_console.specs.Names.{naming_of}
 use Rattle.a429_cli.specs.Script.{IsScriptFault}
 use Rattle.a429_cli.specs.Replaying.{IsNoStart, ReplayInput}
@@ -74,10 +73,3 @@ script_fault_refuses i q refused.Source p f = absurd f
 script_fault_refuses i q refused.Sink p f = absurd f
 script_fault_refuses i q refused.TooMuch p f = absurd f
 script_fault_refuses i q refused.Memory p f = tt
-
--- what was read of files that stayed as they are
-pub read_by : (f g : List ℕ → Option (List ℕ)) → ((name : List ℕ) → f name ≡ g name) → (names contents : List (List ℕ)) → AreRead f names contents → AreRead g names contents
-read_by f g same [] [] read = tt
-read_by f g same [] (bytes ∷ contents) read = absurd read
-read_by f g same (name ∷ names) [] read = absurd read
-read_by f g same (name ∷ names) (bytes ∷ contents) (is, read) = (rw (same name) at is, read_by f g same names contents read)

@@ -8,6 +8,4 @@ pub mod LineFiles
 pub mod LineReports
 pub mod LineReplies
 pub mod PlanReplies
-pub mod WordsFile
-pub mod LiveReplies
 pub mod Replies

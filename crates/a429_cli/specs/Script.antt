@@ -2,7 +2,8 @@
 use Rattle.std.specs.Prelude.{◌≡◌, ◌+◌, ◌∷◌, [], ◌++◌, ◌&&◌, ℕ, List, Option, Some, None, Result, Ok, Err, codes, if◌then◌else◌, nat_lt, nat_le, option_map, option_and_then}
 use Rattle.std.specs.Str.{bytes_eq}
 use Rattle.a429_word.specs.Hexadecimal.{raw_word}
-use Rattle.a429_cli.specs.ScriptText.{cut, decimal_number, lines_of}
+use Rattle.a429_console.specs.CutText.{cut, lines_of}
+use Rattle.a429_cli.specs.ScriptText.{decimal_number}
 use Rattle.a429_console.specs.Names.{Naming, number_named}
 use Rattle.a429_console.specs.declared.output.refusals.CommandRefusal.{CommandRefusal}
 use Rattle.a429_console.specs.declared.output.refusals.CommandRefusal.TheVariants as refused

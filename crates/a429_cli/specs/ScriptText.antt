@@ -1,9 +1,5 @@
--- Texts of scripts: lines, words, and decimal numbers (profile: replay script).
-use Rattle.std.specs.Prelude.{◌==◌, ◌&&◌, ◌+◌, ◌-◌, ◌*◌, ◌∷◌, [], ℕ, Bool, false, not, List, Option, Some, None, if◌then◌else◌, nat_lt, nat_le, length, take, drop, position, option_map, option_and_then}
-
--- the parts before and after the first byte b
-unfoldable pub cut : ℕ → List ℕ → Option (List ℕ × List ℕ)
-cut b text = option_map (λ k. (take k text, drop (k + 1) text)) (position (λ x. x == b) text)
+-- Decimal numbers of scripts (profile: replay script).
+use Rattle.std.specs.Prelude.{◌==◌, ◌&&◌, ◌+◌, ◌-◌, ◌*◌, ◌∷◌, [], ℕ, Bool, false, not, List, Option, Some, None, if◌then◌else◌, nat_lt, nat_le, length, option_and_then}
 
 abbrev pub decimal_digit : ℕ → Option ℕ
 decimal_digit c = if nat_le 48 c && nat_le c 57 then Some (c - 48) else None
@@ -21,13 +17,3 @@ has_leading_zero _ = false
 -- the number of one to ten decimal digits without a leading zero
 unfoldable pub decimal_number : List ℕ → Option ℕ
 decimal_number text = if nat_lt 0 (length text) && nat_le (length text) 10 && not (has_leading_zero text) then decimal_onto 0 text else None
-
--- a byte that is no line feed, before lines and what stands after the last of them
-abbrev pub joined_on : ℕ → List (List ℕ) → List ℕ → List (List ℕ) × List ℕ
-joined_on x [] rest = ([], x ∷ rest)
-joined_on x (line ∷ lines) rest = ((x ∷ line) ∷ lines, rest)
-
--- the lines of a text, each without the line feed that ends it, and what stands after the last
-abbrev pub lines_of : List ℕ → List (List ℕ) × List ℕ
-lines_of [] = ([], [])
-lines_of (x ∷ xs) = if x == 10 then ([] ∷ (lines_of xs).0, (lines_of xs).1) else joined_on x (lines_of xs).0 (lines_of xs).1

@@ -3,7 +3,6 @@
 
 mod commands;
 mod lines;
-mod live;
 mod pending;
 mod plan_texts;
 mod replay;
@@ -16,4 +15,3 @@ pub use a429_console::files::{FileFault, FileReader, FileTrouble, LARGEST_FILE};
 pub use a429_console::output::refusals::CommandRefusal;
 pub use a429_console::output::{CountedWriter, Output, OutputFault};
 pub use commands::command;
-pub use live::commands::command_live;

@@ -10,3 +10,6 @@ pub mod Refused
 pub mod Numbered
 pub mod HexDigits
 pub mod HexText
+pub mod CutLines
+pub mod Endings
+pub mod KindReplies

@@ -1,7 +1,7 @@
 -- Refusals that are handed on.
 use Rattle.std.proofs.Common.{◌≡◌, ◌⊎◌, [], ◌∷◌, sym, subst, ℕ, List, inl, inr}
 use Rattle.std.specs.Prelude.{Option, Result, Ok, Err, IfOk, OnOk, MatchResult}
-use Rattle.a429_console.specs.Files.{IsFileRefusal, IsFirstUnread}
+use Rattle.a429_console.specs.Files.{AreRead, IsFileRefusal, IsFirstUnread}
 use Rattle.a429_console.specs.Tables.{IsTableFault, IsTableRefusal}
 use Rattle.a429_console.specs.RefusalText.{IsToldOf, OrMemory}
 use Rattle.a429_console.specs.declared.output.refusals.CommandRefusal.{CommandRefusal}
@@ -78,3 +78,10 @@ table_fault_refuses table refused.Memory f = absurd f
 pub matched_both : {X : Type 0} (result : Result X CommandRefusal) (P Q : X → Type 0) (F G : CommandRefusal → Type 0) → ((x : X) → P x → Q x) → ((e : CommandRefusal) → F e → G e) → MatchResult result P F → MatchResult result Q G
 matched_both (Ok x) P Q F G more other p = more x p
 matched_both (Err e) P Q F G more other p = other e p
+
+-- what was read of files that stayed as they are
+pub read_by : (f g : List ℕ → Option (List ℕ)) → ((name : List ℕ) → f name ≡ g name) → (names contents : List (List ℕ)) → AreRead f names contents → AreRead g names contents
+read_by f g same [] [] read = tt
+read_by f g same [] (bytes ∷ contents) read = absurd read
+read_by f g same (name ∷ names) [] read = absurd read
+read_by f g same (name ∷ names) (bytes ∷ contents) (is, read) = (rw (same name) at is, read_by f g same names contents read)

@@ -11,3 +11,4 @@ pub mod Tables
 pub mod Requests
 pub mod LiveWords
 pub mod RequestRows
+pub mod CutText

@@ -1,4 +1,5 @@
 //! The words of the command line: which commands there are, and what the words ask for.
 
 pub mod command_line;
+pub mod replies;
 pub mod requests;

@@ -1,9 +1,9 @@
 //! What every command of the program `a429` stands on: the words of a command line, the files that it reads, the
-//! output that it puts, its refusals, and hints about them.
+//! output that it puts, and its refusals.
 #![tactic(auto)]
 
 pub mod arguments;
 pub mod files;
-pub mod hints;
 pub mod output;
 pub mod tables;
+pub mod texts;

@@ -6,6 +6,7 @@ use Rattle.std.specs.List.{AllByRecursion, position_or_len}
 use Rattle.std.proofs.lemmas.List.{reverse-append, reverse-reverse, take_all}
 use Rattle.std.proofs.lemmas.Bool.{cases_Bool, cases_eq, cases_lt, lt-ltb, le-ltb, lt-leb, le-leb, ltb-true}
 use Rattle.std.proofs.lemmas.Option.{none-some, same_Some, cond_some, slice_get_cases}
+use Rattle.a429_word.proofs.Lists.{all_push, none_passes}
 use Rattle.a429_word.specs.Bits.{has_odd_parity}
 use Rattle.a429_equipment.specs.declared.rows.SourceRow.{SourceRow}
 use Rattle.a429_equipment.specs.declared.arrivals.ArrivalRefusal.{ArrivalRefusal}
@@ -21,9 +22,10 @@ use Rattle.a429_slots.specs.declared.answers.Answer.TheVariants.{Accepted, Sent,
 use Rattle.a429_slots.specs.declared.answers.Refusal.TheVariants.{NoSuch, CountSpent, FrameEnd, MidFrame, SlotsSpent, StationDiffers}
 use Rattle.a429_slots.specs.Answers.{answer, answers, source_answer, cell_answer, frame_answer}
 use Rattle.a429_core.specs.Sends.{IsLatest}
-use Rattle.a429_core.proofs.Places.{none_passes, first_passes, last_push}
+use Rattle.a429_core.proofs.Places.{first_passes}
 use Rattle.a429_core.proofs.Words.{words_in, accepted_none, accepted_some, accepted_full, word_accepted, word_even, word_filtered, word_unheard, nobody_hears}
 use Rattle.a429_core.proofs.Steps.{answers_push}
+use Rattle.a429_equipment.proofs.Cutting.{last_push}
 
 -- the source that a word was accepted for
 abbrev source_in : Answer → Option ℕ
@@ -206,10 +208,6 @@ does C o E i (Frame g) apart = quiet C o E i (Frame g) (answer C o E (Frame g)) 
 does C o E i (Publish q) apart = quiet C o E i (Publish q) (answer C o E (Publish q)) (publish_accepts_none C o E q) (λ s there. refl)
 
 -- ---- the latest word
-
-all_push : {X : Type 0} (P : X → Type 0) (xs : List X) (x : X) → AllByRecursion P xs → P x → AllByRecursion P (xs ++ x ∷ [])
-all_push P [] x all holds = (holds, tt)
-all_push P (y ∷ ys) x all holds = (all.0, all_push P ys x all.1 holds)
 
 first_words : (C : ℕ) (o : Opening) (i : ℕ) → accepted_by C o i [] ≡ []
 first_words C o i = go (slice_get o.proposal.station.sources i)

@@ -1,20 +1,22 @@
 -- How the cells that a group has answered, and what is kept of them, go on by an event.
 use Rattle.std.proofs.Common.{◌≡◌, ℕ, zero, suc, ◌+◌, ◌/◌, ◌≤◌, ◌-◌, ◌^◌, false, List, [], ◌∷◌, ◌++◌, length, ◌∙◌, sym, ap, subst, refl, inl, inr, arith, append-nil}
-use Rattle.std.specs.Prelude.{Option, Some, None, slice_get, if◌then◌else◌}
+use Rattle.std.specs.Prelude.{Option, Some, None, slice_get}
 use Rattle.std.specs.Option.{option_map_or}
 use Rattle.std.proofs.Math.Nat.{div-mul-le_self, div-zero}
 use Rattle.std.proofs.lemmas.Nat.{le-div}
-use Rattle.std.proofs.lemmas.List.{reverse-append, reverse-reverse, length-take, length-append}
+use Rattle.std.proofs.lemmas.List.{length-take, length-append}
 use Rattle.std.proofs.lemmas.Bool.{cases_Bool, cases_eq, eq-eqb, ne_eqb}
 use Rattle.std.proofs.lemmas.Option.{same_Some}
 use Rattle.a429_equipment.specs.declared.rows.SourceRow.{SourceRow}
 use Rattle.a429_slots.specs.Tables.{GroupTable, groups_of, frame_of, buses_of}
 use Rattle.a429_slots.specs.Events.{Event, Cell}
-use Rattle.a429_slots.specs.History.{Opening, Current, AnsweredCell, current, is_cell, is_taken, cells_since, accepted_in, accepted_by, newest_number, newest_table, answered_after, answered_cells, next_answered, has_sent}
+use Rattle.a429_slots.specs.History.{Opening, Current, AnsweredCell, current, is_cell, is_taken, cells_since, accepted_in, accepted_by, newest_number, newest_table, answered_cells, next_answered, has_sent}
 use Rattle.a429_slots.specs.Recalling.{Recalls, Recent, RecentCountsSends, RecentDecides, RecentPassesOtherCells, never, sent_again}
 use Rattle.a429_core.specs.Standing.{Remembers, recent_at}
 use Rattle.a429_core.proofs.Words.{words_in, words_append}
-use Rattle.a429_core.proofs.Frames.{current_push, gone_on, goes_on, count_push}
+use Rattle.a429_core.proofs.Frames.{gone_on, goes_on}
+use Rattle.a429_slots.proofs.Answered.{answered_push}
+use Rattle.a429_slots.proofs.Histories.{cells_next, current_next}
 
 -- what the law of the crate below says of sends
 pub record AreRecalled : Type 0 where
@@ -30,11 +32,6 @@ more_cells earlier next = earlier ++ option_map_or (λ c. c ∷ []) next []
 
 abbrev pub next_of : ℕ → Opening → ℕ → GroupTable → List Event → Option AnsweredCell
 next_of C o g p E = next_answered C o E g (current o g p E) (answered_cells C o g p E)
-
-pub answered_push : (C : ℕ) (o : Opening) (g : ℕ) (p : GroupTable) (E : List Event) (e : Event)
-    → answered_cells C o g p (E ++ e ∷ []) ≡ (if is_cell g e then more_cells (answered_cells C o g p E) (next_of C o g p E) else answered_cells C o g p E)
-answered_push C o g p E e = ap (answered_after C o g p) (reverse-append E (e ∷ []))
-    ∙ ap (λ (F : List Event). if is_cell g e then more_cells (answered_cells C o g p E) (next_answered C o F g (current o g p E) (answered_cells C o g p E)) else answered_cells C o g p E) (reverse-reverse E)
 
 pub answered_stay : (C : ℕ) (o : Opening) (g : ℕ) (p : GroupTable) (E : List Event) (e : Event) → is_cell g e ≡ false → answered_cells C o g p (E ++ e ∷ []) ≡ answered_cells C o g p E
 answered_stay C o g p E e quiet = answered_push C o g p E e ∙ rw quiet refl
@@ -69,11 +66,11 @@ reached_on g f e slot R =
     let m = buses_of f.table in
     elim (cases_Bool (is_cell g e)) [
       | inl own ↦
-          let more : cells_since g (goes_on f e) ≡ 1 + cells_since g f = count_push g f e ∙ rw own refl in
+          let more : cells_since g (goes_on f e) ≡ 1 + cells_since g f = cells_next g f e ∙ rw own refl in
           let further : cells_since g f / m ≤ cells_since g (goes_on f e) / m = subst (λ (n : ℕ). cells_since g f / m ≤ n / m) (sym more) (div_more (cells_since g f) m) in
           record { passed = omega (arith, R.passed, further); in_frame = R.in_frame }
       | inr other ↦
-          let same : cells_since g (goes_on f e) ≡ cells_since g f = count_push g f e ∙ rw other (omega arith) in
+          let same : cells_since g (goes_on f e) ≡ cells_since g f = cells_next g f e ∙ rw other (omega arith) in
           record { passed = subst (λ (n : ℕ). slot ≤ f.first + n / m) (sym same) R.passed; in_frame = R.in_frame }
     ]
 
@@ -87,7 +84,7 @@ reached_next g n now f e slot R = elim (cases_Bool (is_taken g now f e)) [
 
 pub reached_push : (o : Opening) (g : ℕ) (p : GroupTable) (E : List Event) (e : Event) (slot : ℕ) → IsReached g (current o g p E) slot → IsReached g (current o g p (E ++ e ∷ [])) slot
 reached_push o g p E e slot R =
-    subst (λ (f : Current). IsReached g f slot) (sym (current_push o g p E e)) (reached_next g (newest_number o E) (newest_table o g p E) (current o g p E) e slot R)
+    subst (λ (f : Current). IsReached g f slot) (sym (current_next o g p E e)) (reached_next g (newest_number o E) (newest_table o g p E) (current o g p E) e slot R)
 
 -- ---- what is kept
 

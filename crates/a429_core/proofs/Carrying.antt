@@ -4,6 +4,7 @@ use Rattle.std.specs.Prelude.{Option, Some, None, ◌||◌, slice_get, option_an
 use Rattle.std.specs.Option.{option_map_or}
 use Rattle.std.proofs.lemmas.Bool.{cases_lt, lt-ltb, le-ltb}
 use Rattle.std.proofs.lemmas.Option.{none-some, same_Some}
+use Rattle.a429_word.proofs.Lists.{in_frame}
 use Rattle.a429_equipment.specs.Arrivals.{AreApart}
 use Rattle.a429_slots.specs.Tables.{Placed, GroupTable, groups_of, outputs_of, frame_of, buses_of, cells_of, cell_at, output_in, source_of, source_at}
 use Rattle.a429_slots.specs.Events.{Event, Cell}
@@ -13,7 +14,7 @@ use Rattle.a429_slots.specs.declared.answers.Answer.TheVariants.{Accepted, Sent,
 use Rattle.a429_slots.specs.declared.answers.Refusal.TheVariants.{NoSuch, FrameEnd}
 use Rattle.a429_slots.specs.Answers.{answer, cell_answer}
 use Rattle.a429_core.specs.Sends.{CarriesLatest}
-use Rattle.a429_core.proofs.Places.{on_a_bus, in_frame}
+use Rattle.a429_core.proofs.Places.{on_a_bus}
 use Rattle.a429_core.proofs.Accepting.{last_is_latest}
 
 -- what an answer sent

@@ -1,10 +1,11 @@
 -- One step of what is kept, by a Cell, over every history that it stands for.
-use Rattle.std.proofs.Common.{◌≡◌, ℕ, ◌<◌, ◌≤◌, ◌+◌, ◌/◌, ◌%◌, Bool, true, false, List, [], ◌∷◌, ◌++◌, length, ◌∙◌, sym, ap, subst, refl, inl, inr, arith}
-use Rattle.std.specs.Prelude.{Option, Some, None, ◌==◌, ◌&&◌, ◌||◌, is_some, slice_get, slice_set, option_map, option_and_then, min, if◌then◌else◌}
+use Rattle.std.proofs.Common.{◌≡◌, ℕ, ◌<◌, ◌≤◌, ◌+◌, ◌/◌, ◌%◌, Bool, false, List, [], ◌∷◌, ◌++◌, length, ◌∙◌, sym, ap, subst, refl, inl, inr, arith}
+use Rattle.std.specs.Prelude.{Option, Some, None, ◌==◌, ◌||◌, is_some, slice_get, slice_set, option_map, option_and_then, min, if◌then◌else◌}
 use Rattle.std.specs.Option.{option_map_or}
 use Rattle.std.proofs.lemmas.Option.{none-some, same_Some, slice_get_within}
 use Rattle.std.proofs.lemmas.List.{length-set}
 use Rattle.std.proofs.lemmas.Bool.{cases_eq, cases_lt, cases_Bool, lt-ltb, le-ltb, eq-eqb, ne_eqb}
+use Rattle.a429_word.proofs.Lists.{and_false, either_none, get_set_other, get_set_same, in_frame}
 use Rattle.a429_equipment.specs.declared.rows.SourceRow.{SourceRow}
 use Rattle.a429_slots.specs.Tables.{Placed, GroupTable, groups_of, cells_of, frame_of, buses_of, output_in}
 use Rattle.a429_slots.specs.Events.{Event, Cell}
@@ -18,11 +19,12 @@ use Rattle.a429_slots.specs.declared.answers.Refusal.TheVariants.{NoSuch}
 use Rattle.a429_slots.specs.Answers.{cell_answer}
 use Rattle.a429_slots.specs.Sending.{due_of, Sending, sending_of, next_cell, after_cell}
 use Rattle.a429_core.specs.Standing.{Standing, StandsFor, Remembers, recent_at, kept_of, placed_cell, asked_cell, after_asked, group_sends, group_after, send_last, send_kept, word_at, sent_due, sent_in, cell_asked}
-use Rattle.a429_core.proofs.Places.{get_set_same, get_set_other, inside, outside, in_frame}
+use Rattle.a429_core.proofs.Places.{inside, outside}
 use Rattle.a429_core.proofs.Words.{accepted_none, kept_none}
-use Rattle.a429_core.proofs.Frames.{current_push, cell_push}
+use Rattle.a429_core.proofs.Frames.{cell_push}
 use Rattle.a429_core.proofs.Answering.{AreRecalled, AllRemember, IsReached, next_of, reached_by, remembers_unsent, remembers_sent, all_from_own}
 use Rattle.a429_core.proofs.Leaving.{IsGroup, NoneCame, group_stays, with_groups, with_cell, Stepped, step_from}
+use Rattle.a429_slots.proofs.Histories.{current_next}
 
 -- what a group does in a cell, where v already counts the cell as asked for
 pub record CellDone (C : ℕ) (o : Opening) (E : List Event) (k : ℕ) (p : GroupTable) (v : Standing) (x : Answer × Standing) : Type 0 where
@@ -80,14 +82,6 @@ put ss g i r new G =
 -- the answered cell of the output
 abbrev cell_of : ℕ → Opening → List Event → ℕ → GroupTable → ℕ → Placed → AnsweredCell
 cell_of C o E k p slot out = answered_cell C o E (answered_cells C o k p E) slot out
-
-and_false : (a b : Bool) → b ≡ false → (a && b) ≡ false
-and_false true b h = h
-and_false false b h = refl
-
-either_none : (b : Bool) → ◌≡◌ {A = Option ℕ} (if b then None else None) None
-either_none true = refl
-either_none false = refl
 
 record IsWord (C : ℕ) (o : Opening) (E : List Event) (k : ℕ) (p : GroupTable) (v : Standing) (slot : ℕ) (out : Placed) (x : Option ℕ × Standing) : Type 0 where
   pub sends : List (List Recent)
@@ -265,7 +259,7 @@ cell_step law C o E k v S (Some p) h =
     let f = current o k p E in
     let got : slice_get v.groups k ≡ Some (sending_of k f) = S.groups k ∙ rw h refl in
     let next : sending_of k (current o k p (E ++ Cell k ∷ [])) ≡ after_cell (sending_of k f) =
-    ap (sending_of k) (current_push o k p E (Cell k)) ∙ cell_push k (newest_number o E) (newest_table o k p E) f (Cell k) refl (eq-eqb k k refl) in
+    ap (sending_of k) (current_next o k p E (Cell k)) ∙ cell_push k (newest_number o E) (newest_table o k p E) f (Cell k) refl (eq-eqb k k refl) in
     let groups = slice_set v.groups k (after_cell (sending_of k f)) in
     let here : IsGroup o (E ++ Cell k ∷ []) groups k =
     get_set_same v.groups k (after_cell (sending_of k f)) (slice_get_within v.groups k (sending_of k f) got) ∙ rw h (ap (λ (s : Sending). Some s) (sym next)) in

@@ -1,15 +1,15 @@
 -- How the frame of a group goes on by an event.
-use Rattle.std.proofs.Common.{◌≡◌, ℕ, ◌+◌, true, false, List, [], ◌∷◌, ◌++◌, ◌∙◌, ap, refl, inl, inr, arith}
-use Rattle.std.specs.Prelude.{if◌then◌else◌, min, nat_lt, nat_le, cond}
-use Rattle.std.proofs.lemmas.List.{reverse-append, reverse-reverse}
-use Rattle.std.proofs.lemmas.List.Sums.{sum_by-cons}
+use Rattle.std.proofs.Common.{◌≡◌, ℕ, ◌+◌, true, false, ◌∷◌, ◌∙◌, ap, refl, inl, inr, arith}
+use Rattle.std.specs.Prelude.{if◌then◌else◌, min, nat_lt, nat_le}
 use Rattle.std.proofs.lemmas.Bool.{cases_lt, cases_Bool, lt-ltb, le-ltb, lt-leb, le-leb}
 use Rattle.a429_slots.specs.Tables.{GroupTable, cells_of}
 use Rattle.a429_slots.specs.Events.{Event}
-use Rattle.a429_slots.specs.History.{Opening, Current, current, frame_after, is_taken, next_frame, is_cell, is_frame, cells_since, has_room, newest_table, newest_number}
+use Rattle.a429_slots.specs.History.{Current, is_taken, next_frame, is_cell, is_frame, cells_since, has_room}
 use Rattle.a429_slots.specs.Answers.{frame_answer}
 use Rattle.a429_slots.specs.Sending.{Sending, after_cell, sending_of}
 use Rattle.a429_core.specs.Standing.{framed}
+use Rattle.a429_slots.proofs.Histories.{cells_next}
+use Rattle.a429_slots.proofs.GoingOn.{still}
 
 abbrev pub goes_on : Current → Event → Current
 goes_on f e = record f { since = e ∷ f.since }
@@ -18,27 +18,15 @@ goes_on f e = record f { since = e ∷ f.since }
 abbrev pub gone_on : ℕ → ℕ → GroupTable → Current → Event → Current
 gone_on g n now f e = if is_taken g now f e then next_frame n now f else goes_on f e
 
-pub current_push : (o : Opening) (g : ℕ) (p : GroupTable) (E : List Event) (e : Event) → current o g p (E ++ e ∷ []) ≡ gone_on g (newest_number o E) (newest_table o g p E) (current o g p E) e
-current_push o g p E e = ap (frame_after o g p) (reverse-append E (e ∷ []))
-    ∙ ap (λ (F : List Event). gone_on g (newest_number o F) (newest_table o g p F) (current o g p E) e) (reverse-reverse E)
-
-pub count_push : (g : ℕ) (f : Current) (e : Event) → cells_since g (goes_on f e) ≡ (if is_cell g e then 1 else 0) + cells_since g f
-count_push g f e = sum_by-cons (λ x. cond (is_cell g x) 1 0) e f.since
-
 abbrev sent_at : ℕ → Current → ℕ → Sending
 sent_at g f n = record { table = f.table; first = f.first; sent = n }
 
-pub frame_stays : (g : ℕ) (f : Current) (e : Event) → is_cell g e ≡ false → sending_of g (goes_on f e) ≡ sending_of g f
-frame_stays g f e k =
-    let same : cells_since g (goes_on f e) ≡ cells_since g f = count_push g f e ∙ rw k (omega arith) in
-    ap (λ (m : ℕ). sent_at g f (min m (cells_of f.table))) same
-
 pub not_taken : (g n : ℕ) (now : GroupTable) (f : Current) (e : Event) → is_frame g e ≡ false → is_cell g e ≡ false → sending_of g (gone_on g n now f e) ≡ sending_of g f
-not_taken g n now f e h k = rw h (frame_stays g f e k)
+not_taken g n now f e h k = rw h (still g f e k)
 
 pub cell_goes_on : (g : ℕ) (f : Current) (e : Event) → is_cell g e ≡ true → sending_of g (goes_on f e) ≡ after_cell (sending_of g f)
 cell_goes_on g f e k =
-    let more : cells_since g (goes_on f e) ≡ 1 + cells_since g f = count_push g f e ∙ rw k refl in
+    let more : cells_since g (goes_on f e) ≡ 1 + cells_since g f = cells_next g f e ∙ rw k refl in
     let c = cells_since g f in
     let n = cells_of f.table in
     ap (λ (m : ℕ). sent_at g f (min m n)) more ∙ elim (cases_lt c n) [
@@ -70,7 +58,7 @@ frame_push g n now f e h k =
           let unover : nat_le m c ≡ false = lt-leb m c lt in
           record {
             answer = rw (all, lt-ltb c m lt, unover) refl;
-            after = rw (h, unover, frame_stays g f e k, all, lt-ltb c m lt) refl;
+            after = rw (h, unover, still g f e k, all, lt-ltb c m lt) refl;
           }
       | inr ge ↦
           let all : min c m ≡ m = omega arith in
@@ -84,7 +72,7 @@ frame_push g n now f e h k =
             }
             | inr full ↦ record {
               answer = rw (all, none, over, full) refl;
-              after = rw (h, over, full, frame_stays g f e k, all, none) refl;
+              after = rw (h, over, full, still g f e k, all, none) refl;
             }
           ]
     ]

@@ -1,12 +1,12 @@
 -- The answers to the cells of a stretch of events without a taken Frame.
-use Rattle.std.proofs.Common.{◌≡◌, ℕ, suc, ◌+◌, ◌≤◌, Bool, true, false, true≢false, List, [], ◌∷◌, ◌++◌, map, take, ◌∙◌, sym, ap, subst, refl, inl, inr, arith, append-nil, append_assoc}
+use Rattle.std.proofs.Common.{◌≡◌, ℕ, suc, ◌+◌, ◌≤◌, Bool, true, false, List, [], ◌∷◌, ◌++◌, map, take, ◌∙◌, sym, ap, subst, refl, inl, inr, arith, append-nil, append_assoc}
 use Rattle.std.specs.Prelude.{Option, Some, cond, slice_get, count_by, if◌then◌else◌, ◌&&◌, IsTrue, ◌↔◌}
 use Rattle.std.specs.Option.{option_map_or}
 use Rattle.std.specs.List.{range_with_len}
 use Rattle.std.proofs.lemmas.List.Sums.{sum_by-cons}
-use Rattle.std.proofs.lemmas.Bool.{cases_Bool, cases_lt, and_parts, eqb-true, eq-eqb, lt-ltb, le-ltb, leb-true}
+use Rattle.std.proofs.lemmas.Bool.{cases_Bool, cases_lt, and_parts, eq-eqb, lt-ltb, le-ltb, leb-true}
 use Rattle.a429_slots.specs.Tables.{GroupTable, groups_of, cells_of}
-use Rattle.a429_slots.specs.Events.{Event, Arrive, Cell, Frame, Publish}
+use Rattle.a429_slots.specs.Events.{Event, Cell, Frame}
 use Rattle.a429_slots.specs.History.{Opening, Current, AnsweredCell, answered_cells, current, is_cell, is_frame, is_over, has_room, cells_since, newest_number, newest_table, next_frame}
 use Rattle.a429_slots.specs.TakenFrames.{is_taken_after, NoneTaken, BeginsFrame}
 use Rattle.a429_slots.specs.declared.answers.Answer.{Answer}
@@ -14,20 +14,13 @@ use Rattle.a429_slots.specs.declared.answers.Answer.TheVariants.{Changed, Refuse
 use Rattle.a429_slots.specs.declared.answers.Refusal.TheVariants.{NoSuch, MidFrame, SlotsSpent}
 use Rattle.a429_slots.specs.Answers.{answer, answers, cell_answer, frame_answer}
 use Rattle.a429_core.specs.Sends.{cell_answers, cells_in_order, cell_sent, without_word, in_turn}
-use Rattle.a429_core.proofs.Frames.{current_push, goes_on, count_push}
+use Rattle.a429_core.proofs.Frames.{goes_on}
 use Rattle.a429_core.proofs.InOrder.{turn, in_turn_is, whole_turn}
+use Rattle.a429_slots.proofs.Answered.{cell_event}
+use Rattle.a429_slots.proofs.Histories.{cells_next, current_next}
 
 abbrev IsGroup : Opening → ℕ → GroupTable → Type 0
 IsGroup o g p = slice_get (groups_of o.proposal.plan) g ≡ Some p
-
-clash : false ≡ true → ⊥
-clash h = true≢false (sym h)
-
-cell_event : (g : ℕ) (e : Event) → is_cell g e ≡ true → e ≡ Cell g
-cell_event g (Arrive r raw) h = absurd (clash h)
-cell_event g (Cell k) h = ap Cell (eqb-true k g h)
-cell_event g (Frame k) h = absurd (clash h)
-cell_event g (Publish q) h = absurd (clash h)
 
 -- ---- one event of a stretch
 
@@ -39,7 +32,7 @@ none_later o g p E es e none xs ys d split =
     subst (λ (F : List Event). is_taken_after o g p F d ≡ false) (sym (append_assoc E (e ∷ []) xs)) (none (e ∷ xs) ys d (ap (λ (zs : List Event). e ∷ zs) split))
 
 goes_next : (o : Opening) (g : ℕ) (p : GroupTable) (E : List Event) (e : Event) (f : Current) → current o g p E ≡ f → is_taken_after o g p E e ≡ false → current o g p (E ++ e ∷ []) ≡ goes_on f e
-goes_next o g p E e f here h = current_push o g p E e ∙ (rw h refl ∙ ap (λ (c : Current). goes_on c e) here)
+goes_next o g p E e f here h = current_next o g p E e ∙ (rw h refl ∙ ap (λ (c : Current). goes_on c e) here)
 
 counted : (g : ℕ) (e : Event) (es : List Event) → count_by (is_cell g) (e ∷ es) ≡ (if is_cell g e then 1 else 0) + count_by (is_cell g) es
 counted g e es = sum_by-cons (λ x. cond (is_cell g x) 1 0) e es
@@ -66,7 +59,7 @@ stretch_is C o g p E (e ∷ es) f there here none =
     elim (cases_Bool (is_cell g e)) [
       | inl yes' ↦
           let many : count_by (is_cell g) (e ∷ es) ≡ suc (count_by (is_cell g) es) = counted g e es ∙ rw yes' (omega arith) in
-          let on : cells_since g (goes_on f e) ≡ cells_since g f + 1 = count_push g f e ∙ rw yes' (omega arith) in
+          let on : cells_since g (goes_on f e) ≡ cells_since g f + 1 = cells_next g f e ∙ rw yes' (omega arith) in
           let first : without_word (answer C o E e) ≡ turn f (cells_since g f) = ap (λ (x : Event). without_word (answer C o E x)) (cell_event g e yes') ∙ cell_answered C o E g p f there here in
           let later : map without_word (cell_answers C o g (E ++ e ∷ []) es) ≡ map (turn f) (range_with_len (cells_since g f + 1) (count_by (is_cell g) es)) =
           rest ∙ ap (λ (k : ℕ). map (turn f) (range_with_len k (count_by (is_cell g) es))) on in
@@ -77,7 +70,7 @@ stretch_is C o g p E (e ∷ es) f there here none =
           ∙ ap (λ (n : ℕ). map (turn f) (range_with_len (cells_since g f) n)) (sym many)))
       | inr other ↦
           let many : count_by (is_cell g) (e ∷ es) ≡ count_by (is_cell g) es = counted g e es ∙ rw other (omega arith) in
-          let on : cells_since g (goes_on f e) ≡ cells_since g f = count_push g f e ∙ rw other (omega arith) in
+          let on : cells_since g (goes_on f e) ≡ cells_since g f = cells_next g f e ∙ rw other (omega arith) in
           let list : cell_answers C o g E (e ∷ es) ≡ cell_answers C o g (E ++ e ∷ []) es = rw other refl in
           ap (map without_word) list
           ∙ (rest ∙ (ap (λ (k : ℕ). map (turn f) (range_with_len k (count_by (is_cell g) es))) on ∙ ap (λ (n : ℕ). map (turn f) (range_with_len (cells_since g f) n)) (sym many)))
@@ -87,7 +80,7 @@ starts : (o : Opening) (g : ℕ) (p : GroupTable) (E : List Event) → BeginsFra
 starts o g p E (inl none) = ap (λ (F : List Event). cells_since g (current o g p F)) none
 starts o g p E (inr begun) =
     ap (λ (F : List Event). cells_since g (current o g p F)) begun.split
-    ∙ ap (cells_since g) (current_push o g p begun.past begun.event ∙ taken_now o g p begun.past begun.event begun.taken)
+    ∙ ap (cells_since g) (current_next o g p begun.past begun.event ∙ taken_now o g p begun.past begun.event begun.taken)
   where
     taken_now : (o : Opening) (g : ℕ) (p : GroupTable) (past : List Event) (e : Event) → is_taken_after o g p past e ≡ true
         → (if is_taken_after o g p past e then next_frame (newest_number o past) (newest_table o g p past) (current o g p past) else goes_on (current o g p past) e)
@@ -116,7 +109,7 @@ still o g p E (e ∷ es) f here none =
     let at_end : current o g p (E ++ e ∷ es) ≡ current o g p ((E ++ e ∷ []) ++ es) = ap (current o g p) (sym (append_assoc E (e ∷ []) es)) in
     record {
       table = ap (λ (c : Current). c.table) at_end ∙ rest.table;
-      cells = ap (cells_since g) at_end ∙ omega (arith, rest.cells, count_push g f e, counted g e es);
+      cells = ap (cells_since g) at_end ∙ omega (arith, rest.cells, cells_next g f e, counted g e es);
     }
 
 pub all_in_turn : (C : ℕ) (o : Opening) (g : ℕ) (p : GroupTable) (E es : List Event) (e : Event) → IsGroup o g p → BeginsFrame o g p E → NoneTaken o g p E es → is_taken_after o g p (E ++ es) e ≡ true

@@ -11,13 +11,14 @@ use Rattle.a429_slots.specs.Recalling.{Recent}
 use Rattle.a429_core.specs.declared.sources.Kept.{Kept}
 use Rattle.a429_slots.specs.declared.answers.Answer.{Answer}
 use Rattle.a429_slots.specs.Answers
-use Rattle.a429_slots.specs.Answers.{answer, answers, source_answer, arrive_answer, cell_answer, frame_answer}
+use Rattle.a429_slots.specs.Answers.{answer}
 use Rattle.a429_slots.specs.Sending.{Sending, sending_of}
 use Rattle.a429_core.specs.Standing.{Standing, StandsFor, kept_of, recent_at, stepped}
 use Rattle.a429_core.proofs.Places.{map_same}
 use Rattle.a429_core.proofs.Words.{accepted_none, kept_none}
 use Rattle.a429_core.proofs.Answering.{AllRemember, remembers_stay}
-use Rattle.a429_core.proofs.Frames.{current_push, not_taken}
+use Rattle.a429_core.proofs.Frames.{not_taken}
+use Rattle.a429_slots.proofs.Histories.{current_next}
 
 -- ---- what an event leaves
 
@@ -39,7 +40,7 @@ sources_stay C o E e v S N i =
 pub group_stays : (C : ℕ) (o : Opening) (E : List Event) (e : Event) (v : Standing) → StandsFor C o E v → (g : ℕ) → is_frame g e ≡ false → is_cell g e ≡ false → IsGroup o (E ++ e ∷ []) v.groups g
 group_stays C o E e v S g h k =
     S.groups g ∙ map_same (λ p. sending_of g (current o g p E)) (λ p. sending_of g (current o g p (E ++ e ∷ []))) (slice_get (groups_of o.proposal.plan) g)
-    (λ p _. sym (ap (sending_of g) (current_push o g p E e) ∙ not_taken g (newest_number o E) (newest_table o g p E) (current o g p E) e h k))
+    (λ p _. sym (ap (sending_of g) (current_next o g p E e) ∙ not_taken g (newest_number o E) (newest_table o g p E) (current o g p E) e h k))
 
 -- only groups moved on
 pub with_groups : (C : ℕ) (o : Opening) (E : List Event) (e : Event) (v : Standing) (gs : List Sending) → StandsFor C o E v → NoneCame C o E e → published o (E ++ e ∷ []) ≡ published o E

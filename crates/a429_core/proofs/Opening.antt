@@ -1,10 +1,11 @@
 -- What a state begins with.
-use Rattle.std.proofs.Common.{◌≡◌, ℕ, zero, suc, ◌+◌, ◌-◌, ◌<◌, ◌^◌, Bool, true, false, List, [], ◌∷◌, ◌++◌, length, take, map, replicate, ◌∙◌, sym, ap, subst, refl, arith}
-use Rattle.std.specs.Prelude.{Option, Some, None, ◌&&◌, slice_get, option_map, option_and_then, nat_lt, min}
+use Rattle.std.proofs.Common.{◌≡◌, ℕ, zero, suc, ◌+◌, ◌-◌, ◌<◌, ◌^◌, true, false, List, [], ◌∷◌, ◌++◌, length, take, map, replicate, ◌∙◌, sym, ap, subst, refl, arith}
+use Rattle.std.specs.Prelude.{Option, Some, None, slice_get, option_map, option_and_then, nat_lt, min}
 use Rattle.std.specs.Option.{option_map_or}
-use Rattle.std.proofs.lemmas.List.{take_more, map-append, length-map}
-use Rattle.std.proofs.lemmas.Option.{slice_get_within, get_or_from_slice_get, same_Some, none-some}
+use Rattle.std.proofs.lemmas.List.{map-append, length-map}
+use Rattle.std.proofs.lemmas.Option.{same_Some, none-some}
 use Rattle.std.proofs.lemmas.Bool.{ltb-true, and_parts}
+use Rattle.a429_word.proofs.Lists.{and_false, take_next}
 use Rattle.a429_equipment.specs.Arrivals.{AreApart}
 use Rattle.a429_slots.specs.Tables.{GroupTable, groups_of, frame_of, cells_of}
 use Rattle.a429_slots.specs.Proposed.{Proposed}
@@ -17,9 +18,6 @@ use Rattle.a429_core.specs.declared.sources.Kept.{Kept}
 use Rattle.a429_slots.specs.Sending.{Sending, all_fit, begun, sending_of}
 use Rattle.a429_core.specs.Standing.{Standing, StandsFor, IsWhole, kept_of, recent_at}
 
-take_next : {X : Type 0} (xs : List X) (i : ℕ) (x : X) → slice_get xs i ≡ Some x → take (i + 1) xs ≡ take i xs ++ x ∷ []
-take_next xs i x h = take_more xs i x (slice_get_within xs i x h) ∙ ap (λ y. take i xs ++ y ∷ []) (get_or_from_slice_get xs i x x h)
-
 -- ---- frames that fit
 
 fit_append : (first : ℕ) (ts : List GroupTable) (t : GroupTable) → all_fit first ts ≡ true → nat_lt (first + frame_of t) (2 ^ 64) ≡ true → all_fit first (ts ++ t ∷ []) ≡ true
@@ -30,10 +28,6 @@ fit_append first (u ∷ ts) t all h =
 
 pub fit_next : (first : ℕ) (ts : List GroupTable) (i : ℕ) (t : GroupTable) → slice_get ts i ≡ Some t → all_fit first (take i ts) ≡ true → nat_lt (first + frame_of t) (2 ^ 64) ≡ true → all_fit first (take (i + 1) ts) ≡ true
 fit_next first ts i t there all h = ap (all_fit first) (take_next ts i t there) ∙ fit_append first (take i ts) t all h
-
-and_false : (a b : Bool) → b ≡ false → (a && b) ≡ false
-and_false true b h = h
-and_false false b h = refl
 
 pub unfit_at : (first : ℕ) (ts : List GroupTable) (i : ℕ) (t : GroupTable) → slice_get ts i ≡ Some t → nat_lt (first + frame_of t) (2 ^ 64) ≡ false → all_fit first ts ≡ false
 unfit_at first [] i t there h = absurd (none-some t there)

@@ -6,6 +6,7 @@ use Rattle.std.specs.List.{position_or_len}
 use Rattle.std.proofs.lemmas.Option.{slice_get-get_or, same_Some, slice_get_within, slice_get_cases, cond_some}
 use Rattle.std.proofs.lemmas.List.{length_push, length-set}
 use Rattle.std.proofs.lemmas.Bool.{cases_eq, cases_lt, cases_Bool, lt-ltb, le-ltb, lt-leb, le-leb, ltb-true, eq-eqb, ne_eqb, and_parts, eqb-true}
+use Rattle.a429_word.proofs.Lists.{get_set_other, get_set_same, none_passes}
 use Rattle.a429_word.specs.Bits.{has_odd_parity}
 use Rattle.a429_equipment.specs.declared.rows.SourceRow.{SourceRow}
 use Rattle.a429_equipment.specs.declared.arrivals.ArrivalRefusal.{ArrivalRefusal}
@@ -22,15 +23,17 @@ use Rattle.a429_slots.specs.declared.answers.Answer.{Answer}
 use Rattle.a429_slots.specs.declared.answers.Answer.TheVariants.{Published, Refused}
 use Rattle.a429_slots.specs.declared.answers.Refusal.TheVariants.{NoSuch, CountSpent, StationDiffers}
 use Rattle.a429_slots.specs.Answers
-use Rattle.a429_slots.specs.Answers.{answer, answers, source_answer, arrive_answer, cell_answer, frame_answer}
+use Rattle.a429_slots.specs.Answers.{answer, answers, source_answer}
 use Rattle.a429_slots.specs.Sending.{Sending, sending_of}
 use Rattle.a429_core.specs.Standing.{Standing, StandsFor, IsWhole, IsWholeEvent, kept_of, count_at, kept_at, put_word, arrived, recent_at, framed, frame_at, frame_asked}
-use Rattle.a429_core.proofs.Places.{get_set_same, get_set_other, inside, outside, last_push, none_passes, first_passes, map_same}
+use Rattle.a429_core.proofs.Places.{inside, outside, first_passes, map_same}
 use Rattle.a429_core.proofs.Words.{words_in, accepted_none, accepted_some, accepted_full, kept_none, kept_some, kept_full, word_accepted, word_even, word_filtered, word_unheard, nobody_hears}
 use Rattle.a429_core.proofs.Leaving.{IsSource, IsGroup, NoneCame, sources_stay, group_stays, with_groups, with_sources, Stepped, step_from}
 use Rattle.a429_core.proofs.Answering.{AreRecalled, remembers_stay}
 use Rattle.a429_core.proofs.CellSteps.{cell_step}
-use Rattle.a429_core.proofs.Frames.{current_push, frame_push, Turned}
+use Rattle.a429_core.proofs.Frames.{frame_push, Turned}
+use Rattle.a429_equipment.proofs.Cutting.{last_push}
+use Rattle.a429_slots.proofs.Histories.{current_next}
 
 -- ---- frames
 
@@ -62,7 +65,7 @@ frame_step C o E k v S (Some p) h =
     let put : frame_asked v k ≡ ((frame_at v.groups v.newest k).0, record v { groups = (frame_at v.groups v.newest k).1 }) = rw (inside v.groups k (sending_of k f) got) refl in
     let groups = slice_set v.groups k R.1 in
     let made : frame_asked v k ≡ (R.0, record v { groups = groups }) = put ∙ ap (λ (x : Answer × List Sending). (x.0, record v { groups = x.1 })) at_k in
-    let next : sending_of k (current o k p (E ++ Frame k ∷ [])) ≡ R.1 = ap (sending_of k) (current_push o k p E (Frame k)) ∙ turn.after in
+    let next : sending_of k (current o k p (E ++ Frame k ∷ [])) ≡ R.1 = ap (sending_of k) (current_next o k p E (Frame k)) ∙ turn.after in
     let here : IsGroup o (E ++ Frame k ∷ []) groups k =
     get_set_same v.groups k R.1 (slice_get_within v.groups k (sending_of k f) got) ∙ rw h (ap (λ (s : Sending). Some s) (sym next)) in
     step_from C o E (Frame k) v (R.0, record v { groups = groups }) made (rw h turn.answer)

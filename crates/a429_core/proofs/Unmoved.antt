@@ -91,7 +91,7 @@ unmoved C v (Publish q) r =
     (either (nat_lt v.newest.number (2 ^ 64 - 1)) (Published (v.newest.number + 1), record v { newest = record q.plan { number = v.newest.number + 1 } }) (Refused CountSpent, v) v (λ r. absurd r) (λ _. refl))
     (λ _. refl) r
 
-given : {E : Type 0} → Answer → Result Answer E → Answer
+pub given : {E : Type 0} → Answer → Result Answer E → Answer
 given d (Ok a) = a
 given d (Err e) = d
 

@@ -1,24 +1,16 @@
 -- How the accepted words of a source grow by an event.
-use Rattle.std.proofs.Common.{◌≡◌, ℕ, ◌<◌, ◌≤◌, ◌-◌, ◌^◌, Bool, true, false, List, [], ◌∷◌, ◌++◌, length, take, map, ◌∙◌, sym, ap, refl, arith, append-nil}
+use Rattle.std.proofs.Common.{◌≡◌, ℕ, ◌<◌, ◌≤◌, ◌-◌, ◌^◌, true, false, List, [], ◌∷◌, ◌++◌, length, take, map, ◌∙◌, ap, refl, append-nil}
 use Rattle.std.specs.Prelude.{Option, Some, None, filter, filter_map, ◌&&◌}
-use Rattle.std.proofs.lemmas.List.{take-append-le, take_all, length-take, length-append, map-append}
+use Rattle.std.proofs.lemmas.List.{map-append}
 use Rattle.std.proofs.lemmas.List.Elements.{filter_map-append, filter-append}
 use Rattle.std.proofs.lemmas.Option.{slice_get_past}
+use Rattle.a429_word.proofs.Lists.{and_false, take_push_full, take_push_room}
 use Rattle.a429_word.specs.Bits.{has_odd_parity}
 use Rattle.a429_equipment.specs.declared.rows.SourceRow.{SourceRow}
 use Rattle.a429_equipment.specs.TableRecord.{TableRecord}
 use Rattle.a429_equipment.specs.Arrivals.{accepts, passes_at, is_for}
 use Rattle.a429_slots.specs.Events.{Event, Arrive}
 use Rattle.a429_slots.specs.History.{Opening, arrival_of, accepted_in}
-
-pub take_push_room : {A : Type 0} (n : ℕ) (xs : List A) (w : A) → length (take n xs) < n → take n (xs ++ w ∷ []) ≡ take n xs ++ w ∷ []
-take_push_room n xs w h =
-    let short : length xs < n = omega (arith, length-take n xs) in
-    let fits : length (xs ++ w ∷ []) ≤ n = omega (arith, length-append xs (w ∷ [])) in
-    take_all n (xs ++ w ∷ []) fits ∙ ap (λ ys. ys ++ w ∷ []) (sym (take_all n xs (omega arith)))
-
-pub take_push_full : {A : Type 0} (n : ℕ) (xs : List A) (w : A) → n ≤ length (take n xs) → take n (xs ++ w ∷ []) ≡ take n xs
-take_push_full n xs w h = take-append-le n xs (w ∷ []) (omega (arith, length-take n xs))
 
 -- what a cut filter keeps of one more event
 pub kept_none : {A B : Type 0} (f : A → Option B) (n : ℕ) (E : List A) (e : A) → f e ≡ None → take n (filter_map f (E ++ e ∷ [])) ≡ take n (filter_map f E)
@@ -58,10 +50,6 @@ word_accepted o s r raw p f h = rw (p, f, h) refl
 
 pub word_even : (o : Opening) (s : SourceRow) (r raw : ℕ) → has_odd_parity raw ≡ false → words_in o s (Arrive r raw ∷ []) ≡ []
 word_even o s r raw p = rw p refl
-
-and_false : (a b : Bool) → b ≡ false → (a && b) ≡ false
-and_false true b h = h
-and_false false b h = refl
 
 refused : (o : Opening) (s : SourceRow) (r raw : ℕ) → accepts o.proposal.station s (r, raw) ≡ false → words_in o s (Arrive r raw ∷ []) ≡ []
 refused o s r raw h = rw h refl

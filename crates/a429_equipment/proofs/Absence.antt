@@ -2,6 +2,7 @@
 use Rattle.std.proofs.Common.{◌≡◌, ℕ, zero, suc, ◌+◌, ◌<◌, false, length, get_or, List, [], ◌∷◌, ◌++◌, map, codes, Option, Some, None, refl, sym, subst, ◌∙◌, arith}
 use Rattle.std.specs.List.{find, flat_map, enumerate_from, AllByRecursion, slice_get}
 use Rattle.toml.specs.Data.{Data}
+use Rattle.a429_word.proofs.Lists.{all_parts}
 use Rattle.a429_equipment.specs.declared.fault.FaultKind.{FaultKind}
 use Rattle.a429_equipment.specs.declared.fault.FaultKind.TheVariants.{Version, MissingKey, WrongKind, Rate, TooMany, Name, DuplicateName, Label, Sdi, Interval, UnknownName, DuplicateSource, DuplicateOutput, EmptyGroup, Hold}
 use Rattle.a429_equipment.specs.declared.fault.TablePlace.TheVariants.{Root, Group}
@@ -65,15 +66,6 @@ is_faultless root h =
       hold = n.1.1.1.1.1.1.1.1.1.1.1.1.1.1.1.0;
     }
 
-pub all_append : {X : Type 0} (P : X → Type 0) (xs ys : List X) → AllByRecursion P (xs ++ ys) → AllByRecursion P xs × AllByRecursion P ys
-all_append P [] ys h = (tt, h)
-all_append P (x ∷ xs) ys h = let r = all_append P xs ys h.1 in ((h.0, r.0), r.1)
-
-pub all_at : {X : Type 0} (P : X → Type 0) (xs : List X) (i : ℕ) (x : X) → AllByRecursion P xs → slice_get xs i ≡ Some x → P x
-all_at P [] i x h e = cc
-all_at P (y ∷ ys) zero x h e = let same : y ≡ x = cc in subst P same h.0
-all_at P (y ∷ ys) (suc i) x h e = all_at P ys i x h.1 e
-
 -- what a kind that stands nowhere says of the parts of the walk
 pub record IsAbsent (root : Data) (kind : FaultKind) : Type 0 where
   pub at_root : stands root kind (Root, root) ≡ false
@@ -88,8 +80,8 @@ is_absent root kind h =
     let rs = numbered Receivers (rows_at (codes "receiver") root) in
     let ss = numbered Sources (rows_at (codes "source") root) in
     let gs = flat_map group_stops (enumerate_from 0 (rows_at (codes "group") root)) in
-    let split = all_append P (rs ++ ss) gs h.1 in
-    let rows = all_append P rs ss split.0 in
+    let split = all_parts P (rs ++ ss) gs h.1 in
+    let rows = all_parts P rs ss split.0 in
     record { at_root = h.0; at_receivers = rows.0; at_sources = rows.1; at_groups = split.1 }
 
 -- ---- from the places of an array to its rows
@@ -104,7 +96,7 @@ pub groups_hold : (P : Stop → Type 0) (Q : Data → Type 0)
     → (n : ℕ) (gs : List Data) → AllByRecursion P (flat_map group_stops (enumerate_from n gs)) → AllByRecursion Q gs
 groups_hold P Q each n [] h = tt
 groups_hold P Q each n (g ∷ gs) h =
-    let parts = all_append P (numbered (Outputs n) (rows_at (codes "output") g)) (flat_map group_stops (enumerate_from (n + 1) gs)) h.1 in
+    let parts = all_parts P (numbered (Outputs n) (rows_at (codes "output") g)) (flat_map group_stops (enumerate_from (n + 1) gs)) h.1 in
     (each n g h.0 parts.0, groups_hold P Q each (n + 1) gs parts.1)
 
 pub row_holds : (array : Rows) (P : Stop → Type 0) (n i k : ℕ) (ds : List Data) (d : Data) → k ≡ n + i → AllByRecursion P (numbered_from array n ds) → slice_get ds i ≡ Some d → P (row_place array k, d)
@@ -120,11 +112,11 @@ pub group_holds : (P : Stop → Type 0) (n i k : ℕ) (gs : List Data) (g : Data
 group_holds P n i k [] g at_k h e = cc
 group_holds P n zero k (c ∷ gs) g at_k h e =
     let same : c ≡ g = cc in
-    let own = all_append P (numbered (Outputs n) (rows_at (codes "output") c)) (flat_map group_stops (enumerate_from (n + 1) gs)) h.1 in
+    let own = all_parts P (numbered (Outputs n) (rows_at (codes "output") c)) (flat_map group_stops (enumerate_from (n + 1) gs)) h.1 in
     let Q : ℕ → Data → Type 0 = λ m x. P (Group m, x) × AllByRecursion P (numbered (Outputs m) (rows_at (codes "output") x)) in
     subst (λ x. Q k x) same (subst (λ m. Q m c) (omega arith) (h.0, own.0))
 group_holds P n (suc i) k (c ∷ gs) g at_k h e =
-    let later = all_append P (numbered (Outputs n) (rows_at (codes "output") c)) (flat_map group_stops (enumerate_from (n + 1) gs)) h.1 in
+    let later = all_parts P (numbered (Outputs n) (rows_at (codes "output") c)) (flat_map group_stops (enumerate_from (n + 1) gs)) h.1 in
     group_holds P (n + 1) i k gs g (omega arith) later.1 e
 
 pub all_from : {X : Type 0} (P : X → Type 0) (xs : List X) → ((i : ℕ) (x : X) → slice_get xs i ≡ Some x → P x) → AllByRecursion P xs

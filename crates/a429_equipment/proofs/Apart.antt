@@ -8,8 +8,9 @@ use Rattle.std.specs.List.{list_any, slice_get, AllByRecursion}
 use Rattle.std.specs.Option.{option_map_or}
 use Rattle.std.specs.Str.{bytes_eq}
 use Rattle.std.specs.Prelude.{IsTrue}
-use Rattle.toml.specs.Data.{Data, string, integer, float, boolean, datetime, array, table, get}
 use Rattle.a429_word.specs.Bits.{label_of as word_label, sdi_of as word_sdi}
+use Rattle.toml.specs.Data.{Data, string, integer, float, boolean, datetime, array, table, get}
+use Rattle.a429_word.proofs.Lists.{all_at}
 use Rattle.a429_equipment.specs.declared.rows.SourceRow.{SourceRow}
 use Rattle.a429_equipment.specs.declared.fault.FaultKind.TheVariants.{DuplicateSource}
 use Rattle.a429_equipment.specs.declared.walk.Rows.TheVariants.{Sources}
@@ -22,7 +23,7 @@ use Rattle.a429_equipment.specs.Least.{StandsAtNone}
 use Rattle.a429_equipment.specs.Stated.{natural, source_row, label_of}
 use Rattle.a429_equipment.specs.Arrivals.{is_for, AreApart}
 use Rattle.a429_equipment.proofs.SoundValues.{natural-pos, within}
-use Rattle.a429_equipment.proofs.Absence.{all_at, row_holds}
+use Rattle.a429_equipment.proofs.Absence.{row_holds}
 use Rattle.a429_equipment.proofs.Places.{one_name}
 
 -- ---- labels of one value are one text

@@ -1,10 +1,10 @@
 -- The least cuts show the loads that any cuts show.
-use Rattle.std.proofs.Common.{◌≡◌, ℕ, zero, suc, ◌≤◌, eqb, Bool, true, false, cond, List, [], ◌∷◌, ◌++◌, length, take, drop, map, refl, sym, ap, ◌∙◌, subst, arith, zero-le, le_refl, length-append, append-nil, eq-eqb, inl, inr}
-use Rattle.std.specs.Prelude.{Option, Some, None, filter}
-use Rattle.std.proofs.lemmas.List.{take-append-drop, map-append}
+use Rattle.std.proofs.Common.{◌≡◌, ℕ, zero, suc, ◌+◌, ◌-◌, ◌<◌, ◌≤◌, eqb, Bool, true, false, cond, List, [], ◌∷◌, ◌++◌, length, take, drop, map, refl, sym, ap, ◌∙◌, subst, arith, zero-le, le_refl, length-append, append-nil, eq-eqb, inl, inr}
+use Rattle.std.specs.Prelude.{Option, Some, None, filter, slice_get}
+use Rattle.std.proofs.lemmas.List.{take-append-drop, map-append, length_push, get_or_push}
 use Rattle.std.proofs.lemmas.List.Elements.{filter-append}
 use Rattle.std.proofs.lemmas.Bool.{eqb-true, and_parts, and_from, cases_lt, lt-leb, le-leb}
-use Rattle.std.proofs.lemmas.Option.{none-some, same_Some, cond_some}
+use Rattle.std.proofs.lemmas.Option.{none-some, same_Some, cond_some, slice_get-get_or}
 use lib.Seq.{take-length}
 use Rattle.a429_equipment.specs.declared.loads.Load.{Load}
 use Rattle.a429_equipment.specs.Agreement.{words_of, last_of, load_after, IsCut, Cuts, reach, least_cut, same_word, is_load, next_cut, last_cut}
@@ -13,6 +13,13 @@ pub words_append : (s : ℕ) (A B : List (ℕ × ℕ)) → words_of s (A ++ B) �
 words_append s A B =
     ap (map (λ (e : ℕ × ℕ). e.1)) (filter-append (λ (e : ℕ × ℕ). eqb e.0 s) A B)
     ∙ map-append (λ (e : ℕ × ℕ). e.1) (filter (λ (e : ℕ × ℕ). eqb e.0 s) A) (filter (λ (e : ℕ × ℕ). eqb e.0 s) B)
+
+pub last_push : {A : Type 0} (xs : List A) (w : A) → last_of (xs ++ w ∷ []) ≡ Some w
+last_push xs w =
+    let len : length (xs ++ w ∷ []) ≡ length xs + 1 = length_push xs w in
+    let within : length xs < length (xs ++ w ∷ []) = omega arith in
+    let here : length (xs ++ w ∷ []) - 1 ≡ length xs = omega arith in
+    ap (slice_get (xs ++ w ∷ [])) here ∙ (slice_get-get_or (xs ++ w ∷ []) (length xs) w within ∙ ap (λ y. Some y) (get_or_push xs w w (length xs) refl))
 
 shorter : (a b : ℕ) (A : List (ℕ × ℕ)) → a ≤ b → take a A ≡ take a (take b A)
 shorter zero b A le = refl
@@ -35,7 +42,7 @@ same_words s a b A le few =
     let parts = two_parts s a b A le in
     sym (parts ∙ no_more (words_of s (take a A)) (words_of s (drop a (take b A))) (subst (λ (l : List ℕ). length l ≤ length (words_of s (take a A))) parts few))
 
-count_up : (s a b : ℕ) (A : List (ℕ × ℕ)) → a ≤ b → length (words_of s (take a A)) ≤ length (words_of s (take b A))
+pub count_up : (s a b : ℕ) (A : List (ℕ × ℕ)) → a ≤ b → length (words_of s (take a A)) ≤ length (words_of s (take b A))
 count_up s a b A le = omega (arith, ap (λ (l : List ℕ). length l) (two_parts s a b A le) ∙ length-append (words_of s (take a A)) (words_of s (drop a (take b A))))
 
 -- ---- the shortest prefix with so many words

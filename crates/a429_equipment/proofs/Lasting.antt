@@ -8,13 +8,13 @@ use Rattle.a429_equipment.specs.Agreement.{is_of, load_after, IsCut, Cuts, Agree
 
 -- ---- more accepted words
 
-cut_more : (b : Bool) (A more : List (ℕ × ℕ)) (before : ℕ) (l : Load) (cut : ℕ) → IsCut b A before l cut → IsCut b (A ++ more) before l cut
+pub cut_more : (b : Bool) (A more : List (ℕ × ℕ)) (before : ℕ) (l : Load) (cut : ℕ) → IsCut b A before l cut → IsCut b (A ++ more) before l cut
 cut_more true A more before l cut h =
     let same : take cut (A ++ more) ≡ take cut A = take-append-le cut A more h.1 in
     (h.0, omega (arith, h.1, length-append A more), h.2 ∙ ap (load_after l.source) (sym same))
 cut_more false A more before l cut h = h
 
-cuts_more : (mine : ℕ → Bool) (A more : List (ℕ × ℕ)) (before : ℕ) (ls : List Load) (last : ℕ) → Cuts mine A before ls last → Cuts mine (A ++ more) before ls last
+pub cuts_more : (mine : ℕ → Bool) (A more : List (ℕ × ℕ)) (before : ℕ) (ls : List Load) (last : ℕ) → Cuts mine A before ls last → Cuts mine (A ++ more) before ls last
 cuts_more mine A more before [] last h = h
 cuts_more mine A more before (l ∷ ls) last h = (h.0, cut_more (mine l.source) A more before l h.0 h.1, cuts_more mine A more h.0 ls last h.2)
 
@@ -23,7 +23,7 @@ agrees_more t r A more loads h = (h.0, cuts_more (is_of t r) A more 0 loads h.0 
 
 -- ---- part of the loads
 
-cut_after : (b : Bool) (A : List (ℕ × ℕ)) (before : ℕ) (l : Load) (cut : ℕ) → IsCut b A before l cut → before ≤ cut
+pub cut_after : (b : Bool) (A : List (ℕ × ℕ)) (before : ℕ) (l : Load) (cut : ℕ) → IsCut b A before l cut → before ≤ cut
 cut_after true A before l cut h = h.0
 cut_after false A before l cut h = omega (arith, h)
 

@@ -3,11 +3,11 @@ use Rattle.std.proofs.Common.{◌≡◌, ℕ, ◌<◌, ◌≤◌, length, Some}
 use Rattle.std.proofs.lemmas.Bool.{and_parts}
 use Rattle.std.specs.List.{AllByRecursion, slice_get}
 use Rattle.std.specs.Prelude.{IsTrue}
+use Rattle.a429_word.proofs.Lists.{all_at}
 use Rattle.a429_equipment.specs.declared.rows.SourceRow.{SourceRow}
 use Rattle.a429_equipment.specs.TableRecord.{TableRecord}
 use Rattle.a429_equipment.specs.Arrivals.{accepts}
 use Rattle.a429_equipment.specs.Sound.{HaveOwnSources, IsSound, IsInterval, IsHold, IsReceiverRow, IsSourceRow, IsGroupRow, OfEach}
-use Rattle.a429_equipment.proofs.Absence.{all_at}
 
 pub one_accepts : (t : TableRecord) → IsSound t → (a : ℕ × ℕ) (i j : ℕ) (s u : SourceRow) → slice_get t.sources i ≡ Some s → slice_get t.sources j ≡ Some u
     → IsTrue (accepts t s a) → IsTrue (accepts t u a) → i ≡ j

@@ -1,13 +1,13 @@
 -- What a receiver accepts is, source by source, what the sources accept.
-use Rattle.std.proofs.Common.{◌≡◌, ℕ, ◌-◌, ◌^◌, ◌<◌, ◌≤◌, Bool, true, false, List, [], ◌∷◌, ◌++◌, length, take, map, refl, sym, ap, ◌∙◌, subst, arith, inl, inr, append-nil, append_assoc, length-append, eq-eqb, ne_eqb}
+use Rattle.std.proofs.Common.{◌≡◌, ℕ, ◌-◌, ◌^◌, ◌<◌, Bool, true, false, List, [], ◌∷◌, ◌++◌, length, take, map, refl, sym, ap, ◌∙◌, subst, arith, inl, inr, append-nil, append_assoc, eq-eqb, ne_eqb}
 use Rattle.std.specs.Prelude.{Option, Some, None, Result, Ok, Err, filter, position, slice_get, nat_lt, if◌then◌else◌, ◌&&◌}
 use Rattle.std.specs.Option.{option_map_or}
 use Rattle.std.specs.List.{position_or_len}
-use Rattle.std.proofs.lemmas.List.{take-append-le, take_all, length-take}
-use Rattle.std.proofs.lemmas.List.Sums.{fails_before_first}
+use Rattle.std.proofs.lemmas.List.{take_all}
 use Rattle.std.proofs.lemmas.List.Quantifiers.{position-Some}
 use Rattle.std.proofs.lemmas.Bool.{cases_Bool, cases_eq, cases_lt, lt-ltb, le-ltb, ltb-true, and_from}
-use Rattle.std.proofs.lemmas.Option.{none-some, same_Some, cond_some, slice_get_cases, slice_get_within, get_or_from_slice_get}
+use Rattle.std.proofs.lemmas.Option.{same_Some, cond_some, slice_get_cases, get_or_from_slice_get}
+use Rattle.a429_word.proofs.Lists.{and_false, none_passes, take_push_full, take_push_room}
 use Rattle.a429_word.specs.Bits.{has_odd_parity}
 use Rattle.a429_equipment.specs.declared.rows.SourceRow.{SourceRow}
 use Rattle.a429_equipment.specs.declared.arrivals.ArrivalRefusal.{ArrivalRefusal}
@@ -19,19 +19,6 @@ use Rattle.a429_equipment.specs.Receiving.{with_word, accepted_after, IsAccepted
 use Rattle.a429_equipment.proofs.Cutting.{words_append}
 
 -- ---- the source that a word is for
-
--- none passes where there is no position
-none_passes : {X : Type 0} (p : X → Bool) (xs : List X) → position p xs ≡ None → (i : ℕ) (x : X) → slice_get xs i ≡ Some x → p x ≡ false
-none_passes p xs e i x h =
-    let l : i < length xs = slice_get_within xs i x h in
-    elim (cases_lt (position_or_len p xs) (length xs)) [
-      | inl found ↦
-          let is_some : position p xs ≡ Some (position_or_len p xs) = rw (lt-ltb (position_or_len p xs) (length xs) found) refl in
-          absurd (none-some (position_or_len p xs) (sym e ∙ is_some))
-      | inr past ↦
-          let k : i < position_or_len p xs = omega arith in
-          subst (λ (y : _). p y ≡ false) (get_or_from_slice_get xs i x x h) (fails_before_first p xs i x k)
-    ]
 
 first_passes : {X : Type 0} (p : X → Bool) (xs : List X) (i : ℕ) → position p xs ≡ Some i → (x : X) × (slice_get xs i ≡ Some x) × (p x ≡ true)
 first_passes p xs i e = elim (slice_get_cases xs i).1 [
@@ -47,21 +34,17 @@ Sorts : TableRecord → ℕ → ℕ → Result ℕ ArrivalRefusal → Type 0
 Sorts t r raw (Ok j) = (s : SourceRow) × (slice_get t.sources j ≡ Some s) × (accepts t s (r, raw) ≡ true)
 Sorts t r raw (Err refusal) = (i : ℕ) (s : SourceRow) → slice_get t.sources i ≡ Some s → accepts t s (r, raw) ≡ false
 
-not_right : (a b : Bool) → b ≡ false → (a && b) ≡ false
-not_right true b h = h
-not_right false b h = refl
-
 by_position : (t : TableRecord) (r raw : ℕ) → has_odd_parity raw ≡ true → passes_at t r raw ≡ true → (o : Option ℕ) → position (is_for r raw) t.sources ≡ o → Sorts t r raw (option_map_or (λ i. Ok i) o (Err NoSource))
 unfolding Sorts
 by_position t r raw odd passes None h =
-    λ i s there. not_right (has_odd_parity raw) (passes_at t r raw && is_for r raw s) (not_right (passes_at t r raw) (is_for r raw s) (none_passes (is_for r raw) t.sources h i s there))
+    λ i s there. and_false (has_odd_parity raw) (passes_at t r raw && is_for r raw s) (and_false (passes_at t r raw) (is_for r raw s) (none_passes (is_for r raw) t.sources h i s there))
 by_position t r raw odd passes (Some j) h =
     let found = first_passes (is_for r raw) t.sources j h in
     (found.0, found.1, and_from (has_odd_parity raw) (passes_at t r raw && is_for r raw found.0) odd (and_from (passes_at t r raw) (is_for r raw found.0) passes found.2))
 
 filtered : (t : TableRecord) (r raw : ℕ) → passes_at t r raw ≡ false → Sorts t r raw (Err Filtered)
 unfolding Sorts
-filtered t r raw blocked = λ i s there. not_right (has_odd_parity raw) (passes_at t r raw && is_for r raw s) (rw blocked refl)
+filtered t r raw blocked = λ i s there. and_false (has_odd_parity raw) (passes_at t r raw && is_for r raw s) (rw blocked refl)
 
 uneven : (t : TableRecord) (r raw : ℕ) → has_odd_parity raw ≡ false → Sorts t r raw (Err Parity)
 unfolding Sorts
@@ -91,16 +74,7 @@ is_accepted t r raw i range h =
 
 -- ---- the words of one source
 
-take_push_room : {A : Type 0} (n : ℕ) (xs : List A) (w : A) → length (take n xs) < n → take n (xs ++ w ∷ []) ≡ take n xs ++ w ∷ []
-take_push_room n xs w h =
-    let short : length xs < n = omega (arith, length-take n xs) in
-    let fits : length (xs ++ w ∷ []) ≤ n = omega (arith, length-append xs (w ∷ [])) in
-    take_all n (xs ++ w ∷ []) fits ∙ ap (λ ys. ys ++ w ∷ []) (sym (take_all n xs (omega arith)))
-
-take_push_full : {A : Type 0} (n : ℕ) (xs : List A) (w : A) → n ≤ length (take n xs) → take n (xs ++ w ∷ []) ≡ take n xs
-take_push_full n xs w h = take-append-le n xs (w ∷ []) (omega (arith, length-take n xs))
-
-words_same : (s w : ℕ) (A : List (ℕ × ℕ)) → words_of s (A ++ (s, w) ∷ []) ≡ words_of s A ++ w ∷ []
+pub words_same : (s w : ℕ) (A : List (ℕ × ℕ)) → words_of s (A ++ (s, w) ∷ []) ≡ words_of s A ++ w ∷ []
 words_same s w A = words_append s A ((s, w) ∷ []) ∙ ap (λ (ws : List ℕ). words_of s A ++ ws) (rw (eq-eqb s s refl) refl)
 
 words_other : (s x w : ℕ) (A : List (ℕ × ℕ)) → (x ≡ s → ⊥) → words_of s (A ++ (x, w) ∷ []) ≡ words_of s A

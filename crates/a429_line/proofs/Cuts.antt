@@ -4,6 +4,7 @@ use Rattle.std.specs.Prelude.{replicate, IsTrue, nat_lt}
 use Rattle.std.specs.List.{flat_map, AllByRecursion, list_all}
 use Rattle.std.proofs.lemmas.Bool.Decides.{nat_tests}
 use Rattle.std.proofs.lemmas.Grind.{replicate_next}
+use Rattle.a429_word.proofs.Lists.{clash}
 use Rattle.a429_line.specs.declared.found.Symbol.{Symbol}
 use Rattle.a429_line.specs.declared.found.Symbol.TheVariants.{Hi, Null, Lo}
 use Rattle.a429_line.specs.Reports.{Run, runs_from, runs, gap_after, first_piece, later_pieces}
@@ -169,16 +170,13 @@ abbrev has_more : List Symbol → Bool
 has_more [] = false
 has_more (s ∷ x) = true
 
-false_true : false ≡ true → ⊥
-false_true h = grind arith
-
 one_run : (gap : ℕ) (symbols : List Symbol) (x : List Symbol) → IsTrue (are_bits symbols) → starts_apart x ≡ true →
     runs_after gap (symbols ++ x) ≡ record { gap = gap; symbols = symbols; ended = has_more x } ∷ runs_after 0 x
-one_run gap [] x b h = absurd (false_true b)
+one_run gap [] x b h = absurd (clash b)
 one_run gap (s ∷ p) [] b h = bits_before gap (s ∷ p) [] b ∙ run_last gap s p ∙ ap (λ (l : List Run). record { gap = gap; symbols = s ∷ p; ended = false } ∷ l) (sym (none_left 0))
 one_run gap (s ∷ p) (Null ∷ x) b h = bits_before gap (s ∷ p) (Null ∷ x) b ∙ run_ended gap s p x
-one_run gap (s ∷ p) (Hi ∷ x) b h = absurd (false_true h)
-one_run gap (s ∷ p) (Lo ∷ x) b h = absurd (false_true h)
+one_run gap (s ∷ p) (Hi ∷ x) b h = absurd (clash h)
+one_run gap (s ∷ p) (Lo ∷ x) b h = absurd (clash h)
 
 gap_starts : (gap : ℕ) (a b c : List Symbol) → 1 ≤ gap → starts_apart (((replicate gap Null ++ a) ++ b) ++ c) ≡ true
 gap_starts zero a b c h = absurd (omega arith)

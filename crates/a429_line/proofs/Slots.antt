@@ -5,7 +5,6 @@ use Rattle.std.specs.Option.{option_to_list}
 use Rattle.std.proofs.lemmas.Bool.Decides.{nat_tests}
 use Rattle.std.proofs.lemmas.List.{take_all}
 use Rattle.std.proofs.lemmas.Grind.{pow_more, take-set_at}
-use Rattle.std.proofs.lemmas.Nat.{shr-shr, mod-pow-add}
 use Rattle.a429_word.specs.Bits.{bit, number_from, has_odd_parity}
 use Rattle.a429_line.specs.Reports.{reports}
 use Rattle.a429_line.specs.Slots.{symbol_of, bits_from, slot, reports_of_slot}
@@ -18,22 +17,7 @@ use Rattle.a429_line.specs.declared.found.Found.TheVariants.{Word}
 use Rattle.a429_line.specs.declared.stage.Stage.{Stage}
 use Rattle.a429_line.specs.declared.stage.Stage.TheVariants.{Between, Within, Reported}
 use Rattle.a429_line.proofs.Steps.{or_one, or_none, kept_push, reports_more}
-
--- ---- a number and its bits
-
--- the bits from j + 1 on make what a shift and a mask leave
-number_is : (j count raw : ℕ) → number_from (j + 1) count raw ≡ raw / 2 ^ j % 2 ^ count
-unfolding number_from
-number_is j zero raw = omega arith
-number_is j (suc count) raw =
-    let place : j + 1 - 1 ≡ j = omega arith in
-    ap (λ (i : ℕ). raw / 2 ^ i % 2 + 2 * number_from (j + 1 + 1) count raw) place
-    ∙ ap (λ (n : ℕ). raw / 2 ^ j % 2 + 2 * n) (number_is (j + 1) count raw ∙ ap (λ (n : ℕ). n % 2 ^ count) (sym (shr-shr raw j 1)))
-    ∙ last
-    ∙ ap (λ (k : ℕ). raw / 2 ^ j % 2 ^ k) (add-one count)
-  where
-    last : raw / 2 ^ j % 2 + 2 * (raw / 2 ^ j / 2 % 2 ^ count) ≡ raw / 2 ^ j % 2 ^ (count + 1)
-    last = omega (arith, mod-pow-add (raw / 2 ^ j) count 1)
+use Rattle.a429_word.proofs.Ones.{number_is}
 
 -- ---- Nulls
 

@@ -1,14 +1,9 @@
 //! Tests across crates of what no command reaches: last slots and counts, writers and readers that fail, and
-//! public functions called by themselves. What commands write is stated by the cases of `a429_cases`. `client` and
-//! `conclusions` are callers that stand on what the crates below promise, and on nothing else.
+//! public functions called by themselves. What commands write is stated by the cases of `a429_cases`.
 #![tactic(auto)]
 
-pub mod client;
-pub mod conclusions;
 #[cfg(test)]
 mod fields;
-#[cfg(test)]
-mod files;
 #[cfg(test)]
 mod gates;
 #[cfg(test)]

@@ -1,8 +1,8 @@
 //! The rows that tables without faults state.
 
-use crate::support::{LIMITED, ONE, edited, memory_files};
-use a429_cli::{CountedWriter, command};
+use crate::support::{LIMITED, ONE, edited};
 use a429_equipment::{Equipment, OutputRow};
+use a429_slots::{OUTPUTS, PlanFault, plan};
 use std::alloc::{AllocError, Global};
 use std::process::Abort;
 
@@ -110,13 +110,14 @@ fn takes_the_largest_table(rt: HostRuntime) {
 /// 128 outputs that are due in every slot fill 128 buses.
 #[test]
 fn refuses_the_largest_want_of_buses(rt: HostRuntime) {
-    let alloc = rt.alloc();
-    let mut files = memory_files(&rt, rt.alloc(), &largest(&rt, rt.alloc(), 360), "");
-    let mut out = CountedWriter::new(Vec::new(alloc));
-    let mut err = Vec::new(alloc);
-    let words = ["replay", "t", "s"];
-    let status = command(alloc, &words, &mut files, &mut out, &mut err);
-    assert!(rt; status == 1 && err.starts_with(b"a429: "));
-    let line = b"refused too-many-buses group-0 128\n".as_slice();
-    assert!(rt; out.writer.as_slice() == line);
+    let table = largest(&rt, rt.alloc(), 360);
+    let equipment = Equipment::read(rt.alloc(), table.as_bytes()).expect(&rt, "a table");
+    let _groups = equipment.groups();
+    let Err(fault) = plan::<OUTPUTS>(rt.alloc(), &equipment) else {
+        panic!(rt; "a plan");
+    };
+    assert!(rt; fault == PlanFault::TooManyBuses {
+        group: 0,
+        needed: 128,
+    });
 }

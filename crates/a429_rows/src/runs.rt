@@ -1,7 +1,7 @@
 //! One run of a station, by threads of its receivers, its group and its planner.
 ghost use Rattle.std.specs.Prelude.{◌≡◌, length};
 
-use crate::client::run_once;
+use a429_callers::client::run_once;
 use a429_equipment::Equipment;
 use a429_filter::MemoryLine;
 use a429_word::Word;

@@ -1,6 +1,5 @@
-//! Tables, and texts and files made of them.
+//! Tables, and texts made of them.
 
-use a429_cli::MemoryFiles;
 use std::alloc::Global;
 use std::process::Abort;
 
@@ -61,28 +60,4 @@ pub fn standard(rt: &impl Abort, alloc: Global, rate: u32, intervals: &[(u32, u3
         table.push_str(&output).expect(rt, "memory");
     }
     table
-}
-
-/// A text so many times.
-pub fn repeated(rt: &impl Abort, alloc: Global, text: &str, times: usize) -> String {
-    let mut all = String::new(alloc);
-    for _ in 0..times {
-        all.push_str(text).expect(rt, "memory");
-    }
-    all
-}
-
-/// A file of this name and text.
-fn file(rt: &impl Abort, alloc: Global, name: &str, text: &str) -> (String, Vec<u8>) {
-    let name = String::from_str(alloc, name).expect(rt, "memory");
-    let bytes = Vec::from_slice(alloc, text.as_bytes()).expect(rt, "memory");
-    (name, bytes)
-}
-
-/// Files in memory: the table `t` and the script `s`.
-pub fn memory_files(rt: &impl Abort, alloc: Global, table: &str, script: &str) -> MemoryFiles {
-    let (table, script) = (file(rt, alloc, "t", table), file(rt, alloc, "s", script));
-    MemoryFiles {
-        files: vec![in alloc; table, script].expect(rt, "memory"),
-    }
 }

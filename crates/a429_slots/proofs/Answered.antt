@@ -1,5 +1,5 @@
 -- The answered cells of a group and the places of a history where they were asked for.
-use Rattle.std.proofs.Common.{◌≡◌, ℕ, zero, suc, ◌+◌, ◌<◌, ◌≤◌, ◌/◌, ◌%◌, Bool, true, false, true≢false, List, [], ◌∷◌, ◌++◌, length, take, ◌∙◌, sym, ap, subst, refl, inl, inr, ◌⊎◌, arith, append-nil}
+use Rattle.std.proofs.Common.{◌≡◌, ℕ, zero, suc, ◌+◌, ◌<◌, ◌≤◌, ◌/◌, ◌%◌, Bool, true, false, true≢false, List, [], ◌∷◌, ◌++◌, length, take, ◌∙◌, sym, ap, subst, refl, inl, inr, arith, append-nil}
 use Rattle.std.specs.Prelude.{Option, Some, None, ◌&&◌, ◌||◌, ◌==◌, is_some, nat_lt, slice_get, option_map, option_and_then, if◌then◌else◌}
 use Rattle.std.specs.List.{list_any}
 use Rattle.std.specs.Option.{option_map_or}
@@ -7,11 +7,12 @@ use Rattle.std.proofs.lemmas.List.{reverse-append, reverse-reverse}
 use Rattle.std.proofs.lemmas.List.Folds.{list_any-append}
 use Rattle.std.proofs.lemmas.Bool.{cases_eq, cases_lt, eq-eqb, eqb-true, lt-ltb, ltb-true, and_parts}
 use Rattle.std.proofs.lemmas.Option.{none-some, same_Some, slice_get_cases, slice_get_within}
+use Rattle.a429_word.proofs.Lists.{or_parts, some_word}
 use Rattle.a429_slots.specs.Tables.{Placed, GroupTable, buses_of, cells_of, output_in}
 use Rattle.a429_slots.specs.Events.{Event, Arrive, Cell, Frame, Publish}
 use Rattle.a429_slots.specs.History.{Opening, Current, AnsweredCell, current, is_cell, cells_since, cell_due, answered_after, answered_cells, answered_cell, next_answered, has_sent, is_held, is_too_close}
 use Rattle.a429_slots.specs.Spacing.{IsOutputCell, Sends, IsTooClose, IsSentWithin, answered_at}
-use Rattle.a429_slots.proofs.Histories.{take_next}
+use Rattle.a429_slots.proofs.Histories.{take_following}
 
 -- ---- one more event
 
@@ -26,7 +27,7 @@ pub answered_push : (C : ℕ) (o : Opening) (g : ℕ) (p : GroupTable) (E : List
 answered_push C o g p E e = ap (answered_after C o g p) (reverse-append E (e ∷ []))
     ∙ ap (λ (F : List Event). if is_cell g e then more_cells (answered_cells C o g p E) (next_answered C o F g (current o g p E) (answered_cells C o g p E)) else answered_cells C o g p E) (reverse-reverse E)
 
-cell_event : (g : ℕ) (e : Event) → is_cell g e ≡ true → e ≡ Cell g
+pub cell_event : (g : ℕ) (e : Event) → is_cell g e ≡ true → e ≡ Cell g
 cell_event g (Arrive r raw) h = absurd (true≢false (sym h))
 cell_event g (Cell k) h = ap Cell (eqb-true k g h)
 cell_event g (Frame k) h = absurd (true≢false (sym h))
@@ -94,10 +95,6 @@ pub record Passes (C : ℕ) (o : Opening) (g : ℕ) (p : GroupTable) (E : List E
 sooner : (C : ℕ) (o : Opening) (g : ℕ) (p : GroupTable) (E : List Event) (k : ℕ) (test : AnsweredCell → Bool) → Passes C o g p E k test → Passes C o g p E (suc k) test
 sooner C o g p E k test P = record { place = P.place; before = omega (arith, P.before); output = P.output; slot = P.slot; cell = P.cell; passes = P.passes }
 
-or_parts : (a b : Bool) → (a || b) ≡ true → (a ≡ true) ⊎ (b ≡ true)
-or_parts true b h = inl refl
-or_parts false b h = inr h
-
 or_right : (a : Bool) → (a || true) ≡ true
 or_right true = refl
 or_right false = refl
@@ -113,7 +110,7 @@ some_place C o g p E test zero few h = absurd (true≢false (sym h))
 some_place C o g p E test (suc k) few h =
     let (e, there) = event_at E k (omega (arith, few)) in
     let cells : answered_cells C o g p (take (suc k) E) ≡ (if is_cell g e then more_cells (answered_cells C o g p (take k E)) (next_of C o g p (take k E)) else answered_cells C o g p (take k E)) =
-    ap (answered_cells C o g p) (take_next E k e there) ∙ answered_push C o g p (take k E) e in
+    ap (answered_cells C o g p) (take_following E k e there) ∙ answered_push C o g p (take k E) e in
     by_event (λ old. some_place C o g p E test k (omega (arith, few)) old) e there (is_cell g e) refl (ap (list_any test) (sym cells) ∙ h)
   where
     by_next : (list_any test (answered_cells C o g p (take k E)) ≡ true → Passes C o g p E k test) → slice_get E k ≡ Some (Cell g) → (x : Option AnsweredCell) → next_of C o g p (take k E) ≡ x → list_any test (more_cells (answered_cells C o g p (take k E)) x) ≡ true → Passes C o g p E (suc k) test
@@ -146,7 +143,7 @@ passes_later C o g p E test j output slot I passes zero after few = absurd (omeg
 passes_later C o g p E test j output slot I passes (suc k) after few =
     let (e, there) = event_at E k (omega (arith, few)) in
     let cells : answered_cells C o g p (take (suc k) E) ≡ (if is_cell g e then more_cells (answered_cells C o g p (take k E)) (next_of C o g p (take k E)) else answered_cells C o g p (take k E)) =
-    ap (answered_cells C o g p) (take_next E k e there) ∙ answered_push C o g p (take k E) e in
+    ap (answered_cells C o g p) (take_following E k e there) ∙ answered_push C o g p (take k E) e in
     ap (list_any test) cells ∙ elim (cases_eq j k) [
       | inl same ↦
           let next : next_of C o g p (take k E) ≡ Some (answered_at C o g p E j output slot) = subst (λ (n : ℕ). next_of C o g p (take n E) ≡ Some (answered_at C o g p E j output slot)) same (next_is C o g p E j output slot I) in
@@ -186,10 +183,6 @@ words_apart C o g p E j k earlier now u t w x after A B same =
           let apart = open_where_sent (is_held (answered_cells C o g p (take k E)) now.source now.limits.hold _) (is_too_close (answered_cells C o g p (take k E)) t now.source q) _ x B.sent in
           absurd (true≢false (sym close ∙ apart))
     ]
-
-some_word : (x : Option ℕ) → is_some x ≡ true → (w : ℕ) × (x ≡ Some w)
-some_word None h = absurd (true≢false (sym h))
-some_word (Some w) h = (w, refl)
 
 pub sent_within : (C : ℕ) (o : Opening) (g : ℕ) (p : GroupTable) (E : List Event) (k : ℕ) (now : Placed) (t : ℕ) → k < length E → IsTooClose C o g p E k now t → IsSentWithin C o g p E k now t
 sent_within C o g p E k now t inside close =

@@ -1,14 +1,15 @@
 -- The cells of a group's slot table.
-use Rattle.std.proofs.Common.{◌≡◌, ℕ, ◌+◌, ◌*◌, ◌%◌, ◌^◌, ◌<◌, ◌≤◌, length, get_or, arith, refl, ap, ◌∙◌, sym, subst, Bool, true, false, nat_eq, inl, inr}
+use Rattle.std.proofs.Common.{◌≡◌, ℕ, ◌+◌, ◌*◌, ◌%◌, ◌^◌, ◌<◌, ◌≤◌, length, get_or, arith, refl, ap, ◌∙◌, sym, subst, true, false, nat_eq}
 use Rattle.std.specs.Prelude.{Some, None, slice_get, option_map, sum}
 use Rattle.std.specs.List.{position_or_len}
 use Rattle.std.proofs.lemmas.List.{get_or-take}
 use Rattle.std.proofs.lemmas.List.FromFn.{length-map-range_with_len, get_or-map-range_with_len}
 use Rattle.std.proofs.lemmas.List.Quantifiers.{position-Some}
 use Rattle.std.proofs.lemmas.List.Sums.{position_or_len_is}
-use Rattle.std.proofs.lemmas.Bool.{cases_Bool, lt-ltb, eq-eqb, eqb-true, and_parts}
+use Rattle.std.proofs.lemmas.Bool.{lt-ltb, eq-eqb, eqb-true, and_parts}
 use Rattle.std.proofs.lemmas.Option.{slice_get-get_or}
 use Rattle.std.proofs.Math.Nat.{mul-le-mul_right}
+use Rattle.a429_word.proofs.Lists.{false_unless}
 use Rattle.a429_grid.specs.Reversal.{reversed}
 use Rattle.a429_pack.specs.Orders.{NamesEachOnce}
 use Rattle.a429_pack.specs.Sums.{Holds}
@@ -60,9 +61,6 @@ holds_where n t w k bus slot below there =
     let o : ℕ = get_or t.order k 0 in
     let (row, at) = and_parts (nat_eq (get_or t.on_bus o 0) bus) (nat_eq (slot % 2 ^ get_or t.periods o 0) (get_or t.offsets o 0)) there in
     ((w.periodic k below).cells bus slot).1 (sym (eqb-true (get_or t.on_bus o 0) bus row), eqb-true (slot % 2 ^ get_or t.periods o 0) (get_or t.offsets o 0) at)
-
-false_unless : (b : Bool) → (b ≡ true → ⊥) → b ≡ false
-false_unless b h = elim (cases_Bool b) [ inl yes_ ↦ absurd (h yes_) | inr no_ ↦ no_ ]
 
 -- what is found of a stretch is the output that stands in the cell
 pub cell_found : (n : ℕ) (t : GroupTable) → IsTable n t → HasEach t → AreApart t → (k bus slot : ℕ) → HoldsCell t k bus slot → cell_at t bus slot ≡ Some (get_or t.order k 0)

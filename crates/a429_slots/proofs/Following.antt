@@ -6,7 +6,7 @@ use Rattle.a429_slots.specs.Tables.{GroupTable, groups_of, frame_of}
 use Rattle.a429_slots.specs.Events.{Event, Cell}
 use Rattle.a429_slots.specs.History.{Opening, Current, current, cells_since, next_frame, newest_number, newest_table}
 use Rattle.a429_slots.specs.TakenFrames.{is_taken_after}
-use Rattle.a429_slots.proofs.Histories.{take_next, goes_on, cells_next, same_frame, new_frame}
+use Rattle.a429_slots.proofs.Histories.{take_following, goes_on, cells_next, same_frame, new_frame}
 use Rattle.a429_slots.proofs.Numbers.{is_numbered, same_number}
 use Rattle.a429_slots.proofs.Answered.{event_at}
 
@@ -82,7 +82,7 @@ later_by o g p E there j (suc d) few =
     let (e, is) = event_at E (d + j) (omega (arith, few)) in
     let L = later_push o g p (take (d + j) E) e (frame_at_place o g p E j) there (later_by o g p E there j d (omega (arith, few))) in
     subst (λ (k : ℕ). IsLater g (frame_at_place o g p E j) (frame_at_place o g p E k)) (sym on)
-    (subst (λ (F : List Event). IsLater g (frame_at_place o g p E j) (current o g p F)) (sym (take_next E (d + j) e is)) L)
+    (subst (λ (F : List Event). IsLater g (frame_at_place o g p E j) (current o g p F)) (sym (take_following E (d + j) e is)) L)
 
 pub later_at : (o : Opening) (g : ℕ) (p : GroupTable) (E : List Event) (j k : ℕ) → slice_get (groups_of o.proposal.plan) g ≡ Some p → j ≤ k → k ≤ length E → IsLater g (frame_at_place o g p E j) (frame_at_place o g p E k)
 later_at o g p E j k there after few =
@@ -91,7 +91,7 @@ later_at o g p E j k there after few =
 
 -- behind a cell the frame is the same
 pub behind_cell : (o : Opening) (g : ℕ) (p : GroupTable) (E : List Event) (j : ℕ) → slice_get E j ≡ Some (Cell g) → frame_at_place o g p E (suc j) ≡ goes_on (frame_at_place o g p E j) (Cell g)
-behind_cell o g p E j asked = ap (current o g p) (take_next E j (Cell g) asked) ∙ same_frame o g p (take j E) (Cell g) refl
+behind_cell o g p E j asked = ap (current o g p) (take_following E j (Cell g) asked) ∙ same_frame o g p (take j E) (Cell g) refl
 
 -- and one more cell was asked for
 pub one_more : (g : ℕ) (f : Current) → cells_since g (goes_on f (Cell g)) ≡ 1 + cells_since g f

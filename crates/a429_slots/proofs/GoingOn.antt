@@ -16,7 +16,7 @@ use Rattle.a429_slots.proofs.Answered.{answered_push}
 sent_at : ℕ → Current → ℕ → Sending
 sent_at g f n = record { table = f.table; first = f.first; sent = n }
 
-still : (g : ℕ) (f : Current) (e : Event) → is_cell g e ≡ false → sending_of g (goes_on f e) ≡ sending_of g f
+pub still : (g : ℕ) (f : Current) (e : Event) → is_cell g e ≡ false → sending_of g (goes_on f e) ≡ sending_of g f
 unfolding sent_at
 still g f e other =
     let same : cells_since g (goes_on f e) ≡ cells_since g f = cells_next g f e ∙ rw other (omega arith) in

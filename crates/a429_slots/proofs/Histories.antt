@@ -1,13 +1,12 @@
 -- How lists and histories grow at their ends.
-use Rattle.std.proofs.Common.{◌≡◌, ℕ, zero, suc, ◌+◌, ◌-◌, ◌<◌, true, false, List, [], ◌∷◌, ◌++◌, length, take, reverse, ◌∙◌, sym, ap, subst, refl, arith}
+use Rattle.std.proofs.Common.{◌≡◌, ℕ, zero, suc, ◌+◌, ◌-◌, true, false, List, [], ◌∷◌, ◌++◌, take, reverse, ◌∙◌, sym, ap, subst, refl}
 use Rattle.std.specs.Prelude.{Some, cond, slice_get, if◌then◌else◌}
-use Rattle.std.specs.List.{range_with_len}
-use Rattle.std.proofs.lemmas.List.{reverse-append, reverse-reverse, length_push, get_or_push}
+use Rattle.std.proofs.lemmas.List.{reverse-append, reverse-reverse}
 use Rattle.std.proofs.lemmas.List.Sums.{sum_by-cons}
-use Rattle.std.proofs.lemmas.Option.{none-some, same_Some, slice_get-get_or}
+use Rattle.std.proofs.lemmas.Option.{none-some, same_Some}
 use Rattle.a429_slots.specs.Tables.{GroupTable}
 use Rattle.a429_slots.specs.Events.{Event}
-use Rattle.a429_slots.specs.History.{Opening, Current, current, frame_after, is_cell, is_taken, next_frame, cells_since, last_of, newest_number, newest_table}
+use Rattle.a429_slots.specs.History.{Opening, Current, current, frame_after, is_cell, is_taken, next_frame, cells_since, newest_number, newest_table}
 use Rattle.a429_slots.specs.TakenFrames.{is_taken_after}
 
 -- what holds of the empty list and goes on by an element at the end holds of all
@@ -18,23 +17,10 @@ by_past P none more (x ∷ past) = subst P (sym (reverse-append (x ∷ []) past)
 pub by_ends : {A : Type 0} (P : List A → Type 0) → P [] → ((xs : List A) (x : A) → P xs → P (xs ++ x ∷ [])) → (xs : List A) → P xs
 by_ends P none more xs = subst P (reverse-reverse xs) (by_past P none more (reverse xs))
 
-pub take_next : {X : Type 0} (xs : List X) (i : ℕ) (x : X) → slice_get xs i ≡ Some x → take (suc i) xs ≡ take i xs ++ x ∷ []
-take_next [] i x h = absurd (none-some x h)
-take_next (y ∷ ys) zero x h = let same : y ≡ x = same_Some y x h in ap (λ z. z ∷ []) same
-take_next (y ∷ ys) (suc i) x h = ap (λ zs. y ∷ zs) (take_next ys i x h)
-
-pub range_next : (a n : ℕ) → range_with_len a (suc n) ≡ range_with_len a n ++ (a + n) ∷ []
-range_next a zero = let e : a ≡ a + 0 = omega arith in ap (λ (m : ℕ). m ∷ []) e
-range_next a (suc n) =
-    let e : a + 1 + n ≡ a + suc n = omega arith in
-    ap (λ (xs : List ℕ). a ∷ xs) (range_next (a + 1) n ∙ ap (λ (m : ℕ). range_with_len (a + 1) n ++ m ∷ []) e)
-
-pub last_next : {A : Type 0} (xs : List A) (w : A) → last_of (xs ++ w ∷ []) ≡ Some w
-last_next xs w =
-    let len : length (xs ++ w ∷ []) ≡ length xs + 1 = length_push xs w in
-    let within : length xs < length (xs ++ w ∷ []) = omega arith in
-    let here : length (xs ++ w ∷ []) - 1 ≡ length xs = omega arith in
-    ap (slice_get (xs ++ w ∷ [])) here ∙ (slice_get-get_or (xs ++ w ∷ []) (length xs) w within ∙ ap (λ y. Some y) (get_or_push xs w w (length xs) refl))
+pub take_following : {X : Type 0} (xs : List X) (i : ℕ) (x : X) → slice_get xs i ≡ Some x → take (suc i) xs ≡ take i xs ++ x ∷ []
+take_following [] i x h = absurd (none-some x h)
+take_following (y ∷ ys) zero x h = let same : y ≡ x = same_Some y x h in ap (λ z. z ∷ []) same
+take_following (y ∷ ys) (suc i) x h = ap (λ zs. y ∷ zs) (take_following ys i x h)
 
 -- ---- the frame of a group
 

@@ -19,3 +19,4 @@ pub mod SpacedPlans
 pub mod OnePlan
 pub mod OneFault
 pub mod NextCells
+pub mod Known

@@ -1,12 +1,11 @@
 -- Two plans of a table are the same.
-use Rattle.std.proofs.Common.{◌≡◌, ℕ, ◌/◌, ◌%◌, ◌^◌, ◌<◌, List, [], ◌∷◌, length, get_or, map, Option, refl, sym, ap, ap₂, ◌∙◌, subst, arith, inl, inr}
+use Rattle.std.proofs.Common.{◌≡◌, ℕ, ◌/◌, ◌%◌, ◌^◌, ◌<◌, List, [], ◌∷◌, length, get_or, map, Option, refl, sym, ap, ap₂, ◌∙◌, subst, arith}
 use Rattle.std.specs.Prelude.{None, position}
 use Rattle.std.specs.List.{AllZip, range_with_len}
 use Rattle.std.specs.List.Sorted.{IsPermutation}
-use Rattle.std.proofs.lemmas.Bool.{cases_lt}
 use Rattle.std.proofs.lemmas.List.{length-map, get_or-take}
-use Rattle.std.proofs.lemmas.Nat.{pow_below}
 use Rattle.std.proofs.lemmas.Slice.Zip.{AllZip-long}
+use Rattle.a429_word.proofs.Lists.{same_power, zipped_at}
 use Rattle.a429_grid.specs.Grid.{IsLeastSpacing}
 use Rattle.a429_grid.specs.Reversal.{reversed}
 use Rattle.a429_equipment.specs.declared.rows.OutputRow.{OutputRow}
@@ -21,18 +20,9 @@ use Rattle.a429_slots.specs.Planned.{HasPeriod, IsPlannedAt, IsPlannedFor, IsSer
 use Rattle.a429_slots.specs.Tables.{GroupTable, Placed, cell_at, frame_of, groups_of, order_of, outputs_of, placed_at, stands_in}
 use Rattle.a429_slots.proofs.Cells.{length-outputs, output_at}
 use Rattle.a429_slots.proofs.Planned.{map_where, same_lists}
-use Rattle.a429_slots.proofs.Rows.{blank, zipped_at}
+use Rattle.a429_slots.proofs.Rows.{blank}
 
 -- ---- what a row asks for is one
-
-same_power : (i j : ℕ) → 2 ^ i ≡ 2 ^ j → i ≡ j
-same_power i j same = elim (cases_lt i j) [
-  | inl less ↦ absurd (omega (arith, pow_below i j less, same))
-  | inr most ↦ elim (cases_lt j i) [
-    | inl more ↦ absurd (omega (arith, pow_below j i more, same))
-    | inr equal ↦ omega (arith, most, equal)
-  ]
-]
 
 one_period : (rate : ℕ) (row : OutputRow) (i j : ℕ) → HasPeriod rate row i → HasPeriod rate row j → i ≡ j
 one_period rate row i j h k = same_power i j (omega (arith, h.2 (2 ^ j) k.0 k.1, k.2 (2 ^ i) h.0 h.1))

@@ -7,6 +7,7 @@ use Rattle.std.proofs.Math.Nat.{pow-le-pow_right}
 use Rattle.std.proofs.lemmas.Bool.{false≢true}
 use Rattle.std.proofs.lemmas.List.{length-map, get_or-map, get_or-take}
 use Rattle.std.proofs.lemmas.Slice.Zip.{AllZip-long}
+use Rattle.a429_word.proofs.Lists.{zipped_at}
 use Rattle.a429_grid.specs.Grid.{HasNoGridPeriod, IsLeastSpacing, least_spacing}
 use Rattle.a429_pack.specs.declared.demands.Demand.{Demand}
 use Rattle.a429_pack.specs.declared.demands.PackFault.{PackFault}
@@ -27,7 +28,7 @@ use Rattle.a429_slots.specs.Planned.{HasPeriod, IsServed, IsLayout, IsPlannedFor
 use Rattle.a429_slots.specs.Faults.{IsGroupFault}
 use Rattle.a429_slots.proofs.Cells.{HasEach, AreApart, length-outputs, output_at, stands_just_at}
 use Rattle.a429_slots.proofs.Tabled.{limits_read}
-use Rattle.a429_slots.proofs.Rows.{blank, unasked, zipped_at, period_from, first_unfit, have_periods}
+use Rattle.a429_slots.proofs.Rows.{blank, unasked, period_from, first_unfit, have_periods}
 
 zip_by : {A B : Type 0} (R : A → B → Type 0) (xs : List A) (ys : List B) (d : A) (e : B) → length ys ≡ length xs → ((i : ℕ) → i < length xs → R (get_or xs i d) (get_or ys i e)) → AllZip R xs ys
 zip_by R [] [] d e same all = tt

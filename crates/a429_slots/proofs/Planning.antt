@@ -1,10 +1,11 @@
 -- The groups of a station, one after another.
-use Rattle.std.proofs.Common.{◌≡◌, ℕ, zero, suc, ◌+◌, ◌≤◌, ◌∷◌, [], ◌++◌, List, length, map, take, arith, ap, ap₂, ◌∙◌, sym, subst, inl, inr}
+use Rattle.std.proofs.Common.{◌≡◌, ℕ, ◌+◌, ◌≤◌, ◌∷◌, [], ◌++◌, List, length, map, take, arith, ap, ◌∙◌, sym, subst, inl, inr}
 use Rattle.std.specs.Prelude.{Some, slice_get, option_map}
-use Rattle.std.specs.List.{AllZip, AllByRecursion, zip}
-use Rattle.std.proofs.lemmas.List.{length-map, length-take, take_all, take_more}
-use Rattle.std.proofs.lemmas.Slice.Zip.{all_zipped_more, AllZip-long, length-zip}
-use Rattle.std.proofs.lemmas.Option.{get_or_from_slice_get, slice_get_within, slice_get-map, same_Some, none-some}
+use Rattle.std.specs.List.{AllZip, AllByRecursion}
+use Rattle.std.proofs.lemmas.List.{length-map, length-take, take_all}
+use Rattle.std.proofs.lemmas.Slice.Zip.{AllZip-long, length-zip}
+use Rattle.std.proofs.lemmas.Option.{slice_get-map}
+use Rattle.a429_word.proofs.Lists.{all_at, all_push, take_next, zip_at, zip_next}
 use Rattle.a429_equipment.specs.declared.rows.GroupRow.{GroupRow}
 use Rattle.a429_equipment.specs.declared.rows.OutputRow.{OutputRow}
 use Rattle.a429_equipment.specs.declared.rows.SourceRow.{SourceRow}
@@ -24,24 +25,8 @@ rates_within : (rows : List GroupRow) → AllByRecursion IsGroupRow rows → All
 rates_within [] all = all
 rates_within (row ∷ rows) all = (rate_within row.rate all.0.1, rates_within rows all.1)
 
-pub all_at : {X : Type 0} (P : X → Type 0) (xs : List X) (i : ℕ) (x : X) → AllByRecursion P xs → slice_get xs i ≡ Some x → P x
-all_at P [] i x all h = absurd (none-some x h)
-all_at {X} P (y ∷ ys) zero x all h = subst P (same_Some y x h) all.0
-all_at P (y ∷ ys) (suc i) x all h = all_at P ys i x all.1 h
-
-take_next : {X : Type 0} (xs : List X) (i : ℕ) (x : X) → slice_get xs i ≡ Some x → take (i + 1) xs ≡ take i xs ++ x ∷ []
-take_next xs i x h = take_more xs i x (slice_get_within xs i x h) ∙ ap (λ y. take i xs ++ y ∷ []) (get_or_from_slice_get xs i x x h)
-
-all_append : {X : Type 0} (P : X → Type 0) (xs : List X) (x : X) → AllByRecursion P xs → P x → AllByRecursion P (xs ++ x ∷ [])
-all_append P [] x all p = (p, tt)
-all_append P (y ∷ ys) x all p = (all.0, all_append P ys x all.1 p)
-
 pub all_next : {X : Type 0} (P : X → Type 0) (xs : List X) (i : ℕ) (x : X) → slice_get xs i ≡ Some x → AllByRecursion P (take i xs) → P x → AllByRecursion P (take (i + 1) xs)
-all_next P xs i x h all p = subst (AllByRecursion P) (sym (take_next xs i x h)) (all_append P (take i xs) x all p)
-
-pub zip_next : {A B : Type 0} (R : A → B → Type 0) (xs : List A) (ys : List B) (i : ℕ) (x : A) (y : B) → slice_get xs i ≡ Some x → AllZip R (take i xs) ys → R x y → AllZip R (take (i + 1) xs) (ys ++ y ∷ [])
-zip_next {A} {B} R xs ys i x y h old new =
-    subst (λ (zs : List A). AllZip R zs (ys ++ y ∷ [])) (sym (take_next xs i x h)) (all_zipped_more R (take i xs) ys x y old new)
+all_next P xs i x h all p = subst (AllByRecursion P) (sym (take_next xs i x h)) (all_push P (take i xs) x all p)
 
 pub length-zipped : {A B : Type 0} (R : A → B → Type 0) (xs : List A) (ys : List B) (i : ℕ) → i ≤ length xs → AllZip R (take i xs) ys → length ys ≡ i
 length-zipped R xs ys i h z = AllZip-long R (take i xs) ys z ∙ omega (arith, length-take i xs)
@@ -58,12 +43,6 @@ fault_in e g rate rows (group.TooManyBuses n) there earlier fault = record { rat
 fault_in e g rate rows group.NoMemory there earlier fault = tt
 
 -- ---- outputs beside their rates
-
-zip_at : {X Y : Type 0} (xs : List X) (ys : List Y) (i : ℕ) (x : X) (y : Y) → slice_get xs i ≡ Some x → slice_get ys i ≡ Some y → slice_get (zip xs ys) i ≡ Some (x, y)
-zip_at [] ys i x y here there = absurd (none-some x here)
-zip_at (a ∷ xs) [] i x y here there = absurd (none-some y there)
-zip_at (a ∷ xs) (b ∷ ys) zero x y here there = ap₂ (λ s t. Some (s, t)) (same_Some a x here) (same_Some b y there)
-zip_at (a ∷ xs) (b ∷ ys) (suc i) x y here there = zip_at xs ys i x y here there
 
 pub length-rated : (e : TableRecord) → length e.outputs ≡ length e.groups → length (rated_outputs e) ≡ length e.outputs
 length-rated e same = omega (arith, length-zip (map (λ (g : GroupRow). g.rate) e.groups) e.outputs, length-map e.groups (λ (g : GroupRow). g.rate), same)

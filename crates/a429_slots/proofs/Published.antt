@@ -11,7 +11,8 @@ use Rattle.a429_slots.specs.Proposed.{Proposed}
 use Rattle.a429_slots.specs.Events.{Event, Arrive, Cell, Frame, Publish}
 use Rattle.a429_slots.specs.History.{Opening, Current, current, last_of, proposal_for, published, numbers_left, newest_number, newest_table}
 use Rattle.a429_slots.specs.TakenFrames.{is_taken_after, IsPublished, IsPublishedPlan, IsOpeningPlan, HasPublished, HasOpening, IsSameFrame}
-use Rattle.a429_slots.proofs.Histories.{by_ends, last_next, same_frame, new_frame}
+use Rattle.a429_slots.proofs.Histories.{by_ends, same_frame, new_frame}
+use Rattle.a429_equipment.proofs.Cutting.{last_push}
 
 -- ---- the newest plan
 
@@ -65,7 +66,7 @@ told o E q same room =
         next_number = number;
         countable = omega (arith, number, room, ap (λ (qs : List Proposed). length qs) before);
       };
-      plan = ap (λ (qs : List Proposed). option_map_or (λ r. r.plan) (last_of qs) o.proposal.plan) after ∙ ap (λ (x : Option Proposed). option_map_or (λ r. r.plan) x o.proposal.plan) (last_next (all_of o E) q);
+      plan = ap (λ (qs : List Proposed). option_map_or (λ r. r.plan) (last_of qs) o.proposal.plan) after ∙ ap (λ (x : Option Proposed). option_map_or (λ r. r.plan) x o.proposal.plan) (last_push (all_of o E) q);
     })
 
 -- one whose number could not be counted

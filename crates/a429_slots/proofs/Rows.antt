@@ -1,14 +1,15 @@
 -- The rows of a group with what they ask.
-use Rattle.std.proofs.Common.{◌≡◌, ℕ, zero, suc, ◌+◌, ◌<◌, ◌≤◌, ◌∷◌, [], ◌++◌, List, length, take, get_or, map, None, arith, ap, ◌∙◌, sym, subst}
-use Rattle.std.specs.Prelude.{Option, Some, IsSome, MatchOption, slice_get, unwrap_or}
+use Rattle.std.proofs.Common.{◌≡◌, ℕ, zero, suc, ◌+◌, ◌<◌, ◌≤◌, ◌∷◌, [], ◌++◌, List, length, take, get_or, map, None, arith, sym, subst}
+use Rattle.std.specs.Prelude.{Option, Some, IsSome, MatchOption, unwrap_or}
 use Rattle.std.specs.List.{AllZip, AllByRecursion}
 use Rattle.std.proofs.lemmas.List.{take_more}
 use Rattle.std.proofs.lemmas.Slice.Zip.{all_zipped_more, AllZip-long}
 use Rattle.std.proofs.lemmas.Option.{slice_get-get_or, none-some}
 use Rattle.std.proofs.lemmas.Bool.{false≢true}
+use Rattle.a429_word.proofs.Lists.{zipped_at}
 use Rattle.a429_grid.specs.Grid.{HasNoGridPeriod}
 use Rattle.a429_pack.specs.declared.demands.Demand.{Demand}
-use Rattle.a429_pack.specs.Demands.{AreFit, demand_at, exponent_of, period_of, greatest}
+use Rattle.a429_pack.specs.Demands.{AreFit, demand_at, exponent_of}
 use Rattle.a429_pack.specs.Demands as pack
 use Rattle.a429_equipment.specs.declared.rows.OutputRow.{OutputRow}
 use Rattle.a429_equipment.specs.declared.rows.SourceRow.{SourceRow}
@@ -28,20 +29,11 @@ all_below P [] i d below all = absurd (omega arith)
 all_below P (x ∷ xs) zero d below all = all.0
 all_below P (x ∷ xs) (suc i) d below all = all_below P xs i d (omega arith) all.1
 
-pub read_is : {X : Type 0} (xs : List X) (i : ℕ) (x : X) → i < length xs → x ≡ get_or xs i x → slice_get xs i ≡ Some x
-read_is xs i x below is = slice_get-get_or xs i x below ∙ ap (λ y. Some y) (sym is)
-
 pub zipped_more : {A B : Type 0} (R : A → B → Type 0) (xs : List A) (ys : List B) (i : ℕ) (d : A) (y : B) → i < length xs → AllZip R (take i xs) ys → R (get_or xs i d) y → AllZip R (take (i + 1) xs) (ys ++ y ∷ [])
 zipped_more {A} {B} R xs ys i d y h old new =
     subst (λ (zs : List A). AllZip R zs (ys ++ y ∷ [])) (sym (take_more xs i d h)) (all_zipped_more R (take i xs) ys (get_or xs i d) y old new)
 
 -- ---- which outputs are fit
-
-pub zipped_at : {A B : Type 0} (R : A → B → Type 0) (xs : List A) (ys : List B) (i : ℕ) (d : A) (e : B) → i < length xs → AllZip R xs ys → R (get_or xs i d) (get_or ys i e)
-zipped_at R [] ys i d e below all = absurd (omega arith)
-zipped_at R (x ∷ xs) [] i d e below all = absurd all
-zipped_at R (x ∷ xs) (y ∷ ys) zero d e below all = all.0
-zipped_at R (x ∷ xs) (y ∷ ys) (suc i) d e below all = zipped_at R xs ys i d e (omega arith) all.1
 
 pub period_from : (o : Option ℕ) (P : Type 0) (Q : ℕ → Type 0) → MatchOption o P Q → IsSome o → Q (unwrap_or o 0)
 period_from None P Q h some = absurd (false≢true some)

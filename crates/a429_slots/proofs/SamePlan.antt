@@ -1,10 +1,11 @@
 -- Within one plan the cells of an output are a period apart.
-use Rattle.std.proofs.Common.{◌≡◌, ℕ, zero, suc, ◌+◌, ◌-◌, ◌*◌, ◌/◌, ◌%◌, ◌^◌, ◌<◌, ◌≤◌, List, length, take, ◌∙◌, sym, ap, subst, refl, inl, inr, arith}
+use Rattle.std.proofs.Common.{◌≡◌, ℕ, suc, ◌+◌, ◌-◌, ◌*◌, ◌/◌, ◌%◌, ◌^◌, ◌<◌, ◌≤◌, List, length, take, ◌∙◌, sym, ap, subst, refl, inl, inr, arith}
 use Rattle.std.specs.Prelude.{Option, Some, None, slice_get, option_and_then}
-use Rattle.std.proofs.Math.Nat.{mod-add-div', mul-le-mul_right, mul-add-mod_self_right, mul_assoc, mul_comm, div-lt_iff_lt-mul}
+use Rattle.std.proofs.Math.Nat.{mod-add-div', mul-le-mul_right, mul-add-mod_self_right, mul_assoc}
 use Rattle.std.proofs.lemmas.Nat.{pow-add}
 use Rattle.std.proofs.lemmas.Bool.{cases_eq, cases_lt}
 use Rattle.std.proofs.lemmas.Option.{none-some, slice_get_within}
+use Rattle.a429_word.proofs.Lists.{in_frame}
 use Rattle.a429_slots.specs.Tables.{Placed, GroupTable, groups_of, outputs_of, frame_of, buses_of, cells_of, cell_at, output_in}
 use Rattle.a429_slots.specs.Events.{Event, Cell}
 use Rattle.a429_slots.specs.History.{Opening, Current, current, cells_since}
@@ -52,10 +53,6 @@ later_slot c d m less same =
           let fewer : d / m * m ≤ c / m * m = mul-le-mul_right {m = d / m} {n = c / m} m ge in
           absurd (omega (arith, fewer, first, second, same, less))
     ]
-
-in_frame : (k m H : ℕ) → k < m * H → k / m < H
-in_frame k zero H lt = let none : zero * H ≡ zero = omega arith in absurd (omega (arith, lt, none))
-in_frame k (suc m) H lt = (div-lt_iff_lt-mul (omega arith)).1 (subst (λ (n : ℕ). k < n) (mul_comm (suc m) H) lt)
 
 -- ---- one table
 

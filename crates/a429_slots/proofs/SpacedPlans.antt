@@ -4,6 +4,7 @@ use Rattle.std.specs.Prelude.{Option, Some, None, slice_get, slice_index, unwrap
 use Rattle.std.specs.List.{zip}
 use Rattle.std.proofs.lemmas.List.{take-append-drop}
 use Rattle.std.proofs.lemmas.Option.{none-some, slice_get_cases}
+use Rattle.a429_word.proofs.Lists.{all_at}
 use Rattle.a429_pack.specs.Demands.{greatest}
 use Rattle.a429_equipment.specs.Sound.{HaveOwnSources}
 use Rattle.a429_slots.specs.Tables.{GroupTable, groups_of}
@@ -12,7 +13,6 @@ use Rattle.a429_slots.specs.Proposed.{Proposed}
 use Rattle.a429_slots.specs.Events.{Event, Publish}
 use Rattle.a429_slots.specs.History.{Opening, OpensWith}
 use Rattle.a429_slots.specs.Spacing.{IsSpacedTable, IsOwnPlan, HaveOwnPlans, HasSpacedTable}
-use Rattle.a429_slots.proofs.Planning.{all_at}
 use Rattle.a429_slots.proofs.Published.{came_from}
 use Rattle.a429_slots.proofs.SpacedTables.{row_of, spaced_table}
 

@@ -22,6 +22,7 @@ use Rattle.a429_slots.specs.Tables.{GroupTable, unlimited}
 use Rattle.a429_slots.specs.Kept.{HoldsCell, IsTable}
 use Rattle.a429_slots.specs.Asked.{IsTableOf, limits_at}
 use Rattle.a429_slots.proofs.Rows.{blank, unasked, all_below}
+use Rattle.a429_pack.proofs.Packings.{demand_over}
 
 -- the columns of a table, by the outputs' numbers but the first
 pub record Columns : Type 0 where
@@ -83,16 +84,10 @@ some_spacing min_us rate zero least some faster =
     absurd (omega (arith, least.0, product))
 some_spacing min_us rate (suc q) least some faster = omega arith
 
--- a share of the frame has the period that it was made of
-share_is : (h e : ℕ) → e ≤ h → 2 ^ h / 2 ^ e ≡ 2 ^ (h - e)
-share_is h e few =
-    let digits : (h - e) + e ≡ h = omega arith in
-    ap (λ z. z / 2 ^ e) (ap (λ z. 2 ^ z) (sym digits) ∙ pow-add 2 (h - e) e) ∙ shl-shr (2 ^ (h - e)) e
-
 period_back : (h e : ℕ) → e ≤ h → 2 ^ h / (2 ^ h / 2 ^ e) ≡ 2 ^ e
 period_back h e few =
     let digits : e + (h - e) ≡ h = omega arith in
-    ap (λ z. 2 ^ h / z) (share_is h e few) ∙ ap (λ z. z / 2 ^ (h - e)) (ap (λ z. 2 ^ z) (sym digits) ∙ pow-add 2 e (h - e)) ∙ shl-shr (2 ^ e) (h - e)
+    ap (λ z. 2 ^ h / z) (demand_over h e few) ∙ ap (λ z. z / 2 ^ (h - e)) (ap (λ z. 2 ^ z) (sym digits) ∙ pow-add 2 e (h - e)) ∙ shl-shr (2 ^ e) (h - e)
 
 -- the output at a place
 order_at : (l : Layout) (rows : List OutputRow) (ds : List Demand) (c : Columns) → AreColumns l rows ds c → (k : ℕ) → k < length l.inputs → get_or c.order k 0 ≡ get_or l.inputs k 0
@@ -125,7 +120,7 @@ begins_inside l rows ds c p k below =
     let o : ℕ = get_or l.inputs k 0 in
     let known : o < length l.inputs = omega (arith, p.each.below k (omega (arith, p.each.length)), p.each.length) in
     let share : get_or l.demands k 0 ≡ 2 ^ (l.frame - get_or c.periods o 0) =
-    share_at l rows ds c p k below ∙ share_is l.frame (get_or c.periods o 0) (few_exponent l rows ds c p o known) in
+    share_at l rows ds c p k below ∙ demand_over l.frame (get_or c.periods o 0) (few_exponent l rows ds c p o known) in
     let holds : Holds l.demands (start_of l.demands k) k = (omega (arith, p.each.length), omega arith, omega (arith, share, pow_pos (l.frame - get_or c.periods o 0))) in
     div_below (start_of l.demands k) (2 ^ l.frame) l.buses (pow_pos l.frame) (omega (arith, p.within (start_of l.demands k) k holds, p.laid.room))
 

@@ -1,5 +1,5 @@
 -- The frame that a group is in at a place of a history, by the taken Frames before it.
-use Rattle.std.proofs.Common.{true≢false, ◌≡◌, ℕ, zero, suc, ◌+◌, ◌^◌, ◌<◌, ◌≤◌, Bool, true, false, List, [], ◌∷◌, ◌++◌, length, take, drop, ◌∙◌, sym, ap, refl, inl, inr, arith, append-nil}
+use Rattle.std.proofs.Common.{◌≡◌, ℕ, zero, suc, ◌+◌, ◌^◌, ◌<◌, ◌≤◌, Bool, true, false, List, [], ◌∷◌, ◌++◌, length, take, drop, ◌∙◌, sym, ap, refl, inl, inr, arith, append-nil}
 use Rattle.std.specs.Prelude.{Option, Some, cond, filter, slice_get, if◌then◌else◌, ◌&&◌, sum_by, count_by}
 use Rattle.std.specs.Option.{option_map_or}
 use Rattle.std.specs.List.{range_with_len}
@@ -8,11 +8,13 @@ use Rattle.std.proofs.lemmas.List.Elements.{filter-append}
 use Rattle.std.proofs.lemmas.List.Sums.{sum_by-append}
 use Rattle.std.proofs.lemmas.Bool.{cases_Bool, and_parts, leb-true, ltb-true, lt-ltb, le-leb, eq-eqb, eqb-true}
 use Rattle.std.proofs.lemmas.Option.{slice_get_cases}
+use Rattle.a429_word.proofs.Lists.{clash, range_next}
 use Rattle.a429_slots.specs.Tables.{GroupTable, frame_of, cells_of}
 use Rattle.a429_slots.specs.Events.{Event, Arrive, Cell, Frame, Publish}
 use Rattle.a429_slots.specs.History.{Opening, Current, current, is_cell, is_frame, is_over, has_room, next_frame, cells_since, last_of, newest_number, newest_table}
 use Rattle.a429_slots.specs.TakenFrames.{taken_before, last_taken, table_in_force, events_since, IsTakenAt, AreTaken, is_taken_after, is_taken_at, IsFrameAt}
-use Rattle.a429_slots.proofs.Histories.{take_next, range_next, last_next, goes_on, cells_next, same_frame, new_frame}
+use Rattle.a429_slots.proofs.Histories.{take_following, goes_on, cells_next, same_frame, new_frame}
+use Rattle.a429_equipment.proofs.Cutting.{last_push}
 
 -- where the frame began
 abbrev began : (ℕ → Bool) → ℕ → ℕ
@@ -52,7 +54,7 @@ turned o g p E T k e N h taken =
     let F = take k E in
     let f = current o g p F in
     let places : taken_before T (suc k) ≡ taken_before T k ++ k ∷ [] = taken_yes T k h in
-    let last : last_taken T (suc k) ≡ Some k = ap (λ (ks : List ℕ). last_of ks) places ∙ last_next (taken_before T k) k in
+    let last : last_taken T (suc k) ≡ Some k = ap (λ (ks : List ℕ). last_of ks) places ∙ last_push (taken_before T k) k in
     let now : current o g p (take (suc k) E) ≡ next_frame (newest_number o F) (newest_table o g p F) f = ap (current o g p) N.more ∙ new_frame o g p F e taken in
     let none : events_since E T (suc k) ≡ [] =
     ap (λ (j : Option ℕ). drop (option_map_or (λ m. m + 1) j 0) (take (suc k) E)) last
@@ -102,7 +104,7 @@ reached_next o g p E T k within same R = elim (slice_get_cases E k).1 [
   | inl hit ↦
       let e = hit.0 in
       let is : is_taken_at o g p E k ≡ is_taken_after o g p (take k E) e = ap (λ (x : Option Event). option_map_or (is_taken_after o g p (take k E)) x false) hit.2 in
-      let N : Next o g p E T k e = record { before = R; within = within; more = take_next E k e hit.2 } in
+      let N : Next o g p E T k e = record { before = R; within = within; more = take_following E k e hit.2 } in
       elim (cases_Bool (is_taken_after o g p (take k E) e)) [
         | inl taken ↦ turned o g p E T k e N (same ∙ (is ∙ taken)) taken
         | inr left ↦ stayed o g p E T k e N (same ∙ (is ∙ left)) left
@@ -119,9 +121,6 @@ reached o g p E T agrees (suc k) within =
     reached_next o g p E T k room (agrees k room before) before
 
 -- ---- what takes a Frame
-
-clash : false ≡ true → ⊥
-clash h = true≢false (sym h)
 
 frame_event : (g : ℕ) (e : Event) → is_frame g e ≡ true → e ≡ Frame g
 frame_event g (Arrive r raw) h = absurd (clash h)

@@ -43,7 +43,7 @@ fn in_group(group: usize, fault: PackFault) -> PlanFault
 }
 
 /// What the outputs of a group ask of its layout, at this rate in bit/s.
-#[tactic(auto, using(crate::proofs::Rows::all_below, crate::proofs::Rows::zipped_more, crate::proofs::Rows::read_is))]
+#[tactic(auto, using(crate::proofs::Rows::all_below, crate::proofs::Rows::zipped_more, a429_word::proofs::Lists::read_is))]
 fn demands_of(
     alloc: Global,
     rate: u32,

@@ -1,12 +1,13 @@
 -- The slots of a million frames can be counted: a next frame is never refused for want of slots.
-use Rattle.std.proofs.Common.{◌≡◌, ◌∙◌, ℕ, zero, suc, ◌+◌, ◌*◌, ◌^◌, ◌<◌, ◌≤◌, Bool, true, false, List, [], ◌∷◌, ◌++◌, length, ap, subst, sym, refl, inl, inr, arith, append-nil, append_assoc}
+use Rattle.std.proofs.Common.{◌≡◌, ◌∙◌, ℕ, ◌+◌, ◌*◌, ◌^◌, ◌<◌, ◌≤◌, Bool, true, false, List, [], ◌∷◌, length, ap, sym, refl, inl, inr, arith}
 use Rattle.std.specs.Prelude.{Option, Some, None, if◌then◌else◌, nat_lt, cond, count_by, slice_get, unwrap_or}
 use Rattle.std.specs.Option.{option_map_or}
 use Rattle.std.specs.List.{AllByRecursion}
 use Rattle.std.proofs.lemmas.Bool.{false≢true, lt-ltb}
 use Rattle.std.proofs.lemmas.List.Sums.{sum_by-cons}
-use Rattle.std.proofs.lemmas.Option.{none-some, same_Some, slice_get_cases}
+use Rattle.std.proofs.lemmas.Option.{slice_get_cases}
 use mathlib.Core.List.{IsPrefix}
+use Rattle.a429_word.proofs.Lists.{all_beginning, prefix_self}
 use Rattle.a429_slots.specs.Tables.{GroupTable, PlanTable, cells_of, frame_of, groups_of}
 use Rattle.a429_slots.specs.History.{last_of}
 use Rattle.a429_slots.specs.Sending.{Sending, after_cell, fits_next, turned}
@@ -14,26 +15,8 @@ use Rattle.a429_workers.specs.Calls.{Call, Asks, Turns, Meets, Takes, StaysMid, 
 use Rattle.a429_workers.specs.Sends.{is_taken}
 use Rattle.a429_workers.specs.Transmitting.{first_fits}
 use Rattle.a429_station.specs.Resubmitting.{HasFewSlots}
-
--- ---- lists
-
-all_front : {X : Type 0} (P : X → Type 0) (xs ys : List X) → AllByRecursion P (xs ++ ys) → AllByRecursion P xs
-all_front P [] ys all = tt
-all_front P (x ∷ xs) ys all = (all.0, all_front P xs ys all.1)
-
-pub all_beginning : {X : Type 0} (P : X → Type 0) (xs ys : List X) → IsPrefix xs ys → AllByRecursion P ys → AllByRecursion P xs
-all_beginning P xs ys p all = all_front P xs p.0 (subst (AllByRecursion P) (sym p.1) all)
-
-pub all_at : {X : Type 0} (P : X → Type 0) (xs : List X) (i : ℕ) (x : X) → slice_get xs i ≡ Some x → AllByRecursion P xs → P x
-all_at P [] i x there all = absurd (none-some x there)
-all_at P (y ∷ xs) zero x there all = subst P (same_Some y x there) all.0
-all_at P (y ∷ xs) (suc i) x there all = all_at P xs i x there all.1
-
-prefix_self : {X : Type 0} (xs : List X) → IsPrefix xs xs
-prefix_self xs = ([], append-nil xs)
-
-prefix_on : {X : Type 0} (xs ys zs : List X) → IsPrefix xs ys → IsPrefix ys zs → IsPrefix xs zs
-prefix_on {X} xs ys zs p q = (p.0 ++ q.0, sym (append_assoc xs p.0 q.0) ∙ (ap (λ (l : List X). l ++ q.0) p.1 ∙ q.1))
+use Rattle.a429_workers.proofs.Lists.{all_get}
+use Rattle.a429_workers.proofs.Order.{seen_on}
 
 -- ---- the tables of groups
 
@@ -42,11 +25,11 @@ few_of : (g : ℕ) (p : GroupTable) (plans : List PlanTable) → frame_of p ≤ 
 few_of g p plans first all = by_plan (last_of plans) refl
   where
     by_table : (q : PlanTable) → HasFewSlots q → (x : Option GroupTable) → slice_get (groups_of q) g ≡ x → frame_of (unwrap_or x p) ≤ 8192
-    by_table q few (Some t) is = all_at (λ t. frame_of t ≤ 8192) (groups_of q) g t is few
+    by_table q few (Some t) is = all_get (λ t. frame_of t ≤ 8192) (groups_of q) g t is few
     by_table q few None is = first
 
     by_plan : (x : Option PlanTable) → last_of plans ≡ x → frame_of (option_map_or (λ q. unwrap_or (slice_get (groups_of q) g) p) x p) ≤ 8192
-    by_plan (Some q) is = by_table q (all_at HasFewSlots plans _ q is all) (slice_get (groups_of q) g) refl
+    by_plan (Some q) is = by_table q (all_get HasFewSlots plans _ q is all) (slice_get (groups_of q) g) refl
     by_plan None is = first
 
 -- ---- how far calls lead
@@ -59,11 +42,6 @@ seen_grows g p s (Turns plans (Takes n)) is = is.0
 seen_grows g p s (Turns plans StaysMid) is = is.0
 seen_grows g p s (Turns plans StaysSpent) is = is.0
 seen_grows g p s (Meets loads) is = prefix_self s.seen
-
-all_seen : (g : ℕ) (p : GroupTable) (s : Standing) (calls : List Call) → AreLawful g p s calls → IsPrefix s.seen (standing_after g p s calls).seen
-all_seen g p s [] lawful = prefix_self s.seen
-all_seen g p s (c ∷ calls) lawful =
-    prefix_on s.seen (after g p s c).seen (standing_after g p (after g p s c) calls).seen (seen_grows g p s c lawful.0) (all_seen g p (after g p s c) calls lawful.1)
 
 -- a frame of few slots, whose first is not past so many
 pub record IsWithin (s : Standing) (first : ℕ) : Type 0 where
@@ -103,7 +81,7 @@ pub calls_within : (g : ℕ) (p : GroupTable) (s : Standing) (calls : List Call)
 calls_within g p s [] first few lawful all W = record { few = W.few; first_slot = omega (arith, W.first_slot) }
 calls_within g p s (c ∷ calls) first few lawful all W =
     let next = after g p s c in
-    let so_far = all_beginning HasFewSlots next.seen (standing_after g p next calls).seen (all_seen g p next calls lawful.1) all in
+    let so_far = all_beginning HasFewSlots next.seen (standing_after g p next calls).seen (seen_on g p next calls lawful.1) all in
     let rest = calls_within g p next calls (first + 8192 * cond (is_taken c) 1 0) few lawful.1 all (call_within g p s c first few lawful.0 so_far W) in
     let sum : count_by is_taken (c ∷ calls) ≡ cond (is_taken c) 1 0 + count_by is_taken calls = sum_by-cons (λ (x : Call). cond (is_taken x) 1 0) c calls in
     record { few = rest.few; first_slot = omega (arith, rest.first_slot, sum) }
@@ -114,7 +92,7 @@ pub fits_at_first : (opened : PlanTable) (g : ℕ) → g < length (groups_of ope
 fits_at_first opened g inside few spent =
     elim (slice_get_cases (groups_of opened) g).1 [
       | inl hit ↦
-          let small = all_at (λ t. frame_of t ≤ 8192) (groups_of opened) g hit.0 hit.2 few in
+          let small = all_get (λ t. frame_of t ≤ 8192) (groups_of opened) g hit.0 hit.2 few in
           let fits : nat_lt (0 + frame_of hit.0) (2 ^ 64) ≡ true = lt-ltb (0 + frame_of hit.0) (2 ^ 64) (omega (arith, small)) in
           let same : first_fits opened g 0 ≡ true = ap (λ (x : Option GroupTable). option_map_or (λ p. nat_lt (0 + frame_of p) (2 ^ 64)) x false) hit.2 ∙ fits in
           absurd (false≢true (sym spent ∙ same))

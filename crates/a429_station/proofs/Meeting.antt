@@ -3,6 +3,7 @@ use Rattle.std.proofs.Common.{◌≡◌, ◌∙◌, ℕ, ◌<◌, List, [], ◌�
 use Rattle.std.specs.List.{AllByRecursion}
 use Rattle.std.proofs.Math.Seq.{drop-append_seam}
 use Rattle.std.proofs.lemmas.List.{map-append}
+use Rattle.a429_word.proofs.Lists.{all_push}
 use Rattle.a429_equipment.specs.declared.loads.Load.{Load}
 use Rattle.a429_equipment.specs.TableRecord.{TableRecord}
 use Rattle.a429_equipment.specs.Agreement.{Agrees, AgreesToTheEnd, loads_of_all}
@@ -14,7 +15,6 @@ use mathlib.Core.List.{IsPrefix}
 use Rattle.a429_slots.specs.Tables.{PlanTable}
 use Rattle.a429_station.specs.Numbered.{AllNumbered}
 use Rattle.a429_station.specs.Working.{HasMet, IsJoined, IsReceiverAt, meeting_of, told}
-use Rattle.a429_station.proofs.Plans.{all_more}
 
 pub met_none : (t : TableRecord) (v : Transmitting) → HasMet t [] v v
 met_none t v = record {
@@ -52,7 +52,7 @@ met_more t rs r u v w M here low stands is agrees others =
           (stands b (made ++ map (meeting_of t) rs) (M.stands b made S));
       rest = is ∙ (ap (λ (x : Transmitting). record x { transmitter = (met v r).transmitter }) M.rest ∙ ap (λ (x : Transmitting). record u { transmitter = x.transmitter }) (sym is));
       hub = ap (λ (x : Transmitting). x.transmitter.at) is ∙ M.hub;
-      agree = all_more (λ x. Agrees t x.number x.accepted w.transmitter.loads) rs r
+      agree = all_push (λ x. Agrees t x.number x.accepted w.transmitter.loads) rs r
           (others_agree t r.number v.transmitter.loads w.transmitter.loads rs (subst (λ (x : TableRecord). OthersStayAgreed x r.number v.transmitter.loads w.transmitter.loads) here others) low M.agree) one;
     }
 

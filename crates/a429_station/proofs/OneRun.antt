@@ -3,6 +3,7 @@ use Rattle.std.proofs.Common.{◌≡◌, ◌∙◌, ℕ, ◌+◌, ◌*◌, ◌<�
 use Rattle.std.specs.Prelude.{◌≢◌, Option, Some, Result, Ok, Err, slice_get, count_by}
 use Rattle.std.specs.List.{AllByRecursion}
 use mathlib.Core.List.{IsPrefix}
+use Rattle.a429_word.proofs.Lists.{all_beginning}
 use Rattle.a429_equipment.specs.declared.loads.Load.{Load}
 use Rattle.a429_equipment.specs.TableRecord.{TableRecord}
 use Rattle.a429_equipment.specs.Agreement.{Agrees}
@@ -22,7 +23,9 @@ use Rattle.a429_workers.specs.declared.sending.SendFault.TheVariants.{Change}
 use Rattle.a429_station.specs.Course.{Course, IsSentIn, heard_in, meetings}
 use Rattle.a429_station.specs.Resubmitting.{HasFewSlots, opening}
 use Rattle.a429_station.specs.Working.{HasMet, IsJoined, IsReady, meeting_of, told}
-use Rattle.a429_station.proofs.Counting.{IsWithin, all_at, all_beginning, calls_within, not_spent}
+use Rattle.a429_station.proofs.Counting.{IsWithin, calls_within, not_spent}
+use Rattle.a429_workers.proofs.Growing.{standing_push}
+use Rattle.a429_workers.proofs.Lists.{all_get}
 
 -- ---- a transmitter from its beginning on
 
@@ -51,13 +54,9 @@ lawful_front : (g : ℕ) (p : GroupTable) (s : Standing) (calls : List Call) (c 
 lawful_front g p s [] c all = tt
 lawful_front g p s (d ∷ calls) c all = (all.0, lawful_front g p (after g p s d) calls c all.1)
 
-leads_last : (g : ℕ) (p : GroupTable) (s : Standing) (calls : List Call) (c : Call) → standing_after g p s (calls ++ c ∷ []) ≡ after g p (standing_after g p s calls) c
-leads_last g p s [] c = refl
-leads_last g p s (d ∷ calls) c = leads_last g p (after g p s d) calls c
-
 -- the plans of a refused frame were seen
 plans_seen : (g : ℕ) (p : GroupTable) (s : Standing) (calls : List Call) (plans list : List PlanTable) → IsPrefix (standing_after g p s (calls ++ Turns plans StaysSpent ∷ [])).seen list → IsPrefix plans list
-plans_seen g p s calls plans list seen = subst (λ (x : Standing). IsPrefix x.seen list) (leads_last g p s calls (Turns plans StaysSpent)) seen
+plans_seen g p s calls plans list seen = subst (λ (x : Standing). IsPrefix x.seen list) (standing_push g p s calls (Turns plans StaysSpent)) seen
 
 -- the slots of a million frames can be counted
 room : (n frames : ℕ) → n < frames → frames ≤ 1000000 → 0 + 8192 * n + 16384 < 2 ^ 64
@@ -88,7 +87,7 @@ module _ (g : ℕ) (opened : PlanTable) (p : GroupTable) (there : slice_get (gro
   made_on : (w : Transmitting) (calls : List Call) (plans : List PlanTable) → HasFewSlots opened → AllByRecursion HasFewSlots w.watcher.list → HasMade (outset opened g p) (calls ++ Turns plans StaysSpent ∷ []) w
       → 0 + 8192 * count_by is_taken calls + 16384 < 2 ^ 64 → ⊥
   made_on w calls plans first small made many =
-      let table : frame_of p ≤ 8192 = all_at (λ t. frame_of t ≤ 8192) (groups_of opened) g p there first in
+      let table : frame_of p ≤ 8192 = all_get (λ t. frame_of t ≤ 8192) (groups_of opened) g p there first in
       calls_go_on g p (before_calls opened p 0) calls plans table (record { few = table; first_slot = omega arith })
       (all_beginning HasFewSlots plans w.watcher.list (plans_seen g p (before_calls opened p 0) calls plans w.watcher.list made.at.seen) small) made.lawful many
 

@@ -1,44 +1,29 @@
 -- Plans of a station send its sources alone, and stay in order when one more is published.
-use Rattle.std.proofs.Common.{◌≡◌, ℕ, zero, suc, ◌+◌, ◌<◌, ◌≤◌, ◌^◌, true, List, [], ◌∷◌, ◌++◌, length, map, ◌∙◌, sym, ap, subst, refl, arith, append-nil}
+use Rattle.std.proofs.Common.{◌≡◌, ℕ, zero, suc, ◌+◌, ◌<◌, ◌≤◌, ◌^◌, true, List, [], ◌∷◌, ◌++◌, length, ◌∙◌, sym, ap, subst, refl, arith, append-nil, append_assoc}
 use Rattle.std.specs.Prelude.{Some, IsTrue, slice_get, ◌==◌, ◌&&◌}
-use Rattle.std.specs.List.{AllByRecursion, AllZip, zip}
+use Rattle.std.specs.List.{AllByRecursion, AllZip}
 use Rattle.std.proofs.lemmas.Bool.{and_parts, eqb-true}
 use Rattle.std.proofs.lemmas.List.{length-append, map-append}
 use Rattle.std.proofs.lemmas.Option.{none-some, same_Some}
+use Rattle.a429_word.proofs.Lists.{all_push}
 use Rattle.a429_equipment.specs.TableRecord.{TableRecord}
 use Rattle.a429_equipment.specs.Sound.{IsSound}
 use Rattle.a429_equipment.specs.SameStation.{same_station, all_agree, same_receiver, same_source, same_group}
 use Rattle.a429_equipment.specs.declared.rows.OutputRow.{OutputRow}
 use Rattle.a429_equipment.specs.declared.rows.SourceRow.{SourceRow}
-use Rattle.a429_equipment.specs.declared.rows.GroupRow.{GroupRow}
-use Rattle.a429_slots.specs.Tables.{Placed, GroupTable, PlanTable, frame_of, groups_of, outputs_of}
-use Rattle.a429_slots.specs.Planned.{IsServed, IsPlannedAt, IsPlanOf, rated_outputs}
+use Rattle.a429_slots.specs.Tables.{GroupTable, PlanTable, frame_of, groups_of}
+use Rattle.a429_slots.specs.Planned.{IsPlannedAt, IsPlanOf, rated_outputs}
 use Rattle.a429_slots.specs.Proposed.{Proposed}
 use Rattle.a429_board.specs.Lists.{Planning, numbered}
 use Rattle.a429_workers.specs.Runs.{ArePublished, plans_of}
-use Rattle.a429_workers.specs.Transmitting.{IsKnownPlan, IsKnownTable}
+use Rattle.a429_workers.specs.Transmitting.{IsKnownPlan}
 use Rattle.a429_board.specs.Refused.{IsWhy}
 use Rattle.a429_board.specs.declared.planner.BoardFault.{BoardFault}
 use Rattle.a429_board.specs.declared.planner.BoardFault.TheVariants.{CountSpent, NoMemory}
 use Rattle.a429_station.specs.Resubmitting.{GoesOn, HasFewSlots, IsLed, IsPlanned, IsReplanFault, Publishes, Running, of_board, opening}
+use Rattle.a429_workers.proofs.Known.{plan_known}
 
 -- ---- sources
-
-served_known : (n rate : ℕ) (rows : List OutputRow) (ps : List Placed) → AllZip (IsServed rate) rows ps → AllByRecursion (λ o. o.source < n) rows → AllByRecursion (λ p. p.source < n) ps
-served_known n rate [] [] served known = tt
-served_known n rate [] (p ∷ ps) served known = absurd served
-served_known n rate (r ∷ rows) [] served known = absurd served
-served_known n rate (r ∷ rows) (p ∷ ps) served known = (omega (arith, served.0.0, known.0), served_known n rate rows ps served.1 known.1)
-
-tables_known : (t : TableRecord) (sources : List SourceRow) (rates : List ℕ) (rowss : List (List OutputRow)) (ts : List GroupTable) → AllZip (IsPlannedAt sources) (zip rates rowss) ts
-    → AllByRecursion (AllByRecursion (λ o. o.source < length t.sources)) rowss → AllByRecursion (IsKnownTable t) ts
-tables_known t sources [] rowss [] planned known = tt
-tables_known t sources [] rowss (u ∷ ts) planned known = absurd planned
-tables_known t sources (rate ∷ rates) [] [] planned known = tt
-tables_known t sources (rate ∷ rates) [] (u ∷ ts) planned known = absurd planned
-tables_known t sources (rate ∷ rates) (rows ∷ rowss) [] planned known = absurd planned
-tables_known t sources (rate ∷ rates) (rows ∷ rowss) (u ∷ ts) planned known =
-    (served_known (length t.sources) rate rows (outputs_of u) planned.0.served known.0, tables_known t sources rates rowss ts planned.1 known.1)
 
 same_sources : (a b : TableRecord) → same_station a b ≡ true → length a.sources ≡ length b.sources
 unfolding same_station
@@ -46,12 +31,6 @@ same_sources a b h =
     let more = (and_parts (all_agree same_receiver a.receivers b.receivers) (all_agree same_source a.sources b.sources && all_agree same_group a.groups b.groups) h).1 in
     let sources = (and_parts (all_agree same_source a.sources b.sources) (all_agree same_group a.groups b.groups) more).0 in
     eqb-true (length a.sources) (length b.sources) (and_parts (length a.sources == length b.sources) _ sources).0
-
--- a plan of an equipment with as many sources sends the station's alone
-pub plan_known : (t e : TableRecord) (p : PlanTable) → length t.sources ≡ length e.sources → IsSound e → IsPlanOf e p → IsKnownPlan t p
-plan_known t e p same sound planned =
-    tables_known t e.sources (map (λ (g : GroupRow). g.rate) e.groups) e.outputs (groups_of p) planned.groups
-    (subst (λ (n : ℕ). AllByRecursion (AllByRecursion (λ o. o.source < n)) e.outputs) (sym same) sound.known_sources)
 
 -- ---- slots
 
@@ -65,10 +44,6 @@ pub plan_small : (e : TableRecord) (p : PlanTable) → IsPlanOf e p → HasFewSl
 plan_small e p planned = tables_small e.sources (rated_outputs e) (groups_of p) planned.groups
 
 -- ---- the planner's list
-
-pub all_more : {X : Type 0} (P : X → Type 0) (xs : List X) (x : X) → AllByRecursion P xs → P x → AllByRecursion P (xs ++ x ∷ [])
-all_more P [] x all one = (one, tt)
-all_more P (y ∷ ys) x all one = (all.0, all_more P ys x all.1 one)
 
 numbered_on : (base : ℕ) (later : List Proposed) (q : Proposed) → ((k : ℕ) (x : Proposed) → slice_get later k ≡ Some x → x.plan.number ≡ base + (k + 1)) → q.plan.number ≡ base + (length later + 1)
     → (k : ℕ) (x : Proposed) → slice_get (later ++ q ∷ []) k ≡ Some x → x.plan.number ≡ base + (k + 1)
@@ -107,21 +82,28 @@ led_on old new bytes n P fits L =
       later = L.later ++ q ∷ [];
       plans = subst (λ (t : TableRecord). new.planner.list ≡ plans_of (opening t L.opened) (L.later ++ q ∷ [])) (sym station) plans;
       published = subst (λ (t : TableRecord). ArePublished (opening t L.opened) (L.later ++ q ∷ [])) (sym station) (record {
-        of_station = all_more (λ (x : Proposed). IsTrue (same_station old.station x.station)) L.later q L.published.of_station P.same;
+        of_station = all_push (λ (x : Proposed). IsTrue (same_station old.station x.station)) L.later q L.published.of_station P.same;
         numbered = numbered_on L.opened.number L.later q L.published.numbered next;
         countable = omega (arith, long, next, fits);
       });
       last = omega (arith, last, next, long);
       known = subst (λ (t : TableRecord). AllByRecursion (IsKnownPlan t) new.planner.list) (sym station) (
           subst (AllByRecursion (IsKnownPlan old.station)) (sym P.list) (
-          all_more (IsKnownPlan old.station) old.planner.list (numbered P.of.plan n) L.known (plan_known old.station P.of.record_of P.of.plan (same_sources old.station P.of.record_of P.same) P.of.sound P.of.planned)));
-      small = subst (AllByRecursion HasFewSlots) (sym P.list) (all_more HasFewSlots old.planner.list (numbered P.of.plan n) L.small (plan_small P.of.record_of P.of.plan P.of.planned));
+          all_push (IsKnownPlan old.station) old.planner.list (numbered P.of.plan n) L.known (plan_known old.station P.of.record_of P.of.plan (same_sources old.station P.of.record_of P.same) P.of.sound P.of.planned)));
+      small = subst (AllByRecursion HasFewSlots) (sym P.list) (all_push HasFewSlots old.planner.list (numbered P.of.plan n) L.small (plan_small P.of.record_of P.of.plan P.of.planned));
     }
 
 -- ---- plans follow one another
 
 pub stays : (v : Running) → GoesOn v v
 stays v = record { station = refl; book = refl; plans = ([], append-nil v.planner.list) }
+
+pub goes_further : (u v w : Running) → GoesOn u v → GoesOn v w → GoesOn u w
+goes_further u v w p q = record {
+  station = q.station ∙ p.station;
+  book = q.book ∙ p.book;
+  plans = (p.plans.0 ++ q.plans.0, sym (append_assoc u.planner.list p.plans.0 q.plans.0) ∙ (ap (λ (l : List PlanTable). l ++ q.plans.0) p.plans.1 ∙ q.plans.1));
+}
 
 pub one_further : (old new : Running) (bytes : List ℕ) (n : ℕ) → Publishes old bytes n new → GoesOn old new
 one_further old new bytes n P = record { station = P.station; book = P.book; plans = (numbered P.of.plan n ∷ [], sym P.list) }

@@ -7,6 +7,7 @@ use Rattle.std.proofs.Math.Nat.{pow-le-pow_right}
 use Rattle.std.proofs.lemmas.Grind.{get_or_default_zero}
 use Rattle.std.proofs.lemmas.List.{length_push, map-append}
 use Rattle.atomic_table.specs.Seated.{TableId}
+use Rattle.a429_word.proofs.Lists.{all_push}
 use Rattle.a429_equipment.specs.TableRecord.{TableRecord}
 use Rattle.a429_equipment.specs.Arrivals.{sorted}
 use Rattle.a429_equipment.specs.Agreement.{words_of}
@@ -14,7 +15,8 @@ use Rattle.a429_equipment.specs.Receiving.{IsAccepted, AreAccepted, IsReceived, 
 use Rattle.a429_values.specs.declared.view.View.{View}
 use Rattle.a429_values.specs.Views.{receiver, with_accepted}
 use Rattle.a429_values.specs.Ends.{Place, IsReceiving, view_in}
-use Rattle.a429_values.proofs.Counted.{words_same, words_other, all_push}
+use Rattle.a429_values.proofs.Counted.{words_other}
+use Rattle.a429_equipment.proofs.Receiving.{words_same}
 
 abbrev zeros : ℕ → List ℕ
 zeros n = replicate n 0
@@ -48,7 +50,7 @@ new_receiving p number limit counts at views small here is inside sized zeros =
     }
 
 -- words come in piece by piece
-in_pieces : (limit : ℕ) (t : TableRecord) (r : ℕ) (A : List (ℕ × ℕ)) (raws more : List ℕ) → accepted_after limit t r A (raws ++ more) ≡ accepted_after limit t r (accepted_after limit t r A raws) more
+pub in_pieces : (limit : ℕ) (t : TableRecord) (r : ℕ) (A : List (ℕ × ℕ)) (raws more : List ℕ) → accepted_after limit t r A (raws ++ more) ≡ accepted_after limit t r (accepted_after limit t r A raws) more
 in_pieces limit t r A [] more = refl
 in_pieces limit t r A (raw ∷ raws) more = in_pieces limit t r (with_word limit A raw (sorted t r raw)) raws more
 

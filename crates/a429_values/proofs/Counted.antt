@@ -1,12 +1,12 @@
 -- The words of one source, and the load of what was accepted.
-use Rattle.std.proofs.Common.{◌≡◌, ◌≢◌, ℕ, zero, suc, ◌+◌, ◌-◌, ◌<◌, ◌≤◌, eqb, List, [], ◌∷◌, ◌++◌, length, map, Some, Option, Bool, true, false, cond, refl, sym, ap, ◌∙◌, subst, arith, eq-eqb, ne_eqb, append-nil, inl, inr}
+use Rattle.std.proofs.Common.{◌≡◌, ◌≢◌, ℕ, ◌+◌, ◌-◌, ◌<◌, ◌≤◌, eqb, List, [], ◌∷◌, ◌++◌, length, map, Some, Option, Bool, true, false, cond, refl, sym, ap, ◌∙◌, subst, arith, eq-eqb, ne_eqb, append-nil, inl, inr}
 use Rattle.std.specs.Prelude.{filter, slice_get, ◌&&◌}
 use Rattle.std.specs.List.{AllByRecursion}
 use Rattle.std.specs.Option.{option_map_or}
-use Rattle.std.proofs.lemmas.List.{map-append, length_push, get_or_push}
-use Rattle.std.proofs.lemmas.List.Elements.{filter-append}
+use Rattle.std.proofs.lemmas.List.{length_push}
 use Rattle.std.proofs.lemmas.Bool.{eqb-true, and_parts}
-use Rattle.std.proofs.lemmas.Option.{same_Some, none-some, slice_get_cases, slice_get_within, slice_get-get_or}
+use Rattle.std.proofs.lemmas.Option.{same_Some, slice_get_cases, slice_get_within}
+use Rattle.a429_word.proofs.Lists.{all_at}
 use Rattle.a429_word.specs.Bits.{has_odd_parity, label_of, number_from}
 use Rattle.a429_equipment.specs.declared.rows.SourceRow.{SourceRow}
 use Rattle.a429_equipment.specs.TableRecord.{TableRecord}
@@ -14,24 +14,11 @@ use Rattle.a429_equipment.specs.Arrivals.{passes_at, is_for, accepts}
 use Rattle.a429_equipment.specs.Agreement.{words_of, last_of, load_after, is_of}
 use Rattle.a429_equipment.specs.Receiving.{IsAccepted, AreAccepted}
 use Rattle.a429_values.specs.Words.{HasLabel, IsCounted}
-
-pub words_append : (s : ℕ) (A B : List (ℕ × ℕ)) → words_of s (A ++ B) ≡ words_of s A ++ words_of s B
-words_append s A B =
-    ap (map (λ (e : ℕ × ℕ). e.1)) (filter-append (λ (e : ℕ × ℕ). eqb e.0 s) A B)
-    ∙ map-append (λ (e : ℕ × ℕ). e.1) (filter (λ (e : ℕ × ℕ). eqb e.0 s) A) (filter (λ (e : ℕ × ℕ). eqb e.0 s) B)
-
-pub words_same : (s w : ℕ) (A : List (ℕ × ℕ)) → words_of s (A ++ (s, w) ∷ []) ≡ words_of s A ++ w ∷ []
-words_same s w A = words_append s A ((s, w) ∷ []) ∙ ap (λ (ws : List ℕ). words_of s A ++ ws) (rw (eq-eqb s s refl) refl)
+use Rattle.a429_equipment.proofs.Cutting.{last_push, words_append}
+use Rattle.a429_equipment.proofs.Receiving.{words_same}
 
 pub words_other : (s x w : ℕ) (A : List (ℕ × ℕ)) → x ≢ s → words_of s (A ++ (x, w) ∷ []) ≡ words_of s A
 words_other s x w A ne = words_append s A ((x, w) ∷ []) ∙ ap (λ (ws : List ℕ). words_of s A ++ ws) (rw (ne_eqb x s ne) refl) ∙ append-nil (words_of s A)
-
-pub last_push : {A : Type 0} (xs : List A) (w : A) → last_of (xs ++ w ∷ []) ≡ Some w
-last_push xs w =
-    let len : length (xs ++ w ∷ []) ≡ length xs + 1 = length_push xs w in
-    let within : length xs < length (xs ++ w ∷ []) = omega arith in
-    let here : length (xs ++ w ∷ []) - 1 ≡ length xs = omega arith in
-    ap (slice_get (xs ++ w ∷ [])) here ∙ (slice_get-get_or (xs ++ w ∷ []) (length xs) w within ∙ ap (λ y. Some y) (get_or_push xs w w (length xs) refl))
 
 -- the load after one more word of the source, and of another
 pub load_same : (s w : ℕ) (A : List (ℕ × ℕ)) → load_after s (A ++ (s, w) ∷ []) ≡ record { source = s; count = length (words_of s A) + 1; word = Some w }
@@ -59,10 +46,6 @@ of_row t r s raw row h there =
     let label = and_parts (eqb row.label (label_of raw)) (option_map_or (λ k. eqb k (number_from 9 2 raw)) row.sdi true) own.1 in
     record { receiver = eqb-true row.receiver r own.0; label = (h.range, parts.0, sym (eqb-true row.label (label_of raw) label.0)) }
 
-pub all_push : {X : Type 0} (P : X → Type 0) (xs : List X) (x : X) → AllByRecursion P xs → P x → AllByRecursion P (xs ++ x ∷ [])
-all_push P [] x all holds = (holds, tt)
-all_push P (y ∷ ys) x all holds = (all.0, all_push P ys x all.1 holds)
-
 labelled : (t : TableRecord) (r s : ℕ) (row : SourceRow) → slice_get t.sources s ≡ Some row → (A : List (ℕ × ℕ)) → AreAccepted t r A → AllByRecursion (HasLabel row.label) (words_of s A)
 labelled t r s row there [] h = tt
 labelled t r s row there (e ∷ A) h = go (eqb e.0 s) refl (labelled t r s row there A h.1)
@@ -70,11 +53,6 @@ labelled t r s row there (e ∷ A) h = go (eqb e.0 s) refl (labelled t r s row t
     go : (b : Bool) → eqb e.0 s ≡ b → AllByRecursion (HasLabel row.label) (words_of s A) → AllByRecursion (HasLabel row.label) (map (λ (x : ℕ × ℕ). x.1) (cond b (e ∷ filter (λ (x : ℕ × ℕ). eqb x.0 s) A) (filter (λ (x : ℕ × ℕ). eqb x.0 s) A)))
     go true is rest = ((of_row t r e.0 e.1 row h.0 (ap (slice_get t.sources) (eqb-true e.0 s is) ∙ there)).label, rest)
     go false is rest = rest
-
-all_at : {X : Type 0} (P : X → Type 0) (xs : List X) (i : ℕ) (x : X) → AllByRecursion P xs → slice_get xs i ≡ Some x → P x
-all_at P [] i x all e = absurd (none-some x e)
-all_at P (y ∷ ys) zero x all e = subst P (same_Some y x e) all.0
-all_at P (y ∷ ys) (suc i) x all e = all_at P ys i x all.1 e
 
 counted : (label : ℕ) (ws : List ℕ) → AllByRecursion (HasLabel label) ws → IsCounted label (length ws) (last_of ws)
 counted label [] all = refl

@@ -1,34 +1,23 @@
 -- Cuts stay where a list grows, one more load has a cut of its own, and no count goes back.
-use Rattle.std.proofs.Common.{◌≡◌, ℕ, zero, suc, ◌≤◌, eqb, List, [], ◌∷◌, ◌++◌, length, take, map, cond, Bool, true, false, refl, sym, ap, ◌∙◌, subst, arith, zero-le, le_refl, length-append}
+use Rattle.std.proofs.Common.{◌≡◌, ℕ, ◌≤◌, eqb, List, [], ◌∷◌, ◌++◌, length, take, map, cond, Bool, true, false, refl, sym, ap, ◌∙◌, subst, arith}
 use Rattle.std.specs.Prelude.{filter}
 use lib.Seq.{take-length}
-use Rattle.std.proofs.lemmas.List.{take-append-le}
 use Rattle.a429_equipment.specs.declared.loads.Load.{Load}
 use Rattle.a429_equipment.specs.Agreement.{words_of, load_after, CountsNoLess, IsCut, Cuts}
+use Rattle.a429_equipment.proofs.Lasting.{cut_after}
+use Rattle.a429_equipment.proofs.Cutting.{count_up}
 
-cut_grows : (b : Bool) (A more : List (ℕ × ℕ)) (before : ℕ) (l : Load) (cut : ℕ) → IsCut b A before l cut → IsCut b (A ++ more) before l cut
-cut_grows true A more before l cut h = (h.0, omega (arith, length-append A more, h.1), h.2 ∙ ap (load_after l.source) (sym (take-append-le cut A more h.1)))
-cut_grows false A more before l cut h = h
-
-pub cuts_grow : (mine : ℕ → Bool) (A more : List (ℕ × ℕ)) (before : ℕ) (ls : List Load) (last : ℕ) → Cuts mine A before ls last → Cuts mine (A ++ more) before ls last
-cuts_grow mine A more before [] last h = h
-cuts_grow mine A more before (l ∷ ls) last h = (h.0, cut_grows (mine l.source) A more before l h.0 h.1, cuts_grow mine A more h.0 ls last h.2)
-
-pub cuts_more : (mine : ℕ → Bool) (A : List (ℕ × ℕ)) (before : ℕ) (ls : List Load) (mid : ℕ) (l : Load) (last : ℕ) → Cuts mine A before ls mid → IsCut (mine l.source) A mid l last → Cuts mine A before (ls ++ l ∷ []) last
-cuts_more mine A before [] mid l last h c = (last, subst (λ (f : ℕ). IsCut (mine l.source) A f l last) (sym h) c, refl)
-cuts_more mine A before (x ∷ xs) mid l last h c = (h.0, h.1, cuts_more mine A h.0 xs mid l last h.2 c)
+pub cuts_longer : (mine : ℕ → Bool) (A : List (ℕ × ℕ)) (before : ℕ) (ls : List Load) (mid : ℕ) (l : Load) (last : ℕ) → Cuts mine A before ls mid → IsCut (mine l.source) A mid l last → Cuts mine A before (ls ++ l ∷ []) last
+cuts_longer mine A before [] mid l last h c = (last, subst (λ (f : ℕ). IsCut (mine l.source) A f l last) (sym h) c, refl)
+cuts_longer mine A before (x ∷ xs) mid l last h c = (h.0, h.1, cuts_longer mine A h.0 xs mid l last h.2 c)
 
 pub cut_in_two : (mine : ℕ → Bool) (A : List (ℕ × ℕ)) (before : ℕ) (xs ys : List Load) (last : ℕ) → Cuts mine A before (xs ++ ys) last → (mid : ℕ) × Cuts mine A before xs mid × Cuts mine A mid ys last
 cut_in_two mine A before [] ys last h = (before, refl, h)
 cut_in_two mine A before (x ∷ xs) ys last h = let r = cut_in_two mine A h.0 xs ys last h.2 in (r.0, (h.0, h.1, r.1), r.2)
 
-cut_up : (b : Bool) (A : List (ℕ × ℕ)) (before : ℕ) (l : Load) (cut : ℕ) → IsCut b A before l cut → before ≤ cut
-cut_up true A before l cut h = h.0
-cut_up false A before l cut h = omega (arith, h)
-
 pub cuts_up : (mine : ℕ → Bool) (A : List (ℕ × ℕ)) (before : ℕ) (ls : List Load) (last : ℕ) → Cuts mine A before ls last → before ≤ last
 cuts_up mine A before [] last h = omega (arith, h)
-cuts_up mine A before (l ∷ ls) last h = let a = cut_up (mine l.source) A before l h.0 h.1 in let b = cuts_up mine A h.0 ls last h.2 in omega (arith, a, b)
+cuts_up mine A before (l ∷ ls) last h = let a = cut_after (mine l.source) A before l h.0 h.1 in let b = cuts_up mine A h.0 ls last h.2 in omega (arith, a, b)
 
 cut_within : (b : Bool) (A : List (ℕ × ℕ)) (before : ℕ) (l : Load) (cut : ℕ) → before ≤ length A → IsCut b A before l cut → cut ≤ length A
 cut_within true A before l cut le h = h.1
@@ -41,16 +30,6 @@ cuts_within mine A before (l ∷ ls) last le h = cuts_within mine A h.0 ls last 
 -- the words of a list that begins with e, where the test of e gave b
 abbrev pub words_from : ℕ → ℕ × ℕ → Bool → List (ℕ × ℕ) → List ℕ
 words_from s e b A = map (λ (x : ℕ × ℕ). x.1) (cond b (e ∷ filter (λ (x : ℕ × ℕ). eqb x.0 s) A) (filter (λ (x : ℕ × ℕ). eqb x.0 s) A))
-
-pub count_up : (s a b : ℕ) (A : List (ℕ × ℕ)) → a ≤ b → length (words_of s (take a A)) ≤ length (words_of s (take b A))
-count_up s zero b A le = zero-le
-count_up s (suc a) zero A le = absurd (omega arith)
-count_up s (suc a) (suc b) [] le = le_refl 0
-count_up s (suc a) (suc b) (e ∷ A) le = go (eqb e.0 s) (count_up s a b A (omega arith))
-  where
-    go : (c : Bool) → length (words_of s (take a A)) ≤ length (words_of s (take b A)) → length (words_from s e c (take a A)) ≤ length (words_from s e c (take b A))
-    go true h = omega (arith, h)
-    go false h = h
 
 -- no load of a source that has a cut found more than the load after all that was accepted
 pub none_above : (mine : ℕ → Bool) (A : List (ℕ × ℕ)) (s before : ℕ) (ls : List Load) (last : ℕ) → mine s ≡ true → Cuts mine A before ls last → CountsNoLess ls (load_after s A)

@@ -1,14 +1,11 @@
 -- What a number of the table says is the load that it stands for.
-use Rattle.std.proofs.Common.{◌≡◌, ◌≢◌, ℕ, zero, suc, ◌+◌, ◌*◌, ◌/◌, ◌%◌, ◌^◌, ◌<◌, Some, None, Option, sym, ap, ◌∙◌, arith, add-one}
+use Rattle.std.proofs.Common.{◌≡◌, ◌≢◌, ℕ, zero, suc, ◌+◌, ◌/◌, ◌%◌, ◌^◌, ◌<◌, Some, None, Option, sym, ap, ◌∙◌, arith}
 use Rattle.std.specs.Prelude.{IsTrue}
 use Rattle.std.proofs.lemmas.Nat.{div-mul-add, mod-mul-add}
-use Rattle.std.proofs.lemmas.Grind.{pow_more}
 use Rattle.a429_word.specs.Bits.{number_from, has_odd_parity, label_of}
 use Rattle.a429_equipment.specs.declared.loads.Load.{Load}
 use Rattle.a429_values.specs.Words.{packed, HasLabel, IsCounted, Tells}
-
-power_next : (count : ℕ) → 2 ^ suc count ≡ 2 ^ count * 2
-power_next count = ap (λ (n : ℕ). 2 ^ n) (sym (add-one count)) ∙ pow_more 2 count
+use Rattle.a429_word.proofs.Fields.{power_next}
 
 below : (n count raw : ℕ) → number_from n count raw < 2 ^ count
 unfolding number_from

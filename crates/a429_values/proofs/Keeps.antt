@@ -11,6 +11,7 @@ use Rattle.std.proofs.lemmas.List.Folds.{list_any-append}
 use Rattle.std.proofs.lemmas.Option.{same_Some}
 use Rattle.atomic_table.specs.Table.{State, Me, step, keeps, Allows, Splits, Joins}
 use Rattle.atomic_table.proofs.Lists.{at_set}
+use Rattle.a429_word.proofs.Lists.{all_push}
 use Rattle.a429_word.specs.Bits.{number_from}
 use Rattle.a429_equipment.specs.declared.loads.Load.{Load}
 use Rattle.a429_equipment.specs.declared.rows.SourceRow.{SourceRow}
@@ -21,8 +22,9 @@ use Rattle.a429_values.specs.declared.view.View.{View}
 use Rattle.a429_values.specs.Words.{IsCounted}
 use Rattle.a429_values.specs.Views.{spent, desk, dealt, dealt_transmitter, receiver, transmitter, both_of, transmitting, receiving, with_accepted, with_load, found_by, seen}
 use Rattle.a429_values.specs.Rule.{number_of, Fits, Sends, Kept}
-use Rattle.a429_values.proofs.Counted.{load_same, load_other, of_row, all_push, load_counted, is_of_row, is_of_yes, row_at}
-use Rattle.a429_values.proofs.Cutting.{cuts_grow, cuts_more, cuts_within, none_above}
+use Rattle.a429_values.proofs.Counted.{load_same, load_other, of_row, load_counted, is_of_row, is_of_yes, row_at}
+use Rattle.a429_values.proofs.Cutting.{cuts_longer, cuts_within, none_above}
+use Rattle.a429_equipment.proofs.Lasting.{agrees_more}
 
 -- xs at r, and f elsewhere
 abbrev put : ℕ → List (ℕ × ℕ) → (ℕ → List (ℕ × ℕ)) → ℕ → List (ℕ × ℕ)
@@ -42,15 +44,12 @@ or_right : (a b : Bool) → (a || b) ≡ false → b ≡ false
 or_right true b e = absurd (cc)
 or_right false b e = e
 
-agrees_grow : (t : TableRecord) (r : ℕ) (es xs : List (ℕ × ℕ)) (ls : List Load) → Agrees t r es ls → Agrees t r (es ++ xs) ls
-agrees_grow t r es xs ls h = (h.0, cuts_grow (is_of t r) es xs 0 ls h.0 h.1)
-
 module _ (t : TableRecord) (seat : ℕ → Option ℕ) (acc : ℕ → List (ℕ × ℕ)) (at : ℕ) where
   -- what one receiver accepts changes nothing for the others
   agrees_put : (r : ℕ) (e : ℕ × ℕ) (q : ℕ) (ls : List Load) → Agrees t q (acc q) ls → Agrees t q (put r (acc r ++ e ∷ []) acc q) ls
   agrees_put r e q ls h = dite (ℕ_discrete q r)
       (λ is. let P : List (ℕ × ℕ) → Type 0 = λ xs. Agrees t q xs ls in
-      subst P (sym (ap (put r (acc r ++ e ∷ []) acc) is ∙ (put_here r (acc r ++ e ∷ []) acc ∙ ap (λ (k : ℕ). acc k ++ e ∷ []) (sym is)))) (agrees_grow t q (acc q) (e ∷ []) ls h))
+      subst P (sym (ap (put r (acc r ++ e ∷ []) acc) is ∙ (put_here r (acc r ++ e ∷ []) acc ∙ ap (λ (k : ℕ). acc k ++ e ∷ []) (sym is)))) (agrees_more t q (acc q) (e ∷ []) ls h))
       (λ ne. let P : List (ℕ × ℕ) → Type 0 = λ xs. Agrees t q xs ls in subst P (sym (put_else r (acc r ++ e ∷ []) acc q ne)) h)
 
   deals_put : (r : ℕ) (xs : List (ℕ × ℕ)) (given : List ℕ) (id : ℕ) → seat r ≡ Some id → ((q : ℕ) → list_any (λ y. eqb y q) given ≡ false → (seat q ≡ None) × (acc q ≡ [])) → (q : ℕ) → list_any (λ y. eqb y q) given ≡ false → (seat q ≡ None) × (put r xs acc q ≡ [])
@@ -110,11 +109,11 @@ module _ (t : TableRecord) (seat : ℕ → Option ℕ) (acc : ℕ → List (ℕ 
       let same : l ≡ load_after s es = ap (λ (r : ℕ). load_after s (acc r)) (is_of_row t q s row there is) in
       let cut : l ≡ load_after s (take (length es) es) = same ∙ ap (load_after s) (sym (take-length es)) in
       let P : Bool → Type 0 = λ c. IsCut c es h.0 l (length es) in
-      (length es, cuts_more (is_of t q) es 0 ls h.0 l (length es) h.1 (subst P (sym is) (cuts_within (is_of t q) es 0 ls h.0 zero-le h.1, le_refl (length es), cut)), (λ _. (refl, same)))
+      (length es, cuts_longer (is_of t q) es 0 ls h.0 l (length es) h.1 (subst P (sym is) (cuts_within (is_of t q) es 0 ls h.0 zero-le h.1, le_refl (length es), cut)), (λ _. (refl, same)))
   one_more q s row ls there h false is =
       let l : Load = load_after s (acc row.receiver) in
       let P : Bool → Type 0 = λ c. IsCut c (acc q) h.0 l h.0 in
-      (h.0, cuts_more (is_of t q) (acc q) 0 ls h.0 l h.0 h.1 (subst P (sym is) refl), (λ on. absurd (cc)))
+      (h.0, cuts_longer (is_of t q) (acc q) 0 ls h.0 l h.0 h.1 (subst P (sym is) refl), (λ on. absurd (cc)))
 
 at_end : (views : List View) (a b : View) (j : ℕ) → get_elem? (views ++ a ∷ []) j ≡ some b → (get_elem? views j ≡ some b) ⊎ ((j ≡ length views) × (a ≡ b))
 at_end [] a b zero e = inr (refl, some-injective a b e)

@@ -5,6 +5,7 @@ use Rattle.std.specs.List.{range_with_len}
 use Rattle.std.proofs.lemmas.List.{map-append}
 use Rattle.std.proofs.lemmas.List.Elements.{filter-append}
 use Rattle.std.proofs.lemmas.Bool.{cases_eq}
+use Rattle.a429_word.proofs.Lists.{range_next}
 use Rattle.a429_equipment.specs.declared.loads.Load.{Load}
 use Rattle.a429_equipment.specs.declared.rows.SourceRow.{SourceRow}
 use Rattle.a429_equipment.specs.TableRecord.{TableRecord}
@@ -18,13 +19,9 @@ use Rattle.a429_values.proofs.Counted.{is_of_inside}
 abbrev pub loads_below : TableRecord → ℕ → List (ℕ × ℕ) → ℕ → List Load
 loads_below t r A n = map (λ s. load_after s A) (filter (is_of t r) (range_with_len 0 n))
 
-range_snoc : (a n : ℕ) → range_with_len a (suc n) ≡ range_with_len a n ++ (a + n) ∷ []
-range_snoc a zero = ap (λ (k : ℕ). k ∷ []) (omega arith)
-range_snoc a (suc n) = ap (λ (ks : List ℕ). a ∷ ks) (range_snoc (a + 1) n ∙ ap (λ (k : ℕ). range_with_len (a + 1) n ++ k ∷ []) (omega arith))
-
 below_snoc : (t : TableRecord) (r n : ℕ) (A : List (ℕ × ℕ)) → loads_below t r A (suc n) ≡ loads_below t r A n ++ map (λ s. load_after s A) (filter (is_of t r) (n ∷ []))
 below_snoc t r n A =
-    ap (λ (ks : List ℕ). map (λ s. load_after s A) (filter (is_of t r) ks)) (range_snoc 0 n ∙ ap (λ (k : ℕ). range_with_len 0 n ++ k ∷ []) (zero-add n))
+    ap (λ (ks : List ℕ). map (λ s. load_after s A) (filter (is_of t r) ks)) (range_next 0 n ∙ ap (λ (k : ℕ). range_with_len 0 n ++ k ∷ []) (zero-add n))
     ∙ ap (map (λ s. load_after s A)) (filter-append (is_of t r) (range_with_len 0 n) (n ∷ []))
     ∙ map-append (λ s. load_after s A) (filter (is_of t r) (range_with_len 0 n)) (filter (is_of t r) (n ∷ []))
 

@@ -10,7 +10,8 @@ use Rattle.a429_equipment.specs.Agreement.{words_of, load_after, is_of, loads_of
 use Rattle.a429_equipment.specs.Receiving.{IsAccepted, AreAccepted}
 use Rattle.a429_values.specs.Later.{StaysWhole}
 use Rattle.a429_values.proofs.Counted.{of_row, is_of_yes, is_of_row, is_of_not, is_of_inside, row_at}
-use Rattle.a429_values.proofs.Cutting.{cuts_more, cut_in_two, cuts_up, words_from, count_up}
+use Rattle.a429_values.proofs.Cutting.{cuts_longer, cut_in_two, cuts_up, words_from}
+use Rattle.a429_equipment.proofs.Cutting.{count_up}
 
 -- a source's load was made at a cut
 record LoadedAt (B A : List (ℕ × ℕ)) (s to : ℕ) : Type 0 where
@@ -94,7 +95,7 @@ others t r q A B (s ∷ ss) from to ne ls h = go (is_of t r s) refl (λ ls h. ot
     go true is rest =
         let row = row_at t s (is_of_inside t r s is) in
         let away : is_of t q s ≡ false = is_of_not t q s row.0 row.1 (λ e. ne (sym e ∙ is_of_row t r s row.0 row.1 is)) in
-        let one : Cuts (is_of t q) B from (ls ++ load_after s A ∷ []) to = cuts_more (is_of t q) B from ls to (load_after s A) to h (subst (λ (c : Bool). IsCut c B to (load_after s A) to) (sym away) refl) in
+        let one : Cuts (is_of t q) B from (ls ++ load_after s A ∷ []) to = cuts_longer (is_of t q) B from ls to (load_after s A) to h (subst (λ (c : Bool). IsCut c B to (load_after s A) to) (sym away) refl) in
         subst (λ (x : List Load). Cuts (is_of t q) B from x to) (append_assoc ls (load_after s A ∷ []) (map (λ s. load_after s A) (filter (is_of t r) ss))) (rest (ls ++ load_after s A ∷ []) one)
 
 pub meets_others : (t : TableRecord) (r : ℕ) (A : List (ℕ × ℕ)) (ls : List Load) → (q last : ℕ) (B : List (ℕ × ℕ)) → q ≢ r → AgreesTo t q B ls last → AgreesTo t q B (ls ++ loads_of_all t r A) last

@@ -1,10 +1,10 @@
 -- A cell more: what it is answered is lawful, and what is kept of its source is kept on.
-use Rattle.std.proofs.Common.{◌≡◌, ℕ, zero, suc, ◌+◌, ◌<◌, ◌≤◌, Bool, true, false, List, [], ◌∷◌, ◌++◌, length, drop, ◌∙◌, sym, ap, subst, refl, inl, inr, arith, append-nil}
-use Rattle.std.specs.Prelude.{Option, Some, None, Ok, ◌&&◌, ◌||◌, if◌then◌else◌, slice_get, slice_set, option_map, option_and_then}
+use Rattle.std.proofs.Common.{◌≡◌, ℕ, ◌+◌, ◌<◌, ◌≤◌, Bool, false, List, [], ◌∷◌, ◌++◌, length, drop, ◌∙◌, sym, ap, subst, refl, inl, inr, append-nil}
+use Rattle.std.specs.Prelude.{Option, Some, None, Ok, ◌||◌, if◌then◌else◌, slice_get, slice_set, option_map, option_and_then}
 use Rattle.std.proofs.Math.Seq.{drop-append_seam}
-use Rattle.std.proofs.lemmas.List.{length-set, get_or-set_same}
-use Rattle.std.proofs.lemmas.Option.{none-some, slice_get_within, slice_get-get_or}
+use Rattle.std.proofs.lemmas.Option.{none-some, slice_get_within}
 use Rattle.std.proofs.lemmas.Bool.{cases_Bool, cases_eq, ne_eqb}
+use Rattle.a429_word.proofs.Lists.{all_front, either_none, get_set_other, get_set_same}
 use Rattle.a429_equipment.specs.declared.loads.Load.{Load}
 use Rattle.a429_equipment.specs.TableRecord.{TableRecord}
 use Rattle.a429_equipment.specs.Agreement.{CountsNoLess}
@@ -16,8 +16,9 @@ use Rattle.a429_values.specs.Ends as ends
 use Rattle.a429_values.specs.Words.{load_of}
 use Rattle.a429_workers.specs.Calls.{Call, Asks, Carried, Standing, IsAnswered, word_of}
 use Rattle.a429_workers.specs.Transmitting.{Transmitting, Outset, IsSameGroup, IsKnownTable, IsReached, Remembers, HasMade, IsDone, IsLoaded, cell_call, led_by, loads_since, sent_by}
-use Rattle.a429_workers.proofs.Beginning.{all_at, all_back, all_front}
+use Rattle.a429_workers.proofs.Beginning.{all_back}
 use Rattle.a429_workers.proofs.Calling.{one_more, none_due, reached_cell, reached_own, same_table, slot_after}
+use Rattle.a429_workers.proofs.Lists.{all_get}
 
 -- what the law of the slot tables says of sends
 pub record AreRecalled : Type 0 where
@@ -78,27 +79,7 @@ output_known t p bus slot o known is = go (cell_at p bus slot) is
   where
     go : (k : Option ℕ) → option_and_then (λ n. slice_get (outputs_of p) n) k ≡ Some o → o.source < length t.sources
     go None none = absurd (none-some o none)
-    go (Some n) there = all_at (λ (q : Placed). q.source < length t.sources) (outputs_of p) n o there known
-
-either_none : (b : Bool) → ◌≡◌ {A = Option ℕ} (if b then None else None) None
-either_none true = refl
-either_none false = refl
-
-and_false : (a b : Bool) → b ≡ false → (a && b) ≡ false
-and_false true b h = h
-and_false false b h = refl
-
-get_set_same : {X : Type 0} (xs : List X) (i : ℕ) (y : X) → i < length xs → slice_get (slice_set xs i y) i ≡ Some y
-get_set_same xs i y l =
-    let within : i < length (slice_set xs i y) = omega (arith, length-set xs i y) in
-    slice_get-get_or (slice_set xs i y) i y within ∙ ap (λ z. Some z) (get_or-set_same xs i y y l)
-
-get_set_other : {X : Type 0} (xs : List X) (i j : ℕ) (y : X) → (j ≡ i → ⊥) → slice_get (slice_set xs i y) j ≡ slice_get xs j
-get_set_other [] i j y n = refl
-get_set_other (x ∷ xs) zero zero y n = absurd (n refl)
-get_set_other (x ∷ xs) zero (suc j) y n = refl
-get_set_other (x ∷ xs) (suc i) zero y n = refl
-get_set_other (x ∷ xs) (suc i) (suc j) y n = get_set_other xs i j y (λ e. n (ap suc e))
+    go (Some n) there = all_get (λ (q : Placed). q.source < length t.sources) (outputs_of p) n o there known
 
 -- the answered cell of an output, by what the load of its source found
 abbrev cell_of : ℕ → ℕ → Option (ℕ × ℕ) → Option ℕ → AnsweredCell

@@ -1,31 +1,21 @@
 -- One call more, over every list of calls that a transmitter stands for.
-use Rattle.std.proofs.Common.{◌≡◌, ℕ, zero, suc, ◌+◌, ◌*◌, ◌/◌, ◌%◌, ◌<◌, ◌≤◌, Bool, true, false, List, [], ◌∷◌, ◌++◌, length, ◌∙◌, sym, ap, subst, refl, inl, inr, arith, append-nil, append_assoc}
+use Rattle.std.proofs.Common.{◌≡◌, ℕ, zero, suc, ◌+◌, ◌/◌, ◌%◌, ◌<◌, ◌≤◌, Bool, true, false, List, [], ◌∷◌, ◌++◌, length, ◌∙◌, sym, ap, subst, refl, inl, inr, arith, append_assoc}
 use Rattle.std.specs.Prelude.{Some, None, if◌then◌else◌, nat_lt}
 use Rattle.std.specs.List.{AllByRecursion}
-use Rattle.std.proofs.Math.Nat.{div-mul-le_self, div-zero, div-lt_iff_lt-mul, mul_comm}
+use Rattle.std.proofs.Math.Nat.{div-mul-le_self, div-zero}
 use Rattle.std.proofs.lemmas.Nat.{le-div}
 use Rattle.std.proofs.lemmas.Option.{none-some, cond_some}
 use Rattle.std.proofs.lemmas.Bool.{cases_Bool, ltb-true}
-use Rattle.std.proofs.lemmas.Grind.{flat_map-append}
+use Rattle.a429_word.proofs.Lists.{in_frame}
 use Rattle.a429_equipment.specs.declared.loads.Load.{Load}
 use Rattle.a429_slots.specs.Tables.{GroupTable, cells_of, buses_of, frame_of}
 use Rattle.a429_slots.specs.Sending.{Sending, next_cell, after_cell, fits_next, turned}
-use Rattle.a429_workers.specs.Calls.{Call, Standing, loads_in, loads_of, AreLawful, IsLawful, before_calls, after, standing_after}
+use Rattle.a429_workers.specs.Calls.{Call, Standing, loads_in, loads_of, IsLawful, before_calls, after}
 use Rattle.a429_workers.specs.Transmitting.{Transmitting, Outset, IsSameGroup, IsReached, IsAt, HasMade, led_by}
 use Rattle.a429_workers.proofs.Beginning.{all_append}
+use Rattle.a429_workers.proofs.Growing.{lawful_push, loads_push, standing_push}
 
 -- ---- one call more
-
-lawful_push : (g : ℕ) (p : GroupTable) (s : Standing) (calls : List Call) (c : Call) → AreLawful g p s calls → IsLawful g p (standing_after g p s calls) c → AreLawful g p s (calls ++ c ∷ [])
-lawful_push g p s [] c all is = (is, tt)
-lawful_push g p s (d ∷ calls) c all is = (all.0, lawful_push g p (after g p s d) calls c all.1 is)
-
-standing_push : (g : ℕ) (p : GroupTable) (s : Standing) (calls : List Call) (c : Call) → standing_after g p s (calls ++ c ∷ []) ≡ after g p (standing_after g p s calls) c
-standing_push g p s [] c = refl
-standing_push g p s (d ∷ calls) c = standing_push g p (after g p s d) calls c
-
-loads_push : (calls : List Call) (c : Call) → loads_of (calls ++ c ∷ []) ≡ loads_of calls ++ loads_in c
-loads_push calls c = flat_map-append loads_in calls (c ∷ []) ∙ ap (λ (ls : List Load). loads_of calls ++ ls) (append-nil (loads_in c))
 
 -- each load is of a source of the hub's station
 abbrev pub AreKnown : Transmitting → List Load → Type 0
@@ -71,13 +61,6 @@ reached_turn f t slot R = go (fits_next f t)
     go : (b : Bool) → IsReached (if b then record { table = t; first = f.first + frame_of f.table; sent = 0 } else f) slot
     go true = record { passed = omega (arith, R.in_frame); in_frame = omega (arith, R.in_frame) }
     go false = R
-
-positive : (k m H : ℕ) → k < m * H → 0 < m
-positive k zero H lt = let none : zero * H ≡ zero = omega arith in absurd (omega (arith, lt, none))
-positive k (suc m) H lt = omega arith
-
-in_frame : (k m H : ℕ) → k < m * H → k / m < H
-in_frame k m H lt = (div-lt_iff_lt-mul (positive k m H lt)).1 (subst (λ (n : ℕ). k < n) (mul_comm m H) lt)
 
 -- a cell that is due: cells are left, and this is its place
 pub record IsDue (f : Sending) (cell : ℕ × ℕ) : Type 0 where

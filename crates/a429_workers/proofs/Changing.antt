@@ -4,6 +4,7 @@ use Rattle.std.specs.Prelude.{Option, Some, if◌then◌else◌, nat_lt, filter,
 use Rattle.std.specs.List.{AllByRecursion, range_with_len}
 use Rattle.std.proofs.Math.Seq.{drop-append_seam}
 use mathlib.Core.List.{IsPrefix}
+use Rattle.a429_word.proofs.Lists.{all_beginning, all_front, prefix_on, prefix_self}
 use Rattle.a429_equipment.specs.declared.loads.Load.{Load}
 use Rattle.a429_equipment.specs.TableRecord.{TableRecord}
 use Rattle.a429_equipment.specs.Agreement.{CountsNoLess, is_of, load_after, loads_of_all, sources_of}
@@ -14,7 +15,6 @@ use Rattle.a429_values.specs.Ends as ends
 use Rattle.a429_board.specs.Lists.{Watched}
 use Rattle.a429_workers.specs.Calls.{Call, Turns, Meets, Takes, StaysMid, StaysSpent, Standing, number_of, table_of, turn}
 use Rattle.a429_workers.specs.Transmitting.{Transmitting, Outset, IsSameGroup, IsKnownPlan, IsKnownTable, IsReached, Remembers, HasMade, led_by, loads_since}
-use Rattle.a429_workers.proofs.Beginning.{all_beginning, all_front, prefix_self, prefix_trans}
 use Rattle.a429_workers.proofs.Calling.{AreKnown, one_more, reached_turn}
 use Rattle.a429_workers.proofs.Answering.{AreRecalled}
 
@@ -77,7 +77,7 @@ change_spent b calls v w t O full M =
     (one_more b calls v (record v { watcher = w }) (Turns w.list StaysSpent) M (record {
       same = still v w O.book O.opened;
       lawful = (
-        prefix_trans s.seen v.watcher.list w.list M.at.seen O.grows,
+        prefix_on s.seen v.watcher.list w.list M.at.seen O.grows,
         subst (λ (f : Sending). StaysSpent ≡ turn b.group b.table (record s { frame = f }) w.list) M.at.frame (rw (O.over, full') refl),
       );
       loads = sym (append-nil v.transmitter.loads);
@@ -103,7 +103,7 @@ change_taken b calls v w t n O number room M =
     one_more b calls v (record v { watcher = w; frame = turned v.frame t; number = n }) (Turns w.list (Takes n)) M (record {
       same = record { hub = refl; group = refl; board = O.book; opened = O.opened };
       lawful = (
-        prefix_trans s.seen v.watcher.list w.list M.at.seen O.grows,
+        prefix_on s.seen v.watcher.list w.list M.at.seen O.grows,
         subst (λ (f : Sending). Takes n ≡ turn b.group b.table (record s { frame = f }) w.list) M.at.frame (rw (O.over, room') (ap Takes number)),
       );
       loads = sym (append-nil v.transmitter.loads);
@@ -189,7 +189,7 @@ told_more b calls v w grows opened M = subst (λ (cs : List Call). HasMade b cs 
     opened = opened ∙ M.at.opened;
     frame = M.at.frame;
     number = M.at.number;
-    seen = prefix_trans (led_by b calls).seen v.watcher.list w.list M.at.seen grows;
+    seen = prefix_on (led_by b calls).seen v.watcher.list w.list M.at.seen grows;
     sources = M.at.sources;
     sends = M.at.sends;
   };

@@ -14,7 +14,8 @@ use Rattle.a429_equipment.specs.Agreement.{words_of}
 use Rattle.a429_equipment.specs.Receiving.{with_word, accepted_after, IsReceived, ReceiversAcceptForSources, ReceiversAcceptInPieces}
 use Rattle.a429_slots.specs.Events.{Event, Arrive, Cell, Frame, Publish}
 use Rattle.a429_slots.specs.History.{Opening, arrival_of, accepted_in, accepted_by}
-use Rattle.a429_workers.proofs.Lists.{take_next, same_front, same_back}
+use Rattle.a429_workers.proofs.Lists.{same_front, same_back}
+use Rattle.a429_slots.proofs.Histories.{take_following}
 
 -- ---- a list that a receiver accepted
 
@@ -83,7 +84,7 @@ module _ (limit : ℕ) (t : TableRecord) (r : ℕ) where
 
   pub next_word : ReceiversAcceptInPieces t → (A : List (ℕ × ℕ)) → IsReceived limit t r A → (k : ℕ) (e : ℕ × ℕ) → slice_get A k ≡ Some e → IsNext (take k A) e
   next_word pieces A whole k e there =
-      let more : take (suc k) A ≡ take k A ++ e ∷ [] = take_next A k e there in
+      let more : take (suc k) A ≡ take k A ++ e ∷ [] = take_following A k e there in
       let words : words_in (take k A ++ e ∷ []) ≡ words_in (take k A) ++ e.1 ∷ [] = map-append (λ (e : ℕ × ℕ). e.1) (take k A) (e ∷ []) in
       let grown : accepted_after limit t r [] (words_in (take k A ++ e ∷ [])) ≡ take k A ++ e ∷ [] = subst (IsReceived limit t r) more (beginning pieces A whole (suc k)) in
       was_added (take k A) e (sorted t r e.1) refl

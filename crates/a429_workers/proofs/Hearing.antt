@@ -3,24 +3,18 @@ use Rattle.std.proofs.Common.{◌≡◌, ℕ, ◌+◌, ◌≤◌, ◌<◌, Bool,
 use Rattle.std.specs.Prelude.{◌⊎◌, Err, cond, count_by, if◌then◌else◌}
 use Rattle.std.proofs.lemmas.List.{length_push, take_all, take-append-le}
 use Rattle.std.proofs.lemmas.List.Sums.{sum_by-append, sum_by-cons}
-use Rattle.a429_equipment.specs.TableRecord.{TableRecord}
-use Rattle.a429_equipment.specs.Arrivals.{sorted}
-use Rattle.a429_equipment.specs.Receiving.{accepted_after, with_word}
 use Rattle.a429_values.specs.Ends.{Receiving, accept_answer}
 use Rattle.a429_values.specs.declared.receiver.Accept.{Accept}
 use Rattle.a429_values.specs.declared.receiver.Accept.TheVariants.{Accepted, Parity, Filtered, NoSource, CountSpent}
 use Rattle.a429_workers.specs.declared.receiving.ReceiveTotals.{ReceiveTotals}
 use Rattle.a429_workers.specs.declared.receiving.ReceiveFault.TheVariants.{Gate, TooMuch}
 use Rattle.a429_workers.specs.Receives.{AreAtMost, AreTaken, IsSameReceiver, after_words, answers_to, counted, is_accepted, is_filtered, is_no_source, is_parity, is_spent, totals_of}
+use Rattle.a429_values.proofs.Accepting.{in_pieces}
 
 -- ---- in pieces
 
-words_append : (limit : ℕ) (t : TableRecord) (r : ℕ) (A : List (ℕ × ℕ)) (xs ys : List ℕ) → accepted_after limit t r A (xs ++ ys) ≡ accepted_after limit t r (accepted_after limit t r A xs) ys
-words_append limit t r A [] ys = refl
-words_append limit t r A (x ∷ xs) ys = words_append limit t r (with_word limit A x (sorted t r x)) xs ys
-
 pub after_append : (r : Receiving) (xs ys : List ℕ) → after_words (after_words r xs) ys ≡ after_words r (xs ++ ys)
-after_append r xs ys = ap (λ (A : List (ℕ × ℕ)). record r { accepted = A }) (sym (words_append r.limit r.at.station r.number r.accepted xs ys))
+after_append r xs ys = ap (λ (A : List (ℕ × ℕ)). record r { accepted = A }) (sym (in_pieces r.limit r.at.station r.number r.accepted xs ys))
 
 pub answers_append : (r : Receiving) (xs ys : List ℕ) → answers_to r (xs ++ ys) ≡ answers_to r xs ++ answers_to (after_words r xs) ys
 answers_append r [] ys = refl

@@ -1,13 +1,14 @@
-mod Lists
-mod Heard
-mod Steps
-mod Order
-mod Growing
-mod Answering
-mod Beginning
-mod Calling
-mod Changing
-mod SentWords
-mod Example
-mod Hearing
-mod Stretching
+pub mod Lists
+pub mod Heard
+pub mod Steps
+pub mod Order
+pub mod Growing
+pub mod Answering
+pub mod Beginning
+pub mod Calling
+pub mod Changing
+pub mod SentWords
+pub mod Example
+pub mod Hearing
+pub mod Stretching
+pub mod Known

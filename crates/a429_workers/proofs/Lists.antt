@@ -1,5 +1,5 @@
 -- Lists: their elements, their ends, and lists that are two lists in a row.
-use Rattle.std.proofs.Common.{◌≡◌, ℕ, zero, suc, ◌-◌, ◌<◌, List, [], ◌∷◌, ◌++◌, length, take, drop, map, ◌∙◌, sym, ap, subst, refl, inl, inr, arith, append-nil, append_assoc}
+use Rattle.std.proofs.Common.{◌≡◌, ℕ, zero, suc, ◌-◌, ◌<◌, List, [], ◌∷◌, ◌++◌, length, take, drop, map, ◌∙◌, sym, ap, subst, refl, inl, inr, arith, append_assoc}
 use Rattle.std.specs.Prelude.{Option, Some, None, slice_get, unwrap_or, option_map}
 use Rattle.std.specs.Option.{option_map_or}
 use Rattle.std.specs.List.{AllByRecursion}
@@ -7,14 +7,10 @@ use Rattle.std.proofs.lemmas.Option.{none-some, same_Some, slice_get_cases, slic
 use Rattle.std.proofs.Math.Seq.{take-append_seam, drop-append_seam}
 use Rattle.std.proofs.lemmas.List.{length-map}
 use mathlib.Core.List.{IsPrefix}
+use Rattle.a429_word.proofs.Lists.{prefix_on}
 use Rattle.a429_slots.specs.History.{last_of}
 
 -- ---- elements
-
-pub take_next : {X : Type 0} (xs : List X) (i : ℕ) (x : X) → slice_get xs i ≡ Some x → take (suc i) xs ≡ take i xs ++ x ∷ []
-take_next [] i x h = absurd (none-some x h)
-take_next (y ∷ ys) zero x h = let same : y ≡ x = same_Some y x h in ap (λ z. z ∷ []) same
-take_next (y ∷ ys) (suc i) x h = ap (λ zs. y ∷ zs) (take_next ys i x h)
 
 pub drop_next : {X : Type 0} (xs : List X) (i : ℕ) (x : X) → slice_get xs i ≡ Some x → drop i xs ≡ x ∷ drop (suc i) xs
 drop_next [] i x h = absurd (none-some x h)
@@ -40,10 +36,6 @@ pub all_get : {X : Type 0} (P : X → Type 0) (xs : List X) (i : ℕ) (x : X) �
 all_get P [] i x h all = absurd (none-some x h)
 all_get P (y ∷ ys) zero x h all = subst P (same_Some y x h) all.0
 all_get P (y ∷ ys) (suc i) x h all = all_get P ys i x h all.1
-
-pub all_parts : {X : Type 0} (P : X → Type 0) (xs ys : List X) → AllByRecursion P (xs ++ ys) → AllByRecursion P xs × AllByRecursion P ys
-all_parts P [] ys all = (tt, all)
-all_parts P (x ∷ xs) ys all = let rest = all_parts P xs ys all.1 in ((all.0, rest.0), rest.1)
 
 -- ---- two in a row
 
@@ -74,12 +66,6 @@ split_map {X} {Y} f (x ∷ xs) (y ∷ ys) zs h =
       of_front = ap (λ (w : Y). w ∷ map f rest.front) first ∙ ap (λ (l : List Y). y ∷ l) rest.of_front;
       of_back = rest.of_back;
     }
-
-pub prefix_itself : {X : Type 0} (xs : List X) → IsPrefix xs xs
-prefix_itself xs = ([], append-nil xs)
-
-pub prefix_on : {X : Type 0} (xs ys zs : List X) → IsPrefix xs ys → IsPrefix ys zs → IsPrefix xs zs
-prefix_on {X} xs ys zs p q = (p.0 ++ q.0, sym (append_assoc xs p.0 q.0) ∙ (ap (λ (l : List X). l ++ q.0) p.1 ∙ q.1))
 
 -- what of a list is newly seen, where `plans` were seen in place of `seen`, and `end` are seen in the end
 pub record IsNewlySeen {X Y : Type 0} (f : X → Y) (seen plans end : List Y) (rest : List X) : Type 0 where

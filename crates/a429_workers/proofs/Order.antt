@@ -6,6 +6,7 @@ use Rattle.std.proofs.lemmas.List.{drop_all}
 use Rattle.std.proofs.lemmas.Option.{none-some, same_Some}
 use Rattle.std.proofs.lemmas.Bool.{cases_eq, eq-eqb, ne_eqb}
 use mathlib.Core.List.{IsPrefix}
+use Rattle.a429_word.proofs.Lists.{all_parts, prefix_on, prefix_self}
 use Rattle.a429_equipment.specs.declared.loads.Load.{Load}
 use Rattle.a429_equipment.specs.Agreement.{IsCut, Cuts, is_of, words_of}
 use Rattle.a429_slots.specs.Tables.{GroupTable, PlanTable, cells_of}
@@ -18,7 +19,7 @@ use Rattle.a429_slots.specs.declared.answers.Refusal.TheVariants.{FrameEnd}
 use Rattle.a429_slots.specs.Answers.{answer, answers}
 use Rattle.a429_workers.specs.Calls.{Call, Turn, Asks, Turns, Meets, Takes, StaysMid, StaysSpent, Standing, AreLawful, turn, after_turn, after, standing_after, before_calls, loads_of}
 use Rattle.a429_workers.specs.Runs.{IsWorking, HasRun, answered, is_sending, comes_to, is_publish, event_of, turn_answer}
-use Rattle.a429_workers.proofs.Lists.{get_within, all_parts, drop_next, newly_seen, prefix_itself, prefix_on}
+use Rattle.a429_workers.proofs.Lists.{get_within, drop_next, newly_seen}
 use Rattle.a429_workers.proofs.Steps.{Below, Given, IsAt, IsLatest, bump, accepted_here, arrival_answer, arrival_step, publish_answer_is, publish_step, end_answer, end_step, cell_answer_is, cell_step, turn_step}
 use Rattle.a429_workers.proofs.Steps
 
@@ -48,8 +49,8 @@ turned_same g p s plans StaysMid = refl
 turned_same g p s plans StaysSpent = refl
 
 -- calls only add to what was seen
-seen_on : (g : ℕ) (p : GroupTable) (s : Standing) (calls : List Call) → AreLawful g p s calls → IsPrefix s.seen (standing_after g p s calls).seen
-seen_on g p s [] h = prefix_itself s.seen
+pub seen_on : (g : ℕ) (p : GroupTable) (s : Standing) (calls : List Call) → AreLawful g p s calls → IsPrefix s.seen (standing_after g p s calls).seen
+seen_on g p s [] h = prefix_self s.seen
 seen_on g p s (Asks None ∷ calls) h = seen_on g p s calls h.1
 seen_on g p s (Asks (Some c) ∷ calls) h = seen_on g p (after g p s (Asks (Some c))) calls h.1
 seen_on g p s (Meets loads ∷ calls) h = seen_on g p s calls h.1

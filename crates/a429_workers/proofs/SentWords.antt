@@ -1,5 +1,5 @@
 -- The words that lawful calls send: what went out before each of them, and what follows where one goes out.
-use Rattle.std.proofs.Common.{◌≡◌, ℕ, zero, suc, ◌+◌, ◌<◌, ◌≤◌, Bool, true, false, true≢false, List, [], ◌∷◌, ◌++◌, take, ◌∙◌, sym, ap, subst, refl, inl, inr, ◌⊎◌, arith, append-nil, append_assoc}
+use Rattle.std.proofs.Common.{◌≡◌, ℕ, zero, suc, ◌+◌, ◌<◌, ◌≤◌, Bool, true, false, true≢false, List, [], ◌∷◌, ◌++◌, take, ◌∙◌, sym, ap, subst, refl, inl, inr, arith, append-nil, append_assoc}
 use Rattle.std.specs.Prelude.{Option, Some, None, ◌==◌, ◌&&◌, ◌||◌, cond, if◌then◌else◌, nat_lt, is_some, slice_get, option_map, option_and_then}
 use Rattle.std.specs.List.{list_any}
 use Rattle.std.specs.Option.{option_map_or}
@@ -7,6 +7,7 @@ use Rattle.std.proofs.lemmas.List.Sums.{sum_by-append}
 use Rattle.std.proofs.lemmas.List.Folds.{list_any-append}
 use Rattle.std.proofs.lemmas.Option.{none-some, same_Some}
 use Rattle.std.proofs.lemmas.Bool.{cases_Bool, cases_lt, lt-ltb, ltb-true, lt-leb, leb-false, eq-eqb, eqb-true, and_parts}
+use Rattle.a429_word.proofs.Lists.{or_parts, some_word}
 use Rattle.a429_equipment.specs.declared.loads.Load.{Load}
 use Rattle.a429_slots.specs.Tables.{Placed, GroupTable, PlanTable, output_in}
 use Rattle.a429_slots.specs.History.{AnsweredCell, has_sent, is_held, is_too_close, times_sent}
@@ -117,10 +118,6 @@ holds_kept g p s calls k d m output hold all T due limited =
 
 -- ---- where a word may go out
 
-or_parts : (a b : Bool) → (a || b) ≡ true → (a ≡ true) ⊎ (b ≡ true)
-or_parts true b h = inl refl
-or_parts false b h = inr h
-
 -- an earlier call in whose cell a test passes
 record IsFound (test : AnsweredCell → Bool) (calls : List Call) (k : ℕ) : Type 0 where
   pub place : ℕ
@@ -148,10 +145,6 @@ record IsNear (calls : List Call) (j source slot q : ℕ) : Type 0 where
 of_one : (b : Bool) → (b || false) ≡ true → b ≡ true
 of_one true h = refl
 of_one false h = h
-
-some_word : (x : Option ℕ) → is_some x ≡ true → (w : ℕ) × (x ≡ Some w)
-some_word None h = absurd (true≢false (sym h))
-some_word (Some w) h = (w, refl)
 
 is_near : (calls : List Call) (j source slot q : ℕ) (c : Call) → slice_get calls j ≡ Some c → list_any (λ x. has_sent source x && nat_lt slot (x.slot + q)) (cells_in c) ≡ true → IsNear calls j source slot q
 is_near calls j source slot q (Asks None) there h = absurd (true≢false (sym h))

@@ -27,8 +27,9 @@ use Rattle.a429_slots.specs.declared.answers.Refusal.TheVariants.{NoSuch, FrameE
 use Rattle.a429_slots.specs.Answers.{answer, source_answer, cell_answer, frame_answer}
 use Rattle.a429_workers.specs.Calls.{Carried, Turn, Takes, StaysMid, StaysSpent, Standing, IsAnswered, word_of, answered_by, number_of, table_of, turn, after_turn}
 use Rattle.a429_workers.specs.Runs.{AreHeard, ArePublished, plans_of, turn_answer}
-use Rattle.a429_workers.proofs.Lists.{take_next, get_front, get_seam, all_get, last_get, last_from}
+use Rattle.a429_workers.proofs.Lists.{get_front, get_seam, all_get, last_get, last_from}
 use Rattle.a429_workers.proofs.Heard.{beginning, next_word, word_at, words_at, accepted_of, none_of_others}
+use Rattle.a429_slots.proofs.Histories.{take_following}
 
 -- what laws of the crates below say
 pub record Below (t : TableRecord) : Type 0 where
@@ -132,7 +133,7 @@ module _ (C : ℕ) (o : Opening) (g : ℕ) (p : GroupTable) (later : List Propos
       | inl same ↦ sym same
       | inr other ↦
           let xs = take k (heard r) in
-          let none : words_of a.0 (xs ++ a ∷ []) ≡ [] = ap (words_of a.0) (sym (take_next (heard r) k a there)) ∙ none_of_others C o W.below.words a.0 r row (take (suc k) (heard r)) known (so_far r (suc k)) other in
+          let none : words_of a.0 (xs ++ a ∷ []) ≡ [] = ap (words_of a.0) (sym (take_following (heard r) k a there)) ∙ none_of_others C o W.below.words a.0 r row (take (suc k) (heard r)) known (so_far r (suc k)) other in
           let more = ap (map (λ (e : ℕ × ℕ). e.1)) (filter-append (λ (e : ℕ × ℕ). e.0 == a.0) xs (a ∷ [])) ∙ map-append (λ (e : ℕ × ℕ). e.1) (filter (λ (e : ℕ × ℕ). e.0 == a.0) xs) (filter (λ (e : ℕ × ℕ). e.0 == a.0) (a ∷ [])) in
           let own : words_of a.0 (a ∷ []) ≡ a.1 ∷ [] = rw (eq-eqb a.0 a.0 refl) refl in
           absurd (omega (arith, ap (λ (ws : List ℕ). length ws) (sym more ∙ none), length-append (words_of a.0 xs) (words_of a.0 (a ∷ [])), ap (λ (ws : List ℕ). length ws) own))
@@ -167,7 +168,7 @@ module _ (C : ℕ) (o : Opening) (g : ℕ) (p : GroupTable) (later : List Propos
       | inl e ↦
           let here : slice_get (heard q) (cut q) ≡ Some a = subst (λ (k : ℕ). slice_get (heard k) (cut k) ≡ Some a) e there in
           rw (eq-eqb r q e) (ap (λ (ws : List ℕ). ws ++ a.1 ∷ []) before
-          ∙ (sym (map-append (λ (b : ℕ × ℕ). b.1) (take (cut q) (heard q)) (a ∷ [])) ∙ ap (map (λ (b : ℕ × ℕ). b.1)) (sym (take_next (heard q) (cut q) a here))))
+          ∙ (sym (map-append (λ (b : ℕ × ℕ). b.1) (take (cut q) (heard q)) (a ∷ [])) ∙ ap (map (λ (b : ℕ × ℕ). b.1)) (sym (take_following (heard q) (cut q) a here))))
       | inr n ↦ rw (ne_eqb r q n) (append-nil (words_at q E) ∙ before)
     ]
 

@@ -1,11 +1,12 @@
 //! Scripts of events, one a line.
 ghost use Rattle.std.specs.Prelude.{◌≡◌, ◌<◌, ℕ, length, IfSome, MatchResult, option_map};
-ghost use Rattle.a429_cli.specs.ScriptText.{cut, decimal_digit, decimal_number};
+ghost use Rattle.a429_cli.specs.ScriptText.{decimal_digit, decimal_number};
 ghost use Rattle.a429_cli.specs.Script.{arrive_event, line_event, first_event, publish_event, IsScript, IsScriptFault};
 ghost use Rattle.a429_cli.specs.Playing.{HasTable};
 
 use a429_console::output::refusals::CommandRefusal;
 use a429_console::tables::names::Names;
+use a429_console::texts::cut_at;
 use a429_word::raw_word;
 
 /// An event of a script. Receivers and groups are numbered from 0 in table order, the further tables of the
@@ -16,16 +17,6 @@ pub enum ScriptEvent {
     Cell(u8),
     Frame(u8),
     Publish(usize),
-}
-
-/// The texts before and after the first byte of this value.
-#[tactic(auto, unfolding(crate::specs::ScriptText::cut))]
-fn cut_at(text: &[u8], byte: u8) -> Option<(&[u8], &[u8])>
-    ensures cut { option_map (λ p. (p.0.now, p.1.now)) result ≡ cut byte text.now }
-    ensures shorter { IfSome result (λ p. length p.1.now < length text.now) }
-{
-    let at = text.iter().position(|b| *b == byte)?;
-    Some((&text[..at], &text[at + 1..]))
 }
 
 fn decimal_digit(digit: u8) -> Option<u64>

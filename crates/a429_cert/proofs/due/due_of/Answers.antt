@@ -4,6 +4,7 @@ use Rattle.std.specs.List.{AllZip}
 use Rattle.std.proofs.lemmas.List.{length-map, take_all}
 use Rattle.std.proofs.lemmas.Result.{err_from_is_err_and}
 use Rattle.std.proofs.lemmas.Slice.Zip.{length-zip}
+use Rattle.a429_word.proofs.Lists.{read_is, zip_next}
 use Rattle.a429_equipment.specs.TableRecord.{TableRecord}
 use Rattle.a429_equipment.specs.declared.rows.GroupRow.{GroupRow}
 use Rattle.a429_equipment.specs.declared.rows.OutputRow.{OutputRow}
@@ -13,8 +14,9 @@ use Rattle.a429_cert.specs.declared.due.DueTable.{DueTable}
 use Rattle.a429_cert.specs.declared.judging.NoVerdict.{NoVerdict}
 use Rattle.a429_cert.specs.Due.{IsDueGroup}
 use Rattle.a429_cert.specs.Judged.{IsNoVerdict}
-use Rattle.a429_cert.proofs.Gathered.{all_fit, fault_in, map_next, rated_at, read_is, zip_next}
+use Rattle.a429_cert.proofs.Gathered.{all_fit, fault_in, map_next}
 use Rattle.a429_cert.proofs.due.due_of.Goals as goal
+use Rattle.a429_slots.proofs.Planning.{rated_at}
 
 pub returns-in_err-outputs-clause-fault : goal.returns-in_err-outputs-clause-fault
 returns-in_err-outputs-clause-fault c =

@@ -1,8 +1,8 @@
 use Rattle.std.proofs.Common.{◌≡◌, ◌∙◌, ◌^◌, ◌<◌, List, ap, length, subst, sym}
 use Rattle.std.specs.Prelude.{slice_get}
+use Rattle.a429_word.proofs.Lists.{read_is}
 use Rattle.a429_grid.specs.Grid.{IsGridPeriod}
 use Rattle.a429_equipment.specs.declared.rows.SourceRow.{SourceRow}
-use Rattle.a429_cert.proofs.Gathered.{read_is}
 use Rattle.a429_cert.proofs.due.due_output.Goals as goal
 
 pub returns : goal.returns

@@ -1,6 +1,7 @@
 use Rattle.std.proofs.Common.{◌≡◌, ◌++◌, ◌<◌, ◌∙◌, ap, ap₂, sym, subst, length, string_bytes, ℕ, List}
 use Rattle.std.specs.Prelude.{Some, slice_get}
 use Rattle.std.specs.List.{AllByRecursion, flat_map}
+use Rattle.a429_word.proofs.Lists.{read_is}
 use Rattle.a429_equipment.specs.TableRecord.{TableRecord}
 use Rattle.a429_equipment.specs.Sound.{IsSound}
 use Rattle.a429_equipment.specs.declared.rows.GroupRow.{GroupRow}
@@ -8,7 +9,7 @@ use Rattle.a429_equipment.specs.declared.rows.SourceRow.{SourceRow}
 use Rattle.a429_slots.specs.Tables.{PlanTable, groups_of, outputs_of}
 use Rattle.a429_cert.specs.Checked.{stated_text}
 use Rattle.a429_cert.specs.PlanText.{stated_of, stated_groups}
-use Rattle.a429_cert.proofs.PlanLines.{plan_known, groups_more, read_is}
+use Rattle.a429_cert.proofs.PlanLines.{plan_known, groups_more}
 use Rattle.a429_cert.proofs.text.write_groups.Goals as goal
 
 pub write_group-requires : goal.write_group-requires

@@ -1,9 +1,10 @@
 use Rattle.std.proofs.Common.{◌≡◌, ◌++◌, ◌<◌, ◌∙◌, ap, sym, subst, length, string_bytes, OnOk, ℕ, List}
 use Rattle.std.specs.Prelude.{Option, Some, IfSome, slice_get}
+use Rattle.a429_word.proofs.Lists.{read_is}
 use Rattle.a429_equipment.specs.declared.rows.SourceRow.{SourceRow}
 use Rattle.a429_cert.specs.Spelling.{Listing, output_text}
 use Rattle.a429_cert.specs.PlanText.{placed_listing, listing_of}
-use Rattle.a429_cert.proofs.PlanLines.{listing_is, read_is}
+use Rattle.a429_cert.proofs.PlanLines.{listing_is}
 use Rattle.a429_cert.proofs.text.write_output.Goals as goal
 
 pub returns : goal.returns

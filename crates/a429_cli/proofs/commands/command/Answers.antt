@@ -1,4 +1,4 @@
-use Rattle.a429_cli.proofs.Endings.{counted_once, failure_shows}
+use Rattle.a429_console.proofs.Endings.{counted_once, failure_shows}
 use Rattle.a429_cli.proofs.commands.command.Goals as goal
 
 pub returns-in-Err-clause-replied : goal.returns-in-Err-clause-replied

@@ -1,7 +1,7 @@
 use Rattle.std.proofs.lemmas.Result.{IfOk-weaker}
 use Rattle.a429_console.specs.Files.{texts_of}
 use Rattle.a429_console.specs.Usage.{kinds_of_words}
-use Rattle.a429_cli.proofs.KindReplies.{help_replied, mistake_is_told, mistake_replied}
+use Rattle.a429_console.proofs.KindReplies.{help_replied, mistake_is_told, mistake_replied}
 use Rattle.a429_cli.proofs.commands.run.Goals as goal
 
 pub returns-in-Err-clause-helped : goal.returns-in-Err-clause-helped

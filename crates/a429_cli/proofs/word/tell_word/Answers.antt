@@ -6,7 +6,7 @@ use Rattle.a429_word.specs.Hexadecimal.{raw_word}
 use Rattle.a429_console.proofs.Refused.{both_ok}
 use Rattle.a429_console.specs.declared.output.refusals.CommandRefusal.TheVariants as refused
 use Rattle.a429_cli.specs.WordLines.{reply_to, word_lines}
-use Rattle.a429_cli.proofs.Endings.{word_refused, word_told}
+use Rattle.a429_cli.proofs.WordEndings.{word_refused, word_told}
 use Rattle.a429_cli.proofs.word.tell_word.Goals as goal
 
 pub returns-in_default-clause-replied : goal.returns-in_default-clause-replied

@@ -1,11 +1,12 @@
 use Rattle.std.proofs.Common.{◌≡◌, ◌<◌, ◌≤◌, ◌∙◌, List, length, arith, rules, subst, sym, ap}
 use Rattle.std.specs.List.{AllByRecursion}
+use Rattle.a429_word.proofs.Lists.{all_at}
 use Rattle.a429_equipment.specs.Sound.{IsSound, IsInterval}
 use Rattle.a429_slots.specs.Tables.{groups_of}
 use Rattle.a429_slots.specs.Planned.{IsPlannedAt, rated_outputs}
 use Rattle.a429_equipment.specs.declared.rows.OutputRow.{OutputRow}
 use Rattle.a429_equipment.specs.declared.rows.SourceRow.{SourceRow}
-use Rattle.a429_slots.proofs.Planning.{rate_in_group, all_at, all_planned, length-zipped, length-rated, rated_at, fault_in, planned_next, could_next}
+use Rattle.a429_slots.proofs.Planning.{rate_in_group, all_planned, length-zipped, length-rated, rated_at, fault_in, planned_next, could_next}
 use Rattle.a429_slots.specs.Faults.{IsFaultOf}
 use Rattle.a429_slots.proofs.planner.plan.Goals as goal
 

@@ -1,7 +1,8 @@
 use Rattle.std.proofs.Common.{◌≡◌, ◌≤◌, ap, sym, ◌∙◌, subst, arith, length, List}
 use mathlib.Core.List.{IsPrefix}
+use Rattle.a429_word.proofs.Lists.{prefix_on}
 use Rattle.a429_slots.specs.Tables.{PlanTable}
-use Rattle.a429_board.proofs.Fronts.{ends_some, prefix_trans, prefix_whole}
+use Rattle.a429_board.proofs.Fronts.{ends_some, prefix_whole}
 use Rattle.a429_board.proofs.Keeping.{looks_moves}
 use Rattle.a429_board.proofs.front.Front.is_whole.Goals as goal
 
@@ -25,8 +26,8 @@ returns-clause-whole c =
     let all = c.compare_exchange.new.seen.log in
     let more : IsPrefix c.learn.new.self.log all = c.compare_exchange.ensures.6 in
     let here : c.again-both.result.log ≡ c.args.self.now.log = ap (λ s. s.log) c.again-both.ensures ∙ ap (λ v. v.log) c.self.view_is in
-    let mine : IsPrefix c.args.self.now.log all = prefix_trans _ _ _ (subst (λ (l : List PlanTable). IsPrefix l c.learn.new.self.log) here c.learn.ensures.2) more in
+    let mine : IsPrefix c.args.self.now.log all = prefix_on _ _ _ (subst (λ (l : List PlanTable). IsPrefix l c.learn.new.self.log) here c.learn.ensures.2) more in
     let long : length all ≤ length c.args.self.now.log = subst (λ n. length all ≤ n.key) c.requires.pen.1 c.compare_exchange.ensures.7.0 in
     let whole : c.args.self.now.log ≡ all = prefix_whole _ _ mine long in
     let other : c.other.inside.seen.log ≡ c.args.other.now.log = ap (λ v. v.log) c.other.view_is in
-    subst (IsPrefix c.args.other.now.log) (sym whole) (prefix_trans _ _ _ (subst (λ (l : List PlanTable). IsPrefix l c.learn.new.self.log) other c.learn.ensures.3) more)
+    subst (IsPrefix c.args.other.now.log) (sym whole) (prefix_on _ _ _ (subst (λ (l : List PlanTable). IsPrefix l c.learn.new.self.log) other c.learn.ensures.3) more)

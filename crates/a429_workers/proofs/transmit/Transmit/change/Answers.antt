@@ -1,11 +1,11 @@
 use Rattle.std.proofs.Common.{◌≡◌, ◌∙◌, ◌∷◌, [], ◌++◌, ℕ, sym, ap, subst}
 use Rattle.std.specs.Prelude.{Some, slice_get}
+use Rattle.a429_word.proofs.Lists.{all_beginning}
 use Rattle.a429_slots.specs.Tables.{PlanTable, groups_of}
 use Rattle.a429_slots.specs.Sending.{Sending}
 use Rattle.a429_board.specs.Lists.{Watched}
 use Rattle.a429_workers.specs.Calls.{Turns, StaysSpent, Takes, table_of}
 use Rattle.a429_workers.specs.Transmitting.{Transmitting, Outset, HasMade, IsKnownPlan, StandsFor}
-use Rattle.a429_workers.proofs.Beginning.{all_beginning}
 use Rattle.a429_workers.proofs.Changing.{IsOver, change_mid, change_spent, change_taken}
 use Rattle.a429_workers.proofs.transmit.Transmit.change.Goals as goal
 

@@ -7,9 +7,9 @@ use Rattle.a429_slots.specs.Sending.{Sending, begun}
 use Rattle.a429_slots.specs.Recalling.{never}
 use Rattle.a429_workers.specs.Transmitting.{HasMade, IsKnownTable}
 use Rattle.a429_workers.proofs.Answering.{AreRecalled}
-use Rattle.a429_workers.proofs.Beginning.{all_at}
 use Rattle.a429_workers.proofs.Changing.{first_known, nothing_made}
 use Rattle.a429_workers.proofs.transmit.Transmit.open.Goals as goal
+use Rattle.a429_workers.proofs.Lists.{all_get}
 
 pub returns-clause-stands : goal.returns-clause-stands
 returns-clause-stands c = λ p own known.
@@ -21,7 +21,7 @@ returns-clause-stands c = λ p own known.
     let found : slice_get (groups_of w.opened) c.args.group ≡ Some c.group.result.now = ap (λ (q : PlanTable). slice_get (groups_of q) c.args.group) (sym opened) ∙ c.group.ensures in
     let table : c.group.result.now ≡ p = same_Some c.group.result.now p (sym found ∙ opens) in
     let begins : IsPrefix (w.opened ∷ []) w.list = subst (λ (q : PlanTable). IsPrefix (q ∷ []) w.list) opened c.opened-opened.ensures.first in
-    let of_station : IsKnownTable t.at.station p = all_at (IsKnownTable t.at.station) (groups_of w.opened) c.args.group p opens (first_known t.at.station w.list w.opened begins known) in
+    let of_station : IsKnownTable t.at.station p = all_get (IsKnownTable t.at.station) (groups_of w.opened) c.args.group p opens (first_known t.at.station w.list w.opened begins known) in
     let unsent : c.in_ok-sends.sends ≡ replicate (length t.at.station.sources) never = c.in_ok-sends.ensures ∙ ap (λ (n : ℕ). replicate n never) c.sources.ensures in
     let made = nothing_made law t w p c.args.first_slot c.in_ok-sends.sends own begins unsent of_station in
     let numbered : w.opened.number ≡ c.number-number.result = sym (c.number-number.ensures ∙ ap (λ (q : PlanTable). q.number) opened) in

@@ -1,9 +1,9 @@
 use Rattle.std.proofs.Common.{sym, subst}
+use Rattle.a429_word.proofs.Lists.{all_beginning}
 use Rattle.a429_slots.specs.Tables.{PlanTable}
 use mathlib.Core.List.{IsPrefix}
 use Rattle.std.specs.Prelude.{List}
 use Rattle.a429_workers.specs.Transmitting.{Transmitting, IsKnownPlan, StandsFor}
-use Rattle.a429_workers.proofs.Beginning.{all_beginning}
 use Rattle.a429_workers.proofs.Changing.{told_more}
 use Rattle.a429_workers.proofs.transmit.Transmit.told.Goals as goal
 

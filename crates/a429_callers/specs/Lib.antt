@@ -1,0 +1,2 @@
+pub mod OneRun
+pub mod Serving

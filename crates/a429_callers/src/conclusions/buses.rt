@@ -1,0 +1,26 @@
+//! The fewest buses, by a plan.
+ghost use Rattle.std.specs.Prelude.{IfSome, List};
+ghost use Rattle.a429_equipment.specs.declared.rows.GroupRow.{GroupRow};
+ghost use Rattle.a429_equipment.specs.declared.rows.OutputRow.{OutputRow};
+ghost use Rattle.a429_slots.specs.Planned.{HaveRoom};
+ghost use Rattle.a429_callers.specs.Serving.{HasGroup, NoneHasFewer};
+
+use a429_equipment::Equipment;
+use a429_slots::{OUTPUTS, plan};
+use std::alloc::Global;
+
+/// How many buses a group has in its plan, where there is one. No schedule in which each of its outputs recurs within
+/// its grid period has fewer.
+pub fn buses_of(alloc: Global, equipment: &Equipment, group: usize) -> Option<u32>
+    requires { HaveRoom 128 equipment.now.outputs }
+    ensures { IfSome result (λ buses. (row : GroupRow) × (rows : List OutputRow) × HasGroup equipment.now group row rows
+        × NoneHasFewer row.rate rows buses) }
+{
+    let Ok(plan) = plan::<OUTPUTS>(alloc, equipment) else {
+        return None;
+    };
+    if group >= plan.groups() {
+        return None;
+    }
+    Some(plan.group(group).buses())
+}

@@ -1,5 +1,0 @@
-use Rattle.a429_station.specs.Resubmitting.{GoesOn}
-use Rattle.a429_cli.proofs.live.control.ResubmitsControl.run.Given as goal
-
-abbrev pub invariant-loop-table : goal.invariant-loop-table
-invariant-loop-table g l = GoesOn l.initial.station l.station

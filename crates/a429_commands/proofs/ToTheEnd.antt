@@ -1,0 +1,14 @@
+-- A replay of status 0 came to its end.
+use Rattle.std.proofs.Common.{inl, inr, ◌≡◌, ℕ, List, [], arith}
+use Rattle.std.specs.Prelude.{Option}
+use Rattle.a429_console.specs.Requests.{Replay}
+use Rattle.a429_cli.specs.Replies.{IsReplyOrMemory}
+use Rattle.a429_commands.specs.Replayed.{IsPlayedToTheEnd}
+
+pub played_to_the_end : (file : List ℕ → Option (List ℕ)) (table script bytes : List ℕ) (status : ℕ) → IsReplyOrMemory file (Replay table script []) status bytes → status ≡ 0
+    → IsPlayedToTheEnd file table script bytes
+played_to_the_end file table script bytes status (inr memory) done = absurd (omega (arith, memory.0, done))
+played_to_the_end file table script bytes status (inl (inl refused)) done = absurd (omega (arith, refused.2, done))
+played_to_the_end file table script bytes status (inl (inr (i, q, events, read, start, inl played))) done =
+    record { input = i; proposal = q; events = events; read = read; start = start; played = played.0 }
+played_to_the_end file table script bytes status (inl (inr (i, q, events, read, start, inr part))) done = absurd (omega (arith, part.3, done))

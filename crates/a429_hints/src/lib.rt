@@ -1,0 +1,16 @@
+//! What a person can do about a refusal, told on the error output in lines that begin with `a429: `.
+//!
+//! Nothing of this touches what a command puts. The files are looked at anew, after the refusal was put.
+#![tactic(auto)]
+
+mod faults;
+mod keys;
+pub mod looks;
+mod periods;
+pub mod plans;
+mod reasons;
+mod rows;
+mod telling;
+mod twins;
+
+pub use telling::{tell_failed_output, tell_hint};

@@ -1,0 +1,92 @@
+//! Hints about tables that have no plan, and about texts that are none.
+
+use crate::faults::tell_table_fault;
+use crate::periods::{Unfit, tell_unfit};
+use crate::reasons::meaning;
+use a429_cert::{NoVerdict, Verdict, judge};
+use a429_console::tables::names::{group_name, source_name};
+use a429_equipment::{Equipment, TableFault};
+use a429_slots::{OUTPUTS, PlanFault, Proposal};
+use std::alloc::Global;
+use std::io;
+use std::io::Write;
+
+/// Tells why a table has no plan, and what would help.
+pub fn tell_no_plan<V: Write>(alloc: Global, table: &[u8], err: &mut V) -> io::Result<()> {
+    let Some(equipment) = look_into(alloc, table, err)? else {
+        return Ok(());
+    };
+    match Proposal::<OUTPUTS>::of(alloc, equipment) {
+        Ok(_) => Ok(()),
+        Err(none) => tell_fault(&none.equipment, none.fault, err),
+    }
+}
+
+/// The equipment of a table. Where the table has a fault, that is told.
+fn look_into<V: Write>(alloc: Global, table: &[u8], err: &mut V) -> io::Result<Option<Equipment>> {
+    match Equipment::read(alloc, table) {
+        Ok(equipment) => Ok(Some(equipment)),
+        Err(TableFault::At(kind, place)) => {
+            tell_table_fault(alloc, table, kind, place, err)?;
+            Ok(None)
+        }
+        Err(TableFault::NoMemory) => Ok(None),
+    }
+}
+
+fn tell_fault<V: Write>(equipment: &Equipment, fault: PlanFault, err: &mut V) -> io::Result<()> {
+    match fault {
+        PlanFault::Unfit { group, output } => tell_output(equipment, group, output, err),
+        PlanFault::TooManyBuses { group, needed } => {
+            let name = group_name(equipment, group);
+            writeln!(
+                err,
+                "a429: the outputs of group {name} fill {needed} buses, and a group has 16 at most: give some of them longer intervals, or a group of their own"
+            )
+        }
+        PlanFault::NoMemory => Ok(()),
+    }
+}
+
+/// Tells of an output without a period which intervals would do.
+fn tell_output<V: Write>(
+    equipment: &Equipment,
+    group: usize,
+    output: usize,
+    err: &mut V,
+) -> io::Result<()> {
+    if group >= equipment.groups().len() {
+        return Ok(());
+    }
+    let Some(row) = equipment.outputs(group).get(output) else {
+        return Ok(());
+    };
+    let (group_text, source) = (
+        group_name(equipment, group),
+        source_name(equipment, group, output),
+    );
+    writeln!(err, "a429: group {group_text}, output of source {source}:")?;
+    let unfit = Unfit {
+        min_us: row.min_us,
+        max_us: row.max_us,
+        rate: equipment.group_rate(group),
+    };
+    tell_unfit(unfit, err)
+}
+
+/// Tells what the first line of a text is to be that is not as its table asks.
+pub fn tell_no_verdict<V: Write>(
+    alloc: Global,
+    table: &[u8],
+    text: &[u8],
+    err: &mut V,
+) -> io::Result<()> {
+    let Some(equipment) = look_into(alloc, table, err)? else {
+        return Ok(());
+    };
+    match judge(alloc, &equipment, text) {
+        Ok(Verdict::No(no)) => writeln!(err, "a429: line {}: {}", no.line, meaning(no.reason)),
+        Err(NoVerdict::Unfit { group, output }) => tell_output(&equipment, group, output, err),
+        Ok(Verdict::Fewest) | Err(NoVerdict::NoMemory) => Ok(()),
+    }
+}

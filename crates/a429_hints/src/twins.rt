@@ -1,0 +1,69 @@
+//! Rows that clash with an earlier one of their array.
+
+use crate::rows::{Row, rows_at, text_at};
+use a429_equipment::{FaultKind, TablePlace};
+use toml::Value;
+
+/// The first earlier row of the same array with which a row clashes, by a fault of this kind.
+pub fn twin_of(row: Row<'_>, kind: FaultKind) -> Option<Row<'_>> {
+    for number in 0..usize::MAX {
+        let place = numbered(row.place, number);
+        if place == row.place {
+            return None;
+        }
+        let earlier = Row::at(row.root, place)?;
+        if are_twins(row.root, kind, earlier.value, row.value) {
+            return Some(earlier);
+        }
+    }
+    None
+}
+
+/// The place of a row of the same array.
+fn numbered(place: TablePlace, row: usize) -> TablePlace {
+    match place {
+        TablePlace::Root => TablePlace::Root,
+        TablePlace::Receiver(_) => TablePlace::Receiver(row),
+        TablePlace::Source(_) => TablePlace::Source(row),
+        TablePlace::Group(_) => TablePlace::Group(row),
+        TablePlace::Output(group, _) => TablePlace::Output(group, row),
+    }
+}
+
+fn are_twins(root: &Value, kind: FaultKind, a: &Value, b: &Value) -> bool {
+    match kind {
+        FaultKind::DuplicateName => have_same(a, b, "name"),
+        FaultKind::DuplicateSource => {
+            have_same(a, b, "receiver")
+                && have_same(a, b, "label")
+                && (sdi_of(a) == sdi_of(b) || sdi_of(a).is_none() || sdi_of(b).is_none())
+        }
+        FaultKind::DuplicateOutput => {
+            let (a, b) = (source_of(root, a), source_of(root, b));
+            have_same(a, b, "label") && sdi_of(a) == sdi_of(b)
+        }
+        _ => false,
+    }
+}
+
+fn have_same(a: &Value, b: &Value, key: &str) -> bool {
+    text_at(a, key) == text_at(b, key)
+}
+
+/// The number of a source's SDI; none is any.
+fn sdi_of(source: &Value) -> Option<i64> {
+    match source.get("sdi") {
+        Some(Value::Integer(number)) => Some(*number),
+        _ => None,
+    }
+}
+
+/// The source that an output names; the output where there is none.
+fn source_of<'a>(root: &'a Value, output: &'a Value) -> &'a Value {
+    for source in rows_at(root, "source") {
+        if text_at(source, "name") == text_at(output, "source") {
+            return source;
+        }
+    }
+    output
+}

@@ -1,0 +1,3 @@
+pub mod WordsLines
+pub mod LiveRuns
+pub mod ReportParts

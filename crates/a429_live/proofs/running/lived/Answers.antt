@@ -1,0 +1,47 @@
+use Rattle.std.proofs.Common.{◌∙◌, ◌∷◌, ap, inl, inr, subst, List, ℕ}
+use Rattle.std.specs.Prelude.{Err}
+use Rattle.std.proofs.lemmas.Result.{err_from_is_err_and}
+use Rattle.a429_equipment.specs.TableRecord.{TableRecord}
+use Rattle.std.specs.declared.vec.Vec.{Vec}
+use Rattle.std.specs.declared.alloc.Global.{Global}
+use Rattle.a429_console.specs.Files.{IsFirstUnread, bytes_of}
+use Rattle.a429_live.specs.LiveReplies.{IsLiveRefusal, IsNoLiveStart, IsReportOf, IsRunRefusal, IsRunReport, IsRunResult, files_of}
+use Rattle.a429_console.specs.LiveWords.{live_of}
+use Rattle.a429_console.specs.RefusalText.{OrMemory}
+use Rattle.a429_console.proofs.Refused.{failed, matched_both, or_memory_weaker}
+use Rattle.a429_live.proofs.running.lived.Goals as goal
+
+pub returns-in_err-input : goal.returns-in_err-input
+returns-in_err-input g c = λ tells.
+    let file = g.F.FileReader.file c.args.files.now in
+    let r = live_of c.args.request.now in
+    let e = c.in_err-input.field-0.0 in
+    let p = err_from_is_err_and c.from_residual.result c.from_residual.ensures.1 in
+    failed c.from_residual.result _ (OrMemory (IsLiveRefusal file r)) e (p.1 ∙ ap Err p.2)
+    (or_memory_weaker (IsFirstUnread file (r.table ∷ r.words ∷ r.further)) (IsLiveRefusal file r) e (λ one. inl one) (c.in_err-input.ensures tells))
+
+pub returns-in_err-prepared : goal.returns-in_err-prepared
+returns-in_err-prepared g c = λ tells.
+    let file = g.F.FileReader.file c.args.files.now in
+    let r = live_of c.args.request.now in
+    let i = files_of c.in_ok-input.input in
+    let e = c.in_err-prepared.field-0.0 in
+    let p = err_from_is_err_and c.from_residual-in_err-prepared.result c.from_residual-in_err-prepared.ensures.1 in
+    failed c.from_residual-in_err-prepared.result _ (OrMemory (IsLiveRefusal file r)) e (p.1 ∙ ap Err p.2)
+    (or_memory_weaker (IsNoLiveStart i) (IsLiveRefusal file r) e (λ one. inr (i, c.in_ok-input.ensures tells, inl one)) c.in_err-prepared.ensures)
+
+pub returns : goal.returns
+returns g c = λ tells.
+    let file = g.F.FileReader.file c.args.files.now in
+    let r = live_of c.args.request.now in
+    let i = files_of c.in_ok-input.input in
+    let q = c.in_ok-prepared.prepared.proposal in
+    let read = c.in_ok-input.ensures tells in
+    let start = c.in_ok-prepared.ensures in
+    let of_station : IsRunResult q.station (bytes_of c.deref-2.result.now) c.run.result =
+    subst (λ (t : TableRecord). IsRunResult t (bytes_of c.deref-2.result.now) c.run.result) c.equipment-equipment.ensures.equipment c.run.ensures in
+    let of_files : IsRunResult q.station i.further c.run.result =
+    subst (λ (tables : List (Vec ℕ Global)). IsRunResult q.station (bytes_of tables) c.run.result) c.deref-2.ensures.value of_station in
+    matched_both c.run.result (λ text. IsRunReport q.station i.further text.items) (λ text. IsReportOf file r text.items) (OrMemory IsRunRefusal) (OrMemory (IsLiveRefusal file r))
+    (λ text report. (i, q, c.in_ok-prepared.prepared.arrivals.items, read, start, report))
+    (λ e why. or_memory_weaker IsRunRefusal (IsLiveRefusal file r) e (λ one. inr (i, read, inr (q, c.in_ok-prepared.prepared.arrivals.items, start, one))) why) of_files

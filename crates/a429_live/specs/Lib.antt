@@ -1,0 +1,2 @@
+pub mod WordsFile
+pub mod LiveReplies

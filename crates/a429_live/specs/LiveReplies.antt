@@ -1,0 +1,157 @@
+-- The command `live`: what it writes, and its status (profile: output).
+use Rattle.std.specs.Prelude.{◌≡◌, ◌∷◌, [], ◌++◌, ◌⊎◌, ⊤, ℕ, List, Bool, true, false, Option, Some, None, Ok, Result, MatchResult, codes, length}
+use Rattle.std.specs.List.{AllZip, concat}
+use Rattle.std.specs.Fmt.{decimal}
+use Rattle.std.specs.declared.vec.Vec.{Vec}
+use Rattle.std.specs.declared.alloc.Global.{Global}
+use Rattle.a429_equipment.specs.TableRecord.{TableRecord}
+use Rattle.a429_equipment.specs.SameStation.{same_station}
+use Rattle.a429_equipment.specs.declared.rows.ReceiverRow.{ReceiverRow}
+use Rattle.a429_equipment.specs.declared.rows.GroupRow.{GroupRow}
+use Rattle.a429_slots.specs.Proposed.{Proposed}
+use Rattle.a429_values.specs.Ends as ends
+use Rattle.a429_workers.specs.Receives as receives
+use Rattle.a429_workers.specs.Receives.{answers_to}
+use Rattle.a429_workers.specs.declared.receiving.ReceiveTotals.{ReceiveTotals}
+use Rattle.a429_workers.specs.declared.sending.SendTotals.{SendTotals}
+use Rattle.a429_console.specs.Files.{AreRead, IsFirstUnread, bytes_of}
+use Rattle.a429_console.specs.LiveWords.{LiveAsk}
+use Rattle.a429_console.specs.Names.{naming_of}
+use Rattle.a429_console.specs.RefusalText.{OrMemory, refusal_line}
+use Rattle.a429_console.specs.Tables.{IsProposedBy, IsTableRefusal}
+use Rattle.a429_live.specs.WordsFile.{IsWordsFault, arrivals_of}
+use Rattle.a429_live.specs.declared.running.LiveInput.{LiveInput}
+use Rattle.a429_live.specs.declared.running.Prepared.{Prepared}
+use Rattle.a429_live.specs.declared.words.Arrival.{Arrival}
+use Rattle.a429_console.specs.declared.output.refusals.CommandRefusal.{CommandRefusal}
+use Rattle.a429_console.specs.declared.output.refusals.CommandRefusal.TheVariants as refused
+
+-- ---- before the run
+
+-- the bytes of the files that a run reads
+pub record LiveFiles : Type 0 where
+  pub table : List ℕ
+  pub words : List ℕ
+  pub further : List (List ℕ)
+
+-- they are those of the files that are asked for, which are all read before any is looked at
+abbrev pub AreLiveFiles : (List ℕ → Option (List ℕ)) → LiveAsk → LiveFiles → Type 0
+AreLiveFiles file r i = AreRead file (r.table ∷ r.words ∷ r.further) (i.table ∷ i.words ∷ i.further)
+
+-- the table has a plan, and the file of words these
+pub record IsLiveStart (i : LiveFiles) (q : Proposed) (arrivals : List Arrival) : Type 0 where
+  pub proposed : IsProposedBy i.table q
+  pub arrivals_are : arrivals_of (naming_of q.station) i.words ≡ Ok arrivals
+
+-- of a table with a plan, the file of words has a fault
+abbrev pub IsWordsRefusal : LiveFiles → CommandRefusal → Type 0
+IsWordsRefusal i refusal = (q : Proposed) × IsProposedBy i.table q × IsWordsFault (naming_of q.station) i.words refusal
+
+-- why a run of these bytes does not begin: the table or its plan, or the words
+abbrev pub IsNoLiveStart : LiveFiles → CommandRefusal → Type 0
+IsNoLiveStart i refusal = IsTableRefusal i.table refusal ⊎ IsWordsRefusal i refusal
+
+-- why a run that began did not come to its end
+abbrev pub IsRunRefusal : CommandRefusal → Type 0
+IsRunRefusal refused.Join = ⊤
+IsRunRefusal refused.Gate = ⊤
+IsRunRefusal refused.Source = ⊤
+IsRunRefusal refused.Sink = ⊤
+IsRunRefusal refused.TooMuch = ⊤
+IsRunRefusal _ = ⊥
+
+-- from these bytes a run began, and did not come to its end
+abbrev pub IsRunFault : LiveFiles → CommandRefusal → Type 0
+IsRunFault i refusal = (q : Proposed) × (arrivals : List Arrival) × IsLiveStart i q arrivals × IsRunRefusal refusal
+
+-- why there is no report, the first that stands: a file, the bytes, or the run
+abbrev pub IsLiveRefusal : (List ℕ → Option (List ℕ)) → LiveAsk → CommandRefusal → Type 0
+IsLiveRefusal file r refusal =
+    IsFirstUnread file (r.table ∷ r.words ∷ r.further) refusal
+    ⊎ ((i : LiveFiles) × AreLiveFiles file r i × (IsNoLiveStart i refusal ⊎ IsRunFault i refusal))
+
+-- ---- the report
+
+-- the words that a receiver refused for another reason than parity
+abbrev pub refused_words : ReceiveTotals → List ℕ
+refused_words t = codes " filtered " ++ decimal t.filtered ++ codes " no-source " ++ decimal t.no_source ++ codes " spent " ++ decimal t.spent ++ 10 ∷ []
+
+-- the line of a receiver
+abbrev pub receiver_line : List ℕ → ReceiveTotals → List ℕ
+receiver_line name t = codes "receiver " ++ name ++ codes " accepted " ++ decimal t.accepted ++ codes " parity " ++ decimal t.parity ++ refused_words t
+
+-- those of several, in order
+abbrev pub receiver_lines : List ReceiverRow → List ReceiveTotals → List ℕ
+receiver_lines (row ∷ rows) (t ∷ totals) = receiver_line row.name t ++ receiver_lines rows totals
+receiver_lines _ _ = []
+
+-- the line of a group
+abbrev pub group_line : List ℕ → SendTotals → List ℕ
+group_line name t = codes "group " ++ name ++ codes " cells " ++ decimal t.cells ++ 10 ∷ []
+
+-- those of several, in order
+abbrev pub group_lines : List GroupRow → List SendTotals → List ℕ
+group_lines (row ∷ rows) (t ∷ totals) = group_line row.name t ++ group_lines rows totals
+group_lines _ _ = []
+
+-- what is told of a further table that can be planned: that it is of another station, the number under which it was published, or that there was
+-- no number left
+abbrev pub published_line : Bool → Option ℕ → List ℕ
+published_line false number = codes "refused station-differs" ++ 10 ∷ []
+published_line true (Some n) = codes "published " ++ decimal n ++ 10 ∷ []
+published_line true None = codes "refused count-spent" ++ 10 ∷ []
+
+-- the line of a further table that was resubmitted to a station: its own refusal or that of its plan, or what is told of a plan
+abbrev pub IsResubmitLine : TableRecord → List ℕ → List ℕ → Type 0
+IsResubmitLine t table line =
+    ((refusal : CommandRefusal) × IsTableRefusal table refusal × (line ≡ refusal_line refusal ++ 10 ∷ []))
+    ⊎ ((q : Proposed) × (number : Option ℕ) × IsProposedBy table q × (line ≡ published_line (same_station t q.station) number))
+
+-- one line for each further table, then one for each receiver and one for each group of the station, in table order
+abbrev pub IsReport : TableRecord → List (List ℕ) → List ReceiveTotals → List SendTotals → List ℕ → Type 0
+IsReport t further totals sent bytes =
+    (lines : List (List ℕ)) × AllZip (IsResubmitLine t) further lines × (bytes ≡ concat lines ++ receiver_lines t.receivers totals ++ group_lines t.groups sent)
+
+-- the totals are those of a receiver of the station, which had accepted nothing, and of words that its line gave
+abbrev pub IsHeard : TableRecord → ReceiverRow → ReceiveTotals → Type 0
+IsHeard t row totals = (receiver : ends.Receiving) × (words : List ℕ) × (receiver.at.station ≡ t) × (receiver.accepted ≡ []) × (totals ≡ receives.totals_of (answers_to receiver words))
+
+-- a run of the station: totals for each receiver, and for each group
+pub record HasRun (t : TableRecord) (totals : List ReceiveTotals) (sent : List SendTotals) : Type 0 where
+  pub heard : AllZip (IsHeard t) t.receivers totals
+  pub groups : length sent ≡ length t.groups
+
+-- the report of a run of the station with these further tables
+abbrev pub IsRunReport : TableRecord → List (List ℕ) → List ℕ → Type 0
+IsRunReport t further bytes = (totals : List ReceiveTotals) × (sent : List SendTotals) × HasRun t totals sent × IsReport t further totals sent bytes
+
+-- the report of a run of the station of the table in the file, with the words of the other
+abbrev pub IsReportOf : (List ℕ → Option (List ℕ)) → LiveAsk → List ℕ → Type 0
+IsReportOf file r bytes = (i : LiveFiles) × (q : Proposed) × (arrivals : List Arrival) × AreLiveFiles file r i × IsLiveStart i q arrivals × IsRunReport q.station i.further bytes
+
+-- what is written, and the status: the line of a refusal, or the report
+abbrev pub IsLiveReply : (List ℕ → Option (List ℕ)) → LiveAsk → ℕ → List ℕ → Type 0
+IsLiveReply file r status bytes =
+    ((refusal : CommandRefusal) × OrMemory (IsLiveRefusal file r) refusal × (status ≡ 1) × (bytes ≡ refusal_line refusal ++ 10 ∷ []))
+    ⊎ (IsReportOf file r bytes × (status ≡ 0))
+
+-- ---- by the values of the program
+
+abbrev pub files_of : LiveInput → LiveFiles
+files_of i = record { table = i.table.items; words = i.words.items; further = bytes_of i.further.items }
+
+-- what reading the files gives: their bytes, or the first that cannot be read
+abbrev pub IsLiveReading : (List ℕ → Option (List ℕ)) → LiveAsk → Result LiveInput CommandRefusal → Type 0
+IsLiveReading file r result = MatchResult result (λ i. AreLiveFiles file r (files_of i)) (OrMemory (IsFirstUnread file (r.table ∷ r.words ∷ r.further)))
+
+-- a station and its words, from which a run of these bytes starts
+abbrev pub IsPreparedLive : LiveFiles → Prepared → Type 0
+IsPreparedLive i p = IsLiveStart i p.proposal p.arrivals.items
+
+-- the text of a report, or why there is none
+abbrev pub IsRunResult : TableRecord → List (List ℕ) → Result (Vec ℕ Global) CommandRefusal → Type 0
+IsRunResult t further result = MatchResult result (λ text. IsRunReport t further text.items) (OrMemory IsRunRefusal)
+
+-- the text of the report of what is asked for, or why there is none
+abbrev pub IsLiving : (List ℕ → Option (List ℕ)) → LiveAsk → Result (Vec ℕ Global) CommandRefusal → Type 0
+IsLiving file r result = MatchResult result (λ text. IsReportOf file r text.items) (OrMemory (IsLiveRefusal file r))

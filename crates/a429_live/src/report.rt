@@ -1,0 +1,167 @@
+//! The report of a run.
+ghost use Rattle.std.specs.Prelude.{◌≡◌, ◌++◌, ◌∷◌, [], ℕ, List, OnOk, MatchResult};
+ghost use Rattle.std.specs.List.{AllZip, concat};
+ghost use Rattle.a429_console.specs.Files.{bytes_of};
+ghost use Rattle.a429_live.specs.LiveReplies.{IsReport, IsResubmitLine, IsRunRefusal, group_line, group_lines, published_line, receiver_line, receiver_lines, refused_words};
+ghost use Rattle.a429_console.specs.RefusalText.{OrMemory, refusal_line};
+
+use a429_console::output::refusals::CommandRefusal;
+use a429_console::tables::propose;
+use a429_equipment::{Equipment, GroupRow, ReceiverRow};
+use a429_filter::MemoryLine;
+use a429_station::Report;
+use a429_workers::{CountSink, ReceiveTotals, SendTotals};
+use std::alloc::{AllocError, Global};
+use std::io;
+use std::io::Write;
+
+/// Appends how many words a receiver refused for another reason than parity.
+fn push_refused_words(text: &mut Vec<u8>, totals: ReceiveTotals) -> io::Result<()>
+    ensures { OnOk result (text.new.items ≡ text.old.items ++ refused_words totals) }
+{
+    let (filtered, no_source, spent) = (totals.filtered, totals.no_source, totals.spent);
+    writeln!(
+        text,
+        " filtered {filtered} no-source {no_source} spent {spent}"
+    )
+}
+
+/// Appends the line of a receiver. The error is a want of memory, and may leave a part of the line.
+fn push_receiver(text: &mut Vec<u8>, row: &ReceiverRow, totals: ReceiveTotals) -> io::Result<()>
+    ensures { OnOk result (text.new.items ≡ text.old.items ++ receiver_line row.now.name totals) }
+{
+    let (name, accepted, parity) = (row.name.as_str(), totals.accepted, totals.parity);
+    write!(text, "receiver {name} accepted {accepted} parity {parity}")?;
+    push_refused_words(text, totals)
+}
+
+/// Appends the line of a group. The error is a want of memory, and may leave a part of the line.
+fn push_group(text: &mut Vec<u8>, row: &GroupRow, totals: SendTotals) -> io::Result<()>
+    ensures { OnOk result (text.new.items ≡ text.old.items ++ group_line row.now.name totals) }
+{
+    let (name, cells) = (row.name.as_str(), totals.cells);
+    writeln!(text, "group {name} cells {cells}")
+}
+
+/// Appends the lines of the receivers, in table order.
+#[tactic(auto, using(crate::proofs::ReportParts::receivers_more, crate::proofs::ReportParts::receivers_over, crate::proofs::ReportParts::receivers_end))]
+fn push_receivers(
+    text: &mut Vec<u8>,
+    rows: &[ReceiverRow],
+    totals: &[ReceiveTotals],
+) -> io::Result<()>
+    ensures { OnOk result (text.new.items ≡ text.old.items ++ receiver_lines rows.now totals.now) }
+{
+    for (place, row) in rows.iter().enumerate() {
+        // there are as many totals
+        let Some(totals) = totals.get(place) else {
+            return Ok(());
+        };
+        push_receiver(text, row, *totals)?;
+    }
+    Ok(())
+}
+
+/// Appends the lines of the groups, in table order.
+#[tactic(auto, using(crate::proofs::ReportParts::groups_more, crate::proofs::ReportParts::groups_over, crate::proofs::ReportParts::groups_end))]
+fn push_groups(text: &mut Vec<u8>, rows: &[GroupRow], totals: &[SendTotals]) -> io::Result<()>
+    ensures { OnOk result (text.new.items ≡ text.old.items ++ group_lines rows.now totals.now) }
+{
+    for (place, row) in rows.iter().enumerate() {
+        // there are as many totals
+        let Some(totals) = totals.get(place) else {
+            return Ok(());
+        };
+        push_group(text, row, *totals)?;
+    }
+    Ok(())
+}
+
+/// Appends the line of a refusal. The error is a want of memory, and may leave a part of the line.
+fn push_refused(text: &mut Vec<u8>, refusal: &CommandRefusal) -> io::Result<()>
+    ensures { OnOk result (text.new.items ≡ text.old.items ++ (refusal_line refusal.now ++ 10 ∷ [])) }
+{
+    writeln!(text, "{refusal}")
+}
+
+/// Appends the line of a table that can be planned: that it is of another station, or its number, if there was one left.
+fn push_published(text: &mut Vec<u8>, same: bool, answer: Option<u64>) -> io::Result<()>
+    ensures { OnOk result (text.new.items ≡ text.old.items ++ published_line same answer) }
+{
+    match (same, answer) {
+        (false, _) => writeln!(text, "refused station-differs"),
+        (true, Some(number)) => writeln!(text, "published {number}"),
+        (true, None) => writeln!(text, "refused count-spent"),
+    }
+}
+
+/// Appends the line of a further table, by what it was answered when it was resubmitted. Why it was refused is told
+/// by the table itself, with the names of its group and its source. The error is a want of memory.
+fn push_resubmitted(
+    alloc: Global,
+    text: &mut Vec<u8>,
+    station: &Equipment,
+    table: &[u8],
+    answer: Option<u64>,
+) -> io::Result<()>
+    ensures { OnOk result ((line : List ℕ) × IsResubmitLine station.now table.now line × (text.new.items ≡ text.old.items ++ line)) }
+{
+    match propose(alloc, table) {
+        Err(CommandRefusal::Memory) => Err(io::Error::from(AllocError)),
+        Err(refusal) => push_refused(text, &refusal),
+        Ok(proposal) => {
+            let same = station.same_station(proposal.equipment());
+            push_published(text, same, answer)
+        }
+    }
+}
+
+/// Appends the lines of the further tables, in order.
+fn push_all_resubmitted(
+    alloc: Global,
+    text: &mut Vec<u8>,
+    station: &Equipment,
+    further: &[Vec<u8>],
+    answers: &[Option<u64>],
+) -> io::Result<()>
+    ensures { OnOk result ((lines : List (List ℕ)) × AllZip (IsResubmitLine station.now) (bytes_of further.now) lines × (text.new.items ≡ text.old.items ++ concat lines)) }
+{
+    for (place, table) in further.iter().enumerate() {
+        let answer = answers.get(place).copied().flatten();
+        push_resubmitted(alloc, text, station, table, answer)?;
+    }
+    Ok(())
+}
+
+/// The text of a report: a line for each further table, for each receiver, and for each group.
+pub fn report_text(
+    alloc: Global,
+    station: &Equipment,
+    further: &[Vec<u8>],
+    answers: &[Option<u64>],
+    report: &Report<MemoryLine, CountSink>,
+) -> Result<Vec<u8>, CommandRefusal>
+    ensures { MatchResult result (λ text. IsReport station.now (bytes_of further.now) report.now.receivers.items report.now.groups.items text.items) (OrMemory IsRunRefusal) }
+{
+    let mut text = Vec::new(alloc);
+    let Ok(()) = push_all_resubmitted(alloc, &mut text, station, further, answers) else {
+        return Err(CommandRefusal::Memory);
+    };
+    match push_totals(&mut text, station, report) {
+        Ok(()) => Ok(text),
+        Err(_) => Err(CommandRefusal::Memory),
+    }
+}
+
+/// Appends the lines of the receivers, and then those of the groups.
+fn push_totals(
+    text: &mut Vec<u8>,
+    station: &Equipment,
+    report: &Report<MemoryLine, CountSink>,
+) -> io::Result<()>
+    ensures { OnOk result (text.new.items ≡ text.old.items
+        ++ receiver_lines station.now.receivers report.now.receivers.items ++ group_lines station.now.groups report.now.groups.items) }
+{
+    push_receivers(text, station.receivers(), &report.receivers)?;
+    push_groups(text, station.groups(), &report.groups)
+}

@@ -1,6 +1,0 @@
-pub mod OneRuns
-pub mod Served
-pub mod Shown
-pub mod OwnPlans
-pub mod Latest
-pub mod Replays

@@ -1,5 +1,0 @@
-use Rattle.a429_rows.proofs.OneRuns.{one_run_of}
-use Rattle.a429_rows.proofs.client.ends_run_once.Goals as goal
-
-pub returns : goal.returns
-returns c = one_run_of c.one_run.ensures

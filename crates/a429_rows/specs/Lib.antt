@@ -1,3 +1,0 @@
-pub mod OneRun
-pub mod Replayed
-pub mod Serving

@@ -1,9 +1,0 @@
-//! Short callers, each with a conclusion in plain words. It follows from what the crates below promise in public, and
-//! from nothing else of them.
-
-pub mod buses;
-pub mod own_texts;
-pub mod refusals;
-pub mod replays;
-pub mod verdicts;
-pub mod words;
