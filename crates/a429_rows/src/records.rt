@@ -116,8 +116,11 @@ fn refuses_the_largest_want_of_buses(rt: HostRuntime) {
     let Err(fault) = plan::<OUTPUTS>(rt.alloc(), &equipment) else {
         panic!(rt; "a plan");
     };
-    assert!(rt; fault == PlanFault::TooManyBuses {
-        group: 0,
-        needed: 128,
-    });
+    assert!(rt;
+        fault
+            == PlanFault::TooManyBuses {
+                group: 0,
+                needed: 128,
+            }
+    );
 }
