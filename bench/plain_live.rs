@@ -3,7 +3,11 @@
 //! (source `sN` has label N, receiver `rM` has the sources from 16 M on), and takes the slot tables from the text of
 //! the plan.
 //!
-//! Words: the text of the plan, the file of words, how many receivers, and how many frames.
+//! It does what a transmitter is for: one look-up and one load a cell, the least spacing of a source's words and how
+//! often one of them may be sent, and at each frame's end a look at the number of the newest plan.
+//!
+//! Words: the text of the plan, the file of words, how many receivers, how many frames, how many slots two words of a
+//! source are apart at least, and how often one word is sent at most (0 where there is no limit).
 
 use std::error::Error;
 use std::sync::atomic::{AtomicU64, Ordering};
@@ -12,6 +16,32 @@ use std::{env, fs, thread};
 struct Group {
     buses: usize,
     sources: Vec<Option<usize>>,
+}
+
+/// What limits the sends of each output.
+#[derive(Clone, Copy)]
+struct Limits {
+    spacing: u64,
+    hold: Option<u64>,
+}
+
+/// The word of a source that a group sent last: its number, how often it was sent, and the slot of the last time.
+#[derive(Clone, Copy, Default)]
+struct Last {
+    count: u64,
+    times: u64,
+    slot: u64,
+}
+
+impl Last {
+    fn send(&mut self, slot: u64, count: u64, limits: Limits) -> bool {
+        let times = if self.count == count { self.times } else { 0 };
+        if limits.hold.is_some_and(|most| times >= most) || self.times > 0 && slot - self.slot < limits.spacing {
+            return false;
+        }
+        *self = Last { count, times: times + 1, slot };
+        true
+    }
 }
 
 fn groups(plan: &str) -> Result<Vec<Group>, Box<dyn Error>> {
@@ -64,31 +94,45 @@ fn receive(receiver: usize, words: &[u32], values: &[AtomicU64]) -> (u64, u64, u
     (accepted, parity, no_source)
 }
 
-/// How many cells were sent, and a sum over them, so that none is left out.
-fn send(group: &Group, frames: u64, values: &[AtomicU64]) -> (u64, u64) {
-    let (mut cells, mut sum) = (0, 0u64);
-    for frame in 0..frames {
-        for (cell, source) in group.sources.iter().enumerate() {
-            let word = source.map_or(0, |source| values[source].load(Ordering::SeqCst));
-            sum = sum.wrapping_add(word ^ frame ^ (cell % group.buses) as u64);
-            cells += 1;
+/// How many cells were sent, how many of them with a word, and a sum over them, so that none is left out.
+fn send(group: &Group, frames: u64, limits: Limits, values: &[AtomicU64], newest: &AtomicU64) -> (u64, u64, u64) {
+    let mut last = vec![Last::default(); values.len()];
+    let (mut cells, mut words, mut sum) = (0, 0, 0u64);
+    let mut slot = 0;
+    for _ in 0..frames {
+        for cells_of_slot in group.sources.chunks_exact(group.buses) {
+            for (bus, source) in cells_of_slot.iter().enumerate() {
+                cells += 1;
+                let Some(source) = *source else { continue };
+                let value = values[source].load(Ordering::SeqCst);
+                let count = value >> 32;
+                if count > 0 && last[source].send(slot, count, limits) {
+                    words += 1;
+                    sum = sum.wrapping_add((value & 0xffff_ffff) ^ slot ^ bus as u64);
+                }
+            }
+            slot += 1;
         }
+        sum = sum.wrapping_add(newest.load(Ordering::SeqCst));
     }
-    (cells, sum)
+    (cells, words, sum)
 }
 
 fn main() -> Result<(), Box<dyn Error>> {
-    let [_, plan, text, receivers, frames] = &env::args().collect::<Vec<_>>()[..] else {
-        return Err("wanted: PLAN WORDS RECEIVERS FRAMES".into());
+    let [_, plan, text, receivers, frames, spacing, hold] = &env::args().collect::<Vec<_>>()[..] else {
+        return Err("wanted: PLAN WORDS RECEIVERS FRAMES SPACING HOLD".into());
     };
     let groups = groups(&fs::read_to_string(plan)?)?;
     let words = words(&fs::read_to_string(text)?, receivers.parse()?)?;
     let frames: u64 = frames.parse()?;
+    let hold = hold.parse()?;
+    let limits = Limits { spacing: spacing.parse()?, hold: (hold > 0).then_some(hold) };
+    let newest = &AtomicU64::new(1);
     let values: Vec<AtomicU64> = (0..256).map(|_| AtomicU64::new(0)).collect();
     let values = &values[..];
     let (received, sent) = thread::scope(|scope| {
         let receiving: Vec<_> = words.iter().enumerate().map(|(r, words)| scope.spawn(move || receive(r, words, values))).collect();
-        let sending: Vec<_> = groups.iter().map(|group| scope.spawn(move || send(group, frames, values))).collect();
+        let sending: Vec<_> = groups.iter().map(|group| scope.spawn(move || send(group, frames, limits, values, newest))).collect();
         let received: Vec<_> = receiving.into_iter().map(|worker| worker.join()).collect();
         let sent: Vec<_> = sending.into_iter().map(|worker| worker.join()).collect();
         (received, sent)
@@ -98,8 +142,8 @@ fn main() -> Result<(), Box<dyn Error>> {
         println!("receiver r{r} accepted {accepted} parity {parity} filtered 0 no-source {no_source} spent 0");
     }
     for (g, done) in sent.into_iter().enumerate() {
-        let (cells, sum) = done.map_err(|_| "a group failed")?;
-        std::hint::black_box(sum);
+        let (cells, words, sum) = done.map_err(|_| "a group failed")?;
+        std::hint::black_box((words, sum));
         println!("group g{g} cells {cells}");
     }
     Ok(())

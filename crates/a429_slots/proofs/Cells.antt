@@ -136,3 +136,8 @@ pub order_is : (t : GroupTable) → HasEach t → (k : ℕ) → k < length t.dem
 order_is t each k below =
     let inside : k < length (order_of t) = omega (arith, each.length) in
     slice_get-get_or (order_of t) k 0 inside ∙ ap (λ (o : ℕ). Some o) (ordered t k below)
+
+-- what stands in a cell is an output of the table
+pub cell_known : (t : GroupTable) (bus slot o : ℕ) → cell_at t bus slot ≡ Some o → o < length (outputs_of t)
+unfolding cell_at
+cell_known t bus slot o is = (position-Some (stands_in bus slot) (outputs_of t) o (placed_at t 0) is).0

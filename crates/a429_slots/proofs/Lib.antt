@@ -20,3 +20,4 @@ pub mod OnePlan
 pub mod OneFault
 pub mod NextCells
 pub mod Known
+pub mod CachedCells

@@ -15,3 +15,4 @@ pub mod Answers
 pub mod Sending
 pub mod GoingOn
 pub mod Holding
+pub mod Cached

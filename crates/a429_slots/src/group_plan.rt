@@ -1,5 +1,5 @@
 //! The slot table of one group of outputs.
-ghost use Rattle.std.specs.Prelude.{◌≡◌, ℕ, ◌+◌, ◌<◌, ◌≤◌, ◌/◌, ◌^◌, [], length, map, option_map, slice_get, sum, Some, IfSome};
+ghost use Rattle.std.specs.Prelude.{◌≡◌, ℕ, ◌+◌, ◌<◌, ◌≤◌, ◌/◌, ◌^◌, [], length, map, option_map, slice_get, sum, true, Some, IfSome};
 
 use crate::layout::{order_in, periods_in, place_of_cell, places_in, sources_in};
 use crate::limits::limits_in;
@@ -173,9 +173,10 @@ impl<const N: usize> GroupPlan<N> {
         self.frame.slots()
     }
 
-    /// How many outputs the group has.
+    /// How many outputs the group has, at most `N`.
     pub fn outputs(&self) -> usize
-        ensures { result ≡ length (outputs_of self.now) }
+        ensures value { result ≡ length (outputs_of self.now) }
+        ensures few { result ≤ N }
     {
         let _limits = &self.limits;
         self.sums.len()
@@ -229,6 +230,23 @@ impl<const N: usize> GroupPlan<N> {
         ensures known { IfSome result (λ output. output < length (outputs_of self.now)) }
     {
         self.at_counted(bus, slot).0
+    }
+
+    /// Whether the outputs of another table stand in the same cells. Where a table is laid out otherwise, and yet in
+    /// the same cells, it may answer that they do not.
+    pub(crate) fn has_cells_of(&self, other: &GroupPlan<N>) -> bool
+        ensures { (bus slot : ℕ) → result ≡ true → cell_at self.now bus slot ≡ cell_at other.now bus slot }
+    {
+        if self.sums.len() != other.sums.len() {
+            return false;
+        }
+        if self.on_bus != other.on_bus {
+            return false;
+        }
+        if self.offsets != other.offsets {
+            return false;
+        }
+        self.periods == other.periods
     }
 
     /// Where an output stands: in these cells and in no others.

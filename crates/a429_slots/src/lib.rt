@@ -24,5 +24,6 @@ pub use outputs::OutputId;
 pub use planner::{PlanFault, plan};
 pub use plans::{GROUPS, Plan};
 pub use proposals::{NoProposal, Proposal};
+pub use senders::cached::CachedSender;
 pub use senders::{Due, Sender};
 pub use sends::LastSend;

@@ -1,9 +1,12 @@
 //! Where a group stands in its frame.
-ghost use Rattle.std.specs.Prelude.{◌≡◌, ◌≤◌, ◌+◌, ◌<◌, ◌^◌, nat_lt, option_map, IfSome, MatchOption, ⊤};
-ghost use Rattle.a429_slots.specs.Tables.{cells_of, frame_of, output_in};
+pub mod cached;
+
+ghost use Rattle.std.specs.Prelude.{◌≡◌, ◌≤◌, ◌+◌, ◌<◌, ◌^◌, length, nat_lt, option_map, slice_get, IfSome, MatchOption, Some, ⊤};
+ghost use Rattle.a429_slots.specs.Tables.{cells_of, frame_of, outputs_of, output_in};
 ghost use Rattle.a429_slots.specs.Sending.{begun, next_cell, after_cell, fits_next, turned, due_of};
 
 use crate::group_plan::{GroupPlan, OUTPUTS, SendLimits};
+use crate::outputs::OutputId;
 use std::marker::Model;
 
 /// An output whose cell is due: the number of its source, and what limits its sends.
@@ -77,10 +80,26 @@ impl Sender {
         ensures some { IfSome result (λ due. 1 ≤ due.limits.spacing) }
     {
         let output = self.plan.at(bus, slot)?;
-        Some(Due {
+        Some(self.due(output))
+    }
+
+    /// The slot table in force.
+    pub(crate) fn plan(&self) -> &GroupPlan<OUTPUTS>
+        ensures { result.now ≡ self.now.table }
+    {
+        &self.plan
+    }
+
+    /// The source of an output, and what limits its sends.
+    pub(crate) fn due(&self, output: OutputId) -> Due
+        requires { output < length (outputs_of self.now.table) }
+        ensures value { option_map due_of (slice_get (outputs_of self.now.table) output) ≡ Some result }
+        ensures some { 1 ≤ result.limits.spacing }
+    {
+        Due {
             source: self.plan.source(output),
             limits: self.plan.limits(output),
-        })
+        }
     }
 
     /// The bus and the slot in the frame of the next cell, which then counts as sent.

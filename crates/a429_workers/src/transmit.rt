@@ -13,7 +13,7 @@ ghost use Rattle.a429_workers.specs.Transmitting.{BeginsWith, GoesOnBy, IsDone, 
 use crate::cells::{ChangeFault, FrameEnd, OpenFault, Sent};
 use a429_board::{Planner, Watcher};
 use a429_slots::laws::sends_are_recalled;
-use a429_slots::{Due, GroupPlan, GroupSends, OUTPUTS, Sender};
+use a429_slots::{CachedSender, Due, GroupPlan, GroupSends, OUTPUTS};
 use a429_values::{Receiver, Transmitter};
 use a429_word::Word;
 use std::alloc::Global;
@@ -28,7 +28,7 @@ use std::marker::Model;
 pub struct Transmit {
     transmitter: Transmitter,
     watcher: Watcher,
-    sender: Sender,
+    sender: CachedSender,
     number: u64,
     sends: GroupSends,
 }
@@ -96,25 +96,25 @@ fn word_for(
     word_found(sends, slot, due, found)
 }
 
-/// The number of the newest plan, and the slot table of a group in it, or the opening one where it has no such group.
-fn newest_table(watcher: &mut Watcher, group: usize) -> (u64, GroupPlan<OUTPUTS>)
-    requires { group < length (groups_of watcher.old.opened) }
-    ensures number { result.0 ≡ number_of watcher.new.list }
-    ensures table { (p : GroupTable) → slice_get (groups_of watcher.old.opened) group ≡ Some p → result.1 ≡ table_of group p watcher.new.list }
-    ensures known { (t : TableRecord) → AllByRecursion (IsKnownPlan t) watcher.new.list → IsKnownTable t result.1 }
-    ensures grows { IsPrefix watcher.old.list watcher.new.list }
-    ensures book { watcher.new.book ≡ watcher.old.book }
-    ensures opened { watcher.new.opened ≡ watcher.old.opened }
+/// The number of the last plan that a watcher saw or was told.
+fn last_number(watcher: &Watcher) -> u64
+    ensures { result ≡ number_of watcher.now.list }
 {
-    watcher.look();
+    watcher.last().number()
+}
+
+/// The slot table of a group in that plan, or the opening one where it has no such group.
+fn last_table(watcher: &Watcher, group: usize) -> &GroupPlan<OUTPUTS>
+    requires { group < length (groups_of watcher.now.opened) }
+    ensures table { (p : GroupTable) → slice_get (groups_of watcher.now.opened) group ≡ Some p → result.now ≡ table_of group p watcher.now.list }
+    ensures known { (t : TableRecord) → AllByRecursion (IsKnownPlan t) watcher.now.list → IsKnownTable t result.now }
+{
     let plan = watcher.last();
-    let opened = watcher.opened();
-    let table = if group < plan.groups() {
-        *plan.group(group)
+    if group < plan.groups() {
+        plan.group(group)
     } else {
-        *opened.group(group)
-    };
-    (plan.number(), table)
+        watcher.opened().group(group)
+    }
 }
 
 impl Transmit {
@@ -142,11 +142,12 @@ impl Transmit {
         if u64::MAX - first_slot < u64::from(table.frame()) {
             return Err(OpenFault::SlotsSpent);
         }
+        let sender = CachedSender::open(alloc, table, first_slot)?;
         let sends = GroupSends::open(alloc, transmitter.sources())?;
         Ok(Transmit {
             transmitter,
             watcher,
-            sender: Sender::open(table, first_slot),
+            sender,
             number,
             sends,
         })
@@ -221,8 +222,9 @@ impl Transmit {
         if sender.is_mid_frame() {
             return Err(ChangeFault::MidFrame);
         }
-        let (newest, table) = newest_table(watcher, transmitter.number());
-        if !sender.turn(&table) {
+        watcher.look();
+        let newest = last_number(watcher);
+        if !sender.turn(last_table(watcher, transmitter.number())) {
             return Err(ChangeFault::SlotsSpent);
         }
         *number = newest;

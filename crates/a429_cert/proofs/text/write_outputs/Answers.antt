@@ -13,6 +13,6 @@ loop-place-preserved c =
 
 pub returns : goal.returns
 returns c =
-    let past : length (outputs_of c.args.table.now) ≤ c.loop-place.place = omega (arith, c.loop-place-test.false, c.outputs-place-end.ensures) in
+    let past : length (outputs_of c.args.table.now) ≤ c.loop-place.place = omega (arith, c.loop-place-test.false, c.outputs-place-end.ensures.value) in
     c.loop-place.invariant
     ∙ ap (λ (order : List ℕ). string_bytes c.args.text.now ++ flat_map output_text (map (listing_of c.args.version c.args.sources.now c.args.table.now) order)) (order_whole c.args.table.now c.loop-place.place past)

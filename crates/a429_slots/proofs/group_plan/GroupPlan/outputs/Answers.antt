@@ -3,5 +3,5 @@ use Rattle.a429_slots.specs.Tables.{GroupTable}
 use Rattle.a429_slots.proofs.Cells.{length-outputs}
 use Rattle.a429_slots.proofs.group_plan.GroupPlan.outputs.Goals as goal
 
-pub returns : goal.returns
-returns g c = c.len.ensures.value ∙ ap (λ (t : GroupTable). length t.demands) c.self.view_is ∙ sym (length-outputs c.args.self.now)
+pub returns-clause-value : goal.returns-clause-value
+returns-clause-value g c = c.len.ensures.value ∙ ap (λ (t : GroupTable). length t.demands) c.self.view_is ∙ sym (length-outputs c.args.self.now)

@@ -23,18 +23,17 @@ pub returns-then-not-turn-clause-stands : goal.returns-then-not-turn-clause-stan
 returns-then-not-turn-clause-stands c = λ b made S known.
     let inside = c.self.inside in
     let v : Transmitting = record { transmitter = inside.transmitter; watcher = inside.watcher; frame = inside.sender; number = inside.number; sends = inside.sends } in
-    let N = c.newest_table-newest in
-    let w = N.new.watcher in
-    let t = N.result.1 in
-    let M = subst (StandsFor b made) (sym c.self.view_is) S (all_beginning (IsKnownPlan v.transmitter.at.station) v.watcher.list w.list N.ensures.grows known) in
+    let w = c.look.new.self in
+    let t = c.last_table.result.now in
+    let M = subst (StandsFor b made) (sym c.self.view_is) S (all_beginning (IsKnownPlan v.transmitter.at.station) v.watcher.list w.list c.look.ensures.grows known) in
     let group : c.number.result ≡ b.group = c.number.ensures ∙ M.at.group in
     let O : IsOver b v w t = record {
       over = sym c.is_mid_frame.ensures ∙ c.if-is_mid_frame.false;
-      grows = N.ensures.grows;
-      book = N.ensures.book;
-      opened = N.ensures.opened;
-      table = N.ensures.table b.table (opens b v.watcher c.number.result group M.at.opened M.opens) ∙ ap (λ (g : ℕ). table_of g b.table w.list) group;
-      known = N.ensures.known v.transmitter.at.station known;
+      grows = c.look.ensures.grows;
+      book = c.look.ensures.book;
+      opened = c.look.ensures.opened;
+      table = c.last_table.ensures.table b.table (opens b w c.number.result group (c.look.ensures.opened ∙ M.at.opened) M.opens) ∙ ap (λ (g : ℕ). table_of g b.table w.list) group;
+      known = c.last_table.ensures.known v.transmitter.at.station known;
     } in
     subst (λ (f : Sending). HasMade b (made ++ Turns w.list StaysSpent ∷ []) (record v { watcher = w; frame = f })) (sym c.turn.ensures.after)
     (change_spent b made v w t O (sym c.turn.ensures.room ∙ c.if-not-turn.true) M)
@@ -43,19 +42,18 @@ pub returns-clause-stands : goal.returns-clause-stands
 returns-clause-stands c = λ b made S known.
     let inside = c.self.inside in
     let v : Transmitting = record { transmitter = inside.transmitter; watcher = inside.watcher; frame = inside.sender; number = inside.number; sends = inside.sends } in
-    let N = c.newest_table-newest in
-    let w = N.new.watcher in
-    let t = N.result.1 in
-    let n = N.result.0 in
-    let M = subst (StandsFor b made) (sym c.self.view_is) S (all_beginning (IsKnownPlan v.transmitter.at.station) v.watcher.list w.list N.ensures.grows known) in
+    let w = c.look.new.self in
+    let t = c.last_table.result.now in
+    let n = c.last_number-newest.result in
+    let M = subst (StandsFor b made) (sym c.self.view_is) S (all_beginning (IsKnownPlan v.transmitter.at.station) v.watcher.list w.list c.look.ensures.grows known) in
     let group : c.number.result ≡ b.group = c.number.ensures ∙ M.at.group in
     let O : IsOver b v w t = record {
       over = sym c.is_mid_frame.ensures ∙ c.if-is_mid_frame.false;
-      grows = N.ensures.grows;
-      book = N.ensures.book;
-      opened = N.ensures.opened;
-      table = N.ensures.table b.table (opens b v.watcher c.number.result group M.at.opened M.opens) ∙ ap (λ (g : ℕ). table_of g b.table w.list) group;
-      known = N.ensures.known v.transmitter.at.station known;
+      grows = c.look.ensures.grows;
+      book = c.look.ensures.book;
+      opened = c.look.ensures.opened;
+      table = c.last_table.ensures.table b.table (opens b w c.number.result group (c.look.ensures.opened ∙ M.at.opened) M.opens) ∙ ap (λ (g : ℕ). table_of g b.table w.list) group;
+      known = c.last_table.ensures.known v.transmitter.at.station known;
     } in
     subst (λ (f : Sending). HasMade b (made ++ Turns w.list (Takes n) ∷ []) (record v { watcher = w; frame = f; number = n })) (sym c.turn.ensures.after)
-    (change_taken b made v w t n O N.ensures.number (sym c.turn.ensures.room ∙ c.if-not-turn.false) M)
+    (change_taken b made v w t n O c.last_number-newest.ensures (sym c.turn.ensures.room ∙ c.if-not-turn.false) M)

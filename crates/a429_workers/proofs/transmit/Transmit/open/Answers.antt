@@ -25,6 +25,6 @@ returns-clause-stands c = λ p own known.
     let unsent : c.in_ok-sends.sends ≡ replicate (length t.at.station.sources) never = c.in_ok-sends.ensures ∙ ap (λ (n : ℕ). replicate n never) c.sources.ensures in
     let made = nothing_made law t w p c.args.first_slot c.in_ok-sends.sends own begins unsent of_station in
     let numbered : w.opened.number ≡ c.number-number.result = sym (c.number-number.ensures ∙ ap (λ (q : PlanTable). q.number) opened) in
-    let frame : begun c.args.first_slot p ≡ c.open-2.result = sym (c.open-2.ensures ∙ ap (begun c.args.first_slot) table) in
-    subst (λ (n : ℕ). HasMade (record { opened = w.opened; group = t.number; table = p; first = c.args.first_slot; before = t.loads }) [] (record { transmitter = t; watcher = w; frame = c.open-2.result; number = n; sends = c.in_ok-sends.sends })) numbered
+    let frame : begun c.args.first_slot p ≡ c.in_ok-sender.sender = sym (c.in_ok-sender.ensures ∙ ap (begun c.args.first_slot) table) in
+    subst (λ (n : ℕ). HasMade (record { opened = w.opened; group = t.number; table = p; first = c.args.first_slot; before = t.loads }) [] (record { transmitter = t; watcher = w; frame = c.in_ok-sender.sender; number = n; sends = c.in_ok-sends.sends })) numbered
     (subst (λ (f : Sending). HasMade (record { opened = w.opened; group = t.number; table = p; first = c.args.first_slot; before = t.loads }) [] (record { transmitter = t; watcher = w; frame = f; number = w.opened.number; sends = c.in_ok-sends.sends })) frame made)
