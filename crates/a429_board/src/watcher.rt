@@ -39,6 +39,13 @@ impl Model for Watcher {
     ghost invariant = { λ w. (w.sight.reader.place.me.0.client ≡ knower w.sight.front.value.book) × IsPrefix (w.opened.value ∷ []) w.sight.front.value.log };
 }
 
+// In a function of its own, since room for a copy is cleared wherever a function begins that has one.
+fn take_over(front: &mut Front, shown: &Front)
+    ensures { front.new ≡ shown.now }
+{
+    *front = shown.again();
+}
+
 // Takes over what is shown now, where its list has more plans, unless the entry is refused. Nothing is copied where
 // it has no more: few entries find a new one.
 fn read(reader: PlanReader, front: &mut Front) -> PlanReader
@@ -51,7 +58,7 @@ fn read(reader: PlanReader, front: &mut Front) -> PlanReader
         Ok(reading) => {
             let shown = &reading.get().front;
             if front.is_behind(shown) {
-                *front = shown.again();
+                take_over(front, shown);
             }
             reading.leave()
         }
