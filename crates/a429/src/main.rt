@@ -4,10 +4,10 @@
 ghost use Rattle.std.specs.Prelude.{◌≡◌, ◌≢◌, ◌≤◌, IsTrue};
 
 use a429_cli::{CountedWriter, DiskFiles, Output, command};
-use a429_live::command_live;
+use a429_live::{NoProgress, Progress, ProgressLine, command_live};
 use std::alloc::{AllocError, Global};
 use std::env::{Env, FillError};
-use std::io::{ErrorKind, Write};
+use std::io::{ErrorKind, IsTerminal, Write};
 use std::process::ExitCode;
 use std::rt::Files;
 use std::sync::Wait;
@@ -69,11 +69,12 @@ fn without_words<O: Output, V: Write>(out: &mut O, err: &mut V, error: &io::Erro
 
 /// Does the command of the words that the program was given. The status is the one that `command` answers, or
 /// `command_live` where the first word is `live`, or where the words cannot be read that of a refusal or of a usage
-/// fault.
-fn run<R: Env + Files + AllocGlobal + Threads + Wait, O: Output, V: Write>(
+/// fault. While a station runs, `progress` is told how far it is.
+fn run<R: Env + Files + AllocGlobal + Threads + Wait, O: Output, V: Write, P: Progress + Sync>(
     rt: &R,
     out: &mut O,
     err: &mut V,
+    progress: &P,
 ) -> u8
     ensures status { result ≤ 2 }
     ensures quiet { result ≡ 0 → V.contents err.new ≡ V.contents err.old }
@@ -91,7 +92,7 @@ fn run<R: Env + Files + AllocGlobal + Threads + Wait, O: Output, V: Write>(
     let mut files = DiskFiles::new(rt);
     match words.first() {
         Some(first) if *first == "live" => {
-            command_live(rt, rt.alloc(), &words, &mut files, out, err)
+            command_live(rt, rt.alloc(), &words, &mut files, out, err, progress)
         }
         _ => command(rt.alloc(), &words, &mut files, out, err),
     }
@@ -100,5 +101,12 @@ fn run<R: Env + Files + AllocGlobal + Threads + Wait, O: Output, V: Write>(
 fn main(rt: HostRuntime) -> ExitCode {
     let mut out = CountedWriter::new(rt.stdout());
     let mut err = rt.stderr();
-    ExitCode::from(run(&rt, &mut out, &mut err))
+    // on a terminal a run shows how far it is
+    let status = if err.is_terminal() {
+        let line = ProgressLine::new(rt.alloc(), rt.stderr());
+        run(&rt, &mut out, &mut err, &line)
+    } else {
+        run(&rt, &mut out, &mut err, &NoProgress)
+    };
+    ExitCode::from(status)
 }

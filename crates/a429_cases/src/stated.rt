@@ -6,7 +6,7 @@ use crate::rows::has_place;
 use crate::spelling::cut_around;
 use crate::words::words_of;
 use a429_cli::{CountedWriter, MemoryFiles, command};
-use a429_live::command_live;
+use a429_live::{NoProgress, command_live};
 use std::alloc::Global;
 use std::sync::Wait;
 use std::thread::Threads;
@@ -171,7 +171,7 @@ impl<'a> Case<'a> {
         let Case { words, files, .. } = self;
         let is_live = words.first().is_some_and(|first| *first == "live");
         let status = if is_live {
-            command_live(rt, alloc, words, files, &mut out, &mut err)
+            command_live(rt, alloc, words, files, &mut out, &mut err, &NoProgress)
         } else {
             command(alloc, words, files, &mut out, &mut err)
         };

@@ -1,3 +1,4 @@
 pub mod WordsLines
 pub mod LiveRuns
 pub mod ReportParts
+pub mod WholeFrames

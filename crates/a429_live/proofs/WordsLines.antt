@@ -2,7 +2,7 @@
 use Rattle.std.proofs.Common.{◌≡◌, ◌∙◌, ◌+◌, ◌-◌, ◌<◌, ℕ, suc, List, map, [], ◌∷◌, ◌++◌, length, refl, sym, ap, arith, append_assoc}
 use Rattle.std.specs.Prelude.{Option, Some, None, Result, Ok, Err, option_map, option_and_then}
 use Rattle.std.specs.List.{range_with_len}
-use Rattle.a429_console.specs.CutText.{cut, lines_of}
+use Rattle.a429_console.specs.CutText.{cut}
 use Rattle.a429_live.specs.WordsFile.{arrival_then, arrivals_after, arrivals_before, arrivals_from, first_arrival, line_arrival}
 use Rattle.a429_console.specs.Names.{Naming}
 use Rattle.a429_live.specs.declared.words.Arrival.{Arrival}

@@ -1,2 +1,3 @@
 pub mod WordsFile
 pub mod LiveReplies
+pub mod ProgressLines

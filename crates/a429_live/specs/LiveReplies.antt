@@ -1,5 +1,5 @@
 -- The command `live`: what it writes, and its status (profile: output).
-use Rattle.std.specs.Prelude.{◌≡◌, ◌∷◌, [], ◌++◌, ◌⊎◌, ⊤, ℕ, List, Bool, true, false, Option, Some, None, Ok, Result, MatchResult, codes, length}
+use Rattle.std.specs.Prelude.{◌≡◌, ◌*◌, slice_get, ◌∷◌, [], ◌++◌, ◌⊎◌, ⊤, ℕ, List, Bool, true, false, Option, Some, None, Ok, Result, MatchResult, codes, length}
 use Rattle.std.specs.List.{AllZip, concat}
 use Rattle.std.specs.Fmt.{decimal}
 use Rattle.std.specs.declared.vec.Vec.{Vec}
@@ -8,7 +8,9 @@ use Rattle.a429_equipment.specs.TableRecord.{TableRecord}
 use Rattle.a429_equipment.specs.SameStation.{same_station}
 use Rattle.a429_equipment.specs.declared.rows.ReceiverRow.{ReceiverRow}
 use Rattle.a429_equipment.specs.declared.rows.GroupRow.{GroupRow}
+use Rattle.a429_slots.specs.Planned.{IsPlanOf}
 use Rattle.a429_slots.specs.Proposed.{Proposed}
+use Rattle.a429_slots.specs.Tables.{GroupTable, PlanTable, cells_of, groups_of}
 use Rattle.a429_values.specs.Ends as ends
 use Rattle.a429_workers.specs.Receives as receives
 use Rattle.a429_workers.specs.Receives.{answers_to}
@@ -19,7 +21,9 @@ use Rattle.a429_console.specs.LiveWords.{LiveAsk}
 use Rattle.a429_console.specs.Names.{naming_of}
 use Rattle.a429_console.specs.RefusalText.{OrMemory, refusal_line}
 use Rattle.a429_console.specs.Tables.{IsProposedBy, IsTableRefusal}
-use Rattle.a429_live.specs.WordsFile.{IsWordsFault, arrivals_of}
+use Rattle.a429_station.specs.Course.{fresh}
+use Rattle.a429_station.specs.Numbered.{AllNumbered}
+use Rattle.a429_live.specs.WordsFile.{IsWordsFault, arrivals_of, words_for}
 use Rattle.a429_live.specs.declared.running.LiveInput.{LiveInput}
 use Rattle.a429_live.specs.declared.running.Prepared.{Prepared}
 use Rattle.a429_live.specs.declared.words.Arrival.{Arrival}
@@ -112,22 +116,33 @@ abbrev pub IsReport : TableRecord → List (List ℕ) → List ReceiveTotals →
 IsReport t further totals sent bytes =
     (lines : List (List ℕ)) × AllZip (IsResubmitLine t) further lines × (bytes ≡ concat lines ++ receiver_lines t.receivers totals ++ group_lines t.groups sent)
 
--- the totals are those of a receiver of the station, which had accepted nothing, and of words that its line gave
-abbrev pub IsHeard : TableRecord → ReceiverRow → ReceiveTotals → Type 0
-IsHeard t row totals = (receiver : ends.Receiving) × (words : List ℕ) × (receiver.at.station ≡ t) × (receiver.accepted ≡ []) × (totals ≡ receives.totals_of (answers_to receiver words))
+-- the totals count what receiver r of the station, which had accepted nothing, answers to the words of the file that are for it, in order
+abbrev pub IsHeard : TableRecord → List Arrival → ℕ → ReceiveTotals → Type 0
+IsHeard t arrivals r totals = (hub : ends.Place) × (hub.station ≡ t) × (totals ≡ receives.totals_of (answers_to (fresh hub r) (words_for arrivals r)))
 
--- a run of the station: totals for each receiver, and for each group
-pub record HasRun (t : TableRecord) (totals : List ReceiveTotals) (sent : List SendTotals) : Type 0 where
-  pub heard : AllZip (IsHeard t) t.receivers totals
+-- the cells are those of so many frames of group g, whole, by its table in this plan
+abbrev pub IsSentWhole : ℕ → PlanTable → ℕ → SendTotals → Type 0
+IsSentWhole frames plan g sent = (table : GroupTable) × (slice_get (groups_of plan) g ≡ Some table) × (sent.cells ≡ frames * cells_of table)
+
+-- each group sent its frames by the plan of the station
+abbrev pub AreSentWhole : TableRecord → ℕ → List SendTotals → Type 0
+AreSentWhole t frames sent = (plan : PlanTable) × IsPlanOf t plan × AllNumbered (IsSentWhole frames plan) sent
+
+-- A run of the station with these words for so many frames, with further tables: totals for each receiver, and for each group. Where there is no
+-- further table the plan stays.
+pub record HasRun (t : TableRecord) (arrivals : List Arrival) (frames : ℕ) (further : List (List ℕ)) (totals : List ReceiveTotals) (sent : List SendTotals) : Type 0 where
+  pub heard : AllNumbered (IsHeard t arrivals) totals
+  pub receivers : length totals ≡ length t.receivers
   pub groups : length sent ≡ length t.groups
+  pub cells : further ≡ [] → AreSentWhole t frames sent
 
--- the report of a run of the station with these further tables
-abbrev pub IsRunReport : TableRecord → List (List ℕ) → List ℕ → Type 0
-IsRunReport t further bytes = (totals : List ReceiveTotals) × (sent : List SendTotals) × HasRun t totals sent × IsReport t further totals sent bytes
+-- the report of a run of the station with these words for so many frames, with further tables
+abbrev pub IsRunReport : TableRecord → List Arrival → ℕ → List (List ℕ) → List ℕ → Type 0
+IsRunReport t arrivals frames further bytes = (totals : List ReceiveTotals) × (sent : List SendTotals) × HasRun t arrivals frames further totals sent × IsReport t further totals sent bytes
 
 -- the report of a run of the station of the table in the file, with the words of the other
 abbrev pub IsReportOf : (List ℕ → Option (List ℕ)) → LiveAsk → List ℕ → Type 0
-IsReportOf file r bytes = (i : LiveFiles) × (q : Proposed) × (arrivals : List Arrival) × AreLiveFiles file r i × IsLiveStart i q arrivals × IsRunReport q.station i.further bytes
+IsReportOf file r bytes = (i : LiveFiles) × (q : Proposed) × (arrivals : List Arrival) × AreLiveFiles file r i × IsLiveStart i q arrivals × IsRunReport q.station arrivals r.frames i.further bytes
 
 -- what is written, and the status: the line of a refusal, or the report
 abbrev pub IsLiveReply : (List ℕ → Option (List ℕ)) → LiveAsk → ℕ → List ℕ → Type 0
@@ -148,9 +163,14 @@ IsLiveReading file r result = MatchResult result (λ i. AreLiveFiles file r (fil
 abbrev pub IsPreparedLive : LiveFiles → Prepared → Type 0
 IsPreparedLive i p = IsLiveStart i p.proposal p.arrivals.items
 
+-- the plans that are published of these tables, where that is known: of no table, none
+abbrev pub told_of : {A : Type 0} → List A → Option (List PlanTable)
+told_of [] = Some []
+told_of (table ∷ tables) = None
+
 -- the text of a report, or why there is none
-abbrev pub IsRunResult : TableRecord → List (List ℕ) → Result (Vec ℕ Global) CommandRefusal → Type 0
-IsRunResult t further result = MatchResult result (λ text. IsRunReport t further text.items) (OrMemory IsRunRefusal)
+abbrev pub IsRunResult : TableRecord → List Arrival → ℕ → List (List ℕ) → Result (Vec ℕ Global) CommandRefusal → Type 0
+IsRunResult t arrivals frames further result = MatchResult result (λ text. IsRunReport t arrivals frames further text.items) (OrMemory IsRunRefusal)
 
 -- the text of the report of what is asked for, or why there is none
 abbrev pub IsLiving : (List ℕ → Option (List ℕ)) → LiveAsk → Result (Vec ℕ Global) CommandRefusal → Type 0

@@ -7,6 +7,7 @@ ghost use Rattle.a429_console.specs.Outputs.{CountsFault, IsPut, NoneFailed, OrN
 ghost use Rattle.a429_console.specs.Usage.{IsHelpReply, IsUsageReply};
 
 use crate::hints::tell_live_hint;
+use crate::progress::Progress;
 use crate::running::run_station;
 use a429_console::arguments::replies::explain;
 use a429_console::arguments::requests::{LiveRequest, parse_live};
@@ -19,14 +20,15 @@ use std::sync::Wait;
 use std::thread::Threads;
 
 /// Does the command `live`, as `command` does the others, which here are a mistake as `live` is there. Starts threads,
-/// and may wait for them: when it returns all have ended.
-pub fn command_live<'a, R: Threads + Wait, F: FileReader, O: Output, V: Write>(
+/// and may wait for them: when it returns all have ended. While the station runs, `progress` is told how far it is.
+pub fn command_live<'a, R: Threads + Wait, F: FileReader, O: Output, V: Write, P: Progress + Sync>(
     rt: &R,
     alloc: Global,
     words: &'a [&'a str],
     files: &mut F,
     out: &mut O,
     err: &mut V,
+    progress: &P,
 ) -> u8
     // Where the words ask for a run and no call of the output failed, the bytes put are those of its report or of the one refusal, and so is the status.
     ensures replied { (r : LiveAsk) → AsksForLive (texts_of words.entry.now) r → IsTrue (F.tells files.old)
@@ -55,7 +57,7 @@ pub fn command_live<'a, R: Threads + Wait, F: FileReader, O: Output, V: Write>(
     ensures flushed { result ≡ 0 → IsTrue (O.is_flushed out.new) }
     ensures told { result ≡ 1 → NoneFailed (O.failures out.old) (O.failures out.new) → IsTrue (O.is_flushed out.new) }
 {
-    match run_live(rt, alloc, words, files, out, err) {
+    match run_live(rt, alloc, words, files, out, err, progress) {
         Ok(status) => status,
         Err(OutputFault) => {
             let _ = tell_failed_output(err);
@@ -65,13 +67,14 @@ pub fn command_live<'a, R: Threads + Wait, F: FileReader, O: Output, V: Write>(
 }
 
 /// The same, where the error is the output's.
-fn run_live<'a, R: Threads + Wait, F: FileReader, O: Output, V: Write>(
+fn run_live<'a, R: Threads + Wait, F: FileReader, O: Output, V: Write, P: Progress + Sync>(
     rt: &R,
     alloc: Global,
     words: &'a [&'a str],
     files: &mut F,
     out: &mut O,
     err: &mut V,
+    progress: &P,
 ) -> Result<u8, OutputFault>
     ensures replied { (r : LiveAsk) → AsksForLive (texts_of words.entry.now) r → IsTrue (F.tells files.old)
         → IfOk result (IsPut (OrNoMemory (IsLiveReply (F.file files.old) r)) (O.contents out.old) (O.contents out.new)) }
@@ -89,19 +92,20 @@ fn run_live<'a, R: Threads + Wait, F: FileReader, O: Output, V: Write>(
     ensures silent { IfOk result (λ status. status ≡ 2 → O.contents out.new ≡ O.contents out.old) }
 {
     match parse_live(alloc, words) {
-        Ok(request) => live_with_hint(rt, alloc, &request, files, out, err),
+        Ok(request) => live_with_hint(rt, alloc, &request, files, out, err, progress),
         Err(error) => explain(alloc, &error, out, err),
     }
 }
 
 /// Runs the station that is asked for, and behind a refusal tells on `err` what can be done about it.
-fn live_with_hint<R: Threads + Wait, F: FileReader, O: Output, V: Write>(
+fn live_with_hint<R: Threads + Wait, F: FileReader, O: Output, V: Write, P: Progress + Sync>(
     rt: &R,
     alloc: Global,
     request: &LiveRequest,
     files: &mut F,
     out: &mut O,
     err: &mut V,
+    progress: &P,
 ) -> Result<u8, OutputFault>
     ensures replied { IsTrue (F.tells files.old) → IfOk result
         (IsPut (IsLiveReply (F.file files.old) (live_of request.now)) (O.contents out.old) (O.contents out.new)) }
@@ -110,7 +114,7 @@ fn live_with_hint<R: Threads + Wait, F: FileReader, O: Output, V: Write>(
     ensures faults { CountsFault result (O.failures out.old) (O.failures out.new) }
     ensures quiet { IfOk result (λ status. status ≡ 0 → V.contents err.new ≡ V.contents err.old) }
 {
-    let result = run_station(rt, alloc, files, request, out);
+    let result = run_station(rt, alloc, files, request, out, progress);
     if let Ok(1) = result {
         // a hint that cannot be told changes nothing
         let _ = tell_live_hint(alloc, request, files, err);

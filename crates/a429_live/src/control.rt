@@ -1,4 +1,5 @@
 //! Further tables, resubmitted while a station runs.
+ghost use Rattle.std.specs.Prelude.{◌≡◌};
 
 use a429_station::{Control, ReplanFault, Station};
 use std::alloc::{AllocError, Global};
@@ -14,7 +15,9 @@ pub struct Resubmits<'a> {
 
 impl<'a> Resubmits<'a> {
     /// None was resubmitted yet.
-    pub fn new(alloc: Global, tables: &'a [Vec<u8>]) -> Resubmits<'a> {
+    pub fn new(alloc: Global, tables: &'a [Vec<u8>]) -> Resubmits<'a>
+        ensures { result.tables.now ≡ tables.now }
+    {
         Resubmits {
             tables,
             answers: Vec::new(alloc),
@@ -23,7 +26,15 @@ impl<'a> Resubmits<'a> {
 }
 
 impl<'a, R: Wait> Control<R> for Resubmits<'a> {
+    ghost use Rattle.a429_live.specs.LiveReplies.{told_of};
+
+    // that none was published, where there is no table
+    ghost published = { λ control. told_of control.tables.now };
+
     fn run(&mut self, station: &mut Station<'_, R>) -> Result<(), AllocError> {
+        if self.tables.is_empty() {
+            return Ok(());
+        }
         for table in self.tables {
             let answer = match station.resubmit(table) {
                 Ok(number) => Some(number),

@@ -5,8 +5,10 @@
 mod commands;
 mod control;
 mod hints;
+mod progress;
 mod report;
 mod running;
 mod words;
 
 pub use commands::command_live;
+pub use progress::{NoProgress, Progress, ProgressLine};

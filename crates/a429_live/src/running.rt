@@ -7,6 +7,7 @@ ghost use Rattle.a429_console.specs.Outputs.{CountsFault, IsPut};
 ghost use Rattle.a429_console.specs.RefusalText.{OrMemory};
 
 use crate::control::Resubmits;
+use crate::progress::{Followed, Progress};
 use crate::report::report_text;
 use crate::words::{Arrival, line_sources, read_words};
 use a429_console::arguments::requests::LiveRequest;
@@ -20,7 +21,7 @@ use a429_console::tables::propose;
 use a429_equipment::Equipment;
 use a429_slots::{OUTPUTS, Proposal};
 use a429_station::{LiveFault, live};
-use a429_workers::{CountSink, OpenGate};
+use a429_workers::CountSink;
 use std::alloc::{AllocError, Global};
 use std::sync::Wait;
 use std::thread::Threads;
@@ -95,15 +96,16 @@ fn run_refusal(fault: LiveFault) -> CommandRefusal
 
 /// Runs a station with the words of its receivers for so many frames, and resubmits further tables meanwhile. Answers
 /// the text of the report.
-fn run<R: Threads + Wait>(
+fn run<R: Threads + Wait, P: Progress + Sync>(
     rt: &R,
     alloc: Global,
     equipment: &Equipment,
     arrivals: &[Arrival],
     frames: u32,
     further: &[Vec<u8>],
+    gate: &Followed<P>,
 ) -> Result<Vec<u8>, CommandRefusal>
-    ensures { IsRunResult equipment.now (bytes_of further.now) result }
+    ensures { IsRunResult equipment.now arrivals.now frames (bytes_of further.now) result }
 {
     let sources = line_sources(alloc, arrivals, equipment.receivers().len())?;
     let sinks = count_sinks(alloc, equipment.groups().len())?;
@@ -115,7 +117,7 @@ fn run<R: Threads + Wait>(
         sources,
         sinks,
         frames,
-        &OpenGate,
+        gate,
         &mut control,
     ) {
         Ok(report) => report_text(alloc, equipment, further, &control.answers, &report),
@@ -124,11 +126,12 @@ fn run<R: Threads + Wait>(
 }
 
 /// The text of the report of a run. Refused is a file, the table, its plan, the file of words, or the run.
-fn lived<R: Threads + Wait, F: FileReader>(
+fn lived<R: Threads + Wait, F: FileReader, P: Progress + Sync>(
     rt: &R,
     alloc: Global,
     files: &mut F,
     request: &LiveRequest,
+    progress: &P,
 ) -> Result<Vec<u8>, CommandRefusal>
     ensures { IsTrue (F.tells files.old) → IsLiving (F.file files.old) (live_of request.now) result }
 {
@@ -136,17 +139,22 @@ fn lived<R: Threads + Wait, F: FileReader>(
     let prepared = prepare(alloc, &input)?;
     let equipment = prepared.proposal.equipment();
     let (arrivals, further) = (&prepared.arrivals, &input.further);
-    run(rt, alloc, equipment, arrivals, request.frames, further)
+    let frames = request.frames;
+    let gate = Followed::begins(progress, prepared.proposal.plan(), frames);
+    let result = run(rt, alloc, equipment, arrivals, frames, further, &gate);
+    progress.ends();
+    result
 }
 
 /// Runs the station of a table on threads of its own, and puts the report of the run, or the one line of a refusal.
-/// The status is 0, or 1 where it was refused.
-pub fn run_station<R: Threads + Wait, F: FileReader, O: Output>(
+/// The status is 0, or 1 where it was refused. While the station runs, `progress` is told how far it is.
+pub fn run_station<R: Threads + Wait, F: FileReader, O: Output, P: Progress + Sync>(
     rt: &R,
     alloc: Global,
     files: &mut F,
     request: &LiveRequest,
     out: &mut O,
+    progress: &P,
 ) -> Result<u8, OutputFault>
     ensures replied { IsTrue (F.tells files.old) → IfOk result
         (IsPut (IsLiveReply (F.file files.old) (live_of request.now)) (O.contents out.old) (O.contents out.new)) }
@@ -154,7 +162,7 @@ pub fn run_station<R: Threads + Wait, F: FileReader, O: Output>(
     ensures flushed { OnOk result (IsTrue (O.is_flushed out.new)) }
     ensures faults { CountsFault result (O.failures out.old) (O.failures out.new) }
 {
-    match lived(rt, alloc, files, request) {
+    match lived(rt, alloc, files, request, progress) {
         Ok(text) => finish(&text, true, out),
         Err(refusal) => refuse(alloc, &refusal, out),
     }

@@ -48,17 +48,17 @@ gave_too_much words (Err Source) old new h = tt
 gave_too_much words (Err Gate) old new h = tt
 gave_too_much words (Err TooMuch) old new h = h.1
 
-module _ {L : Type 0} (given : L → List ℕ) (ended : L → Bool) (failed : L → ℕ) where
-  pub line_ended : (line line' : L) (r r' : ends.Receiving) (answer : Result ReceiveTotals ReceiveFault) → HasReceived given ended failed line r line' r' answer → EndsLine given ended failed line answer
+module _ {L : Type 0} (gives : L → List ℕ → L → Type 0) (ended : L → Bool) (failed : L → ℕ) where
+  pub line_ended : (line line' : L) (r r' : ends.Receiving) (answer : Result ReceiveTotals ReceiveFault) → HasReceived gives ended failed line r line' r' answer → EndsLine gives ended failed line answer
   line_ended line line' r r' answer h = record { after = line'; words = h.words; gave = h.gave; at_end = h.at_end; failures = h.failures; many = gave_too_much h.words answer r r' h.taken }
 
   -- what it did, where it ended well
-  pub heard_one : (at : ends.Place) (c : Course) (k : ℕ) (line line' : L) (r r' : ends.Receiving) (answer : Result ReceiveTotals ReceiveFault) (totals : ReceiveTotals) (h : HasReceived given ended failed line r line' r' answer)
-      → r ≡ fresh at k → answer ≡ Ok totals → c.came k ≡ h.words → IsHeardIn given ended at.station c k line line' totals
+  pub heard_one : (at : ends.Place) (c : Course) (k : ℕ) (line line' : L) (r r' : ends.Receiving) (answer : Result ReceiveTotals ReceiveFault) (totals : ReceiveTotals) (h : HasReceived gives ended failed line r line' r' answer)
+      → r ≡ fresh at k → answer ≡ Ok totals → c.came k ≡ h.words → IsHeardIn gives ended at.station c k line line' totals
   heard_one at c k line line' r r' (Ok counts) totals h is same came =
       let sum : counts ≡ totals = cc in
       record {
-        gave = h.gave ∙ ap (λ (ws : List ℕ). given line ++ ws) (sym came);
+        gave = subst (λ (ws : List ℕ). gives line ws line') (sym came) h.gave;
         at_end = h.at_end;
         few = subst (λ (ws : List ℕ). length ws ≤ 1000000) (sym came) h.taken.2;
         hub = at;
@@ -68,7 +68,7 @@ module _ {L : Type 0} (given : L → List ℕ) (ended : L → Bool) (failed : L 
   heard_one at c k line line' r r' (Err fault) totals h is same came = absurd (cc same)
 
   -- and what its receiver is then
-  pub receiver_one : (at : ends.Place) (k : ℕ) (came : List ℕ) (line line' : L) (r r' : ends.Receiving) (answer : Result ReceiveTotals ReceiveFault) (totals : ReceiveTotals) (h : HasReceived given ended failed line r line' r' answer)
+  pub receiver_one : (at : ends.Place) (k : ℕ) (came : List ℕ) (line line' : L) (r r' : ends.Receiving) (answer : Result ReceiveTotals ReceiveFault) (totals : ReceiveTotals) (h : HasReceived gives ended failed line r line' r' answer)
       → r ≡ fresh at k → answer ≡ Ok totals → came ≡ h.words → r' ≡ after_words (fresh at k) came
   receiver_one at k came line line' r r' (Ok counts) totals h is same words =
       h.taken.0 ∙ (ap (λ (x : ends.Receiving). after_words x h.words) is ∙ ap (λ (ws : List ℕ). after_words (fresh at k) ws) (sym words))
@@ -211,18 +211,18 @@ first_of_receivers (Some why) y fault is = same_Some fault (of_receiver why) is
 first_of_receivers None y fault is = absurd (none-some fault (sym is))
 
 -- the loops of all receivers and groups have ended
-pub all_stopped : {L B W D V E : Type 0} (given : L → List ℕ) (ended : L → Bool) (failed : L → ℕ) (taken : B → Option (List Sent)) (failed_sink : B → ℕ)
+pub all_stopped : {L B W D V E : Type 0} (gives : L → List ℕ → L → Type 0) (ended : L → Bool) (failed : L → ℕ) (taken : B → Option (List Sent)) (failed_sink : B → ℕ)
     (line : W → L) (receiver : W → ends.Receiving) (line' : D → L) (receiver' : D → ends.Receiving) (answer : D → Result ReceiveTotals ReceiveFault)
     (own : V → ℕ) (transmit : V → Transmitting) (sink : V → B) (transmit' : E → Transmitting) (sink' : E → B) (answer' : E → Result SendTotals SendFault)
     (ws : List W) (ds : List D) (vs : List V) (es : List E) (sinks : List B) (fault : LiveFault)
-    → AllZip (λ w d. HasReceived given ended failed (line w) (receiver w) (line' d) (receiver' d) (answer d)) ws ds
+    → AllZip (λ w d. HasReceived gives ended failed (line w) (receiver w) (line' d) (receiver' d) (answer d)) ws ds
     → AllZip (λ v e. HasEmitted taken failed_sink (own v) (transmit v) (sink v) (transmit' e) (sink' e) (answer' e)) vs es → map sink vs ≡ sinks
-    → IsFirst (first_fault (map answer ds)) (first_fault (map answer' es)) fault → HasStopped given ended failed failed_sink (map line ws) sinks fault
-all_stopped given ended failed taken failed_sink line receiver line' receiver' answer own transmit sink transmit' sink' answer' ws ds vs es sinks fault heard sent same first = record {
+    → IsFirst (first_fault (map answer ds)) (first_fault (map answer' es)) fault → HasStopped gives ended failed failed_sink (map line ws) sinks fault
+all_stopped gives ended failed taken failed_sink line receiver line' receiver' answer own transmit sink transmit' sink' answer' ws ds vs es sinks fault heard sent same first = record {
   heard = map answer ds;
   sent = map answer' es;
-  lines = zip_mapped (λ w d. HasReceived given ended failed (line w) (receiver w) (line' d) (receiver' d) (answer d)) (EndsLine given ended failed) line answer
-      (λ w d h. line_ended given ended failed (line w) (line' d) (receiver w) (receiver' d) (answer d) h) ws ds heard;
+  lines = zip_mapped (λ w d. HasReceived gives ended failed (line w) (receiver w) (line' d) (receiver' d) (answer d)) (EndsLine gives ended failed) line answer
+      (λ w d h. line_ended gives ended failed (line w) (line' d) (receiver w) (receiver' d) (answer d) h) ws ds heard;
   groups = subst (λ l. AllZip (EndsGroup failed_sink) l (map answer' es)) same
       (zip_mapped (λ v e. HasEmitted taken failed_sink (own v) (transmit v) (sink v) (transmit' e) (sink' e) (answer' e)) (EndsGroup failed_sink) sink answer'
       (λ v e h. group_ended taken failed_sink (own v) (transmit v) (transmit' e) (sink v) (sink' e) (answer' e) h) vs es sent);

@@ -25,13 +25,13 @@ never_plan why None (Some send.Gate) h = absurd (cc h)
 never_plan why None (Some send.Change) h = h
 never_plan why None None h = h
 
-module _ {L B : Type 0} (given : L → List ℕ) (ended : L → Bool) (failed : L → ℕ) (failed_sink : B → ℕ) (t : TableRecord) (frames : ℕ) (sources : List L) (sinks : List B) (start : CanStart t frames) where
-  stopped : (fault : LiveFault) → (fault ≡ NoMemory → ⊥) → (fault ≡ Join → ⊥) → IsRunFault given ended failed failed_sink sources sinks fault → HasStopped given ended failed failed_sink sources sinks fault
+module _ {L B : Type 0} (gives : L → List ℕ → L → Type 0) (ended : L → Bool) (failed : L → ℕ) (failed_sink : B → ℕ) (t : TableRecord) (frames : ℕ) (sources : List L) (sinks : List B) (start : CanStart t frames) where
+  stopped : (fault : LiveFault) → (fault ≡ NoMemory → ⊥) → (fault ≡ Join → ⊥) → IsRunFault gives ended failed failed_sink sources sinks fault → HasStopped gives ended failed failed_sink sources sinks fault
   stopped fault some other (inl none) = absurd (some none)
   stopped fault some other (inr (inl join)) = absurd (other join)
   stopped fault some other (inr (inr stop)) = stop
 
-  pub live_fault : (fault : LiveFault) → IsRunFault given ended failed failed_sink sources sinks fault → IsLiveFault given ended failed failed_sink t frames sources sinks fault
+  pub live_fault : (fault : LiveFault) → IsRunFault gives ended failed failed_sink sources sinks fault → IsLiveFault gives ended failed failed_sink t frames sources sinks fault
   live_fault (Plan why) h = let S = stopped (Plan why) (λ e. absurd (cc e)) (λ e. absurd (cc e)) h in absurd (never_plan why _ _ S.first)
   live_fault TooMuch h = inr (start, stopped TooMuch (λ e. absurd (cc e)) (λ e. absurd (cc e)) h)
   live_fault Source h = (start, stopped Source (λ e. absurd (cc e)) (λ e. absurd (cc e)) h)
@@ -40,5 +40,5 @@ module _ {L B : Type 0} (given : L → List ℕ) (ended : L → Bool) (failed : 
   live_fault Join h = start
   live_fault NoMemory h = start
 
-  pub no_memory : (fault : LiveFault) → fault ≡ NoMemory → IsLiveFault given ended failed failed_sink t frames sources sinks fault
-  no_memory fault is = subst (IsLiveFault given ended failed failed_sink t frames sources sinks) (sym is) start
+  pub no_memory : (fault : LiveFault) → fault ≡ NoMemory → IsLiveFault gives ended failed failed_sink t frames sources sinks fault
+  no_memory fault is = subst (IsLiveFault gives ended failed failed_sink t frames sources sinks) (sym is) start

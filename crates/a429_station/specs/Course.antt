@@ -38,8 +38,8 @@ abbrev pub heard_in : TableRecord → Course → ℕ → List (ℕ × ℕ)
 heard_in t c r = accepted_after (2 ^ 41 - 1) t r [] (c.came r)
 
 -- the source of receiver r's line gave the words that came to it, up to its end, and the totals count the receiver's answers to them
-pub record IsHeardIn {L : Type 0} (given : L → List ℕ) (ended : L → Bool) (t : TableRecord) (c : Course) (r : ℕ) (before after : L) (totals : ReceiveTotals) : Type 0 where
-  pub gave : given after ≡ given before ++ c.came r
+pub record IsHeardIn {L : Type 0} (gives : L → List ℕ → L → Type 0) (ended : L → Bool) (t : TableRecord) (c : Course) (r : ℕ) (before after : L) (totals : ReceiveTotals) : Type 0 where
+  pub gave : gives before (c.came r) after
   pub at_end : ended after ≡ true
   pub few : length (c.came r) ≤ 1000000
   pub hub : ends.Place
@@ -71,9 +71,9 @@ pub record IsSentIn {B : Type 0} (taken : B → Option (List Sent)) (frames : �
 -- ---- the station
 
 -- The station ran by a plan of its own table. Receivers and groups go by their numbers, which are their places in the table.
-pub record HasRun {L B : Type 0} (given : L → List ℕ) (ended : L → Bool) (taken : B → Option (List Sent)) (t : TableRecord) (frames : ℕ) (sources : List L) (sinks : List B) (report : Report L B) : Type 0 where
+pub record HasRun {L B : Type 0} (gives : L → List ℕ → L → Type 0) (ended : L → Bool) (taken : B → Option (List Sent)) (t : TableRecord) (frames : ℕ) (sources : List L) (sinks : List B) (report : Report L B) : Type 0 where
   pub course : Course
   pub planned : IsPlanOf t course.opened
   pub few : frames ≤ 1000000
-  pub heard : AllOfThree (IsHeardIn given ended t course) sources report.sources.items report.receivers.items
+  pub heard : AllOfThree (IsHeardIn gives ended t course) sources report.sources.items report.receivers.items
   pub sent : AllOfThree (IsSentIn taken frames t course) sinks report.sinks.items report.groups.items

@@ -1,5 +1,5 @@
 -- Why a station did not run, or not to its end: the faults of its plan and of its workers.
-use Rattle.std.specs.Prelude.{◌≡◌, ◌<◌, ◌≤◌, ◌++◌, List, [], ◌∷◌, ◌⊎◌, ⊤, ℕ, Bool, true, Option, Some, None, Result, Ok, Err, OnOk, length}
+use Rattle.std.specs.Prelude.{◌≡◌, ◌<◌, ◌≤◌, List, [], ◌∷◌, ◌⊎◌, ⊤, ℕ, Bool, true, Option, Some, None, Result, Ok, Err, OnOk, length}
 use Rattle.std.specs.List.{AllZip}
 use Rattle.a429_equipment.specs.TableRecord.{TableRecord}
 use Rattle.a429_slots.specs.Tables.{PlanTable}
@@ -52,10 +52,10 @@ GaveTooMuch words (Ok totals) = ⊤
 
 -- The source of a line gave words until the loop of its receiver ended with this answer. Where that is Ok the source was at its end; its count of
 -- failures rose where it is Source, as far as 64 bits count, and stayed where it is another.
-pub record EndsLine {L : Type 0} (given : L → List ℕ) (ended : L → Bool) (failed : L → ℕ) (before : L) (answer : Result ReceiveTotals ReceiveFault) : Type 0 where
+pub record EndsLine {L : Type 0} (gives : L → List ℕ → L → Type 0) (ended : L → Bool) (failed : L → ℕ) (before : L) (answer : Result ReceiveTotals ReceiveFault) : Type 0 where
   pub after : L
   pub words : List ℕ
-  pub gave : given after ≡ given before ++ words
+  pub gave : gives before words after
   pub at_end : OnOk answer (ended after ≡ true)
   pub failures : failed after ≡ source_failures (failed before) answer
   pub many : GaveTooMuch words answer
@@ -75,25 +75,25 @@ pub record CanStart (t : TableRecord) (frames : ℕ) : Type 0 where
   pub few : frames ≤ 1000000
 
 -- the loops of all receivers and groups ended, and the fault is the first of theirs
-pub record HasStopped {L B : Type 0} (given : L → List ℕ) (ended : L → Bool) (failed : L → ℕ) (failed_sink : B → ℕ) (sources : List L) (sinks : List B) (fault : LiveFault) : Type 0 where
+pub record HasStopped {L B : Type 0} (gives : L → List ℕ → L → Type 0) (ended : L → Bool) (failed : L → ℕ) (failed_sink : B → ℕ) (sources : List L) (sinks : List B) (fault : LiveFault) : Type 0 where
   pub heard : List (Result ReceiveTotals ReceiveFault)
   pub sent : List (Result SendTotals SendFault)
-  pub lines : AllZip (EndsLine given ended failed) sources heard
+  pub lines : AllZip (EndsLine gives ended failed) sources heard
   pub groups : AllZip (EndsGroup failed_sink) sinks sent
   pub first : IsFirst (first_fault heard) (first_fault sent) fault
 
 -- why the workers of a run did not come to their end, or what they did was not reported
-abbrev pub IsRunFault : {L B : Type 0} → (L → List ℕ) → (L → Bool) → (L → ℕ) → (B → ℕ) → List L → List B → LiveFault → Type 0
-IsRunFault given ended failed failed_sink sources sinks fault =
-    (fault ≡ live.NoMemory) ⊎ ((fault ≡ live.Join) ⊎ HasStopped given ended failed failed_sink sources sinks fault)
+abbrev pub IsRunFault : {L B : Type 0} → (L → List ℕ → L → Type 0) → (L → Bool) → (L → ℕ) → (B → ℕ) → List L → List B → LiveFault → Type 0
+IsRunFault gives ended failed failed_sink sources sinks fault =
+    (fault ≡ live.NoMemory) ⊎ ((fault ≡ live.Join) ⊎ HasStopped gives ended failed failed_sink sources sinks fault)
 
 -- why a station of this table did not run, or not to its end
-abbrev pub IsLiveFault : {L B : Type 0} → (L → List ℕ) → (L → Bool) → (L → ℕ) → (B → ℕ) → TableRecord → ℕ → List L → List B → LiveFault → Type 0
-IsLiveFault given ended failed failed_sink t frames sources sinks (live.Plan why) = IsFaultOf t why
-IsLiveFault given ended failed failed_sink t frames sources sinks live.TooMuch =
-    ((plan : PlanTable) × IsPlanOf t plan × (1000000 < frames)) ⊎ (CanStart t frames × HasStopped given ended failed failed_sink sources sinks live.TooMuch)
-IsLiveFault given ended failed failed_sink t frames sources sinks live.Source = CanStart t frames × HasStopped given ended failed failed_sink sources sinks live.Source
-IsLiveFault given ended failed failed_sink t frames sources sinks live.Gate = CanStart t frames × HasStopped given ended failed failed_sink sources sinks live.Gate
-IsLiveFault given ended failed failed_sink t frames sources sinks live.Sink = CanStart t frames × HasStopped given ended failed failed_sink sources sinks live.Sink
-IsLiveFault given ended failed failed_sink t frames sources sinks live.Join = CanStart t frames
-IsLiveFault given ended failed failed_sink t frames sources sinks live.NoMemory = CanStart t frames
+abbrev pub IsLiveFault : {L B : Type 0} → (L → List ℕ → L → Type 0) → (L → Bool) → (L → ℕ) → (B → ℕ) → TableRecord → ℕ → List L → List B → LiveFault → Type 0
+IsLiveFault gives ended failed failed_sink t frames sources sinks (live.Plan why) = IsFaultOf t why
+IsLiveFault gives ended failed failed_sink t frames sources sinks live.TooMuch =
+    ((plan : PlanTable) × IsPlanOf t plan × (1000000 < frames)) ⊎ (CanStart t frames × HasStopped gives ended failed failed_sink sources sinks live.TooMuch)
+IsLiveFault gives ended failed failed_sink t frames sources sinks live.Source = CanStart t frames × HasStopped gives ended failed failed_sink sources sinks live.Source
+IsLiveFault gives ended failed failed_sink t frames sources sinks live.Gate = CanStart t frames × HasStopped gives ended failed failed_sink sources sinks live.Gate
+IsLiveFault gives ended failed failed_sink t frames sources sinks live.Sink = CanStart t frames × HasStopped gives ended failed failed_sink sources sinks live.Sink
+IsLiveFault gives ended failed failed_sink t frames sources sinks live.Join = CanStart t frames
+IsLiveFault gives ended failed failed_sink t frames sources sinks live.NoMemory = CanStart t frames

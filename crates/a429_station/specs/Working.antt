@@ -1,5 +1,5 @@
 -- What the workers of a running station do.
-use Rattle.std.specs.Prelude.{◌≡◌, ◌≢◌, ◌<◌, ◌++◌, [], ℕ, Bool, true, List, Option, Result, Err, OnOk, length, map}
+use Rattle.std.specs.Prelude.{◌≡◌, ◌≢◌, ◌<◌, [], ℕ, Bool, true, List, Option, Result, Err, OnOk, length, map}
 use Rattle.std.specs.List.{AllByRecursion}
 use mathlib.Core.List.{IsPrefix}
 use Rattle.a429_values.specs.Ends as ends
@@ -21,9 +21,9 @@ use Rattle.a429_workers.specs.declared.sending.SendFault.TheVariants.{Change}
 -- ---- receivers
 
 -- the line gave words, the receiver took them, and the answer says how many and why it ended; where it is Ok the line's last call answered the end
-pub record HasReceived {L : Type 0} (given : L → List ℕ) (ended : L → Bool) (failed : L → ℕ) (line : L) (receiver : ends.Receiving) (line' : L) (receiver' : ends.Receiving) (answer : Result ReceiveTotals ReceiveFault) : Type 0 where
+pub record HasReceived {L : Type 0} (gives : L → List ℕ → L → Type 0) (ended : L → Bool) (failed : L → ℕ) (line : L) (receiver : ends.Receiving) (line' : L) (receiver' : ends.Receiving) (answer : Result ReceiveTotals ReceiveFault) : Type 0 where
   pub words : List ℕ
-  pub gave : given line' ≡ given line ++ words
+  pub gave : gives line words line'
   pub taken : AreTaken words answer receiver receiver'
   pub at_end : OnOk answer (ended line' ≡ true)
   pub failures : failed line' ≡ source_failures (failed line) answer

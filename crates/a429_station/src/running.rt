@@ -1,6 +1,7 @@
 //! A station that runs: its receivers and groups at once.
 ghost use Rattle.std.specs.Prelude.{◌≡◌, ◌+◌, ◌<◌, ◌≤◌, ◌∷◌, [], length, vec_len, IfOk, IfErr, map};
 ghost use Rattle.std.specs.List.{AllByRecursion};
+ghost use Rattle.a429_workers.specs.Receives.{Gives};
 ghost use Rattle.a429_slots.specs.Tables.{groups_of};
 ghost use Rattle.a429_board.specs.Lists.{beginner};
 ghost use Rattle.a429_workers.specs.Runs.{IsWired};
@@ -171,8 +172,8 @@ fn run<
     requires few { frames ≤ 1000000 }
     requires watchers { AllByRecursion (λ w. w ≡ beginner station.old.planner) watchers.items }
     requires enough { vec_len sinks ≤ vec_len watchers }
-    ensures ran { IfOk result (λ report. (ran : HasRun L.given L.ended B.taken hub.now.station frames (map (λ w. w.line) receiving.entry.items) sinks.items report) × TellsLater (K.published control.old) ran.course.later (K.published control.new)) }
-    ensures fault { IfErr result (IsRunFault L.given L.ended L.failed B.failed (map (λ w. w.line) receiving.entry.items) sinks.items) }
+    ensures ran { IfOk result (λ report. (ran : HasRun (Gives L.given L.left) L.ended B.taken hub.now.station frames (map (λ w. w.line) receiving.entry.items) sinks.items report) × TellsLater (K.published control.old) ran.course.later (K.published control.new)) }
+    ensures fault { IfErr result (IsRunFault (Gives L.given L.left) L.ended L.failed B.failed (map (λ w. w.line) receiving.entry.items) sinks.items) }
 {
     let sending = groups(alloc, hub, desk, station, watchers, sinks, frames, gate)?;
     let Ok(done) = at_once(rt, alloc, receiving, sending, station, control) else {
@@ -237,9 +238,9 @@ pub fn live<
 ) -> Result<Report<L, B>, LiveFault>
     requires sources { vec_len sources ≡ length equipment.now.receivers }
     requires sinks { vec_len sinks ≡ length equipment.now.groups }
-    ensures ran { IfOk result (HasRun L.given L.ended B.taken equipment.now frames sources.items sinks.items) }
-    ensures told { IfOk result (λ report. (ran : HasRun L.given L.ended B.taken equipment.now frames sources.items sinks.items report) × TellsLater (K.published control.old) ran.course.later (K.published control.new)) }
-    ensures fault { IfErr result (IsLiveFault L.given L.ended L.failed B.failed equipment.now frames sources.items sinks.items) }
+    ensures ran { IfOk result (HasRun (Gives L.given L.left) L.ended B.taken equipment.now frames sources.items sinks.items) }
+    ensures told { IfOk result (λ report. (ran : HasRun (Gives L.given L.left) L.ended B.taken equipment.now frames sources.items sinks.items report) × TellsLater (K.published control.old) ran.course.later (K.published control.new)) }
+    ensures fault { IfErr result (IsLiveFault (Gives L.given L.left) L.ended L.failed B.failed equipment.now frames sources.items sinks.items) }
 {
     numbers_in_range(equipment);
     sources_apart(equipment);

@@ -27,11 +27,12 @@ pub struct Received<L> {
 }
 
 impl<'a, L: LineSource + Send + Drop, G: Gate + Sync> Work for Receiving<'a, L, G> {
+    ghost use Rattle.a429_workers.specs.Receives.{Gives};
     ghost use Rattle.a429_station.specs.Working.{HasReceived};
 
     type Done = Received<L>;
 
-    ghost did = { λ w d. HasReceived L.given L.ended L.failed w.line w.receiver d.line d.receiver d.answer };
+    ghost did = { λ w d. HasReceived (Gives L.given L.left) L.ended L.failed w.line w.receiver d.line d.receiver d.answer };
 
     fn work(self) -> Received<L> {
         let Receiving {

@@ -1,6 +1,7 @@
 -- Words that come in at a receiver one after another, and how many are answered how.
 use Rattle.std.proofs.Common.{◌≡◌, ℕ, ◌+◌, ◌≤◌, ◌<◌, Bool, true, false, List, [], ◌∷◌, ◌++◌, length, take, ◌∙◌, sym, ap, subst, refl, inl, inr, arith, append_assoc}
-use Rattle.std.specs.Prelude.{◌⊎◌, Err, cond, count_by, if◌then◌else◌}
+use Rattle.std.specs.Prelude.{◌⊎◌, Ok, Err, Option, Some, None, cond, count_by, if◌then◌else◌, option_map}
+use Rattle.a429_filter.specs.Sources.{SourceAnswer, word_given}
 use Rattle.std.proofs.lemmas.List.{length_push, take_all, take-append-le}
 use Rattle.std.proofs.lemmas.List.Sums.{sum_by-append, sum_by-cons}
 use Rattle.a429_values.specs.Ends.{Receiving, accept_answer}
@@ -8,7 +9,7 @@ use Rattle.a429_values.specs.declared.receiver.Accept.{Accept}
 use Rattle.a429_values.specs.declared.receiver.Accept.TheVariants.{Accepted, Parity, Filtered, NoSource, CountSpent}
 use Rattle.a429_workers.specs.declared.receiving.ReceiveTotals.{ReceiveTotals}
 use Rattle.a429_workers.specs.declared.receiving.ReceiveFault.TheVariants.{Gate, TooMuch}
-use Rattle.a429_workers.specs.Receives.{AreAtMost, AreTaken, IsSameReceiver, after_words, answers_to, counted, is_accepted, is_filtered, is_no_source, is_parity, is_spent, totals_of}
+use Rattle.a429_workers.specs.Receives.{AreAtMost, AreTaken, Gives, IsSameReceiver, after_words, answers_to, counted, is_accepted, is_filtered, is_no_source, is_parity, is_spent, totals_of}
 use Rattle.a429_values.proofs.Accepting.{in_pieces}
 
 -- ---- in pieces
@@ -62,19 +63,37 @@ totals_small xs = record { accepted = few is_accepted xs; parity = few is_parity
 pub same_receiver : (a b c : Receiving) → IsSameReceiver a b → IsSameReceiver b c → IsSameReceiver a c
 same_receiver a b c p q = q ∙ ap (λ (r : Receiving). record r { accepted = c.accepted }) p
 
+-- one more answer of the line
+module _ {L : Type 0} (given : L → List ℕ) (left : L → Option (List ℕ)) where
+  gives_on : (before now next : L) (words : List ℕ) (answer : SourceAnswer) → Gives given left before words now → given next ≡ given now ++ word_given answer
+      → left now ≡ option_map (λ more. word_given answer ++ more) (left next) → Gives given left before (words ++ word_given answer) next
+  gives_on before now next words answer G one rest = record {
+    gave = one ∙ (ap (λ (xs : List ℕ). xs ++ word_given answer) G.gave ∙ append_assoc (given before) words (word_given answer));
+    kept = G.kept ∙ (ap (λ (x : Option (List ℕ)). option_map (λ (more : List ℕ). words ++ more) x) rest ∙ two (left next));
+  }
+    where
+      two : (x : Option (List ℕ)) → option_map (λ (more : List ℕ). words ++ more) (option_map (λ (more : List ℕ). word_given answer ++ more) x) ≡ option_map (λ (more : List ℕ). (words ++ word_given answer) ++ more) x
+      two None = refl
+      two (Some more) = ap (λ (xs : List ℕ). Some xs) (sym (append_assoc words (word_given answer) more))
+
+  -- an answer that gives one
+  pub gives_word : (before now next : L) (words : List ℕ) (answer : SourceAnswer) (raw : ℕ) → answer ≡ Ok (Some raw) → Gives given left before words now → given next ≡ given now ++ word_given answer
+      → left now ≡ option_map (λ more. word_given answer ++ more) (left next) → Gives given left before (words ++ raw ∷ []) next
+  gives_word before now next words answer raw is G one rest = subst (λ (ws : List ℕ). Gives given left before (words ++ ws) next) (ap word_given is) (gives_on before now next words answer G one rest)
+
 -- the line gave these words since, and the receiver took them all
-pub record SoFar (before now : List ℕ) (old new : Receiving) (totals : ReceiveTotals) (n : ℕ) : Type 0 where
+pub record SoFar (Gave : List ℕ → Type 0) (old new : Receiving) (totals : ReceiveTotals) (n : ℕ) : Type 0 where
   pub came : List ℕ
-  pub given : now ≡ before ++ came
+  pub given : Gave came
   pub many : length came ≡ n
   pub taken : new ≡ after_words old came
   pub counts : totals ≡ totals_of (answers_to old came)
 
-pub one_more : (before now next : List ℕ) (old mid new : Receiving) (totals later : ReceiveTotals) (n raw : ℕ) → SoFar before now old mid totals n → next ≡ now ++ raw ∷ [] → new ≡ after_words mid (raw ∷ [])
-    → later ≡ counted totals (accept_answer mid raw) → SoFar before next old new later (n + 1)
-one_more before now next old mid new totals later n raw S given taken counts = record {
+pub one_more : (Now Next : List ℕ → Type 0) (old mid new : Receiving) (totals later : ReceiveTotals) (n raw : ℕ) → SoFar Now old mid totals n → ((words : List ℕ) → Now words → Next (words ++ raw ∷ [])) → new ≡ after_words mid (raw ∷ [])
+    → later ≡ counted totals (accept_answer mid raw) → SoFar Next old new later (n + 1)
+one_more Now Next old mid new totals later n raw S given taken counts = record {
   came = S.came ++ raw ∷ [];
-  given = given ∙ (ap (λ (xs : List ℕ). xs ++ raw ∷ []) S.given ∙ append_assoc before S.came (raw ∷ []));
+  given = given S.came S.given;
   many = length_push S.came raw ∙ ap (λ (m : ℕ). m + 1) S.many;
   taken = taken ∙ (ap (λ (r : Receiving). after_words r (raw ∷ [])) S.taken ∙ after_append old S.came (raw ∷ []));
   counts = counts
@@ -83,16 +102,16 @@ one_more before now next old mid new totals later n raw S given taken counts = r
       ∙ (sym (totals_push (answers_to old S.came) (accept_answer (after_words old S.came) raw)) ∙ ap totals_of (sym (answers_append old S.came (raw ∷ []))))));
 }
 
-pub small_so_far : (before now : List ℕ) (old new : Receiving) (totals : ReceiveTotals) (n : ℕ) → SoFar before now old new totals n → AreAtMost n totals
-small_so_far before now old new totals n S =
+pub small_so_far : (Gave : List ℕ → Type 0) (old new : Receiving) (totals : ReceiveTotals) (n : ℕ) → SoFar Gave old new totals n → AreAtMost n totals
+small_so_far Gave old new totals n S =
     subst (λ (t : ReceiveTotals). AreAtMost n t) (sym S.counts) (subst (λ (m : ℕ). AreAtMost m (totals_of (answers_to old S.came))) (length_answers old S.came ∙ S.many) (totals_small (answers_to old S.came)))
 
 -- the gate ended the loop before or after the last word
-pub gate_shut : (before now next : List ℕ) (old mid new : Receiving) (totals : ReceiveTotals) (n raw : ℕ) → SoFar before now old mid totals n → n < 1000000 → next ≡ now ++ raw ∷ []
-    → (new ≡ mid) ⊎ (new ≡ after_words mid (raw ∷ [])) → (given : List ℕ) × (next ≡ before ++ given) × AreTaken given (Err Gate) old new
-gate_shut before now next old mid new totals n raw S low given either =
+pub gate_shut : (Now Next : List ℕ → Type 0) (old mid new : Receiving) (totals : ReceiveTotals) (n raw : ℕ) → SoFar Now old mid totals n → n < 1000000 → ((words : List ℕ) → Now words → Next (words ++ raw ∷ []))
+    → (new ≡ mid) ⊎ (new ≡ after_words mid (raw ∷ [])) → (given : List ℕ) × Next given × AreTaken given (Err Gate) old new
+gate_shut Now Next old mid new totals n raw S low given either =
     let all = S.came ++ raw ∷ [] in
-    let is : next ≡ before ++ all = given ∙ (ap (λ (xs : List ℕ). xs ++ raw ∷ []) S.given ∙ append_assoc before S.came (raw ∷ [])) in
+    let is = given S.came S.given in
     let many : length all ≡ n + 1 = length_push S.came raw ∙ ap (λ (m : ℕ). m + 1) S.many in
     elim either [
       | inl left ↦
@@ -104,11 +123,11 @@ gate_shut before now next old mid new totals n raw S low given either =
     ]
 
 -- the line gave one word too many
-pub one_too_many : (before now next : List ℕ) (old mid : Receiving) (totals : ReceiveTotals) (n raw : ℕ) → SoFar before now old mid totals n → n ≡ 1000000 → next ≡ now ++ raw ∷ []
-    → (given : List ℕ) × (next ≡ before ++ given) × AreTaken given (Err TooMuch) old mid
-one_too_many before now next old mid totals n raw S full given =
+pub one_too_many : (Now Next : List ℕ → Type 0) (old mid : Receiving) (totals : ReceiveTotals) (n raw : ℕ) → SoFar Now old mid totals n → n ≡ 1000000 → ((words : List ℕ) → Now words → Next (words ++ raw ∷ []))
+    → (given : List ℕ) × Next given × AreTaken given (Err TooMuch) old mid
+one_too_many Now Next old mid totals n raw S full given =
     let all = S.came ++ raw ∷ [] in
-    let is : next ≡ before ++ all = given ∙ (ap (λ (xs : List ℕ). xs ++ raw ∷ []) S.given ∙ append_assoc before S.came (raw ∷ [])) in
+    let is = given S.came S.given in
     let many : length all ≡ n + 1 = length_push S.came raw ∙ ap (λ (m : ℕ). m + 1) S.many in
     let front : take 1000000 all ≡ S.came = take-append-le 1000000 S.came (raw ∷ []) (omega (arith, S.many)) ∙ take_all 1000000 S.came (omega (arith, S.many)) in
     (all, is, (S.taken ∙ ap (after_words old) (sym front), omega arith))

@@ -1,5 +1,5 @@
 -- What a receiver does with the raw words that a line gave, one after another.
-use Rattle.std.specs.Prelude.{◌≡◌, ◌≤◌, ◌+◌, ◌∷◌, [], ℕ, Bool, true, false, List, Result, Ok, Err, length, take, count_by}
+use Rattle.std.specs.Prelude.{◌≡◌, ◌≤◌, ◌+◌, ◌∷◌, [], ◌++◌, ℕ, Bool, true, false, List, Option, Result, Ok, Err, length, take, count_by, option_map}
 use Rattle.a429_equipment.specs.Receiving.{accepted_after}
 use Rattle.a429_values.specs.Ends.{Receiving, accept_answer}
 use Rattle.a429_values.specs.declared.receiver.Accept.{Accept}
@@ -82,6 +82,12 @@ pub record AreAtMost (n : ℕ) (t : ReceiveTotals) : Type 0 where
   pub filtered : t.filtered ≤ n
   pub no_source : t.no_source ≤ n
   pub spent : t.spent ≤ n
+
+-- Between these two states the source of a line gave these words, in order, and lost none: they are the first of those that it had still to give,
+-- where it tells them.
+pub record Gives {L : Type 0} (given : L → List ℕ) (left : L → Option (List ℕ)) (before : L) (words : List ℕ) (after : L) : Type 0 where
+  pub gave : given after ≡ given before ++ words
+  pub kept : left before ≡ option_map (λ more. words ++ more) (left after)
 
 -- The line gave these words: the receiver took them, all of them where the line ended or failed, all but the last where they were too many, and
 -- all or all but the last where the gate ended the loop.

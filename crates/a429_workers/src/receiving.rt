@@ -3,7 +3,7 @@ ghost use Rattle.std.specs.Prelude.{◌≡◌, ◌≤◌, ◌+◌, ◌<◌, ◌+
 ghost use Rattle.a429_values.specs.Ends.{accept_answer};
 ghost use Rattle.a429_workers.specs.declared.gates.Point.{Point as At};
 ghost use Rattle.a429_workers.specs.Gates.{IsOfReceiver, MayEndReceiver};
-ghost use Rattle.a429_workers.specs.Receives.{AreAtMost, AreTaken, IsSameReceiver, after_words, counted, source_failures};
+ghost use Rattle.a429_workers.specs.Receives.{AreAtMost, AreTaken, Gives, IsSameReceiver, after_words, counted, source_failures};
 
 use crate::gates::{Gate, GateFault, Point};
 use a429_filter::LineSource;
@@ -83,7 +83,7 @@ pub fn receive_all<L: LineSource, G: Gate>(
     number: usize,
     gate: &G,
 ) -> Result<ReceiveTotals, ReceiveFault>
-    ensures taken { (given : List ℕ) × (L.given line.new ≡ L.given line.old ++ given) × AreTaken given result receiver.old receiver.new }
+    ensures taken { (given : List ℕ) × Gives L.given L.left line.old given line.new × AreTaken given result receiver.old receiver.new }
     ensures same { IsSameReceiver receiver.old receiver.new }
     ensures ended { OnOk result (L.ended line.new ≡ true) }
     ensures failed { L.failed line.new ≡ source_failures (L.failed line.old) result }

@@ -6,6 +6,7 @@ use Rattle.std.specs.declared.vec.Vec.{Vec}
 use Rattle.std.specs.declared.alloc.Global.{Global}
 use Rattle.a429_console.specs.Files.{IsFirstUnread, bytes_of}
 use Rattle.a429_live.specs.LiveReplies.{IsLiveRefusal, IsNoLiveStart, IsReportOf, IsRunRefusal, IsRunReport, IsRunResult, files_of}
+use Rattle.a429_live.specs.declared.words.Arrival.{Arrival}
 use Rattle.a429_console.specs.LiveWords.{live_of}
 use Rattle.a429_console.specs.RefusalText.{OrMemory}
 use Rattle.a429_console.proofs.Refused.{failed, matched_both, or_memory_weaker}
@@ -38,10 +39,13 @@ returns g c = λ tells.
     let q = c.in_ok-prepared.prepared.proposal in
     let read = c.in_ok-input.ensures tells in
     let start = c.in_ok-prepared.ensures in
-    let of_station : IsRunResult q.station (bytes_of c.deref-2.result.now) c.run.result =
-    subst (λ (t : TableRecord). IsRunResult t (bytes_of c.deref-2.result.now) c.run.result) c.equipment-equipment.ensures.equipment c.run.ensures in
-    let of_files : IsRunResult q.station i.further c.run.result =
-    subst (λ (tables : List (Vec ℕ Global)). IsRunResult q.station (bytes_of tables) c.run.result) c.deref-2.ensures.value of_station in
-    matched_both c.run.result (λ text. IsRunReport q.station i.further text.items) (λ text. IsReportOf file r text.items) (OrMemory IsRunRefusal) (OrMemory (IsLiveRefusal file r))
-    (λ text report. (i, q, c.in_ok-prepared.prepared.arrivals.items, read, start, report))
-    (λ e why. or_memory_weaker IsRunRefusal (IsLiveRefusal file r) e (λ one. inr (i, read, inr (q, c.in_ok-prepared.prepared.arrivals.items, start, one))) why) of_files
+    let came = c.in_ok-prepared.prepared.arrivals.items in
+    let of_station : IsRunResult q.station c.deref.result.now r.frames (bytes_of c.deref-2.result.now) c.run-result.result =
+    subst (λ (t : TableRecord). IsRunResult t c.deref.result.now r.frames (bytes_of c.deref-2.result.now) c.run-result.result) c.equipment-equipment.ensures.equipment c.run-result.ensures in
+    let of_words : IsRunResult q.station came r.frames (bytes_of c.deref-2.result.now) c.run-result.result =
+    subst (λ (a : List Arrival). IsRunResult q.station a r.frames (bytes_of c.deref-2.result.now) c.run-result.result) c.deref.ensures.value of_station in
+    let of_files : IsRunResult q.station came r.frames i.further c.run-result.result =
+    subst (λ (tables : List (Vec ℕ Global)). IsRunResult q.station came r.frames (bytes_of tables) c.run-result.result) c.deref-2.ensures.value of_words in
+    matched_both c.run-result.result (λ text. IsRunReport q.station came r.frames i.further text.items) (λ text. IsReportOf file r text.items) (OrMemory IsRunRefusal) (OrMemory (IsLiveRefusal file r))
+    (λ text report. (i, q, came, read, start, report))
+    (λ e why. or_memory_weaker IsRunRefusal (IsLiveRefusal file r) e (λ one. inr (i, read, inr (q, came, start, one))) why) of_files

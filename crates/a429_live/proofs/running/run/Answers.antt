@@ -1,8 +1,12 @@
-use Rattle.std.proofs.Common.{◌≡◌, ◌∙◌, length, rules}
+use Rattle.std.proofs.Common.{◌≡◌, ◌∙◌, [], length, rules, subst}
+use Rattle.a429_filter.specs.Sources.{all_given}
+use Rattle.a429_station.specs.Course.{IsHeardIn}
+use Rattle.a429_station.specs.Numbered.{AllOfThree}
 use Rattle.a429_console.specs.Files.{bytes_of}
-use Rattle.a429_live.specs.LiveReplies.{IsReport, IsRunRefusal, IsRunReport}
+use Rattle.a429_live.specs.LiveReplies.{AreSentWhole, IsReport, IsRunRefusal, IsRunReport}
 use Rattle.a429_console.specs.RefusalText.{OrMemory}
-use Rattle.a429_live.proofs.LiveRuns.{as_many, heard_rows}
+use Rattle.a429_live.proofs.LiveRuns.{GivesFrom, as_many, heard_rows}
+use Rattle.a429_live.proofs.WholeFrames.{all_sent_whole, none_mapped_back, none_published}
 use Rattle.a429_console.proofs.Refused.{matched_both}
 use Rattle.a429_live.proofs.running.run.Goals as goal
 
@@ -10,10 +14,18 @@ pub returns-in-Ok : goal.returns-in-Ok
 returns-in-Ok g c =
     let t = c.args.equipment.now in
     let report = c.in-Ok.report in
-    let ran = c.in-Ok.ensures.ran in
+    let told = c.in-Ok.ensures.told in
+    let ran = told.0 in
     let many : length c.in_ok-sources.sources.items ≡ length t.receivers = search rules in
     let few : length c.in_ok-sinks.sinks.items ≡ length t.groups = search rules in
-    let heard = heard_rows _ _ t ran.course t.receivers c.in_ok-sources.sources.items report.sources.items report.receivers.items many ran.heard in
+    let words = c.args.arrivals.now in
+    let further = bytes_of c.args.further.now in
+    let heard = heard_rows t ran.course words (length t.receivers) report.sources.items report.receivers.items
+    (subst (λ l. AllOfThree (IsHeardIn GivesFrom all_given t ran.course) l report.sources.items report.receivers.items) (search rules) ran.heard) in
+    let receivers = as_many _ c.in_ok-sources.sources.items report.sources.items report.receivers.items ran.heard ∙ many in
     let groups = as_many _ c.in_ok-sinks.sinks.items report.sinks.items report.groups.items ran.sent ∙ few in
-    matched_both c.report_text.result (λ text. IsReport t (bytes_of c.args.further.now) report.receivers.items report.groups.items text.items) (λ text. IsRunReport t (bytes_of c.args.further.now) text.items)
-    (OrMemory IsRunRefusal) (OrMemory IsRunRefusal) (λ text is. (report.receivers.items, report.groups.items, record { heard = heard; groups = groups }, is)) (λ e why. why) c.report_text.ensures
+    let cells : further ≡ [] → AreSentWhole t c.args.frames report.groups.items = λ none.
+    all_sent_whole _ c.args.frames t ran.course c.in_ok-sinks.sinks.items report.sinks.items report.groups.items ran.planned
+    (none_published c.new-control.result.tables.now _ ran.course.later (c.new-control.ensures ∙ none_mapped_back c.args.further.now none) told.1) ran.sent in
+    matched_both c.report_text.result (λ text. IsReport t further report.receivers.items report.groups.items text.items) (λ text. IsRunReport t words c.args.frames further text.items)
+    (OrMemory IsRunRefusal) (OrMemory IsRunRefusal) (λ text is. (report.receivers.items, report.groups.items, record { heard = heard; receivers = receivers; groups = groups; cells = cells }, is)) (λ e why. why) c.report_text.ensures

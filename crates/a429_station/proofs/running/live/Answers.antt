@@ -1,6 +1,7 @@
 use Rattle.std.proofs.Common.{◌∙◌, List, [], ◌∷◌, ap, length, map, rules, subst, sym}
 use Rattle.std.proofs.lemmas.Result.{IfOk-weaker}
 use Rattle.std.specs.Prelude.{IfErr, IfOk}
+use Rattle.a429_workers.specs.Receives.{Gives}
 use Rattle.a429_equipment.specs.TableRecord.{TableRecord}
 use Rattle.a429_slots.specs.Tables.{PlanTable}
 use Rattle.a429_slots.specs.Planned.{IsPlanOf}
@@ -24,7 +25,7 @@ returns-in_err-plan-clause-told g c = early_ok _ _ c.from_residual.result c.from
 pub returns-in_err-plan-clause-fault : goal.returns-in_err-plan-clause-fault
 returns-in_err-plan-clause-fault g c =
     early_err _ c.from_residual.result c.from_residual.ensures.1
-    (λ e is. subst (IsLiveFault g.L.LineSource.given g.L.LineSource.ended g.L.LineSource.failed g.B.BusSink.failed c.args.equipment.now c.args.frames c.args.sources.items c.args.sinks.items) (sym is) c.in_err-plan.ensures.fault)
+    (λ e is. subst (IsLiveFault (Gives g.L.LineSource.given g.L.LineSource.left) g.L.LineSource.ended g.L.LineSource.failed g.B.BusSink.failed c.args.equipment.now c.args.frames c.args.sources.items c.args.sinks.items) (sym is) c.in_err-plan.ensures.fault)
 
 pub returns-in_err-hub-clause-ran : goal.returns-in_err-hub-clause-ran
 returns-in_err-hub-clause-ran g c = early_ok _ _ c.from_residual-in_err-hub.result c.from_residual-in_err-hub.ensures.1
@@ -35,7 +36,7 @@ returns-in_err-hub-clause-told g c = early_ok _ _ c.from_residual-in_err-hub.res
 pub returns-in_err-hub-clause-fault : goal.returns-in_err-hub-clause-fault
 returns-in_err-hub-clause-fault g c =
     early_err _ c.from_residual-in_err-hub.result c.from_residual-in_err-hub.ensures.1
-    (λ e is. no_memory g.L.LineSource.given g.L.LineSource.ended g.L.LineSource.failed g.B.BusSink.failed c.args.equipment.now c.args.frames c.args.sources.items c.args.sinks.items
+    (λ e is. no_memory (Gives g.L.LineSource.given g.L.LineSource.left) g.L.LineSource.ended g.L.LineSource.failed g.B.BusSink.failed c.args.equipment.now c.args.frames c.args.sources.items c.args.sinks.items
     (record { plan = c.in_ok-plan.plan; planned = c.in_ok-plan.ensures.planned; few = search rules }) e is)
 
 pub receivers-requires-clause-hub : goal.receivers-requires-clause-hub
@@ -56,7 +57,7 @@ returns-in_err-receiving-clause-told g c = early_ok _ _ c.from_residual-in_err-r
 pub returns-in_err-receiving-clause-fault : goal.returns-in_err-receiving-clause-fault
 returns-in_err-receiving-clause-fault g c =
     early_err _ c.from_residual-in_err-receiving.result c.from_residual-in_err-receiving.ensures.1
-    (λ e is. no_memory g.L.LineSource.given g.L.LineSource.ended g.L.LineSource.failed g.B.BusSink.failed c.args.equipment.now c.args.frames c.args.sources.items c.args.sinks.items
+    (λ e is. no_memory (Gives g.L.LineSource.given g.L.LineSource.left) g.L.LineSource.ended g.L.LineSource.failed g.B.BusSink.failed c.args.equipment.now c.args.frames c.args.sources.items c.args.sinks.items
     (record { plan = c.in_ok-plan.plan; planned = c.in_ok-plan.ensures.planned; few = search rules }) e (is ∙ c.in_err-receiving.ensures.fault))
 
 pub returns-in_err-planner-clause-ran : goal.returns-in_err-planner-clause-ran
@@ -68,7 +69,7 @@ returns-in_err-planner-clause-told g c = early_ok _ _ c.from_residual-in_err-pla
 pub returns-in_err-planner-clause-fault : goal.returns-in_err-planner-clause-fault
 returns-in_err-planner-clause-fault g c =
     early_err _ c.from_residual-in_err-planner.result c.from_residual-in_err-planner.ensures.1
-    (λ e is. no_memory g.L.LineSource.given g.L.LineSource.ended g.L.LineSource.failed g.B.BusSink.failed c.args.equipment.now c.args.frames c.args.sources.items c.args.sinks.items
+    (λ e is. no_memory (Gives g.L.LineSource.given g.L.LineSource.left) g.L.LineSource.ended g.L.LineSource.failed g.B.BusSink.failed c.args.equipment.now c.args.frames c.args.sources.items c.args.sinks.items
     (record { plan = c.in_ok-plan.plan; planned = c.in_ok-plan.ensures.planned; few = search rules }) e is)
 
 pub begun-station-requires-clause-planned : goal.begun-station-requires-clause-planned
@@ -102,12 +103,12 @@ run-answer-requires-clause-hub g c κs lives = (
 
 pub returns-clause-told : goal.returns-clause-told
 returns-clause-told g c =
-    let given = g.L.LineSource.given in
+    let gives = Gives g.L.LineSource.given g.L.LineSource.left in
     let ended = g.L.LineSource.ended in
     let taken = g.B.BusSink.taken in
     let before = g.K.Control.published c.args.control.now in
     let after = g.K.Control.published c.run-answer.new.control in
-    let ran : TableRecord → List g.row.L.Denot → Report g.row.L.Denot g.row.B.Denot → Type 0 = λ t l report. (x : HasRun given ended taken t c.args.frames l c.args.sinks.items report) × TellsLater before x.course.later after in
+    let ran : TableRecord → List g.row.L.Denot → Report g.row.L.Denot g.row.B.Denot → Type 0 = λ t l report. (x : HasRun gives ended taken t c.args.frames l c.args.sinks.items report) × TellsLater before x.course.later after in
     subst (λ (l : List g.row.L.Denot). IfOk c.run-answer.result (ran c.args.equipment.now l)) c.in_ok-receiving.ensures.lines
     (subst (λ (t : TableRecord). IfOk c.run-answer.result (ran t (map (λ w. w.line) c.in_ok-receiving.receiving.items))) c.in_ok-hub.ensures.station c.run-answer.ensures.ran)
 
@@ -116,13 +117,13 @@ returns-clause-ran g c = IfOk-weaker c.run-answer.result _ _ (λ report ran. ran
 
 pub returns-clause-fault : goal.returns-clause-fault
 returns-clause-fault g c =
-    let given = g.L.LineSource.given in
+    let gives = Gives g.L.LineSource.given g.L.LineSource.left in
     let ended = g.L.LineSource.ended in
     let failed = g.L.LineSource.failed in
     let failed_sink = g.B.BusSink.failed in
     let t = c.args.equipment.now in
     let sources = c.args.sources.items in
     let sinks = c.args.sinks.items in
-    weaker (IsRunFault given ended failed failed_sink sources sinks) (IsLiveFault given ended failed failed_sink t c.args.frames sources sinks) c.run-answer.result
-    (live_fault given ended failed failed_sink t c.args.frames sources sinks (record { plan = c.in_ok-plan.plan; planned = c.in_ok-plan.ensures.planned; few = search rules }))
-    (subst (λ (l : List g.row.L.Denot). IfErr c.run-answer.result (IsRunFault given ended failed failed_sink l sinks)) c.in_ok-receiving.ensures.lines c.run-answer.ensures.fault)
+    weaker (IsRunFault gives ended failed failed_sink sources sinks) (IsLiveFault gives ended failed failed_sink t c.args.frames sources sinks) c.run-answer.result
+    (live_fault gives ended failed failed_sink t c.args.frames sources sinks (record { plan = c.in_ok-plan.plan; planned = c.in_ok-plan.ensures.planned; few = search rules }))
+    (subst (λ (l : List g.row.L.Denot). IfErr c.run-answer.result (IsRunFault gives ended failed failed_sink l sinks)) c.in_ok-receiving.ensures.lines c.run-answer.ensures.fault)

@@ -5,7 +5,7 @@ use Rattle.std.specs.Prelude.{Result, Err, IfErr}
 use Rattle.std.specs.List.{AllByRecursion}
 use Rattle.a429_equipment.specs.TableRecord.{TableRecord}
 use Rattle.a429_values.specs.Ends as ends
-use Rattle.a429_workers.specs.Receives.{after_words}
+use Rattle.a429_workers.specs.Receives.{Gives, after_words}
 use Rattle.a429_station.specs.Course.{IsHeardIn, IsSentIn, fresh}
 use Rattle.a429_station.specs.Faults.{IsFirst, IsRunFault, first_fault}
 use Rattle.a429_station.specs.Numbered.{AllNumbered, AllOfThree}
@@ -63,14 +63,14 @@ groups_reported-requires-clause-groups g c =
 
 pub returns-clause-ran : goal.returns-clause-ran
 returns-clause-ran g c =
-    let given = g.L.LineSource.given in
+    let gives = Gives g.L.LineSource.given g.L.LineSource.left in
     let ended = g.L.LineSource.ended in
     let failed = g.L.LineSource.failed in
     let taken = g.B.BusSink.taken in
     let hub = c.args.hub.now in
     let old = c.args.station.now in
     let new = c.at_once.new.to in
-    let did : Receiving g.row.L.Denot g.row.G.Denot → Received g.row.L.Denot → Type 0 = λ w d. HasReceived given ended failed w.line w.receiver d.line d.receiver d.answer in
+    let did : Receiving g.row.L.Denot g.row.G.Denot → Received g.row.L.Denot → Type 0 = λ w d. HasReceived gives ended failed w.line w.receiver d.line d.receiver d.answer in
     let first = c.in-Ok.ensures.first in
     let ws = c.args.receiving.items in
     let ds = c.in-Ok.done.first.items in
@@ -79,11 +79,11 @@ returns-clause-ran g c =
     let heard = c.in_ok-heard.heard in
     let told = c.in_ok-told.told in
     let course = course_of old c.led.ensures.later came in
-    let lines = three_of did show (λ w. w.line) (λ d. d.line) (λ d. d.answer) (λ k w. w.receiver ≡ fresh hub k) (IsHeardIn given ended hub.station course) came
-    (λ k w d t h p same is. heard_one given ended failed hub course k w.line d.line w.receiver d.receiver d.answer t h p same is)
+    let lines = three_of did show (λ w. w.line) (λ d. d.line) (λ d. d.answer) (λ k w. w.receiver ≡ fresh hub k) (IsHeardIn gives ended hub.station course) came
+    (λ k w d t h p same is. heard_one gives ended failed hub course k w.line d.line w.receiver d.receiver d.answer t h p same is)
     ws ds heard.totals.items first c.requires.receivers c.in_ok-heard.ensures.totals (λ k. refl) in
     let after = three_of did show (λ w. w.line) (λ d. d.receiver) (λ d. d.answer) (λ k w. w.receiver ≡ fresh hub k) (λ k x r t. r ≡ after_words (fresh hub k) (came k)) came
-    (λ k w d t h p same is. receiver_one given ended failed hub k (came k) w.line d.line w.receiver d.receiver d.answer t h p same is)
+    (λ k w d t h p same is. receiver_one gives ended failed hub k (came k) w.line d.line w.receiver d.receiver d.answer t h p same is)
     ws ds heard.totals.items first c.requires.receivers c.in_ok-heard.ensures.totals (λ k. refl) in
     let rs = map (λ d. d.receiver) ds in
     let each : AreAfter hub came rs = middle (λ k r. r ≡ after_words (fresh hub k) (came k)) (map (λ w. w.line) ws) rs heard.totals.items after in
@@ -105,7 +105,7 @@ returns-clause-ran g c =
         course = course;
         planned = K.planned;
         few = c.requires.few;
-        heard = subst (λ l. AllOfThree (IsHeardIn given ended hub.station course) (map (λ w. w.line) ws) l heard.totals.items) (sym c.in_ok-heard.ensures.sources) lines;
+        heard = subst (λ l. AllOfThree (IsHeardIn gives ended hub.station course) (map (λ w. w.line) ws) l heard.totals.items) (sym c.in_ok-heard.ensures.sources) lines;
         sent = subst (λ l. AllOfThree (IsSentIn taken c.args.frames hub.station course) c.args.sinks.items l told.totals.items) (sym c.in_ok-told.ensures.sinks)
             (subst (λ l. AllOfThree (IsSentIn taken c.args.frames hub.station course) l (map (λ d. d.sink) c.in-Ok.done.second.items) told.totals.items) c.in_ok-sending.ensures.sinks cells);
       },
@@ -117,10 +117,10 @@ returns-in_err-heard-clause-fault g c =
     let p = err_from_is_err_and c.from_residual-in_err-heard.result c.from_residual-in_err-heard.ensures.1 in
     let fault = c.in_err-heard.field-0.0 in
     let stop = λ (first : IsFirst (first_fault (map (λ d. d.answer) c.in-Ok.done.first.items)) (first_fault (map (λ d. d.answer) c.in-Ok.done.second.items)) fault).
-    all_stopped g.L.LineSource.given g.L.LineSource.ended g.L.LineSource.failed g.B.BusSink.taken g.B.BusSink.failed
+    all_stopped (Gives g.L.LineSource.given g.L.LineSource.left) g.L.LineSource.ended g.L.LineSource.failed g.B.BusSink.taken g.B.BusSink.failed
     (λ w. w.line) (λ w. w.receiver) (λ d. d.line) (λ d. d.receiver) (λ d. d.answer) (λ v. v.frames) (λ v. v.transmit) (λ v. v.sink) (λ e. e.transmit) (λ e. e.sink) (λ e. e.answer)
     c.args.receiving.items c.in-Ok.done.first.items c.in_ok-sending.sending.items c.in-Ok.done.second.items c.args.sinks.items fault c.in-Ok.ensures.first c.in-Ok.ensures.second c.in_ok-sending.ensures.sinks first in
-    subst (λ (r : Result (Report g.row.L.Denot g.row.B.Denot) LiveFault). IfErr r (IsRunFault g.L.LineSource.given g.L.LineSource.ended g.L.LineSource.failed g.B.BusSink.failed (map (λ w. w.line) c.args.receiving.items) c.args.sinks.items))
+    subst (λ (r : Result (Report g.row.L.Denot g.row.B.Denot) LiveFault). IfErr r (IsRunFault (Gives g.L.LineSource.given g.L.LineSource.left) g.L.LineSource.ended g.L.LineSource.failed g.B.BusSink.failed (map (λ w. w.line) c.args.receiving.items) c.args.sinks.items))
     (sym (p.1 ∙ ap (λ (f : LiveFault). Err f) p.2))
     (elim c.in_err-heard.ensures.fault [
       | inl none ↦ inl none
@@ -133,10 +133,10 @@ returns-in_err-told-clause-fault g c =
     let fault = c.in_err-told.field-0.0 in
     let well = all_well (λ d. d.answer) c.in_ok-heard.heard.totals.items c.in-Ok.done.first.items c.in_ok-heard.ensures.totals in
     let stop = λ (first : IsFirst (first_fault (map (λ d. d.answer) c.in-Ok.done.first.items)) (first_fault (map (λ d. d.answer) c.in-Ok.done.second.items)) fault).
-    all_stopped g.L.LineSource.given g.L.LineSource.ended g.L.LineSource.failed g.B.BusSink.taken g.B.BusSink.failed
+    all_stopped (Gives g.L.LineSource.given g.L.LineSource.left) g.L.LineSource.ended g.L.LineSource.failed g.B.BusSink.taken g.B.BusSink.failed
     (λ w. w.line) (λ w. w.receiver) (λ d. d.line) (λ d. d.receiver) (λ d. d.answer) (λ v. v.frames) (λ v. v.transmit) (λ v. v.sink) (λ e. e.transmit) (λ e. e.sink) (λ e. e.answer)
     c.args.receiving.items c.in-Ok.done.first.items c.in_ok-sending.sending.items c.in-Ok.done.second.items c.args.sinks.items fault c.in-Ok.ensures.first c.in-Ok.ensures.second c.in_ok-sending.ensures.sinks first in
-    subst (λ (r : Result (Report g.row.L.Denot g.row.B.Denot) LiveFault). IfErr r (IsRunFault g.L.LineSource.given g.L.LineSource.ended g.L.LineSource.failed g.B.BusSink.failed (map (λ w. w.line) c.args.receiving.items) c.args.sinks.items))
+    subst (λ (r : Result (Report g.row.L.Denot g.row.B.Denot) LiveFault). IfErr r (IsRunFault (Gives g.L.LineSource.given g.L.LineSource.left) g.L.LineSource.ended g.L.LineSource.failed g.B.BusSink.failed (map (λ w. w.line) c.args.receiving.items) c.args.sinks.items))
     (sym (p.1 ∙ ap (λ (f : LiveFault). Err f) p.2))
     (elim c.in_err-told.ensures.fault [
       | inl none ↦ inl none

@@ -1,0 +1,7 @@
+-- The line on a terminal that tells how far a run is.
+use Rattle.std.specs.Prelude.{ℕ, List, ◌++◌, codes}
+use Rattle.std.specs.Fmt.{decimal}
+
+-- the cells that were sent, of how many, and the words that came in
+abbrev pub progress_line : ℕ → ℕ → ℕ → List ℕ
+progress_line cells all words = codes "cells sent " ++ decimal cells ++ codes " of " ++ decimal all ++ codes ", words received " ++ decimal words
