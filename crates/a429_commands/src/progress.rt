@@ -25,7 +25,7 @@ impl Progress for Sums {
         self.cells.fetch_add(cells, Ordering::SeqCst);
     }
 
-    fn received(&self, words: u64) {
+    fn accepted(&self, words: u64) {
         self.words.fetch_add(words, Ordering::SeqCst);
     }
 
@@ -35,8 +35,9 @@ impl Progress for Sums {
 }
 
 #[test]
-fn a_run_tells_cells_and_words_by_4096(rt: HostRuntime) {
-    let text = repeated(&rt, rt.alloc(), "r 600000c1\n", 9000);
+fn a_run_tells_cells_and_accepted_words_by_4096(rt: HostRuntime) {
+    // each word twice, the second time with a false parity
+    let text = repeated(&rt, rt.alloc(), "r 600000c1\nr e00000c1\n", 9000);
     let mut files = memory_files(&rt, rt.alloc(), ONE, &text);
     let mut out = CountedWriter::new(Vec::new(rt.alloc()));
     let mut err = Vec::new(rt.alloc());
@@ -91,13 +92,13 @@ fn a_line_is_written_at_the_beginning_now_and_then_and_wiped(rt: HostRuntime) {
     };
     let line = ProgressLine::new(rt.alloc(), screen);
     line.begins(8388608);
-    // "\rcells sent 0 of 8388608, words received 0"
+    // "\rcells sent 0 of 8388608, words accepted 0"
     assert!(rt; pieces.load(Ordering::SeqCst) == 1 && bytes.load(Ordering::SeqCst) == 42);
-    line.received(4096);
+    line.accepted(4096);
     line.sent(4194303);
     assert!(rt; pieces.load(Ordering::SeqCst) == 1);
     line.sent(1);
-    // "\rcells sent 4194304 of 8388608, words received 4096"
+    // "\rcells sent 4194304 of 8388608, words accepted 4096"
     assert!(rt; pieces.load(Ordering::SeqCst) == 2 && bytes.load(Ordering::SeqCst) == 93);
     line.ends();
     assert!(rt; pieces.load(Ordering::SeqCst) == 3 && bytes.load(Ordering::SeqCst) == 97);

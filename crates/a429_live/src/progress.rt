@@ -3,13 +3,14 @@ ghost use Rattle.std.specs.Prelude.{◌≡◌, ◌++◌, OnOk};
 ghost use Rattle.a429_live.specs.ProgressLines.{progress_line};
 
 use a429_slots::{OUTPUTS, Plan};
-use a429_workers::{Gate, GateFault, Point};
+use a429_values::Accept;
+use a429_workers::{Gate, GateFault, Point, ReceiveTotals};
 use std::alloc::Global;
 use std::io;
 use std::io::Write;
 use std::sync::atomic::{AtomicU64, Ordering};
 
-/// So many cells of a group, or words of a receiver, are told together.
+/// So many cells of a group, or accepted words of a receiver, are told together.
 const STRIDE: u64 = 4096;
 
 /// So many cells of all groups are sent between two lines on a terminal.
@@ -23,8 +24,8 @@ pub trait Progress {
     /// So many more cells were sent.
     fn sent(&self, cells: u64);
 
-    /// So many more words came in, whether they were accepted or not.
-    fn received(&self, words: u64);
+    /// So many more words were accepted.
+    fn accepted(&self, words: u64);
 
     /// The run has ended.
     fn ends(&self);
@@ -39,12 +40,12 @@ impl Progress for NoProgress {
 
     fn sent(&self, _cells: u64) {}
 
-    fn received(&self, _words: u64) {}
+    fn accepted(&self, _words: u64) {}
 
     fn ends(&self) {}
 }
 
-/// Shows on a terminal how many cells of all were sent, and how many words came in: one line, which is written anew
+/// Shows on a terminal how many cells of all were sent, and how many words were accepted: one line, which is written anew
 /// while the run goes on, and is wiped at its end. Where the terminal fails, or memory is refused, nothing is shown.
 #[derive(Drop)]
 pub struct ProgressLine<W> {
@@ -59,7 +60,7 @@ pub struct ProgressLine<W> {
 fn push_line(text: &mut Vec<u8>, cells: u64, all: u64, words: u64) -> io::Result<()>
     ensures { OnOk result (text.new.items ≡ text.old.items ++ progress_line cells all words) }
 {
-    write!(text, "cells sent {cells} of {all}, words received {words}")
+    write!(text, "cells sent {cells} of {all}, words accepted {words}")
 }
 
 impl<W: Write + Copy> ProgressLine<W> {
@@ -102,7 +103,7 @@ impl<W: Write + Copy> Progress for ProgressLine<W> {
         }
     }
 
-    fn received(&self, words: u64) {
+    fn accepted(&self, words: u64) {
         self.words.fetch_add(words, Ordering::Relaxed);
     }
 
@@ -137,9 +138,9 @@ fn cells_of_run(plan: &Plan<OUTPUTS>, frames: u32) -> u64 {
     cells
 }
 
-/// Whether a cell or a word, counted from 0, is the last of a stride.
-fn is_last(counted: u64) -> bool {
-    counted % STRIDE == STRIDE - 1
+/// Whether a cell, counted from 0, is the last of a stride.
+fn is_last(cell: u64) -> bool {
+    cell % STRIDE == STRIDE - 1
 }
 
 impl<P: Progress> Gate for Followed<'_, P> {
@@ -148,9 +149,14 @@ impl<P: Progress> Gate for Followed<'_, P> {
     fn pass(&self, point: Point) -> Result<(), GateFault> {
         match point {
             Point::AfterCell(_, cell) if is_last(cell) => self.progress.sent(STRIDE),
-            Point::AfterAccept(_, word) if is_last(word) => self.progress.received(STRIDE),
             _ => {}
         }
         Ok(())
+    }
+
+    fn counted(&self, answer: Accept, totals: &ReceiveTotals) {
+        if matches!(answer, Accept::Accepted(_)) && totals.accepted % STRIDE == 0 {
+            self.progress.accepted(STRIDE);
+        }
     }
 }

@@ -9,6 +9,7 @@ use Rattle.a429_equipment.specs.TableRecord.{TableRecord}
 use Rattle.a429_equipment.specs.Agreement.{Agrees, words_of}
 use Rattle.a429_equipment.specs.Arrivals.{sorted}
 use Rattle.a429_equipment.specs.Receiving.{IsReceived, accepted_after, with_word}
+use Rattle.a429_equipment.proofs.Receiving.{in_pieces}
 use Rattle.a429_slots.specs.Tables.{PlanTable}
 use Rattle.a429_slots.specs.Planned.{IsPlanOf}
 use Rattle.a429_slots.specs.Proposed.{Proposed}
@@ -83,10 +84,6 @@ group_stays frames (Err fault) old new before after h = h.2.same
 -- ---- what a receiver accepted, it accepts
 
 module _ (limit : ℕ) (t : TableRecord) (r : ℕ) where
-  in_pieces : (A : List (ℕ × ℕ)) (raws more : List ℕ) → accepted_after limit t r A (raws ++ more) ≡ accepted_after limit t r (accepted_after limit t r A raws) more
-  in_pieces A [] more = refl
-  in_pieces A (raw ∷ raws) more = in_pieces (with_word limit A raw (sorted t r raw)) raws more
-
   one_received : (A : List (ℕ × ℕ)) (raw : ℕ) (x : Result ℕ ArrivalRefusal) → sorted t r raw ≡ x → IsReceived limit t r A → IsReceived limit t r (with_word limit A raw x)
   one_received A raw (Err refusal) is whole = whole
   one_received A raw (Ok s) is whole = by (nat_lt (length (words_of s A)) limit) refl
@@ -98,7 +95,7 @@ module _ (limit : ℕ) (t : TableRecord) (r : ℕ) where
       by true room =
           let added : with_word limit A raw (Ok s) ≡ grown = rw room refl in
           ap (accepted_after limit t r []) (map-append (λ (e : ℕ × ℕ). e.1) A ((s, raw) ∷ []))
-          ∙ (in_pieces [] (map (λ (e : ℕ × ℕ). e.1) A) (raw ∷ [])
+          ∙ (in_pieces t limit r [] (map (λ (e : ℕ × ℕ). e.1) A) (raw ∷ [])
           ∙ (ap (λ (B : List (ℕ × ℕ)). with_word limit B raw (sorted t r raw)) whole ∙ (ap (λ (y : Result ℕ ArrivalRefusal). with_word limit A raw y) is ∙ added)))
       by false full = whole
 

@@ -16,7 +16,7 @@ use Rattle.a429_values.specs.declared.view.View.{View}
 use Rattle.a429_values.specs.Views.{receiver, with_accepted}
 use Rattle.a429_values.specs.Ends.{Place, IsReceiving, view_in}
 use Rattle.a429_values.proofs.Counted.{words_other}
-use Rattle.a429_equipment.proofs.Receiving.{words_same}
+use Rattle.a429_equipment.proofs.Receiving.{in_pieces, words_same}
 
 abbrev zeros : ℕ → List ℕ
 zeros n = replicate n 0
@@ -49,15 +49,10 @@ new_receiving p number limit counts at views small here is inside sized zeros =
       received = subst (λ (x : View). IsReceived limit p.station number x.accepted) (sym now) refl;
     }
 
--- words come in piece by piece
-pub in_pieces : (limit : ℕ) (t : TableRecord) (r : ℕ) (A : List (ℕ × ℕ)) (raws more : List ℕ) → accepted_after limit t r A (raws ++ more) ≡ accepted_after limit t r (accepted_after limit t r A raws) more
-in_pieces limit t r A [] more = refl
-in_pieces limit t r A (raw ∷ raws) more = in_pieces limit t r (with_word limit A raw (sorted t r raw)) raws more
-
 received_more : (limit : ℕ) (t : TableRecord) (r s raw : ℕ) (A : List (ℕ × ℕ)) → IsReceived limit t r A → sorted t r raw ≡ Ok s → length (words_of s A) < limit → IsReceived limit t r (A ++ (s, raw) ∷ [])
 received_more limit t r s raw A h is room =
     ap (accepted_after limit t r []) (map-append (λ (e : ℕ × ℕ). e.1) A ((s, raw) ∷ []))
-    ∙ in_pieces limit t r [] (map (λ (e : ℕ × ℕ). e.1) A) (raw ∷ [])
+    ∙ in_pieces t limit r [] (map (λ (e : ℕ × ℕ). e.1) A) (raw ∷ [])
     ∙ ap (λ (B : List (ℕ × ℕ)). with_word limit B raw (sorted t r raw)) h
     ∙ ap (with_word limit A raw) is
     ∙ rw (lt-ltb (length (words_of s A)) limit room) refl

@@ -10,12 +10,12 @@ use Rattle.a429_values.specs.declared.receiver.Accept.TheVariants.{Accepted, Par
 use Rattle.a429_workers.specs.declared.receiving.ReceiveTotals.{ReceiveTotals}
 use Rattle.a429_workers.specs.declared.receiving.ReceiveFault.TheVariants.{Gate, TooMuch}
 use Rattle.a429_workers.specs.Receives.{AreAtMost, AreTaken, Gives, IsSameReceiver, after_words, answers_to, counted, is_accepted, is_filtered, is_no_source, is_parity, is_spent, totals_of}
-use Rattle.a429_values.proofs.Accepting.{in_pieces}
+use Rattle.a429_equipment.proofs.Receiving.{in_pieces}
 
 -- ---- in pieces
 
 pub after_append : (r : Receiving) (xs ys : List ℕ) → after_words (after_words r xs) ys ≡ after_words r (xs ++ ys)
-after_append r xs ys = ap (λ (A : List (ℕ × ℕ)). record r { accepted = A }) (sym (in_pieces r.limit r.at.station r.number r.accepted xs ys))
+after_append r xs ys = ap (λ (A : List (ℕ × ℕ)). record r { accepted = A }) (sym (in_pieces r.at.station r.limit r.number r.accepted xs ys))
 
 pub answers_append : (r : Receiving) (xs ys : List ℕ) → answers_to r (xs ++ ys) ≡ answers_to r xs ++ answers_to (after_words r xs) ys
 answers_append r [] ys = refl

@@ -2,6 +2,8 @@
 ghost use Rattle.std.specs.Prelude.{⊤, OnErr};
 ghost use Rattle.a429_workers.specs.declared.gates.Point.{Point as At};
 
+use crate::receiving::ReceiveTotals;
+use a429_values::Accept;
 use thiserror::Error;
 
 /// A place in a loop. Receivers and groups go by their numbers, words and cells are counted from 0.
@@ -30,6 +32,10 @@ pub trait Gate {
     /// Lets the loop at this point go on, or ends it.
     fn pass(&self, point: Point) -> Result<(), GateFault>
         ensures { OnErr result (shuts self.now point) };
+
+    /// Is told what a receiver counted so far, and its answer to the last word: between the two points of that word.
+    /// A gate that does not care does nothing.
+    fn counted(&self, _answer: Accept, _totals: &ReceiveTotals) {}
 }
 
 /// A gate that always lets pass.
