@@ -22,3 +22,9 @@ pub mod OnGrid
 pub mod RowPlans
 pub mod CheckedFewest
 mod Shown
+pub mod Wider
+pub mod Margins
+pub mod MarginGroups
+pub mod RowFields
+pub mod AlignedRows
+pub mod DocumentRows

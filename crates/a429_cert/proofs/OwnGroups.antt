@@ -88,7 +88,7 @@ asked_exponents sources t = map-map exponent_of (asked_by sources) (outputs_of t
 length-exponents : (t : GroupTable) → length (exponents_of t) ≡ length t.demands
 length-exponents t = length-map (outputs_of t) (λ p. p.place.period) ∙ length-outputs t
 
-frame_greatest : (e : TableRecord) (rate : ℕ) (rows : List OutputRow) (t : GroupTable) → IsPlannedFor rate e.sources rows t → frame_of t ≡ 2 ^ greatest (exponents_of t)
+pub frame_greatest : (e : TableRecord) (rate : ℕ) (rows : List OutputRow) (t : GroupTable) → IsPlannedFor rate e.sources rows t → frame_of t ≡ 2 ^ greatest (exponents_of t)
 frame_greatest e rate rows t p = ap (λ (k : ℕ). 2 ^ k) (p.layout.frame ∙ ap greatest (asked_exponents e.sources t))
 
 -- rows have one grid period each
@@ -102,7 +102,7 @@ same_exponents rate (r ∷ rows) (k ∷ ks) (o ∷ os) fit served =
     let one : k ≡ o.place.period = same_power k o.place.period (grid_same r.min_us r.max_us rate (2 ^ k) (2 ^ o.place.period) fit.0 served.0.1) in
     ap₂ (λ x xs. x ∷ xs) one (same_exponents rate rows ks os fit.1 served.1)
 
-carried : (e : TableRecord) (rate : ℕ) (rows : List OutputRow) (t : GroupTable) → FewestCarry → IsPlannedFor rate e.sources rows t → 1 ≤ length t.demands → IsBusCount (exponents_of t) (buses_of t)
+pub carried : (e : TableRecord) (rate : ℕ) (rows : List OutputRow) (t : GroupTable) → FewestCarry → IsPlannedFor rate e.sources rows t → 1 ≤ length t.demands → IsBusCount (exponents_of t) (buses_of t)
 carried e rate rows t law p some =
     law (exponents_of t) (buses_of t) (omega (arith, length-exponents t))
     (subst (λ (ks : List ℕ). AreFewestBuses ks (buses_of t)) (same_exponents rate rows p.fewest.exponents (outputs_of t) p.fewest.fit p.served) p.fewest.fewest)
@@ -136,7 +136,7 @@ length-order e rate rows t p = length_permutation (range_with_len 0 (length t.de
 abbrev share : GroupTable → ℕ → ℕ
 share t o = frame_of t / 2 ^ get_or t.periods o 0
 
-total_is : (e : TableRecord) (rate : ℕ) (rows : List OutputRow) (t : GroupTable) → IsPlannedFor rate e.sources rows t → sum t.demands ≡ demand_of (exponents_of t)
+pub total_is : (e : TableRecord) (rate : ℕ) (rows : List OutputRow) (t : GroupTable) → IsPlannedFor rate e.sources rows t → sum t.demands ≡ demand_of (exponents_of t)
 total_is e rate rows t p =
     let n = length t.demands in
     let placed : sum t.demands ≡ sum_by (share t) (order_of t) = ap sum p.layout.demands ∙ sum-map (share t) (order_of t) in

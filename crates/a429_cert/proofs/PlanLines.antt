@@ -25,7 +25,7 @@ use Rattle.a429_slots.proofs.Cells.{output_at}
 
 -- ---- an output
 
-output_is : (t : GroupTable) (o : ℕ) → o < length (outputs_of t) → slice_get (outputs_of t) o ≡ Some (placed_at t o)
+pub output_is : (t : GroupTable) (o : ℕ) → o < length (outputs_of t) → slice_get (outputs_of t) o ≡ Some (placed_at t o)
 output_is t o below =
     let d : Placed = placed_at t 0 in
     slice_get-get_or (outputs_of t) o d below ∙ ap (λ (p : Placed). Some p) (output_at t o d (omega (arith, length-outputs t)))

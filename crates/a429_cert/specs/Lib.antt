@@ -9,3 +9,7 @@ pub mod Checked
 pub mod PlanText
 pub mod Judged
 pub mod Printed
+pub mod Margins
+pub mod Aligned
+pub mod Document
+pub mod CsvLines

@@ -12,7 +12,7 @@ use std::alloc::{AllocError, Global};
 use std::fmt::Write;
 
 /// Writes a group's first line.
-fn write_heading(
+pub(crate) fn write_heading(
     text: &mut String,
     version: u32,
     group: &GroupRow,

@@ -1,11 +1,17 @@
--- The commands `plan` and `check`: what they write, and their status (profile: output).
+-- The commands that tell of a table's plan, and `check`: what they write, and their status (profile: output).
 use Rattle.std.specs.Prelude.{◌≡◌, ◌∷◌, [], ◌++◌, ◌⊎◌, ℕ, List, Option, Result, MatchResult, Ok, Err, Some, string_bytes}
 use Rattle.std.specs.declared.vec.Vec.{Vec}
 use Rattle.std.specs.declared.alloc.Global.{Global}
 use Rattle.a429_equipment.specs.TableRecord.{TableRecord}
 use Rattle.a429_equipment.specs.Reading.{reading}
 use Rattle.a429_slots.specs.Proposed.{Proposed}
+use Rattle.a429_slots.specs.Tables.{PlanTable}
 use Rattle.a429_cert.specs.PlanText.{plan_text_of}
+use Rattle.a429_cert.specs.Aligned.{aligned}
+use Rattle.a429_cert.specs.Document.{csv_text_of, icd_rows}
+use Rattle.a429_cert.specs.Margins.{IsMarginText}
+use Rattle.a429_cli.specs.declared.plan_texts.PlanText.{PlanText}
+use Rattle.a429_cli.specs.declared.plan_texts.PlanText.TheVariants.{Plan, Document, Sheet, Margin}
 use Rattle.a429_cert.specs.Due.{IsDue, IsFirstUnfitOf}
 use Rattle.a429_cert.specs.Verdicts.{verdict}
 use Rattle.a429_cert.specs.Printed.{verdict_text}
@@ -19,25 +25,32 @@ use Rattle.a429_console.specs.RefusalText.{OrMemory, refusal_line}
 use Rattle.a429_console.specs.declared.output.refusals.CommandRefusal.{CommandRefusal}
 use Rattle.a429_console.specs.declared.output.refusals.CommandRefusal.TheVariants as refused
 
--- ---- plan
+-- ---- plan, icd and margin
 
--- the text of the plan of the table in a file
-abbrev pub IsPlanTextOf : (List ℕ → Option (List ℕ)) → List ℕ → List ℕ → Type 0
-IsPlanTextOf file name text = (table : List ℕ) × (q : Proposed) × (readable (file name) ≡ Some table) × IsProposedBy table q × (text ≡ plan_text_of q.station q.plan)
+-- the text tells this of a station's plan
+abbrev pub IsTextOf : PlanText → TableRecord → PlanTable → List ℕ → Type 0
+IsTextOf Plan e p text = text ≡ plan_text_of e p
+IsTextOf Document e p text = text ≡ aligned (icd_rows e p)
+IsTextOf Sheet e p text = text ≡ csv_text_of (icd_rows e p)
+IsTextOf Margin e p text = IsMarginText e p text
+
+-- it tells this of the plan of the table in a file
+abbrev pub IsPlanTextOf : (List ℕ → Option (List ℕ)) → PlanText → List ℕ → List ℕ → Type 0
+IsPlanTextOf file kind name text = (table : List ℕ) × (q : Proposed) × (readable (file name) ≡ Some table) × IsProposedBy table q × IsTextOf kind q.station q.plan text
 
 -- why there is none: the file, or its table, or the plan of that
 abbrev pub IsNoPlan : (List ℕ → Option (List ℕ)) → List ℕ → CommandRefusal → Type 0
 IsNoPlan file name refusal = IsFileRefusal file name refusal ⊎ ((table : List ℕ) × (readable (file name) ≡ Some table) × IsTableRefusal table refusal)
 
--- what planning the table in a file gives: the text of its plan, or why there is none
-abbrev pub IsPlanning : (List ℕ → Option (List ℕ)) → List ℕ → Result (Vec ℕ Global) CommandRefusal → Type 0
-IsPlanning file name result = MatchResult result (λ text. IsPlanTextOf file name text.items) (OrMemory (IsNoPlan file name))
+-- what planning the table in a file gives: a text that tells this of its plan, or why there is none
+abbrev pub IsPlanning : (List ℕ → Option (List ℕ)) → PlanText → List ℕ → Result (Vec ℕ Global) CommandRefusal → Type 0
+IsPlanning file kind name result = MatchResult result (λ text. IsPlanTextOf file kind name text.items) (OrMemory (IsNoPlan file name))
 
--- what is written of the table in a file, and the status: the line of a refusal, or the text of its plan
-abbrev pub IsPlanReply : (List ℕ → Option (List ℕ)) → List ℕ → ℕ → List ℕ → Type 0
-IsPlanReply file name status bytes =
+-- what is written of the table in a file, and the status: the line of a refusal, or the text
+abbrev pub IsPlanReply : (List ℕ → Option (List ℕ)) → PlanText → List ℕ → ℕ → List ℕ → Type 0
+IsPlanReply file kind name status bytes =
     ((refusal : CommandRefusal) × OrMemory (IsNoPlan file name) refusal × (status ≡ 1) × (bytes ≡ refusal_line refusal ++ 10 ∷ []))
-    ⊎ (IsPlanTextOf file name bytes × (status ≡ 0))
+    ⊎ (IsPlanTextOf file kind name bytes × (status ≡ 0))
 
 -- ---- check
 

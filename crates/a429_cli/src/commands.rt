@@ -2,12 +2,13 @@
 ghost use Rattle.std.specs.Prelude.{◌≡◌, ◌≢◌, ◌≤◌, ◌+◌, ◌⊎◌, IfOk, IsTrue, OnOk};
 ghost use Rattle.a429_console.specs.Files.{texts_of};
 ghost use Rattle.a429_console.specs.Outputs.{CountsFault, IsPut, NoneFailed, OrNoMemory};
-ghost use Rattle.a429_console.specs.Requests.{AsksFor, RequestBytes, request_of};
+ghost use Rattle.a429_console.specs.RequestRows.{AsksFor};
+ghost use Rattle.a429_console.specs.Requests.{RequestBytes, request_of};
 ghost use Rattle.a429_cli.specs.Replies.{IsReplyOrMemory};
 ghost use Rattle.a429_console.specs.Usage.{AsksForHelp, IsHelpReply, IsNoRequest, IsUsageFault, IsUsageReply};
 
 use crate::lines::tell_lines;
-use crate::plan_texts::{print_plan, print_verdict};
+use crate::plan_texts::{PlanText, print_plan, print_verdict};
 use crate::replay::replay;
 use crate::word::tell_word;
 use a429_console::arguments::replies::explain;
@@ -133,7 +134,16 @@ fn answer<F: FileReader, O: Output>(
     match request {
         Request::Word { text } => tell_word(alloc, text, out),
         Request::Lines { file, filters } => tell_lines(alloc, files, file, filters, out),
-        Request::Plan { table } => print_plan(alloc, files, table, out),
+        Request::Plan { table } => print_plan(alloc, files, table, PlanText::Plan, out),
+        Request::Icd { table, csv: false } => print_plan(
+            alloc,
+            files,
+            table,
+            PlanText::Document,
+            out,
+        ),
+        Request::Icd { table, csv: true } => print_plan(alloc, files, table, PlanText::Sheet, out),
+        Request::Margin { table } => print_plan(alloc, files, table, PlanText::Margin, out),
         Request::Check { table, plan } => print_verdict(alloc, files, table, plan, out),
         Request::Replay {
             table,

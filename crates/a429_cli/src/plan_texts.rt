@@ -1,50 +1,82 @@
-//! The commands `plan` and `check`.
+//! The commands that tell of the plan of a table, and `check`.
 ghost use Rattle.std.specs.Prelude.{◌≡◌, ◌≤◌, ◌++◌, ◌∷◌, [], IfOk, IsTrue, MatchResult, OnOk};
 ghost use Rattle.std.specs.Io.KnownBytes.{Appends};
 ghost use Rattle.a429_cert.specs.Printed.{verdict_text};
 ghost use Rattle.a429_console.specs.Outputs.{CountsFault, IsPut, OrNoMemory};
-ghost use Rattle.a429_cli.specs.PlanReplies.{IsCheckReply, IsJudged, IsJudging, IsPlanReply, IsPlanning, IsUnjudged, IsVerdictReply, verdict_status};
+ghost use Rattle.a429_cli.specs.PlanReplies.{IsCheckReply, IsJudged, IsJudging, IsPlanReply, IsPlanning, IsTextOf, IsUnjudged, IsVerdictReply, verdict_status};
 ghost use Rattle.a429_console.specs.RefusalText.{OrMemory};
 
-use a429_cert::{NoVerdict, Verdict, judge, plan_text};
+use a429_cert::{NoVerdict, Verdict, icd_csv, icd_text, judge, margin_text, plan_text};
 use a429_console::files::FileReader;
 use a429_console::files::reading::read_file;
 use a429_console::output::endings::{finish, refuse, refuse_memory};
 use a429_console::output::refusals::CommandRefusal;
 use a429_console::output::{Output, OutputFault};
 use a429_console::tables::{propose, read_table, unfit};
-use std::alloc::Global;
+use a429_slots::{OUTPUTS, Proposal};
+use std::alloc::{AllocError, Global};
 use std::io;
 use std::io::Write;
 
-/// The text of the plan of the table in a file. Refused is the file, then the table, then its plan.
+/// What is told of a plan.
+#[derive(Clone, Copy, Debug, PartialEq, Eq)]
+pub enum PlanText {
+    /// The plan itself, with its bounds.
+    Plan,
+    /// What an interface control document says of each output, in columns.
+    Document,
+    /// The same as comma-separated values.
+    Sheet,
+    /// How far each group is from one bus fewer.
+    Margin,
+}
+
+/// The text that tells this of a proposal's plan. The error is that memory was refused.
+fn text_of(
+    alloc: Global,
+    kind: PlanText,
+    proposal: &Proposal<OUTPUTS>,
+) -> Result<Vec<u8>, AllocError>
+    ensures { IfOk result (λ text. IsTextOf kind proposal.now.station proposal.now.plan text.items) }
+{
+    match kind {
+        PlanText::Plan => plan_text(alloc, proposal),
+        PlanText::Document => icd_text(alloc, proposal),
+        PlanText::Sheet => icd_csv(alloc, proposal),
+        PlanText::Margin => margin_text(alloc, proposal),
+    }
+}
+
+/// The text that tells this of the plan of the table in a file. Refused is the file, then the table, then its plan.
 fn planned<F: FileReader>(
     alloc: Global,
     files: &mut F,
     name: &str,
+    kind: PlanText,
 ) -> Result<Vec<u8>, CommandRefusal>
-    ensures { IsTrue (F.tells files.old) → IsPlanning (F.file files.old) name.now result }
+    ensures { IsTrue (F.tells files.old) → IsPlanning (F.file files.old) kind name.now result }
 {
     let table = read_file(alloc, files, name)?;
     let proposal = propose(alloc, &table)?;
-    Ok(plan_text(alloc, &proposal)?)
+    Ok(text_of(alloc, kind, &proposal)?)
 }
 
-/// Puts the text of the plan of the table in a file, or the one line of a refusal. The status is 0, or 1 where
-/// it was refused.
+/// Puts the text that tells this of the plan of the table in a file, or the one line of a refusal. The status is 0, or
+/// 1 where it was refused.
 pub fn print_plan<F: FileReader, O: Output>(
     alloc: Global,
     files: &mut F,
     name: &str,
+    kind: PlanText,
     out: &mut O,
 ) -> Result<u8, OutputFault>
     ensures planned { IsTrue (F.tells files.old) → IfOk result
-        (IsPut (IsPlanReply (F.file files.old) name.now) (O.contents out.old) (O.contents out.new)) }
+        (IsPut (IsPlanReply (F.file files.old) kind name.now) (O.contents out.old) (O.contents out.new)) }
     ensures status { IfOk result (λ status. status ≤ 1) }
     ensures flushed { OnOk result (IsTrue (O.is_flushed out.new)) }
     ensures faults { CountsFault result (O.failures out.old) (O.failures out.new) }
 {
-    match planned(alloc, files, name) {
+    match planned(alloc, files, name, kind) {
         Ok(text) => finish(&text, true, out),
         Err(refusal) => refuse(alloc, &refusal, out),
     }

@@ -63,11 +63,13 @@ fn a_reader_may_refuse_any_file(rt: HostRuntime) {
 
 #[test]
 fn each_file_is_read_once(rt: HostRuntime) {
-    let commands: [(&[&str], usize); 5] = [
+    let commands: [(&[&str], usize); 7] = [
         (&["word", "600000c1"], 0),
         (&["lines", "t"], 1),
         (&["plan", "t"], 1),
         (&["check", "t", "u"], 2),
+        (&["icd", "t"], 1),
+        (&["margin", "t"], 1),
         (&["replay", "t", "s", "u", "u"], 4),
     ];
     for (words, reads) in commands {

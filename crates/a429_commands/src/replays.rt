@@ -7,6 +7,7 @@ ghost use Rattle.a429_cli.specs.Replies.{IsReplyOrMemory};
 ghost use Rattle.a429_commands.specs.Replayed.{IsPlayedToTheEnd};
 
 use a429_cli::{CountedWriter, MemoryFiles, command};
+use a429_console::laws::plain_words_ask;
 use std::alloc::Global;
 
 /// The status of a replay over files in memory, and what it writes, where all of it was taken. With status 0 that is what
@@ -22,6 +23,7 @@ pub fn replay_in_memory(
     ensures replied { IfSome result (λ told. IsReplyOrMemory (file_of files.old.files.items) (Replay table.now script.now []) told.0 told.1.items) }
     ensures done { IfSome result (λ told. told.0 ≡ 0 → IsPlayedToTheEnd (file_of files.old.files.items) table.now script.now told.1.items) }
 {
+    plain_words_ask();
     let words = ["replay", table, script];
     let mut out = CountedWriter::new(Vec::new(alloc));
     let mut err = Vec::new(alloc);

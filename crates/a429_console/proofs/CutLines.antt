@@ -1,5 +1,5 @@
 -- The lines of a text by its first line.
-use Rattle.std.proofs.Common.{◌≡◌, ◌∙◌, ◌+◌, ◌<◌, ℕ, suc, Bool, true, false, cond, List, take, drop, [], ◌∷◌, length, refl, sym, ap, arith, add-one}
+use Rattle.std.proofs.Common.{◌≡◌, ◌∙◌, ◌+◌, ℕ, suc, Bool, true, false, cond, List, take, drop, [], ◌∷◌, length, refl, sym, ap, arith, add-one}
 use Rattle.std.specs.Prelude.{◌==◌, Option, Some, None, nat_lt, option_map, if◌then◌else◌}
 use Rattle.std.specs.List.{position_or_len}
 use Rattle.std.proofs.lemmas.Bool.Decides.{nat_tests}

@@ -1,18 +1,20 @@
 -- What was found of the words that name a command.
 use Rattle.std.proofs.Common.{◌≡◌, ◌∙◌, ap, sym, refl, true, false, codes, Bool, List, []}
-use Rattle.std.specs.Prelude.{Option, Some, None, Result, Ok, Err, MatchResult, not, option_and_then, option_map, unwrap_or, Box}
+use Rattle.std.specs.Prelude.{Option, Some, None, Result, Ok, Err, MatchResult, not, if◌then◌else◌, option_and_then, option_map, unwrap_or, Box}
 use Rattle.std.proofs.lemmas.Bool.{and_parts}
 use Rattle.std.proofs.lemmas.Option.{same_Some}
+use Rattle.std.proofs.lemmas.Slice.Eq.{bytes_eq-Decides}
+use Rattle.std.specs.Str.{bytes_eq}
 use Rattle.std.specs.Box.{box_value}
 use Rattle.std.specs.declared.alloc.Global.{Global}
-use Rattle.clap.specs.Words.{Row, Text, all_of, app_of, first_of, subcommand_name_of, subcommand_rows, subcommand_rows_of}
+use Rattle.clap.specs.Words.{Row, Text, all_of, app_of, first_of, subcommand_name_of, one_of, subcommand_rows, subcommand_rows_of}
 use Rattle.clap.specs.declared.parser.matches.SubCommand.{SubCommand}
 use Rattle.clap.specs.declared.builder.command.Command.{Command}
 use Rattle.clap.specs.declared.builder.command.Command.TheViews.{out-Command}
 use Rattle.clap.specs.declared.parser.matches.ArgMatches.{ArgMatches}
 use Rattle.clap.specs.declared.parser.matches.ArgMatches.TheViews.{out-ArgMatches, out-SubCommand}
-use Rattle.a429_console.specs.Requests.{RequestBytes, Word, Lines, Plan, Check, Replay}
-use Rattle.a429_console.specs.RequestRows.{request_by, word_request, lines_request, plan_request, check_request, replay_request}
+use Rattle.a429_console.specs.Requests.{RequestBytes, Word, Lines, Plan, Check, Icd, Margin, Replay}
+use Rattle.a429_console.specs.RequestRows.{flag_given, request_by, word_request, lines_request, plan_request, check_request, icd_request, margin_request, replay_request}
 
 was_not : (b : Bool) → not b ≡ true → b ≡ false
 was_not true e = cc
@@ -56,6 +58,34 @@ plan_is rows t r at asked = same_Some (Plan t) r (ap (option_map Plan) at ∙ as
 
 pub check_is : (rows : List Row) (t s : Text) (r : RequestBytes) → Some t ≡ first_of (codes "TABLE") rows → Some s ≡ first_of (codes "PLAN") rows → check_request rows ≡ Some r → Check t s ≡ r
 check_is rows t s r table text asked = same_Some (Check t s) r (rw (← table, ← text) at asked)
+
+-- what `get_flag` says of the value of an option
+pub record IsFlag (text : Option Text) (flag : Bool) : Type 0 where
+  pub at_none : text ≡ None → flag ≡ false
+  pub at_true : text ≡ Some (codes "true") → flag ≡ true
+  pub at_false : text ≡ Some (codes "false") → flag ≡ false
+
+flag_by : (flag set unset b : Bool) → (set ≡ true → flag ≡ true) → (unset ≡ true → flag ≡ false) → (if set then Some true else (if unset then Some false else None)) ≡ Some b → flag ≡ b
+flag_by flag true unset b is_true is_false given = is_true refl ∙ same_Some true b given
+flag_by flag false true b is_true is_false given = is_false refl ∙ same_Some false b given
+flag_by flag false false b is_true is_false given = absurd (cc given)
+
+flag_is : (text : Option Text) (flag b : Bool) → IsFlag text flag → flag_given text ≡ Some b → flag ≡ b
+flag_is None flag b said given = said.at_none refl ∙ same_Some false b given
+flag_is (Some text) flag b said given =
+    flag_by flag (bytes_eq text (codes "true")) (bytes_eq text (codes "false")) b (λ e. said.at_true (ap Some ((bytes_eq-Decides text (codes "true")).0 e)))
+    (λ e. said.at_false (ap Some ((bytes_eq-Decides text (codes "false")).0 e))) given
+
+icd_by : (t : Text) (given : Option Bool) (flag : Bool) (r : RequestBytes) → ((b : Bool) → given ≡ Some b → flag ≡ b) → option_map (Icd t) given ≡ Some r → Icd t flag ≡ r
+icd_by t None flag r same is = absurd (cc is)
+icd_by t (Some b) flag r same is = ap (Icd t) (same b refl) ∙ same_Some (Icd t b) r is
+
+pub icd_is : (rows : List Row) (t : Text) (flag : Bool) (r : RequestBytes) → Some t ≡ first_of (codes "TABLE") rows → IsFlag (one_of (codes "csv") rows) flag → icd_request rows ≡ Some r → Icd t flag ≡ r
+icd_is rows t flag r at said asked =
+    icd_by t (flag_given (one_of (codes "csv") rows)) flag r (λ b is. flag_is (one_of (codes "csv") rows) flag b said is) (rw (← at) at asked)
+
+pub margin_is : (rows : List Row) (t : Text) (r : RequestBytes) → Some t ≡ first_of (codes "TABLE") rows → margin_request rows ≡ Some r → Margin t ≡ r
+margin_is rows t r at asked = same_Some (Margin t) r (ap (option_map Margin) at ∙ asked)
 
 pub replay_is : (rows : List Row) (t s : Text) (many : Option (List Text)) (further : List Text) (r : RequestBytes) → Some t ≡ first_of (codes "TABLE") rows → Some s ≡ first_of (codes "SCRIPT") rows
     → many ≡ all_of (codes "FURTHER") rows → unwrap_or many [] ≡ further → replay_request rows ≡ Some r → Replay t s further ≡ r

@@ -2,6 +2,9 @@ pub mod PlainWords
 pub mod StoppedWords
 pub mod ManyWords
 pub mod RequestWords
+pub mod MarginWords
+pub mod IcdWords
+pub mod AskedWords
 pub mod LiveRequestWords
 pub mod Elsewhere
 pub mod LiveFound

@@ -1,5 +1,5 @@
 -- What was found of the words of `live`.
-use Rattle.std.proofs.Common.{◌≡◌, ◌∙◌, ap, sym, codes, List, []}
+use Rattle.std.proofs.Common.{◌≡◌, ap, sym, codes, List, []}
 use Rattle.std.specs.Prelude.{Option, Some, None, option_map, unwrap_or}
 use Rattle.std.proofs.lemmas.Option.{same_Some}
 use Rattle.clap.specs.Words.{Row, Text, all_of, first_of}

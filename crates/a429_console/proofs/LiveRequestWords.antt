@@ -1,6 +1,6 @@
 -- What the words of `live` come to.
 use Rattle.std.proofs.Common.{◌≡◌, ◌∙◌, ap, ap₂, refl, codes, true, false, List, [], ◌∷◌, ◌++◌, fold}
-use Rattle.std.specs.Prelude.{Some, Bool, ◌&&◌, option_and_then}
+use Rattle.std.specs.Prelude.{Some, Bool, ◌&&◌}
 use Rattle.std.specs.List.{AllByRecursion}
 use Rattle.clap.specs.Words.{Row, Shape, Text, subcommand_of, takes}
 use Rattle.clap.specs.Walk.{Held, Walk, idle, positional, value, walk, walked, walk_from, nothing_held, finished, stop_after, to_positional, arg_by_index}
@@ -10,7 +10,7 @@ use Rattle.clap.specs.ValueTests.{accepts}
 use Rattle.clap.specs.declared.builder.value_parser.ValueParser.TheVariants as reads
 use Rattle.clap.proofs.OnLiterals.{clap_on_literals}
 use Rattle.a429_console.specs.CommandLine.{command_line, top_shape, live_app, IsName}
-use Rattle.a429_console.specs.LiveWords.{LiveTexts, live_texts}
+use Rattle.a429_console.specs.LiveWords.{live_texts}
 use Rattle.a429_console.specs.RequestRows.{live_found}
 use Rattle.a429_console.proofs.PlainWords.{IsPlainWord, name_is_plain, at_word, for_none, walked_word, turn_of_word}
 use Rattle.a429_console.proofs.StoppedWords.{stopped_more, stopped_passes}

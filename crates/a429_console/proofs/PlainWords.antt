@@ -1,5 +1,5 @@
 -- Words that no option can be: each is a value.
-use Rattle.std.proofs.Common.{◌≡◌, ap, refl, false, ℕ, List, [], ◌∷◌}
+use Rattle.std.proofs.Common.{◌≡◌, ap, refl, true, false, ℕ, List, [], ◌∷◌}
 use Rattle.std.specs.Prelude.{None, nat_eq}
 use Rattle.std.specs.Str.{bytes_eq}
 use Rattle.std.proofs.lemmas.Bool.{ne_eqb}

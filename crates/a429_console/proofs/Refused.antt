@@ -1,5 +1,5 @@
 -- Refusals that are handed on.
-use Rattle.std.proofs.Common.{◌≡◌, ◌⊎◌, [], ◌∷◌, sym, subst, ℕ, List, inl, inr}
+use Rattle.std.proofs.Common.{◌≡◌, [], ◌∷◌, sym, subst, ℕ, List, inl, inr}
 use Rattle.std.specs.Prelude.{Option, Result, Ok, Err, IfOk, OnOk, MatchResult}
 use Rattle.a429_console.specs.Files.{AreRead, IsFileRefusal, IsFirstUnread}
 use Rattle.a429_console.specs.Tables.{IsTableFault, IsTableRefusal}

@@ -9,7 +9,7 @@ use Rattle.clap.specs.Simple.{built, built_leaf, entered, inherited, names_of}
 use Rattle.clap.specs.Takes.{default_passes, entered_passes, is_valid, level_passes, settle_passes, step_passes, walk_passes}
 use Rattle.clap.proofs.OnLiterals.{clap_on_literals}
 use Rattle.a429_console.specs.CommandLine.{command_line, top_shape, word_app, lines_app, plan_app, check_app, replay_app, IsName}
-use Rattle.a429_console.specs.Requests.{RequestBytes, Word, Lines, Plan, Check, Replay, request_words, HasNames}
+use Rattle.a429_console.specs.Requests.{Word, Lines, Plan, Check, Replay}
 use Rattle.a429_console.specs.RequestRows.{request_by}
 use Rattle.a429_console.proofs.PlainWords.{IsPlainWord, name_is_plain, at_word, for_none, walked_word, turn_of_word}
 use Rattle.a429_console.proofs.StoppedWords.{stopped_more, stopped_passes}
@@ -24,16 +24,16 @@ unfolding command_line clap_on_literals
 is_free_here = refl
 
 -- the subcommands as they are built
-abbrev word_leaf : Shape
+abbrev pub word_leaf : Shape
 word_leaf = built_leaf (inherited top_shape word_app.top)
 
 abbrev lines_leaf : Shape
 lines_leaf = built_leaf (inherited top_shape lines_app.top)
 
-abbrev plan_leaf : Shape
+abbrev pub plan_leaf : Shape
 plan_leaf = built_leaf (inherited top_shape plan_app.top)
 
-abbrev check_leaf : Shape
+abbrev pub check_leaf : Shape
 check_leaf = built_leaf (inherited top_shape check_app.top)
 
 abbrev replay_leaf : Shape
@@ -77,17 +77,17 @@ word_entered : (t : Text) → subcommand_of command_line (codes "word" ∷ t ∷
 unfolding command_line clap_on_literals
 word_entered t = refl
 
-word_asked : (t : Text) → IsName t → option_and_then (λ (p : Text × List Row). request_by p.0 p.1) (subcommand_of command_line (codes "word" ∷ t ∷ [])) ≡ Some (Word t)
+pub word_asked : (t : Text) → IsName t → option_and_then (λ (p : Text × List Row). request_by p.0 p.1) (subcommand_of command_line (codes "word" ∷ t ∷ [])) ≡ Some (Word t)
 word_asked t a = rw (word_entered t, word_rows t (name_is_plain t a)) refl
 
 word_walk_passes : (t : Text) → IsPlainWord t → walk_passes word_leaf [] (walk_from nothing_held) (t ∷ []) ≡ true
 unfolding walk_passes
 word_walk_passes t p = rw (turn_of_word word_leaf idle nothing_held 1 t for_none p) refl
 
-word_level : (t : Text) → IsPlainWord t → level_passes word_leaf [] nothing_held (t ∷ []) false ≡ true
+pub word_level : (t : Text) → IsPlainWord t → level_passes word_leaf [] nothing_held (t ∷ []) false ≡ true
 word_level t p = rw (word_walk_passes t p, word_walked t p) refl
 
-word_takes : (t : Text) → takes command_line (codes "word" ∷ t ∷ []) ≡ (level_passes word_leaf [] nothing_held (t ∷ []) false && true)
+pub word_takes : (t : Text) → takes command_line (codes "word" ∷ t ∷ []) ≡ (level_passes word_leaf [] nothing_held (t ∷ []) false && true)
 unfolding command_line clap_on_literals
 word_takes t = refl
 
@@ -160,7 +160,7 @@ lines_of_rows : (t : Text) (filters : List Text) → request_by (codes "lines") 
 lines_of_rows t [] = refl
 lines_of_rows t (f ∷ fs) = refl
 
-lines_asked : (t : Text) (filters : List Text) → IsName t → AllByRecursion IsName filters
+pub lines_asked : (t : Text) (filters : List Text) → IsName t → AllByRecursion IsName filters
     → option_and_then (λ (p : Text × List Row). request_by p.0 p.1) (subcommand_of command_line (codes "lines" ∷ t ∷ filters)) ≡ Some (Lines t filters)
 lines_asked t filters a names = rw (lines_entered t filters, lines_rows t filters (name_is_plain t a) names) (lines_of_rows t filters)
 
@@ -190,7 +190,7 @@ lines_level t filters p names =
     all_four _ _ _ _ (lines_walk_passes t filters p names) (lines_settles t filters p names) refl
     (ap (λ (rows : List Row). is_valid lines_leaf rows false) (lines_rows t filters p names) ∙ lines_valid t filters)
 
-lines_takes : (t : Text) (filters : List Text) → IsPlainWord t → AllByRecursion IsName filters → takes command_line (codes "lines" ∷ t ∷ filters) ≡ true
+pub lines_takes : (t : Text) (filters : List Text) → IsPlainWord t → AllByRecursion IsName filters → takes command_line (codes "lines" ∷ t ∷ filters) ≡ true
 unfolding command_line clap_on_literals passes_with
 lines_takes t filters p names =
     ap₂ passes_with (stopped_more top.rules commands (at_command (codes "lines")) (codes "lines") [] (t ∷ filters) refl)
@@ -211,17 +211,17 @@ plan_entered : (t : Text) → subcommand_of command_line (codes "plan" ∷ t ∷
 unfolding command_line clap_on_literals
 plan_entered t = refl
 
-plan_asked : (t : Text) → IsName t → option_and_then (λ (p : Text × List Row). request_by p.0 p.1) (subcommand_of command_line (codes "plan" ∷ t ∷ [])) ≡ Some (Plan t)
+pub plan_asked : (t : Text) → IsName t → option_and_then (λ (p : Text × List Row). request_by p.0 p.1) (subcommand_of command_line (codes "plan" ∷ t ∷ [])) ≡ Some (Plan t)
 plan_asked t a = rw (plan_entered t, plan_rows t (name_is_plain t a)) refl
 
 plan_walk_passes : (t : Text) → IsPlainWord t → walk_passes plan_leaf [] (walk_from nothing_held) (t ∷ []) ≡ true
 unfolding walk_passes
 plan_walk_passes t p = rw (turn_of_word plan_leaf idle nothing_held 1 t for_none p) refl
 
-plan_level : (t : Text) → IsPlainWord t → level_passes plan_leaf [] nothing_held (t ∷ []) false ≡ true
+pub plan_level : (t : Text) → IsPlainWord t → level_passes plan_leaf [] nothing_held (t ∷ []) false ≡ true
 plan_level t p = rw (plan_walk_passes t p, plan_walked t p) refl
 
-plan_takes : (t : Text) → takes command_line (codes "plan" ∷ t ∷ []) ≡ (level_passes plan_leaf [] nothing_held (t ∷ []) false && true)
+pub plan_takes : (t : Text) → takes command_line (codes "plan" ∷ t ∷ []) ≡ (level_passes plan_leaf [] nothing_held (t ∷ []) false && true)
 unfolding command_line clap_on_literals
 plan_takes t = refl
 
@@ -249,7 +249,7 @@ check_entered : (t s : Text) → subcommand_of command_line (codes "check" ∷ t
 unfolding command_line clap_on_literals
 check_entered t s = refl
 
-check_asked : (t s : Text) → IsName t → IsName s → option_and_then (λ (p : Text × List Row). request_by p.0 p.1) (subcommand_of command_line (codes "check" ∷ t ∷ s ∷ [])) ≡ Some (Check t s)
+pub check_asked : (t s : Text) → IsName t → IsName s → option_and_then (λ (p : Text × List Row). request_by p.0 p.1) (subcommand_of command_line (codes "check" ∷ t ∷ s ∷ [])) ≡ Some (Check t s)
 check_asked t s a b = rw (check_entered t s, check_rows t s (name_is_plain t a) (name_is_plain s b)) refl
 
 check_walk_passes : (t s : Text) → IsPlainWord t → IsPlainWord s → walk_passes check_leaf [] (walk_from nothing_held) (t ∷ s ∷ []) ≡ true
@@ -257,10 +257,10 @@ unfolding walk_passes
 check_walk_passes t s p q =
     rw (turn_of_word check_leaf idle nothing_held 1 t for_none p, check_first t p, turn_of_word check_leaf idle (held_last [] (codes "TABLE") t) 2 s for_none q) refl
 
-check_level : (t s : Text) → IsPlainWord t → IsPlainWord s → level_passes check_leaf [] nothing_held (t ∷ s ∷ []) false ≡ true
+pub check_level : (t s : Text) → IsPlainWord t → IsPlainWord s → level_passes check_leaf [] nothing_held (t ∷ s ∷ []) false ≡ true
 check_level t s p q = rw (check_walk_passes t s p q, check_walked t s p q) refl
 
-check_takes : (t s : Text) → takes command_line (codes "check" ∷ t ∷ s ∷ []) ≡ (level_passes check_leaf [] nothing_held (t ∷ s ∷ []) false && true)
+pub check_takes : (t s : Text) → takes command_line (codes "check" ∷ t ∷ s ∷ []) ≡ (level_passes check_leaf [] nothing_held (t ∷ s ∷ []) false && true)
 unfolding command_line clap_on_literals
 check_takes t s = refl
 
@@ -338,19 +338,10 @@ request_of_rows : (t s : Text) (further : List Text) → request_by (codes "repl
 request_of_rows t s [] = refl
 request_of_rows t s (f ∷ fs) = refl
 
-replay_asked : (t s : Text) (further : List Text) → IsName t → IsName s → AllByRecursion IsName further
+pub replay_asked : (t s : Text) (further : List Text) → IsName t → IsName s → AllByRecursion IsName further
     → option_and_then (λ (p : Text × List Row). request_by p.0 p.1) (subcommand_of command_line (codes "replay" ∷ t ∷ s ∷ further)) ≡ Some (Replay t s further)
 replay_asked t s further a b names =
     rw (replay_entered t s further, replay_rows t s further (name_is_plain t a) (name_is_plain s b) names) (request_of_rows t s further)
-
--- ---- requests
-
-pub asked_words : (r : RequestBytes) → HasNames r → option_and_then (λ (p : Text × List Row). request_by p.0 p.1) (subcommand_of command_line (request_words r)) ≡ Some r
-asked_words (Word t) a = word_asked t a
-asked_words (Lines t filters) (a, names) = lines_asked t filters a names
-asked_words (Plan t) a = plan_asked t a
-asked_words (Check t s) (a, b) = check_asked t s a b
-asked_words (Replay t s further) (a, b, names) = replay_asked t s further a b names
 
 replay_walk_passes : (t s : Text) (further : List Text) → IsPlainWord t → IsPlainWord s → AllByRecursion IsName further → walk_passes replay_leaf [] (walk_from nothing_held) (t ∷ s ∷ further) ≡ true
 unfolding walk_passes
@@ -381,16 +372,9 @@ replay_level t s further p q names =
     all_four _ _ _ _ (replay_walk_passes t s further p q names) (replay_settles t s further p q names) refl
     (ap (λ (rows : List Row). is_valid replay_leaf rows false) (replay_rows t s further p q names) ∙ replay_valid t s further)
 
-replay_takes : (t s : Text) (further : List Text) → IsPlainWord t → IsPlainWord s → AllByRecursion IsName further → takes command_line (codes "replay" ∷ t ∷ s ∷ further) ≡ true
+pub replay_takes : (t s : Text) (further : List Text) → IsPlainWord t → IsPlainWord s → AllByRecursion IsName further → takes command_line (codes "replay" ∷ t ∷ s ∷ further) ≡ true
 unfolding command_line clap_on_literals passes_with
 replay_takes t s further p q names =
     ap₂ passes_with (stopped_more top.rules commands (at_command (codes "replay")) (codes "replay") [] (t ∷ s ∷ further) refl)
     (stopped_passes top commands (at_command (codes "replay")) (codes "replay") [] (t ∷ s ∷ further) refl)
     ∙ rw (replay_level t s further p q names) refl
-
-pub takes_words : (r : RequestBytes) → HasNames r → takes command_line (request_words r) ≡ true
-takes_words (Word t) a = word_takes t ∙ rw (word_level t (name_is_plain t a)) refl
-takes_words (Lines t filters) (a, names) = lines_takes t filters (name_is_plain t a) names
-takes_words (Plan t) a = plan_takes t ∙ rw (plan_level t (name_is_plain t a)) refl
-takes_words (Check t s) (a, b) = check_takes t s ∙ rw (check_level t s (name_is_plain t a) (name_is_plain s b)) refl
-takes_words (Replay t s further) (a, b, names) = replay_takes t s further (name_is_plain t a) (name_is_plain s b) names

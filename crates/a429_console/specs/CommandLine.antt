@@ -2,7 +2,7 @@
 use Rattle.std.specs.Prelude.{◌≡◌, ◌≢◌, ◌∷◌, [], ℕ, true, false, Some, codes, ⊤}
 use Rattle.clap.specs.Words.{App, Rule, Shape, Text, new_app, new_rule, rule_of, with_rule, with_subcommand}
 use Rattle.clap.specs.declared.builder.arg.Arg.{Arg}
-use Rattle.clap.specs.declared.builder.action.ArgAction.TheVariants.{Append}
+use Rattle.clap.specs.declared.builder.action.ArgAction.TheVariants.{Append, SetTrue}
 use Rattle.clap.specs.declared.builder.value_parser.ValueParser.TheVariants as reads
 
 abbrev pub required_rule : Text → Rule
@@ -15,6 +15,10 @@ number_rule id most = record (required_rule id) { parser = Some (reads.Unsigned 
 -- as many values as are given
 abbrev pub many_rule : Text → Rule
 many_rule id = record (new_rule id) { action = Some Append }
+
+-- an option of this name, which has no value
+abbrev pub flag_rule : Text → Rule
+flag_rule name = record (new_rule name) { long = Some name; action = Some SetTrue }
 
 -- an argument of this rule, for one command alone
 abbrev pub HasRule : Arg → Rule → Type 0
@@ -31,6 +35,12 @@ plan_app = with_rule (new_app (codes "plan")) (required_rule (codes "TABLE"))
 
 abbrev pub check_app : App
 check_app = with_rule (with_rule (new_app (codes "check")) (required_rule (codes "TABLE"))) (required_rule (codes "PLAN"))
+
+abbrev pub icd_app : App
+icd_app = with_rule (with_rule (new_app (codes "icd")) (required_rule (codes "TABLE"))) (flag_rule (codes "csv"))
+
+abbrev pub margin_app : App
+margin_app = with_rule (new_app (codes "margin")) (required_rule (codes "TABLE"))
 
 abbrev pub replay_app : App
 replay_app = with_rule (with_rule (with_rule (new_app (codes "replay")) (required_rule (codes "TABLE"))) (required_rule (codes "SCRIPT"))) (many_rule (codes "FURTHER"))
@@ -49,7 +59,7 @@ bare_line = record { top = top_shape; subs = [] }
 
 unfoldable pub command_line : App
 command_line =
-    with_subcommand (with_subcommand (with_subcommand (with_subcommand (with_subcommand (with_subcommand bare_line word_app.top) lines_app.top) plan_app.top) check_app.top) replay_app.top)
+    with_subcommand (with_subcommand (with_subcommand (with_subcommand (with_subcommand (with_subcommand (with_subcommand (with_subcommand bare_line word_app.top) lines_app.top) plan_app.top) check_app.top) icd_app.top) margin_app.top) replay_app.top)
     live_app.top
 
 -- a name of a file, which no option can be

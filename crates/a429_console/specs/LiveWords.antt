@@ -2,7 +2,7 @@
 use Rattle.std.specs.Prelude.{◌≡◌, ◌≢◌, ◌∷◌, [], ℕ, List, Option, Some, codes, option_and_then, option_map, unwrap_or}
 use Rattle.std.specs.List.{AllByRecursion}
 use Rattle.std.specs.Str.Parse.{digits_value, without_leading_plus}
-use Rattle.clap.specs.Words.{IsUnsignedIn, Row, Text, all_of, first_of}
+use Rattle.clap.specs.Words.{IsUnsignedIn, Row, all_of, first_of}
 use Rattle.a429_console.specs.CommandLine.{IsName}
 use Rattle.a429_console.specs.Files.{texts_of}
 use Rattle.a429_console.specs.Usage.{AreHelp, AreMistakes, live_kinds_of_words}

@@ -1,10 +1,11 @@
 -- What is asked for by the values that were read of a command's words.
-use Rattle.std.specs.Prelude.{◌≡◌, [], List, Option, None, Result, MatchResult, true, false, codes, not, if◌then◌else◌, option_and_then, option_map, unwrap_or}
+use Rattle.std.specs.Prelude.{◌≡◌, [], ℕ, Bool, List, Option, Some, None, Result, MatchResult, true, false, codes, not, if◌then◌else◌, option_and_then, option_map, unwrap_or}
 use Rattle.std.specs.Str.{bytes_eq}
-use Rattle.clap.specs.Words.{HasKind, Row, Text, first_of, all_of}
+use Rattle.clap.specs.Words.{HasKind, Row, Text, first_of, one_of, all_of, subcommand_of, takes}
 use Rattle.clap.specs.declared.error.Error.{Error}
+use Rattle.a429_console.specs.CommandLine.{command_line}
 use Rattle.a429_console.specs.LiveWords.{IsLiveReadOf, LiveTexts, live_texts}
-use Rattle.a429_console.specs.Requests.{IsReadOf, RequestBytes, Word, Lines, Plan, Check, Replay}
+use Rattle.a429_console.specs.Requests.{IsReadOf, RequestBytes, Word, Lines, Plan, Check, Icd, Margin, Replay}
 use Rattle.a429_console.specs.Usage.{elsewhere, is_live}
 use Rattle.a429_console.specs.declared.arguments.requests.LiveRequest.{LiveRequest}
 use Rattle.a429_console.specs.declared.arguments.requests.Request.{Request}
@@ -21,6 +22,17 @@ plan_request rows = option_map Plan (first_of (codes "TABLE") rows)
 abbrev pub check_request : List Row → Option RequestBytes
 check_request rows = option_and_then (λ table. option_map (Check table) (first_of (codes "PLAN") rows)) (first_of (codes "TABLE") rows)
 
+-- whether an option without a value was given, by the value that the parser gives it
+abbrev pub flag_given : Option Text → Option Bool
+flag_given None = Some false
+flag_given (Some text) = if bytes_eq text (codes "true") then Some true else (if bytes_eq text (codes "false") then Some false else None)
+
+abbrev pub icd_request : List Row → Option RequestBytes
+icd_request rows = option_and_then (λ table. option_map (Icd table) (flag_given (one_of (codes "csv") rows))) (first_of (codes "TABLE") rows)
+
+abbrev pub margin_request : List Row → Option RequestBytes
+margin_request rows = option_map Margin (first_of (codes "TABLE") rows)
+
 abbrev pub replay_request : List Row → Option RequestBytes
 replay_request rows =
     option_and_then (λ table. option_map (λ script. Replay table script (unwrap_or (all_of (codes "FURTHER") rows) [])) (first_of (codes "SCRIPT") rows))
@@ -33,11 +45,17 @@ request_by name rows =
     else (if bytes_eq name (codes "lines") then lines_request rows
     else (if bytes_eq name (codes "plan") then plan_request rows
     else (if bytes_eq name (codes "check") then check_request rows
-    else (if bytes_eq name (codes "replay") then replay_request rows else None))))
+    else (if bytes_eq name (codes "icd") then icd_request rows
+    else (if bytes_eq name (codes "margin") then margin_request rows
+    else (if bytes_eq name (codes "replay") then replay_request rows else None))))))
 
 -- by what was found of the words: the command's name and its values
 abbrev pub request_found : Option (Text × List Row) → Option RequestBytes
 request_found found = option_and_then (λ p. request_by p.0 p.1) found
+
+-- the rules of the command line take these words, and by the values that they give them this is asked for
+unfoldable pub AsksFor : List (List ℕ) → RequestBytes → Type 0
+AsksFor words r = (takes command_line words ≡ true) × (request_found (subcommand_of command_line words) ≡ Some r)
 
 -- what was found is what `command` does, and it was read; or it is what another call does, or memory was refused
 abbrev pub IsRequestFound : Option (Text × List Row) → Result Request Error → Type 0

@@ -1,5 +1,5 @@
 -- What the words of a command line ask for.
-use Rattle.std.specs.Prelude.{◌≡◌, ◌∷◌, [], ℕ, List, Option, Some, codes}
+use Rattle.std.specs.Prelude.{◌≡◌, ◌∷◌, [], ℕ, Bool, true, false, List, Option, Some, codes}
 use Rattle.std.specs.List.{AllByRecursion}
 use Rattle.a429_console.specs.CommandLine.{IsName}
 use Rattle.a429_console.specs.Files.{texts_of}
@@ -16,28 +16,33 @@ pub data RequestBytes : Type 0 where
   Plan : List ℕ → RequestBytes
   -- a table and the text of a plan
   Check : List ℕ → List ℕ → RequestBytes
+  -- a table, and whether it is told as comma-separated values
+  Icd : List ℕ → Bool → RequestBytes
+  -- a table
+  Margin : List ℕ → RequestBytes
   -- a table, a script and further tables
   Replay : List ℕ → List ℕ → List (List ℕ) → RequestBytes
 
--- how the words ask for it
+-- its words in their plain form: what it names, and then its options
 abbrev pub request_words : RequestBytes → List (List ℕ)
 request_words (Word text) = codes "word" ∷ text ∷ []
 request_words (Lines file filters) = codes "lines" ∷ file ∷ filters
 request_words (Plan table) = codes "plan" ∷ table ∷ []
 request_words (Check table text) = codes "check" ∷ table ∷ text ∷ []
+request_words (Icd table false) = codes "icd" ∷ table ∷ []
+request_words (Icd table true) = codes "icd" ∷ table ∷ codes "--csv" ∷ []
+request_words (Margin table) = codes "margin" ∷ table ∷ []
 request_words (Replay table script further) = codes "replay" ∷ table ∷ script ∷ further
 
--- each word after the command's is a name
+-- each text of it is a name
 abbrev pub HasNames : RequestBytes → Type 0
 HasNames (Word text) = IsName text
 HasNames (Lines file filters) = IsName file × AllByRecursion IsName filters
 HasNames (Plan table) = IsName table
 HasNames (Check table text) = IsName table × IsName text
+HasNames (Icd table csv) = IsName table
+HasNames (Margin table) = IsName table
 HasNames (Replay table script further) = IsName table × IsName script × AllByRecursion IsName further
-
--- these words ask for it
-abbrev pub AsksFor : List (List ℕ) → RequestBytes → Type 0
-AsksFor words r = (words ≡ request_words r) × HasNames r
 
 -- the bytes of what was read of the words
 abbrev pub request_of : Request → RequestBytes
@@ -45,6 +50,8 @@ request_of (read.Word text) = Word text.now
 request_of (read.Lines file filters) = Lines file.now (texts_of filters.items)
 request_of (read.Plan table) = Plan table.now
 request_of (read.Check table text) = Check table.now text.now
+request_of (read.Icd table csv) = Icd table.now csv
+request_of (read.Margin table) = Margin table.now
 request_of (read.Replay table script further) = Replay table.now script.now (texts_of further.items)
 
 -- where something was asked for, it was read

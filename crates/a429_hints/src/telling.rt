@@ -21,7 +21,7 @@ pub fn tell_hint<F: FileReader, V: Write>(
         Request::Lines { file, .. } => {
             look_at(alloc, files, file, err)?;
         }
-        Request::Plan { table } => {
+        Request::Plan { table } | Request::Icd { table, .. } | Request::Margin { table } => {
             if let Some(table) = look_at(alloc, files, table, err)? {
                 tell_no_plan(alloc, &table, err)?;
             }

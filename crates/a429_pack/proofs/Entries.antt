@@ -45,7 +45,7 @@ greater_is a b = elim (cases_lt b a) [
   ]
 ]
 
-greatest-push : (xs : List ℕ) (x : ℕ) → greatest (xs ++ x ∷ []) ≡ max (greatest xs) x
+pub greatest-push : (xs : List ℕ) (x : ℕ) → greatest (xs ++ x ∷ []) ≡ max (greatest xs) x
 greatest-push [] x = omega arith
 greatest-push (y ∷ xs) x = ap (max y) (greatest-push xs x) ∙ omega arith
 

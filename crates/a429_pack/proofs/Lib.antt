@@ -10,4 +10,5 @@ pub mod Packings
 pub mod Stretches
 pub mod Tables
 pub mod OneOrder
+pub mod Widenings
 pub mod Windows

@@ -7,4 +7,6 @@ pub mod Layout
 pub mod Orders
 pub mod Schedules
 pub mod Sums
+pub mod Taken
+pub mod Widening
 pub mod Windows

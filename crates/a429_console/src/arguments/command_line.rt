@@ -1,7 +1,7 @@
 //! The command line: its commands, and the texts of their help.
 ghost use Rattle.std.specs.Prelude.{◌≡◌, IfOk, IsTrue};
 ghost use Rattle.clap.specs.Words.{App, app_of, with_subcommand};
-ghost use Rattle.a429_console.specs.CommandLine.{HasRule, bare_line, check_app, command_line, lines_app, live_app, many_rule, number_rule, plan_app, replay_app, required_rule, word_app};
+ghost use Rattle.a429_console.specs.CommandLine.{HasRule, bare_line, check_app, command_line, flag_rule, icd_app, lines_app, live_app, many_rule, margin_app, number_rule, plan_app, replay_app, required_rule, word_app};
 
 use clap::builder::ValueParser;
 use clap::{Arg, ArgAction, Command};
@@ -31,6 +31,13 @@ const PLAN: &str =
 const CHECK: &str = "Tell whether the text of a plan shows the fewest buses for a station";
 
 const TEXT: &str = "Text of a plan, as `plan` prints it, whoever wrote it";
+
+const ICD: &str = "Print what an interface control document says of each output";
+
+const CSV: &str = "As comma-separated values, for spreadsheets";
+
+const MARGIN: &str =
+    "Tell how far each group is from one bus fewer, and which intervals would have to be wider";
 
 const REPLAY: &str = "Play the events of a script on a station and print what each is answered";
 
@@ -76,6 +83,16 @@ fn repeated_argument<'a>(alloc: Global, id: &'a str, help: &'a str) -> Arg<'a>
     Arg::new(alloc, id).action(ArgAction::Append).help(help)
 }
 
+/// An option of this name, which has no value.
+fn flag_option<'a>(alloc: Global, name: &'a str, help: &'a str) -> Arg<'a>
+    ensures { HasRule result (flag_rule name.entry.now) }
+{
+    Arg::new(alloc, name)
+        .long(name)
+        .action(ArgAction::SetTrue)
+        .help(help)
+}
+
 fn word_command<'a>(alloc: Global) -> Result<Command<'a>, AllocError>
     ensures { IfOk result (λ c. app_of c ≡ word_app) }
 {
@@ -104,6 +121,21 @@ fn check_command<'a>(alloc: Global) -> Result<Command<'a>, AllocError>
     let check = Command::new(alloc, "check").about(CHECK);
     let check = check.arg(required_argument(alloc, "TABLE", TABLE))?;
     check.arg(required_argument(alloc, "PLAN", TEXT))
+}
+
+fn icd_command<'a>(alloc: Global) -> Result<Command<'a>, AllocError>
+    ensures { IfOk result (λ c. app_of c ≡ icd_app) }
+{
+    let icd = Command::new(alloc, "icd").about(ICD);
+    let icd = icd.arg(required_argument(alloc, "TABLE", TABLE))?;
+    icd.arg(flag_option(alloc, "csv", CSV))
+}
+
+fn margin_command<'a>(alloc: Global) -> Result<Command<'a>, AllocError>
+    ensures { IfOk result (λ c. app_of c ≡ margin_app) }
+{
+    let margin = Command::new(alloc, "margin").about(MARGIN);
+    margin.arg(required_argument(alloc, "TABLE", TABLE))
 }
 
 fn replay_command<'a>(alloc: Global) -> Result<Command<'a>, AllocError>
@@ -156,6 +188,8 @@ pub fn build_command<'a>(alloc: Global) -> Result<Command<'a>, AllocError>
     let line = with_command(line, lines_command(alloc))?;
     let line = with_command(line, plan_command(alloc))?;
     let line = with_command(line, check_command(alloc))?;
+    let line = with_command(line, icd_command(alloc))?;
+    let line = with_command(line, margin_command(alloc))?;
     let line = with_command(line, replay_command(alloc))?;
     with_command(line, live_command(alloc))
 }

@@ -2,8 +2,8 @@
 ghost use Rattle.std.specs.Prelude.{◌≡◌, ℕ, List, IfOk, MatchResult, Some, codes, true};
 ghost use Rattle.clap.specs.Words.{FailsBy, HasKind, first_of, found_of, kind_of, rows_of, subcommand_rows_of};
 ghost use Rattle.a429_console.specs.Files.{texts_of};
-ghost use Rattle.a429_console.specs.Requests.{AsksFor, IsReadOf, RequestBytes, request_of};
-ghost use Rattle.a429_console.specs.RequestRows.{IsLiveFound, IsRequestFound, check_request, lines_request, plan_request, replay_request, word_request};
+ghost use Rattle.a429_console.specs.Requests.{IsReadOf, RequestBytes, request_of};
+ghost use Rattle.a429_console.specs.RequestRows.{AsksFor, IsLiveFound, IsRequestFound, check_request, icd_request, lines_request, margin_request, plan_request, replay_request, word_request};
 ghost use Rattle.a429_console.specs.LiveWords.{AsksForLive, IsFrames, IsLiveReadOf, LiveAsk, live_of, live_texts};
 ghost use Rattle.a429_console.specs.Usage.{elsewhere, kinds_of_words, live_kinds_of_words};
 
@@ -33,6 +33,16 @@ pub enum Request<'a> {
         table: &'a str,
         plan: &'a str,
     },
+    /// To print what an interface control document says of each output of the table of this name, or the same as
+    /// comma-separated values.
+    Icd {
+        table: &'a str,
+        csv: bool,
+    },
+    /// To tell how far each group of the table of this name is from one bus fewer.
+    Margin {
+        table: &'a str,
+    },
     /// To play the script of this name on the station of the table of this name, beside further tables.
     Replay {
         table: &'a str,
@@ -54,7 +64,7 @@ pub struct LiveRequest<'a> {
 /// Reads the words of the command line, without the program's name. The error has the usage or help text
 /// for people, and is of kind `OutOfMemory` where memory was refused.
 pub fn parse<'a>(alloc: Global, words: &'a [&'a str]) -> Result<Request<'a>, Error>
-    // Words of a command ask for it, and are refused for want of memory alone.
+    // Words that ask for something are read as it, and are refused for want of memory alone.
     ensures asked { (r : RequestBytes) → AsksFor (texts_of words.entry.now) r
         → MatchResult result (λ request. request_of request ≡ r) (λ e. kind_of e ≡ ErrorKind.OutOfMemory) }
     // What is answered in their place is of a kind that the rules of the command line give, or memory was refused.
@@ -97,6 +107,12 @@ fn read_request<'a>(alloc: Global, matches: &ArgMatches<'a>) -> Result<Request<'
     }
     if let Some(found) = matches.subcommand_matches("check") {
         return asked_check(found);
+    }
+    if let Some(found) = matches.subcommand_matches("icd") {
+        return asked_icd(found);
+    }
+    if let Some(found) = matches.subcommand_matches("margin") {
+        return asked_margin(found);
     }
     if let Some(found) = matches.subcommand_matches("replay") {
         return asked_replay(alloc, found);
@@ -207,6 +223,27 @@ fn asked_check<'a>(found: &ArgMatches<'a>) -> Result<Request<'a>, Error>
         return Err(Error::from(AllocError));
     };
     Ok(Request::Check { table, plan })
+}
+
+/// What the words of `icd` ask for.
+fn asked_icd<'a>(found: &ArgMatches<'a>) -> Result<Request<'a>, Error>
+    ensures { MatchResult result (IsReadOf (icd_request (rows_of (found_of found.now)))) (λ e. kind_of e ≡ ErrorKind.OutOfMemory) }
+{
+    let Some(table) = found.get_str("TABLE") else {
+        return Err(Error::from(AllocError));
+    };
+    let csv = found.get_flag("csv");
+    Ok(Request::Icd { table, csv })
+}
+
+/// What the words of `margin` ask for.
+fn asked_margin<'a>(found: &ArgMatches<'a>) -> Result<Request<'a>, Error>
+    ensures { MatchResult result (IsReadOf (margin_request (rows_of (found_of found.now)))) (λ e. kind_of e ≡ ErrorKind.OutOfMemory) }
+{
+    match found.get_str("TABLE") {
+        Some(table) => Ok(Request::Margin { table }),
+        None => Err(Error::from(AllocError)),
+    }
 }
 
 /// What the words of `replay` ask for.

@@ -29,14 +29,14 @@ returns-in_err-proposal g c = λ tells.
     failed c.from_residual-in_err-proposal.result _ (OrMemory (IsNoPlan file name)) e (p.1 ∙ ap Err p.2)
     (or_memory_weaker (IsTableRefusal table) (IsNoPlan file name) e (λ one. inr (table, c.in_ok-table.ensures.read tells, one)) bad)
 
-pub returns-in_err-plan_text : goal.returns-in_err-plan_text
-returns-in_err-plan_text g c = λ tells.
+pub returns-in_err-text_of : goal.returns-in_err-text_of
+returns-in_err-text_of g c = λ tells.
     let file = g.F.FileReader.file c.args.files.now in
-    let p = err_from_is_err_and c.from_residual-in_err-plan_text.result c.from_residual-in_err-plan_text.ensures.1 in
-    failed c.from_residual-in_err-plan_text.result _ (OrMemory (IsNoPlan file c.args.name.now)) refused.Memory (p.1 ∙ ap Err p.2) tt
+    let p = err_from_is_err_and c.from_residual-in_err-text_of.result c.from_residual-in_err-text_of.ensures.1 in
+    failed c.from_residual-in_err-text_of.result _ (OrMemory (IsNoPlan file c.args.name.now)) refused.Memory (p.1 ∙ ap Err p.2) tt
 
 pub returns : goal.returns
 returns g c = λ tells.
     let q = c.in_ok-proposal.proposal in
     let proposed = subst (λ (t : List ℕ). IsProposedBy t q) c.deref.ensures.value c.in_ok-proposal.ensures in
-    (c.in_ok-table.table.items, q, c.in_ok-table.ensures.read tells, proposed, c.in_ok-plan_text.ensures)
+    (c.in_ok-table.table.items, q, c.in_ok-table.ensures.read tells, proposed, c.in_ok-text_of.ensures)

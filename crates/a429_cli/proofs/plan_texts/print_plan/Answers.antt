@@ -5,7 +5,7 @@ use Rattle.a429_cli.proofs.plan_texts.print_plan.Goals as goal
 
 pub returns-in-Ok-clause-planned : goal.returns-in-Ok-clause-planned
 returns-in-Ok-clause-planned g c = λ tells.
-    let says = IsPlanReply (g.F.FileReader.file c.args.files.now) c.args.name.now in
+    let says = IsPlanReply (g.F.FileReader.file c.args.files.now) c.args.kind c.args.name.now in
     text_put c.finish.result says (g.O.Output.contents c.args.out.now) (g.O.Output.contents c.finish.new.out) c.deref.result.now c.in-Ok.text.items
     c.deref.ensures.value (inr (c.in-Ok.ensures tells, refl)) c.finish.ensures.status c.finish.ensures.put
 
@@ -16,7 +16,7 @@ pub returns-in-Err-clause-planned : goal.returns-in-Err-clause-planned
 returns-in-Err-clause-planned g c = λ tells.
     let file = g.F.FileReader.file c.args.files.now in
     let name = c.args.name.now in
-    refusal_put c.refuse.result (IsNoPlan file name) (IsPlanReply file name) c.in-Err.refusal (g.O.Output.contents c.args.out.now) (g.O.Output.contents c.refuse.new.out)
+    refusal_put c.refuse.result (IsNoPlan file name) (IsPlanReply file c.args.kind name) c.in-Err.refusal (g.O.Output.contents c.args.out.now) (g.O.Output.contents c.refuse.new.out)
     (λ told why. inl (told, why, refl, refl)) (c.in-Err.ensures tells) c.refuse.ensures.status c.refuse.ensures.line
 
 pub returns-in-Err-clause-status : goal.returns-in-Err-clause-status

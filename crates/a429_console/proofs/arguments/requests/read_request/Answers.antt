@@ -40,6 +40,22 @@ pub returns-in-Some-subcommand_matches-4 : goal.returns-in-Some-subcommand_match
 returns-in-Some-subcommand_matches-4 c =
     let m = c.args.matches.now in
     let named = name_of_rows m ∙ c.in-Some-subcommand_matches-4.ensures.found.0 refl in
+    weaker_at_both c.asked_icd.result _ _ _ _
+    (λ q is. ((λ r asked. is r (found_asked (subcommand_rows_of m) (codes "icd") (rows_of (found_of c.in-Some-subcommand_matches-4.found.now)) r named c.in-Some-subcommand_matches-4.ensures.rows asked)), is_live_by_name (subcommand_rows_of m) (codes "icd") named))
+    (λ e memory. inl memory) c.asked_icd.ensures
+
+pub returns-in-Some-subcommand_matches-5 : goal.returns-in-Some-subcommand_matches-5
+returns-in-Some-subcommand_matches-5 c =
+    let m = c.args.matches.now in
+    let named = name_of_rows m ∙ c.in-Some-subcommand_matches-5.ensures.found.0 refl in
+    weaker_at_both c.asked_margin.result _ _ _ _
+    (λ q is. ((λ r asked. is r (found_asked (subcommand_rows_of m) (codes "margin") (rows_of (found_of c.in-Some-subcommand_matches-5.found.now)) r named c.in-Some-subcommand_matches-5.ensures.rows asked)), is_live_by_name (subcommand_rows_of m) (codes "margin") named))
+    (λ e memory. inl memory) c.asked_margin.ensures
+
+pub returns-in-Some-subcommand_matches-6 : goal.returns-in-Some-subcommand_matches-6
+returns-in-Some-subcommand_matches-6 c =
+    let m = c.args.matches.now in
+    let named = name_of_rows m ∙ c.in-Some-subcommand_matches-6.ensures.found.0 refl in
     weaker_at_both c.asked_replay.result _ _ _ _
-    (λ q is. ((λ r asked. is r (found_asked (subcommand_rows_of m) (codes "replay") (rows_of (found_of c.in-Some-subcommand_matches-4.found.now)) r named c.in-Some-subcommand_matches-4.ensures.rows asked)), is_live_by_name (subcommand_rows_of m) (codes "replay") named))
+    (λ q is. ((λ r asked. is r (found_asked (subcommand_rows_of m) (codes "replay") (rows_of (found_of c.in-Some-subcommand_matches-6.found.now)) r named c.in-Some-subcommand_matches-6.ensures.rows asked)), is_live_by_name (subcommand_rows_of m) (codes "replay") named))
     (λ e memory. inl memory) c.asked_replay.ensures

@@ -1,0 +1,102 @@
+-- The interface control document of a plan: the names of its columns, and a row of texts for each output.
+use Rattle.std.specs.Prelude.{ℕ, ◌*◌, ◌^◌, List, [], ◌∷◌, ◌++◌, Option, None, Some, codes, slice_get}
+use Rattle.std.specs.Fmt.{decimal}
+use Rattle.std.specs.Int.{div_ceil}
+use Rattle.std.specs.List.{flat_map}
+use Rattle.std.specs.Option.{option_map_or}
+use Rattle.a429_word.specs.Texts.{octal}
+use Rattle.a429_equipment.specs.TableRecord.{TableRecord}
+use Rattle.a429_equipment.specs.declared.rows.GroupRow.{GroupRow}
+use Rattle.a429_equipment.specs.declared.rows.OutputRow.{OutputRow}
+use Rattle.a429_equipment.specs.declared.rows.ReceiverRow.{ReceiverRow}
+use Rattle.a429_equipment.specs.declared.rows.SourceRow.{SourceRow}
+use Rattle.a429_slots.specs.declared.group_plan.SendLimits.{SendLimits}
+use Rattle.a429_slots.specs.declared.group_plan.SlotPlace.{SlotPlace}
+use Rattle.a429_slots.specs.Tables.{Placed, GroupTable, PlanTable, groups_of, outputs_of}
+use Rattle.a429_cert.specs.Spelling.{limit_text}
+use Rattle.csv.specs.Writing.{default_writer, row_text}
+
+-- ---- the columns
+
+-- what is sent: the group, its rate in bit/s, and the source with its receiver, label and SDI
+abbrev pub sent_columns : List (List ℕ)
+sent_columns = codes "group" ∷ codes "rate" ∷ codes "source" ∷ codes "receiver" ∷ codes "label" ∷ codes "sdi" ∷ []
+
+-- where it stands: the bus, the first slot from the frame's start, and the period in slots and in microseconds
+abbrev pub place_columns : List (List ℕ)
+place_columns = codes "bus" ∷ codes "slot" ∷ codes "period" ∷ codes "period_us" ∷ []
+
+-- what limits it: the interval in microseconds, how often one accepted word is sent at most, and how many slots two sends are apart at least
+abbrev pub limit_columns : List (List ℕ)
+limit_columns = codes "min_us" ∷ codes "max_us" ∷ codes "hold" ∷ codes "spacing" ∷ []
+
+-- the names of all columns
+abbrev pub icd_columns : List (List ℕ)
+icd_columns = sent_columns ++ (place_columns ++ limit_columns)
+
+-- ---- the row of an output
+
+-- the name of a receiver; behind the last receiver, nothing
+abbrev pub receiver_name : List ReceiverRow → ℕ → List ℕ
+receiver_name receivers n = option_map_or (λ r. r.name) (slice_get receivers n) []
+
+-- a number, or that any is meant
+abbrev pub sdi_text : Option ℕ → List ℕ
+sdi_text None = codes "any"
+sdi_text (Some sdi) = decimal sdi
+
+-- of an output what is sent
+abbrev pub sent_fields : List ReceiverRow → GroupRow → SourceRow → List (List ℕ)
+sent_fields receivers group source =
+    group.name ∷ decimal group.rate ∷ source.name ∷ receiver_name receivers source.receiver ∷ octal source.label ∷ sdi_text source.sdi ∷ []
+
+-- how many microseconds so many slots last at a rate in bit/s, rounded up: a slot is 36 bit times
+-- (ARINC 429 Part 1: a word has 32 bits, and 4 bit times at least lie between two words)
+abbrev pub slots_us : ℕ → ℕ → ℕ
+slots_us rate slots = div_ceil (36000000 * slots) rate
+
+-- where it stands, at the rate of its group in bit/s
+abbrev pub place_fields : ℕ → SlotPlace → List (List ℕ)
+place_fields rate place =
+    decimal place.bus ∷ decimal place.offset ∷ decimal (2 ^ place.period) ∷ decimal (slots_us rate (2 ^ place.period)) ∷ []
+
+-- what limits it: the interval of its row, and what the slot table keeps
+abbrev pub limit_fields : OutputRow → SendLimits → List (List ℕ)
+limit_fields row limits = decimal row.min_us ∷ decimal row.max_us ∷ limit_text limits.hold ∷ decimal limits.spacing ∷ []
+
+-- the row of an output of a group, which sends this source
+abbrev pub icd_row : List ReceiverRow → GroupRow → SourceRow → OutputRow → SlotPlace → SendLimits → List (List ℕ)
+icd_row receivers group source row place limits =
+    sent_fields receivers group source ++ (place_fields group.rate place ++ limit_fields row limits)
+
+-- the same, of the source that the output's row names; behind the last source, nothing
+unfoldable pub output_row : TableRecord → GroupRow → OutputRow → Placed → List (List ℕ)
+output_row e group row placed =
+    option_map_or (λ source. icd_row e.receivers group source row placed.place placed.limits) (slice_get e.sources row.source) []
+
+-- ---- the document
+
+-- a row for each output of a group, in table order: its row of the equipment table beside what the slot table keeps of it
+unfoldable pub output_rows : TableRecord → GroupRow → List OutputRow → List Placed → List (List (List ℕ))
+output_rows e group [] placed = []
+output_rows e group (row ∷ rows) [] = []
+output_rows e group (row ∷ rows) (placed ∷ others) = output_row e group row placed ∷ output_rows e group rows others
+
+-- those of each group, in table order
+unfoldable pub groups_rows : TableRecord → List GroupRow → List (List OutputRow) → List GroupTable → List (List (List ℕ))
+groups_rows e [] outputs ts = []
+groups_rows e (group ∷ groups) [] ts = []
+groups_rows e (group ∷ groups) (rows ∷ outputs) [] = []
+groups_rows e (group ∷ groups) (rows ∷ outputs) (t ∷ ts) = output_rows e group rows (outputs_of t) ++ groups_rows e groups outputs ts
+
+-- those of a plan
+abbrev pub plan_rows : TableRecord → PlanTable → List (List (List ℕ))
+plan_rows e p = groups_rows e e.groups e.outputs (groups_of p)
+
+-- the names of the columns, and then a row for each output
+abbrev pub icd_rows : TableRecord → PlanTable → List (List (List ℕ))
+icd_rows e p = icd_columns ∷ plan_rows e p
+
+-- a line for each row, with commas between its fields (RFC 4180, with a line feed at each line's end)
+unfoldable pub csv_text_of : List (List (List ℕ)) → List ℕ
+csv_text_of rows = flat_map (row_text default_writer) rows
