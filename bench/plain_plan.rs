@@ -1,9 +1,9 @@
-//! Plans a table as `a429 plan` does, or checks the text of its plan as `a429 check` does, in plain Rust: what
-//! bench/plan compares the program with, in time and in every byte. It shares no code with the program, reads tables of
+//! Plans a table as `a429 plan` does, tells of its plan as `a429 icd` and `a429 margin` do, or checks its text as
+//! `a429 check` does, in plain Rust: what bench/plan compares the program with, in time and in every byte. It shares no code with the program, reads tables of
 //! version 1 line by line in the form that bench/plan writes, where the program reads any TOML document, and asks of a
 //! table and of a text what the program asks of them.
 //!
-//! Words: `plan` and the table; or `check`, the table and the text.
+//! Words: `plan`, `icd` or `margin` and the table; or `icd`, the table and `--csv`; or `check`, the table and the text.
 
 use std::collections::{HashMap, HashSet};
 use std::error::Error;
@@ -19,6 +19,7 @@ const BUSES: u64 = 16;
 
 struct Source {
     name: String,
+    receiver: String,
     label: u32,
     sdi: Option<u32>,
 }
@@ -116,6 +117,7 @@ fn table(text_of: &str) -> Result<Table, Fault> {
                 only(4)?;
                 let source = Source {
                     name: name(&keys)?,
+                    receiver: text(&keys, "receiver")?.into(),
                     label: u32::from_str_radix(text(&keys, "label")?, 8)?,
                     sdi: if value(&keys, "sdi")? == "\"any\"" { None } else { Some(value(&keys, "sdi")?.parse()?) },
                 };
@@ -203,6 +205,118 @@ fn plan_text(table: &Table) -> Result<String, Fault> {
             writeln!(text, "output {source} period {} bus {} offset {}", placed.period, placed.bus, placed.offset)?;
         }
         writeln!(text, "bound {} > {} * {}", plan.demand, plan.buses - 1, plan.frame)?;
+    }
+    Ok(text)
+}
+
+/// How long so many slots are, in microseconds, rounded up.
+fn slots_us(rate: u64, slots: u64) -> u64 {
+    (36_000_000 * slots).div_ceil(rate)
+}
+
+const COLUMNS: [&str; 14] = [
+    "group", "rate", "source", "receiver", "label", "sdi", "bus", "slot", "period", "period_us", "min_us", "max_us", "hold",
+    "spacing",
+];
+
+/// The rows of the interface control document, the columns' names first.
+fn document(table: &Table) -> Result<Vec<Vec<String>>, Fault> {
+    let mut rows = vec![COLUMNS.map(String::from).to_vec()];
+    for group in &table.groups {
+        let mut plan = plan(table, group)?;
+        plan.placed.sort_unstable_by_key(|placed| placed.output);
+        for placed in &plan.placed {
+            let output = &group.outputs[placed.output];
+            let source = &table.sources[output.source];
+            rows.push(vec![
+                group.name.clone(),
+                table.rate.to_string(),
+                source.name.clone(),
+                source.receiver.clone(),
+                format!("{:03o}", source.label),
+                source.sdi.map_or("any".into(), |sdi| sdi.to_string()),
+                placed.bus.to_string(),
+                placed.offset.to_string(),
+                placed.period.to_string(),
+                slots_us(table.rate, placed.period).to_string(),
+                output.min_us.to_string(),
+                output.max_us.to_string(),
+                "none".into(),
+                (output.min_us * table.rate).div_ceil(36_000_000).to_string(),
+            ]);
+        }
+    }
+    Ok(rows)
+}
+
+fn columns_text(rows: &[Vec<String>]) -> Result<String, Fault> {
+    let widths: Vec<usize> = (0..COLUMNS.len()).map(|at| rows.iter().map(|row| row[at].len()).max().unwrap_or(0)).collect();
+    let mut text = String::new();
+    for row in rows {
+        let (last, fields) = row.split_last().ok_or("no field")?;
+        for (field, width) in fields.iter().zip(&widths) {
+            write!(text, "{field:<width$}  ")?;
+        }
+        writeln!(text, "{last}")?;
+    }
+    Ok(text)
+}
+
+fn csv_text(rows: &[Vec<String>]) -> String {
+    let mut text = String::new();
+    for row in rows {
+        text.push_str(&row.join(","));
+        text.push('\n');
+    }
+    text
+}
+
+/// The outputs that save a bus at twice their period, by their numbers, so that the fewest cells become free.
+fn choice(outputs: &[Placed], frame: u64, needed: u64) -> Option<Vec<bool>> {
+    let free = |placed: &Placed| frame / (2 * placed.period);
+    if outputs.iter().map(free).sum::<u64>() < needed {
+        return None;
+    }
+    let mut chosen = vec![false; outputs.len()];
+    let (mut cells, mut size) = (0, frame / 2);
+    while size > 0 {
+        let rest: u64 = outputs.iter().map(free).filter(|it| *it < size).sum();
+        for (chosen, placed) in chosen.iter_mut().zip(outputs) {
+            if free(placed) == size && (cells + size <= needed || cells + rest < needed) {
+                *chosen = true;
+                cells += size;
+            }
+        }
+        size /= 2;
+    }
+    Some(chosen)
+}
+
+fn margin_text(table: &Table) -> Result<String, Fault> {
+    let mut text = String::new();
+    for group in &table.groups {
+        let mut plan = plan(table, group)?;
+        plan.placed.sort_unstable_by_key(|placed| placed.output);
+        let room = plan.buses * plan.frame;
+        let excess = plan.demand - (plan.buses - 1) * plan.frame;
+        writeln!(text, "group {} frame {} buses {}", group.name, plan.frame, plan.buses)?;
+        writeln!(text, "cells {} of {room} free {}\nexcess {excess}", plan.demand, room - plan.demand)?;
+        let chosen = if plan.buses > 1 { choice(&plan.placed, plan.frame, excess) } else { None };
+        if chosen.is_none() {
+            text.push_str("choose none\n");
+        }
+        let mut bound = 0;
+        for placed in &plan.placed {
+            let output = &group.outputs[placed.output];
+            bound += (1 << 32) / (output.max_us * table.rate / 36_000_000);
+            if placed.period < plan.frame {
+                let verb = if chosen.as_ref().is_some_and(|it| it[placed.output]) { "choose" } else { "wider" };
+                let (name, from, to) = (&table.sources[output.source].name, placed.period, 2 * placed.period);
+                let (cells, lasting) = (plan.frame / to, slots_us(table.rate, to));
+                writeln!(text, "{verb} {name} period {from} to {to} cells {cells} max_us {lasting}")?;
+            }
+        }
+        writeln!(text, "raw bound {} of {}", u64::div_ceil(bound, 1 << 32), plan.buses)?;
     }
     Ok(text)
 }
@@ -318,6 +432,11 @@ fn main() -> Result<(), Fault> {
     let words: Vec<String> = env::args().skip(1).collect();
     let told = match &words[..] {
         [command, name] if command == "plan" => plan_text(&table(&fs::read_to_string(name)?)?)?,
+        [command, name] if command == "icd" => columns_text(&document(&table(&fs::read_to_string(name)?)?)?)?,
+        [command, name, option] if command == "icd" && option == "--csv" => {
+            csv_text(&document(&table(&fs::read_to_string(name)?)?)?)
+        }
+        [command, name] if command == "margin" => margin_text(&table(&fs::read_to_string(name)?)?)?,
         [command, name, text] if command == "check" => {
             let table = table(&fs::read_to_string(name)?)?;
             match check(&table, &fs::read_to_string(text)?)? {
@@ -325,7 +444,7 @@ fn main() -> Result<(), Fault> {
                 Some((reason, line)) => format!("no {reason} {line}\n"),
             }
         }
-        _ => return Err("words: plan TABLE, or check TABLE TEXT".into()),
+        _ => return Err("words: plan, icd or margin TABLE, or icd TABLE --csv, or check TABLE TEXT".into()),
     };
     io::stdout().write_all(told.as_bytes())?;
     Ok(())
