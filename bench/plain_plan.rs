@@ -1,9 +1,10 @@
-//! Plans a table as `a429 plan` does, tells of its plan as `a429 icd` and `a429 margin` do, or checks its text as
-//! `a429 check` does, in plain Rust: what bench/plan compares the program with, in time and in every byte. It shares no code with the program, reads tables of
-//! version 1 line by line in the form that bench/plan writes, where the program reads any TOML document, and asks of a
-//! table and of a text what the program asks of them.
+//! Plans a table as `a429 plan` does, tells of its plan as `a429 icd`, `margin` and `draw` do, or checks its text as
+//! `a429 check` does, in plain Rust: what bench/plan compares the program with, in time and in every byte. It shares
+//! no code with the program, reads tables of version 1 line by line in the form that bench/plan writes, where the
+//! program reads any TOML document, and asks of a table and of a text what the program asks of them.
 //!
-//! Words: `plan`, `icd` or `margin` and the table; or `icd`, the table and `--csv`; or `check`, the table and the text.
+//! Words: `plan`, `icd`, `margin` or `draw` and the table; or `icd`, the table and `--csv`; or `check`, the table and
+//! the text.
 
 use std::collections::{HashMap, HashSet};
 use std::error::Error;
@@ -322,6 +323,76 @@ fn margin_text(table: &Table) -> Result<String, Fault> {
 }
 
 /// The number of a text: decimal, without sign or leading zeros, of at most ten digits.
+/// Draws a group with its upper edge here, and answers how high it is.
+fn draw_group(text: &mut String, table: &Table, number: usize, top: u64) -> Result<u64, Fault> {
+    let group = &table.groups[number];
+    let mut plan = plan(table, group)?;
+    plan.placed.sort_unstable_by_key(|placed| placed.output);
+    let (frame, buses) = (plan.frame, plan.buses);
+    let slots = frame.min(256);
+    let mut cells = vec![None; (buses * frame) as usize];
+    for placed in &plan.placed {
+        for slot in (placed.offset..frame).step_by(placed.period as usize) {
+            cells[(placed.bus * frame + slot) as usize] = Some(placed.output);
+        }
+    }
+    let source_of = |output: usize| &table.sources[group.outputs[output].source];
+    let fold_top = |fold: u64| 26 + fold * (22 + 18 * buses);
+    let left = |slot: u64| 100 + 16 * (slot % 64);
+    writeln!(text, "<g transform='translate(0 {top})'>")?;
+    let rate = table.rate;
+    writeln!(text, "<text x='8' y='18' font-size='14'>group {} rate {rate} frame {frame} buses {buses}</text>", group.name)?;
+    writeln!(text, "<defs>")?;
+    for output in 0..group.outputs.len() {
+        let source = source_of(output);
+        writeln!(text, "<g id='o{number}-{output}'><title>{}</title>", source.name)?;
+        writeln!(text, "<rect width='15' height='17' fill='hsl({},65%,78%)'/>", output * 137 % 360)?;
+        writeln!(text, "<text x='7' y='12' font-size='7' text-anchor='middle'>{:03o}</text></g>", source.label)?;
+    }
+    writeln!(text, "</defs>")?;
+    for slot in (0..slots).step_by(8) {
+        let (left, base) = (left(slot), fold_top(slot / 64) + 11);
+        writeln!(text, "<text x='{left}' y='{base}' font-size='8' fill='#666'>{slot}</text>")?;
+    }
+    for bus in 0..buses {
+        let row = &cells[(bus * frame) as usize..((bus + 1) * frame) as usize];
+        let load = 100 * row.iter().flatten().count() as u64 / frame;
+        let row_top = |fold: u64| fold_top(fold) + 14 + 18 * bus;
+        for fold in 0..slots.div_ceil(64) {
+            let (top, width) = (row_top(fold), 16 * 64.min(slots - 64 * fold));
+            writeln!(text, "<text x='8' y='{}'>bus {bus} {load} %</text>", top + 13)?;
+            writeln!(text, "<rect x='100' y='{top}' width='{width}' height='17' fill='#eee'/>")?;
+        }
+        for slot in 0..slots {
+            if let Some(output) = row[slot as usize] {
+                writeln!(text, "<use href='#o{number}-{output}' x='{}' y='{}'/>", left(slot), row_top(slot / 64))?;
+            }
+        }
+    }
+    let legend = fold_top(slots.div_ceil(64)) + 4;
+    for placed in &plan.placed {
+        let (output, source) = (placed.output, source_of(placed.output));
+        let (left, line) = (8 + 280 * (output % 4), legend + 20 * (output as u64 / 4));
+        writeln!(text, "<use href='#o{number}-{output}' x='{left}' y='{line}'/>")?;
+        let (left, base) = (left + 22, line + 13);
+        let (label, name, period) = (source.label, &source.name, placed.period);
+        writeln!(text, "<text x='{left}' y='{base}'>{label:03o} {name} every {period} slots</text>")?;
+    }
+    writeln!(text, "</g>")?;
+    Ok(legend + 20 * (group.outputs.len() as u64).div_ceil(4) + 24)
+}
+
+fn drawing_text(table: &Table) -> Result<String, Fault> {
+    let (mut groups, mut height) = (String::new(), 0);
+    for number in 0..table.groups.len() {
+        height += draw_group(&mut groups, table, number, height)?;
+    }
+    Ok(format!(
+        "<svg xmlns='http://www.w3.org/2000/svg' viewBox='0 0 1132 {height}' font-family='monospace' font-size='11'>\n\
+         <rect width='1132' height='{height}' fill='white'/>\n{groups}</svg>\n"
+    ))
+}
+
 fn decimal(text: &str) -> Option<u64> {
     let plain = text.len() <= 10 && text.bytes().all(|b| b.is_ascii_digit()) && (text.len() == 1 || !text.starts_with('0'));
     if plain { text.parse().ok() } else { None }
@@ -437,6 +508,7 @@ fn main() -> Result<(), Fault> {
             csv_text(&document(&table(&fs::read_to_string(name)?)?)?)
         }
         [command, name] if command == "margin" => margin_text(&table(&fs::read_to_string(name)?)?)?,
+        [command, name] if command == "draw" => drawing_text(&table(&fs::read_to_string(name)?)?)?,
         [command, name, text] if command == "check" => {
             let table = table(&fs::read_to_string(name)?)?;
             match check(&table, &fs::read_to_string(text)?)? {
@@ -444,7 +516,7 @@ fn main() -> Result<(), Fault> {
                 Some((reason, line)) => format!("no {reason} {line}\n"),
             }
         }
-        _ => return Err("words: plan, icd or margin TABLE, or icd TABLE --csv, or check TABLE TEXT".into()),
+        _ => return Err("words: plan, icd, margin or draw TABLE, or icd TABLE --csv, or check TABLE TEXT".into()),
     };
     io::stdout().write_all(told.as_bytes())?;
     Ok(())

@@ -24,6 +24,7 @@ pub mod CheckedFewest
 mod Shown
 pub mod Wider
 pub mod Margins
+pub mod Drawings
 pub mod MarginGroups
 pub mod RowFields
 pub mod AlignedRows

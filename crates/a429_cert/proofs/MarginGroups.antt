@@ -1,10 +1,10 @@
 -- What holds of a planned group when its margin is told.
 use Rattle.std.proofs.Common.{◌≡◌, ℕ, zero, suc, ◌+◌, ◌-◌, ◌*◌, ◌/◌, ◌^◌, ◌<◌, ◌≤◌, List, [], ◌∷◌, ◌++◌, length, map, ap, sym, subst, refl, arith, ◌∙◌, append_assoc, drop}
-use Rattle.std.specs.Prelude.{Option, Some, None, slice_get, sum}
+use Rattle.std.specs.Prelude.{Some, None, slice_get, sum}
 use Rattle.std.specs.List.{AllByRecursion, AllZip, zip}
 use Rattle.std.proofs.lemmas.Option.{same_Some}
 use Rattle.a429_word.proofs.Lists.{drop_at}
-use Rattle.std.proofs.lemmas.Nat.{le-div, pow_pos}
+use Rattle.std.proofs.lemmas.Nat.{pow_pos}
 use Rattle.a429_equipment.specs.TableRecord.{TableRecord}
 use Rattle.a429_equipment.specs.declared.rows.GroupRow.{GroupRow}
 use Rattle.a429_equipment.specs.declared.rows.OutputRow.{OutputRow}

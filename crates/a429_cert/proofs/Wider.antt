@@ -1,8 +1,7 @@
 -- Intervals that admit the next period of the grid.
-use Rattle.std.proofs.Common.{ℕ, ◌+◌, ◌*◌, ◌≤◌, ◌<◌, arith}
-use Rattle.std.specs.Int.{div_ceil}
+use Rattle.std.proofs.Common.{ℕ, ◌*◌, ◌≤◌, arith}
 use Rattle.std.proofs.lemmas.Grind.{div_ceil_times}
-use Rattle.a429_grid.specs.Grid.{IsGridPeriod, IsPeriod, IsWithin}
+use Rattle.a429_grid.specs.Grid.{IsGridPeriod, IsPeriod}
 use Rattle.a429_cert.specs.Document.{slots_us}
 
 pub next_period : (min_us max_us rate p : ℕ) → 1 ≤ rate → rate ≤ 100000 → IsPeriod (2 * p) → IsGridPeriod min_us max_us rate p

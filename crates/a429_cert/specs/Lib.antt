@@ -10,6 +10,7 @@ pub mod PlanText
 pub mod Judged
 pub mod Printed
 pub mod Margins
+pub mod Drawing
 pub mod Aligned
 pub mod Document
 pub mod CsvLines

@@ -1,5 +1,5 @@
 -- How far a group is from one bus fewer: the text of `margin` (profile: margin text).
-use Rattle.std.specs.Prelude.{ℕ, ◌+◌, ◌-◌, ◌*◌, ◌/◌, ◌^◌, ◌≤◌, ◌≡◌, ◌⊎◌, List, [], ◌∷◌, ◌++◌, Bool, false, Option, None, Some, codes, if◌then◌else◌, length, map, nat_lt, slice_index_or, sum}
+use Rattle.std.specs.Prelude.{ℕ, ◌-◌, ◌*◌, ◌/◌, ◌^◌, ◌≤◌, ◌≡◌, ◌⊎◌, List, [], ◌∷◌, ◌++◌, Bool, false, Option, None, Some, codes, if◌then◌else◌, length, map, nat_lt, slice_index_or, sum}
 use Rattle.std.specs.Fmt.{decimal}
 use Rattle.std.specs.List.{flat_map, range_with_len}
 use Rattle.a429_equipment.specs.TableRecord.{TableRecord}

@@ -1,5 +1,5 @@
 -- Refusals that are handed on.
-use Rattle.std.proofs.Common.{◌≡◌, ◌⊎◌, ◌∷◌, [], length, ℕ, List, inl, inr}
+use Rattle.std.proofs.Common.{◌≡◌, ◌⊎◌, length, ℕ, List, inl, inr}
 use Rattle.std.specs.Prelude.{Option, Ok}
 use Rattle.a429_equipment.specs.TableRecord.{TableRecord}
 use Rattle.a429_equipment.specs.Reading.{reading}
@@ -25,6 +25,7 @@ table_fault_unjudged table (refused.Filter number) f = absurd f
 table_fault_unjudged table (refused.Table kind place) f = f
 table_fault_unjudged table (refused.Unfit group source) f = absurd f
 table_fault_unjudged table (refused.TooManyBuses group needed) f = absurd f
+table_fault_unjudged table (refused.Group name) f = absurd f
 table_fault_unjudged table (refused.Script line) f = absurd f
 table_fault_unjudged table refused.Join f = absurd f
 table_fault_unjudged table refused.Gate f = absurd f
@@ -42,6 +43,7 @@ unfit_unjudged table t g o is first (refused.Filter number) named = absurd named
 unfit_unjudged table t g o is first (refused.Table kind place) named = absurd named
 unfit_unjudged table t g o is first (refused.Unfit group source) named = (t, g, o, is, first, named.0, named.1)
 unfit_unjudged table t g o is first (refused.TooManyBuses group needed) named = absurd named
+unfit_unjudged table t g o is first (refused.Group name) named = absurd named
 unfit_unjudged table t g o is first (refused.Script line) named = absurd named
 unfit_unjudged table t g o is first refused.Join named = absurd named
 unfit_unjudged table t g o is first refused.Gate named = absurd named
@@ -66,6 +68,7 @@ script_fault_refuses i q (refused.Filter number) p f = absurd f
 script_fault_refuses i q (refused.Table kind place) p f = absurd f
 script_fault_refuses i q (refused.Unfit group source) p f = absurd f
 script_fault_refuses i q (refused.TooManyBuses group needed) p f = absurd f
+script_fault_refuses i q (refused.Group name) p f = absurd f
 script_fault_refuses i q (refused.Script line) p f = inr (q, p, f)
 script_fault_refuses i q refused.Join p f = absurd f
 script_fault_refuses i q refused.Gate p f = absurd f

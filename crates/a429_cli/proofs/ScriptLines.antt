@@ -1,12 +1,10 @@
 -- The first line of a script, and the events of the lines after it.
-use Rattle.std.proofs.Common.{◌≡◌, ◌∙◌, ◌+◌, ◌<◌, ℕ, suc, Bool, true, false, cond, List, take, drop, [], ◌∷◌, ◌++◌, length, refl, sym, ap, arith, append_assoc, append-nil, length-append, add-one}
-use Rattle.std.specs.Prelude.{◌==◌, Option, Some, None, Result, Ok, Err, nat_lt, option_map, option_and_then, if◌then◌else◌}
-use Rattle.std.specs.List.{position_or_len}
-use Rattle.std.proofs.lemmas.Bool.Decides.{nat_tests}
+use Rattle.std.proofs.Common.{◌≡◌, ◌∙◌, ◌+◌, ◌<◌, ℕ, List, take, [], ◌∷◌, ◌++◌, length, refl, sym, ap, arith, append_assoc, append-nil, length-append}
+use Rattle.std.specs.Prelude.{Option, Some, None, Result, Ok, Err, option_map, option_and_then}
 use Rattle.std.proofs.lemmas.Option.{same_Some}
 use Rattle.std.proofs.Math.Seq.{take-append_seam}
 use Rattle.a429_word.proofs.Lists.{same_Ok}
-use Rattle.a429_console.specs.CutText.{cut, lines_of}
+use Rattle.a429_console.specs.CutText.{cut}
 use Rattle.a429_console.proofs.CutLines.{lines_by, lines-cut}
 use Rattle.a429_cli.specs.Script.{events_before, event_then, events_from, events_after, first_event, line_event}
 use Rattle.a429_console.specs.Names.{Naming}

@@ -8,4 +8,5 @@ pub mod LineFiles
 pub mod LineReports
 pub mod LineReplies
 pub mod PlanReplies
+pub mod Drawings
 pub mod Replies

@@ -7,6 +7,7 @@ ghost use Rattle.a429_console.specs.Requests.{RequestBytes, request_of};
 ghost use Rattle.a429_cli.specs.Replies.{IsReplyOrMemory};
 ghost use Rattle.a429_console.specs.Usage.{AsksForHelp, IsHelpReply, IsNoRequest, IsUsageFault, IsUsageReply};
 
+use crate::drawings::print_drawing;
 use crate::lines::tell_lines;
 use crate::plan_texts::{PlanText, print_plan, print_verdict};
 use crate::replay::replay;
@@ -144,6 +145,11 @@ fn answer<F: FileReader, O: Output>(
         ),
         Request::Icd { table, csv: true } => print_plan(alloc, files, table, PlanText::Sheet, out),
         Request::Margin { table } => print_plan(alloc, files, table, PlanText::Margin, out),
+        Request::Draw {
+            table,
+            group,
+            slots,
+        } => print_drawing(alloc, files, table, *group, *slots, out),
         Request::Check { table, plan } => print_verdict(alloc, files, table, plan, out),
         Request::Replay {
             table,

@@ -2,6 +2,7 @@
 #![tactic(auto)]
 
 mod commands;
+mod drawings;
 mod lines;
 mod pending;
 mod plan_texts;

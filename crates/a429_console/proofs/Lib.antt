@@ -4,10 +4,13 @@ pub mod ManyWords
 pub mod RequestWords
 pub mod MarginWords
 pub mod IcdWords
+pub mod DrawWords
+pub mod Decimals
 pub mod AskedWords
 pub mod LiveRequestWords
 pub mod Elsewhere
 pub mod LiveFound
+pub mod DrawFound
 pub mod Found
 pub mod Refused
 pub mod Numbered

@@ -5,7 +5,7 @@ use Rattle.std.specs.Str.{bytes_eq}
 use Rattle.std.proofs.lemmas.Bool.{ne_eqb}
 use Rattle.clap.specs.Words.{Rule, Shape, Text}
 use Rattle.clap.specs.Lexer.{long_of, short_of}
-use Rattle.clap.specs.Walk.{Held, Step, Waiting, value, idle, option, positional, Walk, walked, word_met, after_step, to_positional, arg_by_index}
+use Rattle.clap.specs.Walk.{Held, Step, Waiting, value, idle, option, positional, Walk, walked, word_met, after_step, plain_word, option_word, to_positional, arg_by_id, arg_by_index}
 use Rattle.clap.specs.Takes.{turn_passes, step_passes}
 use Rattle.a429_console.specs.CommandLine.{IsName}
 
@@ -44,3 +44,15 @@ pub turn_of_word : (s : Shape) (w : Waiting) (h : Held) (position : ℕ) (t : Te
 turn_of_word s idle h position t for_none p = rw (p.no_end, p.no_long, p.no_short) refl
 turn_of_word s positional h position t for_more p = rw (p.no_end, p.no_long, p.no_short) refl
 turn_of_word s (option _) h position t v p = elim v [ ]
+
+value_of_option : (c : List Rule) (id : Text) (position : ℕ) (t : Text) (h : Held) → IsPlainWord t → word_met c [] false (option id) position t h ≡ plain_word c (option id) t h
+value_of_option c id position t h p = rw (p.no_end, p.no_long, p.no_short) refl
+
+-- a word for which an option waits
+pub walked_value : (c : List Rule) (id : Text) (h : Held) (position : ℕ) (t : Text) → IsPlainWord t
+    → walked c [] (at_word h (option id) position) t ≡ at_word (option_word (arg_by_id c id) id t h).0 (option_word (arg_by_id c id) id t h).1 position
+unfolding walked
+walked_value c id h position t p = ap (λ (m : Held × Step). after_step c t (at_word h (option id) position) m.0 m.1) (value_of_option c id position t h p)
+
+pub turn_of_value : (s : Shape) (id : Text) (h : Held) (position : ℕ) (t : Text) → IsPlainWord t → turn_passes s [] (at_word h (option id) position) t ≡ true
+turn_of_value s id h position t p = rw (p.no_end, p.no_long, p.no_short) refl

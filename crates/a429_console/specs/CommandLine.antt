@@ -1,5 +1,5 @@
 -- The command line of the program.
-use Rattle.std.specs.Prelude.{◌≡◌, ◌≢◌, ◌∷◌, [], ℕ, true, false, Some, codes, ⊤}
+use Rattle.std.specs.Prelude.{◌≡◌, ◌≢◌, ◌≤◌, ◌∷◌, [], ℕ, true, false, Some, codes, ⊤}
 use Rattle.clap.specs.Words.{App, Rule, Shape, Text, new_app, new_rule, rule_of, with_rule, with_subcommand}
 use Rattle.clap.specs.declared.builder.arg.Arg.{Arg}
 use Rattle.clap.specs.declared.builder.action.ArgAction.TheVariants.{Append, SetTrue}
@@ -19,6 +19,14 @@ many_rule id = record (new_rule id) { action = Some Append }
 -- an option of this name, which has no value
 abbrev pub flag_rule : Text → Rule
 flag_rule name = record (new_rule name) { long = Some name; action = Some SetTrue }
+
+-- an option of this name, which has one value
+abbrev pub option_rule : Text → Rule
+option_rule name = record (new_rule name) { long = Some name; value_names = 1 }
+
+-- and whose value is a whole number from the least to the most
+abbrev pub number_option_rule : Text → ℕ → ℕ → Rule
+number_option_rule name least most = record (option_rule name) { parser = Some (reads.Unsigned least most) }
 
 -- an argument of this rule, for one command alone
 abbrev pub HasRule : Arg → Rule → Type 0
@@ -42,6 +50,15 @@ icd_app = with_rule (with_rule (new_app (codes "icd")) (required_rule (codes "TA
 abbrev pub margin_app : App
 margin_app = with_rule (new_app (codes "margin")) (required_rule (codes "TABLE"))
 
+-- how many slots of a bus can be drawn
+abbrev pub most_slots : ℕ
+most_slots = 8192
+
+abbrev pub draw_app : App
+draw_app =
+    with_rule (with_rule (with_rule (new_app (codes "draw")) (required_rule (codes "TABLE"))) (option_rule (codes "group")))
+    (number_option_rule (codes "slots") 1 most_slots)
+
 abbrev pub replay_app : App
 replay_app = with_rule (with_rule (with_rule (new_app (codes "replay")) (required_rule (codes "TABLE"))) (required_rule (codes "SCRIPT"))) (many_rule (codes "FURTHER"))
 
@@ -59,10 +76,14 @@ bare_line = record { top = top_shape; subs = [] }
 
 unfoldable pub command_line : App
 command_line =
-    with_subcommand (with_subcommand (with_subcommand (with_subcommand (with_subcommand (with_subcommand (with_subcommand (with_subcommand bare_line word_app.top) lines_app.top) plan_app.top) check_app.top) icd_app.top) margin_app.top) replay_app.top)
+    with_subcommand (with_subcommand (with_subcommand (with_subcommand (with_subcommand (with_subcommand (with_subcommand (with_subcommand (with_subcommand bare_line word_app.top) lines_app.top) plan_app.top) check_app.top) icd_app.top) margin_app.top) draw_app.top) replay_app.top)
     live_app.top
 
 -- a name of a file, which no option can be
 abbrev pub IsName : Text → Type 0
 IsName [] = ⊤
 IsName (x ∷ xs) = x ≢ 45
+
+-- a number of slots that can be asked for
+abbrev pub IsPlainSlots : ℕ → Type 0
+IsPlainSlots n = (1 ≤ n) × (n ≤ most_slots)

@@ -15,6 +15,7 @@ refusal_line (refused.Filter number) = codes "refused filter " ++ decimal number
 refusal_line (refused.Table kind place) = codes "refused table " ++ kind_text kind ++ codes " " ++ place_text place
 refusal_line (refused.Unfit group source) = codes "refused unfit " ++ string_bytes group ++ codes " " ++ string_bytes source
 refusal_line (refused.TooManyBuses group needed) = codes "refused too-many-buses " ++ string_bytes group ++ codes " " ++ decimal needed
+refusal_line (refused.Group name) = codes "refused group " ++ string_bytes name
 refusal_line (refused.Script line) = codes "refused script line " ++ decimal line
 refusal_line refused.Join = codes "refused join"
 refusal_line refused.Gate = codes "refused gate"

@@ -1,11 +1,13 @@
 -- What is asked for by the values that were read of a command's words.
 use Rattle.std.specs.Prelude.{◌≡◌, [], ℕ, Bool, List, Option, Some, None, Result, MatchResult, true, false, codes, not, if◌then◌else◌, option_and_then, option_map, unwrap_or}
 use Rattle.std.specs.Str.{bytes_eq}
+use Rattle.std.specs.Str.Parse.{digits_value, without_leading_plus}
+use Rattle.clap.specs.ValueTests.{is_unsigned_in}
 use Rattle.clap.specs.Words.{HasKind, Row, Text, first_of, one_of, all_of, subcommand_of, takes}
 use Rattle.clap.specs.declared.error.Error.{Error}
-use Rattle.a429_console.specs.CommandLine.{command_line}
+use Rattle.a429_console.specs.CommandLine.{command_line, most_slots}
 use Rattle.a429_console.specs.LiveWords.{IsLiveReadOf, LiveTexts, live_texts}
-use Rattle.a429_console.specs.Requests.{IsReadOf, RequestBytes, Word, Lines, Plan, Check, Icd, Margin, Replay}
+use Rattle.a429_console.specs.Requests.{IsReadOf, RequestBytes, Word, Lines, Plan, Check, Icd, Margin, Draw, Replay}
 use Rattle.a429_console.specs.Usage.{elsewhere, is_live}
 use Rattle.a429_console.specs.declared.arguments.requests.LiveRequest.{LiveRequest}
 use Rattle.a429_console.specs.declared.arguments.requests.Request.{Request}
@@ -33,6 +35,14 @@ icd_request rows = option_and_then (λ table. option_map (Icd table) (flag_given
 abbrev pub margin_request : List Row → Option RequestBytes
 margin_request rows = option_map Margin (first_of (codes "TABLE") rows)
 
+-- how many slots are asked for, by the text of the option: no number where it is not given
+unfoldable pub slots_of : Option Text → Option (Option ℕ)
+slots_of None = Some None
+slots_of (Some text) = if is_unsigned_in 1 most_slots text then Some (Some (digits_value 10 (without_leading_plus text))) else None
+
+abbrev pub draw_request : List Row → Option RequestBytes
+draw_request rows = option_and_then (λ table. option_map (Draw table (first_of (codes "group") rows)) (slots_of (one_of (codes "slots") rows))) (first_of (codes "TABLE") rows)
+
 abbrev pub replay_request : List Row → Option RequestBytes
 replay_request rows =
     option_and_then (λ table. option_map (λ script. Replay table script (unwrap_or (all_of (codes "FURTHER") rows) [])) (first_of (codes "SCRIPT") rows))
@@ -47,7 +57,8 @@ request_by name rows =
     else (if bytes_eq name (codes "check") then check_request rows
     else (if bytes_eq name (codes "icd") then icd_request rows
     else (if bytes_eq name (codes "margin") then margin_request rows
-    else (if bytes_eq name (codes "replay") then replay_request rows else None))))))
+    else (if bytes_eq name (codes "draw") then draw_request rows
+    else (if bytes_eq name (codes "replay") then replay_request rows else None)))))))
 
 -- by what was found of the words: the command's name and its values
 abbrev pub request_found : Option (Text × List Row) → Option RequestBytes

@@ -1,7 +1,8 @@
 -- What the words of a command line ask for.
-use Rattle.std.specs.Prelude.{◌≡◌, ◌∷◌, [], ℕ, Bool, true, false, List, Option, Some, codes}
+use Rattle.std.specs.Prelude.{◌≡◌, ◌∷◌, ◌++◌, [], ℕ, Bool, true, false, List, Option, Some, None, IfSome, codes, option_map}
+use Rattle.std.specs.Fmt.{decimal}
 use Rattle.std.specs.List.{AllByRecursion}
-use Rattle.a429_console.specs.CommandLine.{IsName}
+use Rattle.a429_console.specs.CommandLine.{IsName, IsPlainSlots}
 use Rattle.a429_console.specs.Files.{texts_of}
 use Rattle.a429_console.specs.declared.arguments.requests.Request.{Request}
 use Rattle.a429_console.specs.declared.arguments.requests.Request.TheVariants as read
@@ -20,8 +21,15 @@ pub data RequestBytes : Type 0 where
   Icd : List ℕ → Bool → RequestBytes
   -- a table
   Margin : List ℕ → RequestBytes
+  -- a table, the group that is drawn where one alone is, and how many slots of each bus where that is said
+  Draw : List ℕ → Option (List ℕ) → Option ℕ → RequestBytes
   -- a table, a script and further tables
   Replay : List ℕ → List ℕ → List (List ℕ) → RequestBytes
+
+-- the words of an option that has a value, where it is given
+abbrev pub option_words : List ℕ → Option (List ℕ) → List (List ℕ)
+option_words name None = []
+option_words name (Some value) = name ∷ value ∷ []
 
 -- its words in their plain form: what it names, and then its options
 abbrev pub request_words : RequestBytes → List (List ℕ)
@@ -32,9 +40,10 @@ request_words (Check table text) = codes "check" ∷ table ∷ text ∷ []
 request_words (Icd table false) = codes "icd" ∷ table ∷ []
 request_words (Icd table true) = codes "icd" ∷ table ∷ codes "--csv" ∷ []
 request_words (Margin table) = codes "margin" ∷ table ∷ []
+request_words (Draw table group slots) = codes "draw" ∷ table ∷ (option_words (codes "--group") group ++ option_words (codes "--slots") (option_map decimal slots))
 request_words (Replay table script further) = codes "replay" ∷ table ∷ script ∷ further
 
--- each text of it is a name
+-- each text of it is a name, and a number of slots can be asked for
 abbrev pub HasNames : RequestBytes → Type 0
 HasNames (Word text) = IsName text
 HasNames (Lines file filters) = IsName file × AllByRecursion IsName filters
@@ -42,6 +51,7 @@ HasNames (Plan table) = IsName table
 HasNames (Check table text) = IsName table × IsName text
 HasNames (Icd table csv) = IsName table
 HasNames (Margin table) = IsName table
+HasNames (Draw table group slots) = IsName table × IfSome group IsName × IfSome slots IsPlainSlots
 HasNames (Replay table script further) = IsName table × IsName script × AllByRecursion IsName further
 
 -- the bytes of what was read of the words
@@ -52,6 +62,7 @@ request_of (read.Plan table) = Plan table.now
 request_of (read.Check table text) = Check table.now text.now
 request_of (read.Icd table csv) = Icd table.now csv
 request_of (read.Margin table) = Margin table.now
+request_of (read.Draw table group slots) = Draw table.now (option_map (λ g. g.now) group) slots
 request_of (read.Replay table script further) = Replay table.now script.now (texts_of further.items)
 
 -- where something was asked for, it was read

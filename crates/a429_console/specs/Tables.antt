@@ -6,6 +6,7 @@ use Rattle.a429_slots.specs.Planned.{IsPlanOf}
 use Rattle.a429_slots.specs.Proposed.{Proposed}
 use Rattle.a429_slots.specs.Faults.{IsFaultOf}
 use Rattle.a429_slots.specs.declared.planner.PlanFault.TheVariants as plan
+use Rattle.a429_console.specs.Files.{shown_name}
 use Rattle.a429_console.specs.Names.{group_name, output_name}
 use Rattle.a429_console.specs.RefusalText.{OrMemory}
 use Rattle.a429_console.specs.declared.output.refusals.CommandRefusal.{CommandRefusal}
@@ -40,3 +41,8 @@ IsTableRefusal table refusal = (t : TableRecord) × (reading table ≡ Ok t) × 
 -- what reading and planning a table gives: its proposal, or its refusal
 abbrev pub IsProposing : List ℕ → Result Proposed CommandRefusal → Type 0
 IsProposing table result = MatchResult result (IsProposedBy table) (OrMemory (IsTableRefusal table))
+
+-- the refusal of a group that is not there tells its name, in one line
+abbrev pub IsGroupRefusal : List ℕ → CommandRefusal → Type 0
+IsGroupRefusal name (refused.Group told) = string_bytes told ≡ shown_name name
+IsGroupRefusal name _ = ⊥

@@ -4,10 +4,11 @@ ghost use Rattle.a429_equipment.specs.Reading.{reading};
 ghost use Rattle.a429_slots.specs.Faults.{IsFaultOf};
 ghost use Rattle.a429_slots.specs.declared.planner.PlanFault.TheVariants.{Unfit, TooManyBuses};
 ghost use Rattle.a429_console.specs.RefusalText.{OrMemory};
-ghost use Rattle.a429_console.specs.Tables.{IsProposedBy, IsTableFault, IsTableRefusal, IsPlanRefusal, IsUnfitNamed};
+ghost use Rattle.a429_console.specs.Tables.{IsGroupRefusal, IsProposedBy, IsTableFault, IsTableRefusal, IsPlanRefusal, IsUnfitNamed};
 
 pub mod names;
 
+use crate::files::reading::shown_name;
 use crate::output::refusals::CommandRefusal;
 use crate::tables::names::{group_name, source_name};
 use a429_equipment::{Equipment, TableFault};
@@ -72,6 +73,17 @@ fn too_many_buses(
 {
     match String::from_str(alloc, group_name(equipment, group)) {
         Ok(group) => CommandRefusal::TooManyBuses { group, needed },
+        Err(_) => CommandRefusal::Memory,
+    }
+}
+
+/// The refusal of a group that a table does not have. It tells the name that was asked for, in one line; where memory
+/// for that is refused, it says so instead.
+pub fn no_group(alloc: Global, name: &str) -> CommandRefusal
+    ensures { OrMemory (IsGroupRefusal name.now) result }
+{
+    match shown_name(alloc, name) {
+        Ok(name) => CommandRefusal::Group(name),
         Err(_) => CommandRefusal::Memory,
     }
 }

@@ -5,7 +5,7 @@ use crate::periods::{Unfit, tell_unfit};
 use crate::reasons::meaning;
 use a429_cert::{NoVerdict, Verdict, judge};
 use a429_console::tables::names::{group_name, source_name};
-use a429_equipment::{Equipment, TableFault};
+use a429_equipment::{Equipment, GroupRow, TableFault};
 use a429_slots::{OUTPUTS, PlanFault, Proposal};
 use std::alloc::Global;
 use std::io;
@@ -20,6 +20,42 @@ pub fn tell_no_plan<V: Write>(alloc: Global, table: &[u8], err: &mut V) -> io::R
         Ok(_) => Ok(()),
         Err(none) => tell_fault(&none.equipment, none.fault, err),
     }
+}
+
+/// Tells why the plan of a table was not drawn: why there is none, or which groups there are, where none has the name
+/// that was asked for.
+pub fn tell_no_drawing<V: Write>(
+    alloc: Global,
+    table: &[u8],
+    group: Option<&str>,
+    err: &mut V,
+) -> io::Result<()> {
+    let Some(equipment) = look_into(alloc, table, err)? else {
+        return Ok(());
+    };
+    match Proposal::<OUTPUTS>::of(alloc, equipment) {
+        Ok(proposal) => match group {
+            Some(name) => tell_groups(proposal.equipment().groups(), name, err),
+            None => Ok(()),
+        },
+        Err(none) => tell_fault(&none.equipment, none.fault, err),
+    }
+}
+
+/// Tells which groups there are, where none of them has this name.
+fn tell_groups<V: Write>(groups: &[GroupRow], name: &str, err: &mut V) -> io::Result<()> {
+    if groups.iter().any(|group| group.name.as_str() == name) {
+        return Ok(());
+    }
+    if groups.is_empty() {
+        return writeln!(err, "a429: the table has no groups");
+    }
+    write!(err, "a429: the groups of the table are")?;
+    for group in groups {
+        let own = group.name.as_str();
+        write!(err, " {own}")?;
+    }
+    writeln!(err)
 }
 
 /// The equipment of a table. Where the table has a fault, that is told.

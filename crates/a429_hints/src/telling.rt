@@ -1,7 +1,7 @@
 //! The hint about a refused request, and about an output that failed.
 
 use crate::looks::{are_there, look_at};
-use crate::plans::{tell_no_plan, tell_no_verdict};
+use crate::plans::{tell_no_drawing, tell_no_plan, tell_no_verdict};
 use a429_console::arguments::requests::Request;
 use a429_console::files::FileReader;
 use std::alloc::Global;
@@ -24,6 +24,11 @@ pub fn tell_hint<F: FileReader, V: Write>(
         Request::Plan { table } | Request::Icd { table, .. } | Request::Margin { table } => {
             if let Some(table) = look_at(alloc, files, table, err)? {
                 tell_no_plan(alloc, &table, err)?;
+            }
+        }
+        Request::Draw { table, group, .. } => {
+            if let Some(table) = look_at(alloc, files, table, err)? {
+                tell_no_drawing(alloc, &table, *group, err)?;
             }
         }
         Request::Check { table, plan } => {

@@ -171,6 +171,7 @@ impl Transmit {
     /// The next cell, slot by slot and in a slot bus by bus: for an output's cell by one load of its source, also
     /// where the word is then held back; for an empty one without a load. `FrameEnd` just where all cells of the
     /// frame were sent, and nothing changes. It takes no memory and waits for nobody.
+    #[inline(always)]
     pub fn cell(&mut self) -> Result<Sent, FrameEnd>
         ensures stands { GoesOnBy self.old (cell_call result (loads_since self.old self.new) ∷ []) self.new }
         ensures end { IsErr result ↔ (next_cell self.old.frame ≡ None) }

@@ -1,7 +1,7 @@
 //! The command line: its commands, and the texts of their help.
-ghost use Rattle.std.specs.Prelude.{◌≡◌, IfOk, IsTrue};
+ghost use Rattle.std.specs.Prelude.{◌≡◌, IfOk, IsTrue, codes};
 ghost use Rattle.clap.specs.Words.{App, app_of, with_subcommand};
-ghost use Rattle.a429_console.specs.CommandLine.{HasRule, bare_line, check_app, command_line, flag_rule, icd_app, lines_app, live_app, many_rule, margin_app, number_rule, plan_app, replay_app, required_rule, word_app};
+ghost use Rattle.a429_console.specs.CommandLine.{HasRule, bare_line, check_app, command_line, draw_app, flag_rule, icd_app, lines_app, live_app, many_rule, margin_app, most_slots, number_option_rule, number_rule, option_rule, plan_app, replay_app, required_rule, word_app};
 
 use clap::builder::ValueParser;
 use clap::{Arg, ArgAction, Command};
@@ -39,6 +39,13 @@ const CSV: &str = "As comma-separated values, for spreadsheets";
 const MARGIN: &str =
     "Tell how far each group is from one bus fewer, and which intervals would have to be wider";
 
+const DRAW: &str = "Draw the slot tables of a plan as an image (SVG)";
+
+const GROUP: &str = "Only the group of this name";
+
+const SLOTS: &str =
+    "How many slots of each bus are drawn, from 1 to 8192; else a frame, of which 256 at most";
+
 const REPLAY: &str = "Play the events of a script on a station and print what each is answered";
 
 const TABLE: &str =
@@ -61,6 +68,9 @@ const FRAMES: &str = "How many frames each group sends, at most 1000000";
 
 /// How many frames may be asked for (profile).
 const MOST_FRAMES: u64 = 1000000;
+
+/// How many slots of a bus may be asked for (profile).
+const MOST_SLOTS: u64 = 8192;
 
 /// An argument that must be given.
 fn required_argument<'a>(alloc: Global, id: &'a str, help: &'a str) -> Arg<'a>
@@ -91,6 +101,23 @@ fn flag_option<'a>(alloc: Global, name: &'a str, help: &'a str) -> Arg<'a>
         .long(name)
         .action(ArgAction::SetTrue)
         .help(help)
+}
+
+/// An option of this name, which has one value. Help calls that by the name `value`.
+fn value_option<'a>(alloc: Global, name: &'a str, value: &'a str, help: &'a str) -> Arg<'a>
+    ensures { HasRule result (option_rule name.entry.now) }
+{
+    Arg::new(alloc, name)
+        .long(name)
+        .value_name(value)
+        .help(help)
+}
+
+/// The option that says how many slots of each bus are drawn.
+fn slots_option<'a>(alloc: Global) -> Arg<'a>
+    ensures { HasRule result (number_option_rule (codes "slots") 1 most_slots) }
+{
+    value_option(alloc, "slots", "N", SLOTS).value_parser(ValueParser::unsigned(1, MOST_SLOTS))
 }
 
 fn word_command<'a>(alloc: Global) -> Result<Command<'a>, AllocError>
@@ -136,6 +163,15 @@ fn margin_command<'a>(alloc: Global) -> Result<Command<'a>, AllocError>
 {
     let margin = Command::new(alloc, "margin").about(MARGIN);
     margin.arg(required_argument(alloc, "TABLE", TABLE))
+}
+
+fn draw_command<'a>(alloc: Global) -> Result<Command<'a>, AllocError>
+    ensures { IfOk result (λ c. app_of c ≡ draw_app) }
+{
+    let draw = Command::new(alloc, "draw").about(DRAW);
+    let draw = draw.arg(required_argument(alloc, "TABLE", TABLE))?;
+    let draw = draw.arg(value_option(alloc, "group", "NAME", GROUP))?;
+    draw.arg(slots_option(alloc))
 }
 
 fn replay_command<'a>(alloc: Global) -> Result<Command<'a>, AllocError>
@@ -190,6 +226,7 @@ pub fn build_command<'a>(alloc: Global) -> Result<Command<'a>, AllocError>
     let line = with_command(line, check_command(alloc))?;
     let line = with_command(line, icd_command(alloc))?;
     let line = with_command(line, margin_command(alloc))?;
+    let line = with_command(line, draw_command(alloc))?;
     let line = with_command(line, replay_command(alloc))?;
     with_command(line, live_command(alloc))
 }

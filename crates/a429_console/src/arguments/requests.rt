@@ -1,9 +1,9 @@
 //! What the words of the command line ask for.
-ghost use Rattle.std.specs.Prelude.{◌≡◌, ℕ, List, IfOk, MatchResult, Some, codes, true};
-ghost use Rattle.clap.specs.Words.{FailsBy, HasKind, first_of, found_of, kind_of, rows_of, subcommand_rows_of};
+ghost use Rattle.std.specs.Prelude.{◌≡◌, ℕ, List, Option, IfOk, MatchResult, Some, codes, true};
+ghost use Rattle.clap.specs.Words.{FailsBy, HasKind, first_of, found_of, kind_of, one_of, rows_of, subcommand_rows_of};
 ghost use Rattle.a429_console.specs.Files.{texts_of};
 ghost use Rattle.a429_console.specs.Requests.{IsReadOf, RequestBytes, request_of};
-ghost use Rattle.a429_console.specs.RequestRows.{AsksFor, IsLiveFound, IsRequestFound, check_request, icd_request, lines_request, margin_request, plan_request, replay_request, word_request};
+ghost use Rattle.a429_console.specs.RequestRows.{AsksFor, IsLiveFound, IsRequestFound, check_request, draw_request, icd_request, lines_request, margin_request, plan_request, replay_request, slots_of, word_request};
 ghost use Rattle.a429_console.specs.LiveWords.{AsksForLive, IsFrames, IsLiveReadOf, LiveAsk, live_of, live_texts};
 ghost use Rattle.a429_console.specs.Usage.{elsewhere, kinds_of_words, live_kinds_of_words};
 
@@ -42,6 +42,13 @@ pub enum Request<'a> {
     /// To tell how far each group of the table of this name is from one bus fewer.
     Margin {
         table: &'a str,
+    },
+    /// To draw the plan of the table of this name as an image: each group, or the one of this name alone, and of each
+    /// bus so many slots, from 1 to 8192, or where that is not said a frame, of which 256 slots at most.
+    Draw {
+        table: &'a str,
+        group: Option<&'a str>,
+        slots: Option<u32>,
     },
     /// To play the script of this name on the station of the table of this name, beside further tables.
     Replay {
@@ -113,6 +120,9 @@ fn read_request<'a>(alloc: Global, matches: &ArgMatches<'a>) -> Result<Request<'
     }
     if let Some(found) = matches.subcommand_matches("margin") {
         return asked_margin(found);
+    }
+    if let Some(found) = matches.subcommand_matches("draw") {
+        return asked_draw(found);
     }
     if let Some(found) = matches.subcommand_matches("replay") {
         return asked_replay(alloc, found);
@@ -244,6 +254,29 @@ fn asked_margin<'a>(found: &ArgMatches<'a>) -> Result<Request<'a>, Error>
         Some(table) => Ok(Request::Margin { table }),
         None => Err(Error::from(AllocError)),
     }
+}
+
+/// What the words of `draw` ask for.
+fn asked_draw<'a>(found: &ArgMatches<'a>) -> Result<Request<'a>, Error>
+    ensures { MatchResult result (IsReadOf (draw_request (rows_of (found_of found.now)))) (λ e. kind_of e ≡ ErrorKind.OutOfMemory) }
+{
+    let Some(table) = found.get_str("TABLE") else {
+        return Err(Error::from(AllocError));
+    };
+    let group = found.get_str("group");
+    let slots = asked_slots(found);
+    Ok(Request::Draw {
+        table,
+        group,
+        slots,
+    })
+}
+
+/// How many slots are asked for, where a number is: that of the text, which the rules of the command line let through.
+fn asked_slots(found: &ArgMatches<'_>) -> Option<u32>
+    ensures { (slots : Option ℕ) → slots_of (one_of (codes "slots") (rows_of (found_of found.now))) ≡ Some slots → result ≡ slots }
+{
+    found.get_one("slots")
 }
 
 /// What the words of `replay` ask for.

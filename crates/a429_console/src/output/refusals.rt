@@ -24,6 +24,8 @@ pub enum CommandRefusal {
     Unfit { group: String, source: String },
     /// The group needs so many buses, which are more than 16.
     TooManyBuses { group: String, needed: usize },
+    /// The table has no group of this name, which was asked for.
+    Group(String),
     /// The line of this number, from 1, is the first of the script that is no event of the station, or of the
     /// file of words that is no word for it.
     Script(usize),
@@ -61,6 +63,7 @@ impl fmt::Display for CommandRefusal {
             CommandRefusal::TooManyBuses { group, needed } => {
                 write!(f, "refused too-many-buses {group} {needed}")
             }
+            CommandRefusal::Group(name) => write!(f, "refused group {name}"),
             CommandRefusal::Script(line) => write!(f, "refused script line {line}"),
             CommandRefusal::Join => write!(f, "refused join"),
             CommandRefusal::Gate => write!(f, "refused gate"),

@@ -1,4 +1,4 @@
-use Rattle.std.proofs.Common.{◌<◌, ◌∙◌, sym, subst, map, ℕ, List}
+use Rattle.std.proofs.Common.{◌<◌, ◌∙◌, sym, subst, ℕ, List}
 use Rattle.std.specs.List.{AllByRecursion}
 use Rattle.a429_slots.proofs.Rows.{all_below}
 use Rattle.a429_cert.specs.Margins.{window_of}

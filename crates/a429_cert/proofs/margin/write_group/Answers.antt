@@ -1,4 +1,4 @@
-use Rattle.std.proofs.Common.{◌≡◌, ◌++◌, ◌-◌, ◌*◌, ◌∙◌, ap, ap₂, map, refl, string_bytes, ℕ, List}
+use Rattle.std.proofs.Common.{◌≡◌, ◌++◌, ◌-◌, ◌*◌, ◌∙◌, ap, ap₂, map, refl, string_bytes, ℕ}
 use Rattle.std.specs.Prelude.{sum}
 use Rattle.std.proofs.lemmas.Result.{IfOk-weaker}
 use Rattle.a429_pack.specs.Windows.{raw_bound}

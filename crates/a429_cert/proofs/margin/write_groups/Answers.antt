@@ -1,4 +1,4 @@
-use Rattle.std.proofs.Common.{◌≡◌, ◌++◌, ◌≤◌, ◌<◌, ◌∙◌, [], ap, ap₂, sym, subst, arith, refl, drop, length, string_bytes, append-nil, append_assoc, ℕ, List}
+use Rattle.std.proofs.Common.{◌≡◌, ◌++◌, ◌≤◌, ◌∙◌, [], ap, sym, subst, refl, drop, length, string_bytes, append-nil, append_assoc, ℕ, List}
 use Rattle.std.specs.Prelude.{Some, slice_get}
 use Rattle.std.specs.List.{AllByRecursion}
 use Rattle.std.proofs.lemmas.List.{drop_all}
@@ -8,9 +8,9 @@ use Rattle.a429_equipment.specs.Sound.{IsGroupRow, IsInterval, IsSound}
 use Rattle.a429_equipment.specs.declared.rows.GroupRow.{GroupRow}
 use Rattle.a429_equipment.specs.declared.rows.OutputRow.{OutputRow}
 use Rattle.a429_equipment.specs.declared.rows.SourceRow.{SourceRow}
-use Rattle.a429_slots.specs.Tables.{GroupTable, PlanTable, groups_of}
+use Rattle.a429_slots.specs.Tables.{PlanTable, groups_of}
 use Rattle.a429_slots.specs.Planned.{HaveSources, IsPlannedFor}
-use Rattle.a429_cert.specs.Margins.{AreMargins, IsGroupMargin, IsMarginText}
+use Rattle.a429_cert.specs.Margins.{AreMargins, IsGroupMargin}
 use Rattle.a429_cert.proofs.MarginGroups.{margins_from, planned_group}
 use Rattle.a429_cert.proofs.margin.write_groups.Goals as goal
 

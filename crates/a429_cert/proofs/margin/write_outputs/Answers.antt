@@ -1,7 +1,5 @@
-use Rattle.std.proofs.Common.{◌≡◌, ◌++◌, ◌<◌, ◌≤◌, ◌∙◌, arith, ap, subst, length, string_bytes, ℕ, List}
+use Rattle.std.proofs.Common.{◌≡◌, ◌++◌, subst, string_bytes, ℕ, List}
 use Rattle.std.specs.Prelude.{option_map}
-use Rattle.std.specs.List.{flat_map, range_with_len}
-use Rattle.a429_slots.specs.Tables.{outputs_of}
 use Rattle.a429_cert.specs.Margins.{output_margin}
 use Rattle.a429_cert.proofs.Margins.{lines_more}
 use Rattle.a429_cert.proofs.margin.write_outputs.Goals as goal

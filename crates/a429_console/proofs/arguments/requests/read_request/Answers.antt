@@ -56,6 +56,14 @@ pub returns-in-Some-subcommand_matches-6 : goal.returns-in-Some-subcommand_match
 returns-in-Some-subcommand_matches-6 c =
     let m = c.args.matches.now in
     let named = name_of_rows m ∙ c.in-Some-subcommand_matches-6.ensures.found.0 refl in
+    weaker_at_both c.asked_draw.result _ _ _ _
+    (λ q is. ((λ r asked. is r (found_asked (subcommand_rows_of m) (codes "draw") (rows_of (found_of c.in-Some-subcommand_matches-6.found.now)) r named c.in-Some-subcommand_matches-6.ensures.rows asked)), is_live_by_name (subcommand_rows_of m) (codes "draw") named))
+    (λ e memory. inl memory) c.asked_draw.ensures
+
+pub returns-in-Some-subcommand_matches-7 : goal.returns-in-Some-subcommand_matches-7
+returns-in-Some-subcommand_matches-7 c =
+    let m = c.args.matches.now in
+    let named = name_of_rows m ∙ c.in-Some-subcommand_matches-7.ensures.found.0 refl in
     weaker_at_both c.asked_replay.result _ _ _ _
-    (λ q is. ((λ r asked. is r (found_asked (subcommand_rows_of m) (codes "replay") (rows_of (found_of c.in-Some-subcommand_matches-6.found.now)) r named c.in-Some-subcommand_matches-6.ensures.rows asked)), is_live_by_name (subcommand_rows_of m) (codes "replay") named))
+    (λ q is. ((λ r asked. is r (found_asked (subcommand_rows_of m) (codes "replay") (rows_of (found_of c.in-Some-subcommand_matches-7.found.now)) r named c.in-Some-subcommand_matches-7.ensures.rows asked)), is_live_by_name (subcommand_rows_of m) (codes "replay") named))
     (λ e memory. inl memory) c.asked_replay.ensures

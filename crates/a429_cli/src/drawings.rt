@@ -1,0 +1,97 @@
+//! The command that draws the plan of a table.
+ghost use Rattle.std.specs.Prelude.{◌≡◌, ◌≤◌, ◌<◌, IfOk, IfSome, IsTrue, MatchResult, OnOk, Some, length, option_map};
+ghost use Rattle.a429_console.specs.Outputs.{CountsFault, IsPut};
+ghost use Rattle.a429_console.specs.RefusalText.{OrMemory};
+ghost use Rattle.a429_cli.specs.Drawings.{IsDrawReply, IsDrawing, IsImage, IsNoGroup, group_asked, group_numbered};
+
+use a429_cert::draw_text;
+use a429_console::files::FileReader;
+use a429_console::files::reading::read_file;
+use a429_console::output::endings::{finish, refuse};
+use a429_console::output::refusals::CommandRefusal;
+use a429_console::output::{Output, OutputFault};
+use a429_console::tables::{no_group, propose};
+use a429_equipment::GroupRow;
+use a429_slots::{OUTPUTS, Proposal};
+use std::alloc::Global;
+
+/// The number of the first group of this name.
+#[tactic(auto, unfolding(crate::specs::Drawings::group_numbered))]
+fn group_numbered(groups: &[GroupRow], name: &str) -> Option<usize>
+    ensures number { result ≡ group_numbered groups.now name.now }
+    ensures known { IfSome result (λ number. number < length groups.now) }
+{
+    groups.iter().position(|group| group.name.as_str() == name)
+}
+
+/// The group that is drawn, by the name that was asked for: where none was, no certain one, which means all. Refused is
+/// a name that no group has.
+fn group_asked(
+    alloc: Global,
+    groups: &[GroupRow],
+    group: Option<&str>,
+) -> Result<Option<usize>, CommandRefusal>
+    ensures asked { MatchResult result (λ number. group_asked groups.now (option_map (λ name. name.now) group.entry) ≡ Some number) (OrMemory (IsNoGroup groups.now (option_map (λ name. name.now) group.entry))) }
+    ensures known { IfOk result (λ number. IfSome number (λ number. number < length groups.now)) }
+{
+    let Some(name) = group else {
+        return Ok(None);
+    };
+    match group_numbered(groups, name) {
+        Some(number) => Ok(Some(number)),
+        None => Err(no_group(alloc, name)),
+    }
+}
+
+/// The image of a proposal's plan, of the group of this name or of all. Refused is a name that no group has.
+fn image_of(
+    alloc: Global,
+    proposal: &Proposal<OUTPUTS>,
+    group: Option<&str>,
+    slots: Option<u32>,
+) -> Result<Vec<u8>, CommandRefusal>
+    ensures { MatchResult result (λ text. IsImage proposal.now (option_map (λ name. name.now) group.entry) slots text.items) (OrMemory (IsNoGroup proposal.now.station.groups (option_map (λ name. name.now) group.entry))) }
+{
+    let _plan = proposal.plan();
+    let number = group_asked(alloc, proposal.equipment().groups(), group)?;
+    Ok(draw_text(alloc, proposal, number, slots)?)
+}
+
+/// The image of the plan of the table in a file, of the group of this name or of all. Refused is the file, then the table,
+/// then its plan, then the name.
+fn drawn<F: FileReader>(
+    alloc: Global,
+    files: &mut F,
+    name: &str,
+    group: Option<&str>,
+    slots: Option<u32>,
+) -> Result<Vec<u8>, CommandRefusal>
+    ensures { IsTrue (F.tells files.old) → IsDrawing (F.file files.old) name.now (option_map (λ name. name.now) group.entry) slots result }
+{
+    let table = read_file(alloc, files, name)?;
+    let proposal = propose(alloc, &table)?;
+    image_of(alloc, &proposal, group, slots)
+}
+
+/// Puts the image of the plan of the table in a file, of the group of this name or of all and of each bus so many slots
+/// (a frame, of which 256 at most, where it is not said), or the one line of a refusal. The status is 0, or 1 where it
+/// was refused.
+pub fn print_drawing<F: FileReader, O: Output>(
+    alloc: Global,
+    files: &mut F,
+    name: &str,
+    group: Option<&str>,
+    slots: Option<u32>,
+    out: &mut O,
+) -> Result<u8, OutputFault>
+    ensures drawn { IsTrue (F.tells files.old) → IfOk result
+        (IsPut (IsDrawReply (F.file files.old) name.now (option_map (λ name. name.now) group.entry) slots) (O.contents out.old) (O.contents out.new)) }
+    ensures status { IfOk result (λ status. status ≤ 1) }
+    ensures flushed { OnOk result (IsTrue (O.is_flushed out.new)) }
+    ensures faults { CountsFault result (O.failures out.old) (O.failures out.new) }
+{
+    match drawn(alloc, files, name, group, slots) {
+        Ok(text) => finish(&text, true, out),
+        Err(refusal) => refuse(alloc, &refusal, out),
+    }
+}

@@ -1,0 +1,47 @@
+-- A number in decimal digits, as a word of the command line.
+use Rattle.std.proofs.Common.{◌≡◌, ◌∙◌, ◌≤◌, ◌<◌, ◌^◌, ℕ, List, [], ◌∷◌, true, ap, refl, sym, subst, arith}
+use Rattle.std.specs.Prelude.{Option, Some, None, IfSome, option_map}
+use Rattle.std.specs.Char.{digit_value}
+use Rattle.std.specs.Fmt.{decimal}
+use Rattle.std.specs.Str.Parse.{AllDigits, IsNumeral, digits_value, without_leading_plus}
+use Rattle.std.proofs.lemmas.Fmt.{decimal_is_IsNumeral}
+use Rattle.std.proofs.lemmas.Str.Parse.{without_leading_plus_none}
+use Rattle.clap.specs.ValueTests.{is_unsigned_in}
+use Rattle.clap.specs.declared.builder.value_parser.ValueParser.TheVariants as reads
+use Rattle.clap.proofs.ValueTestLemmas.{Accepts-accepts}
+use Rattle.a429_console.specs.CommandLine.{IsName, IsPlainSlots, most_slots}
+use Rattle.a429_console.specs.RequestRows.{slots_of}
+
+digits_are_name : (ds : List ℕ) → AllDigits 10 ds → IsName ds
+digits_are_name [] all = tt
+digits_are_name (c ∷ cs) all = λ minus. let bad : digit_value 45 < 10 = subst (λ (x : ℕ). digit_value x < 10) minus all.0 in omega arith
+
+digits_have_no_plus : (ds : List ℕ) → AllDigits 10 ds → without_leading_plus ds ≡ ds
+digits_have_no_plus [] all = refl
+digits_have_no_plus (c ∷ cs) all =
+    without_leading_plus_none (c ∷ cs) (λ plus. let bad : digit_value 43 < 10 = subst (λ (x : ℕ). digit_value x < 10) plus all.0 in omega arith)
+
+pub decimal_is_name : (n : ℕ) → n < 2 ^ 64 → IsName (decimal n)
+decimal_is_name n small = digits_are_name (decimal n) (decimal_is_IsNumeral n small).0.1
+
+no_plus : (n : ℕ) → n < 2 ^ 64 → without_leading_plus (decimal n) ≡ decimal n
+no_plus n small = digits_have_no_plus (decimal n) (decimal_is_IsNumeral n small).0.1
+
+-- it is the number that it was made of
+pub decimal_value : (n : ℕ) → n < 2 ^ 64 → digits_value 10 (without_leading_plus (decimal n)) ≡ n
+decimal_value n small = ap (digits_value 10) (no_plus n small) ∙ (decimal_is_IsNumeral n small).1
+
+-- and passes where that lies in the range
+pub decimal_passes : (low high n : ℕ) → low ≤ n → n ≤ high → n < 2 ^ 64 → is_unsigned_in low high (decimal n) ≡ true
+decimal_passes low high n above below small =
+    let value = decimal_value n small in
+    Accepts-accepts true (reads.Unsigned low high) (decimal n)
+    (subst (λ (ds : List ℕ). IsNumeral 10 ds) (sym (no_plus n small)) (decimal_is_IsNumeral n small).0, omega (arith, value), omega (arith, value), omega (arith, value))
+
+-- a number of slots in decimal digits is read as it
+pub slots_of_decimal : (slots : Option ℕ) → IfSome slots IsPlainSlots → slots_of (option_map decimal slots) ≡ Some slots
+unfolding slots_of
+slots_of_decimal None plain = refl
+slots_of_decimal (Some n) plain =
+    let small : n < 2 ^ 64 = omega (arith, plain.1) in
+    rw (decimal_passes 1 most_slots n plain.0 plain.1 small) (ap (λ (m : ℕ). Some (Some m)) (decimal_value n small))
