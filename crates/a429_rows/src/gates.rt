@@ -56,8 +56,11 @@ const TAKEN: u64 = 2;
 
 const SENT: u64 = 4;
 
+/// Nobody else runs in this test, so that no further turn would change what is waited for.
+const TURNS: u64 = 50;
+
 /// Holds the first word until a cell is asked for, that cell until the word was taken, and the second word until the
-/// cell was sent, each for at most 10000 turns of a millisecond.
+/// cell was sent, each for at most `TURNS` turns of a millisecond.
 #[derive(Drop)]
 struct InTurn<'a, R: Clock> {
     rt: &'a R,
@@ -75,7 +78,7 @@ impl<'a, R: Clock> Gate for InTurn<'a, R> {
             _ => (0, 0),
         };
         self.made.fetch_or(own, Ordering::SeqCst);
-        for _ in 0..10000 {
+        for _ in 0..TURNS {
             if self.made.load(Ordering::SeqCst) & awaited == awaited {
                 return Ok(());
             }
