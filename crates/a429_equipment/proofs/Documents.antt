@@ -1,5 +1,5 @@
 -- The root table of the bytes.
-use Rattle.std.proofs.Common.{◌≡◌, ℕ, Bool, true, false, List, [], ◌∷◌, Option, Some, None, option_map, Ok, Err, refl, sym, ap, ◌∙◌}
+use Rattle.std.proofs.Common.{◌≡◌, ℕ, Bool, true, false, List, [], ◌∷◌, Option, Some, None, option_map, Result, Ok, Err, refl, sym, ap, ◌∙◌}
 use Rattle.std.specs.Str.{IsUtf8, is_utf8}
 use Rattle.std.proofs.lemmas.Str.{IsUtf8-from_is_utf8, is_utf8-from_IsUtf8}
 use Rattle.toml.specs.Data.{Data, Members, table}
@@ -11,7 +11,7 @@ use Rattle.a429_equipment.specs.declared.fault.TableFault.TheVariants.{NoMemory,
 use Rattle.a429_equipment.specs.Faults.{first, faults}
 use Rattle.a429_equipment.specs.TableRecord.{TableRecord}
 use Rattle.a429_equipment.specs.Stated.{stated}
-use Rattle.a429_equipment.specs.Reading.{document, root_of, judged, reading, GivesUnlessMemory}
+use Rattle.a429_equipment.specs.Reading.{document, root_of, judged, reading, GivesUnlessMemory, IsJudged}
 
 abbrev Fault : Type 0
 Fault = FaultKind × TablePlace
@@ -38,24 +38,26 @@ text_if false bytes root is e =
     absurd (let none : root_of (document bytes) ≡ root_of None = ap root_of (no_document bytes is) in let clash : root_of None ≡ Ok root = sym none ∙ e in cc)
 
 -- a root table is of a text
-pub root_is_text : (bytes : List ℕ) (root : Data) → root_of (document bytes) ≡ Ok root → is_utf8 bytes ≡ true
+root_is_text : (bytes : List ℕ) (root : Data) → root_of (document bytes) ≡ Ok root → is_utf8 bytes ≡ true
 root_is_text bytes root e = text_if (is_utf8 bytes) bytes root refl e
 
-judged_fault : (root : Data) (fs : List Fault) (f : Fault) → first fs ≡ Some f → judged root fs ≡ Err f
+pub judged_fault : (root : Data) (fs : List Fault) (f : Fault) → first fs ≡ Some f → judged root fs ≡ Err f
 judged_fault root [] f e = cc
 judged_fault root (g ∷ gs) f e = cc
 
-judged_none : (root : Data) (fs : List Fault) → first fs ≡ None → judged root fs ≡ Ok (stated root)
+pub judged_none : (root : Data) (fs : List Fault) → first fs ≡ None → judged root fs ≡ Ok (stated root)
 judged_none root [] e = refl
 judged_none root (g ∷ gs) e = cc
 
-pub reading-fault : (bytes : List ℕ) (root : Data) (f : Fault) → root_of (document bytes) ≡ Ok root → first (faults root) ≡ Some f → reading bytes ≡ Err f
+judged-reads : (bytes : List ℕ) (root : Data) → root_of (document bytes) ≡ Ok root → reading bytes ≡ judged root (faults root)
 unfolding reading
-reading-fault bytes root f is_root e = rw (is_root, judged_fault root (faults root) f e)
+judged-reads bytes root is_root = rw is_root refl
 
-pub reading-stated : (bytes : List ℕ) (root : Data) → root_of (document bytes) ≡ Ok root → first (faults root) ≡ None → reading bytes ≡ Ok (stated root)
-unfolding reading
-reading-stated bytes root is_root e = rw (is_root, judged_none root (faults root) e)
+-- what is judged of a root table is what its bytes state
+pub judged_gives : (bytes : List ℕ) (root : Data) (result : Result TableRecord TableFault) → root_of (document bytes) ≡ Ok root → IsJudged root result → GivesUnlessMemory (λ e. e) bytes result (reading bytes)
+judged_gives bytes root (Ok x) is_root is = judged-reads bytes root is_root ∙ is
+judged_gives bytes root (Err NoMemory) is_root is = root_is_text bytes root is_root
+judged_gives bytes root (Err (At kind place)) is_root is = judged-reads bytes root is_root ∙ is
 
 reading-no_root : (bytes : List ℕ) (f : Fault) → root_of (document bytes) ≡ Err f → reading bytes ≡ Err f
 unfolding reading

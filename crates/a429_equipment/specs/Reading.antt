@@ -39,3 +39,9 @@ abbrev pub GivesUnlessMemory : {X Y : Type 0} → (X → Y) → List ℕ → Res
 GivesUnlessMemory view bytes (Ok x) stated = stated ≡ Ok (view x)
 GivesUnlessMemory view bytes (Err NoMemory) stated = is_utf8 bytes ≡ true
 GivesUnlessMemory view bytes (Err (At kind place)) stated = stated ≡ Err (kind, place)
+
+-- a root table is judged so, unless memory runs out
+abbrev pub IsJudged : Data → Result TableRecord TableFault → Type 0
+IsJudged root (Ok stated) = judged root (faults root) ≡ Ok stated
+IsJudged root (Err NoMemory) = Unit {0}
+IsJudged root (Err (At kind place)) = judged root (faults root) ≡ Err (kind, place)

@@ -11,13 +11,13 @@ use crate::index::Index;
 use crate::numbers::Numbers;
 use crate::rows::{GroupRow, OutputRow, ReceiverRow, SourceRow};
 use crate::same::{same_groups, same_receivers, same_sources};
-use crate::search::first_fault;
+use crate::search::fault_of;
 use crate::tree::rows_at;
 use crate::version::{TableVersion, version_of};
-use crate::walk::walk;
 use a429_word::Word;
 use std::alloc::{AllocError, Global};
 use std::marker::Model;
+use toml::Value;
 
 /// The receivers, sources, groups and outputs of a station, numbered from 0 in table order (profile).
 #[derive(Debug, Drop)]
@@ -52,22 +52,37 @@ impl Equipment {
     ghost use Rattle.a429_equipment.specs.Faults.{first, faults};
     ghost use Rattle.a429_equipment.specs.Stops.{table_of};
     ghost use Rattle.a429_equipment.specs.Stated.{stated};
-    ghost use Rattle.a429_equipment.specs.Reading.{GivesUnlessMemory, reading};
+    ghost use Rattle.a429_equipment.specs.Reading.{GivesUnlessMemory, IsJudged, reading};
+    ghost use Rattle.toml.specs.View.{view};
 
     /// Reads an equipment table, as TOML (profile: equipment table, versions 1 and 2). The fault is the
     /// first by kind, and of its kind the first in walk order: root, receivers, sources, then each group
     /// followed by its outputs. It is `NoMemory` only where memory ran out, and for bytes that are UTF-8: others are
     /// `NotToml`.
+    #[tactic(auto, using(crate::proofs::Documents::judged_gives))]
     pub fn read(alloc: Global, bytes: &[u8]) -> Result<Equipment, TableFault>
         ensures { GivesUnlessMemory (λ e. e) bytes.now result (reading bytes.now) }
     {
         let root = document(alloc, bytes)?;
-        let numbers = Numbers::of(alloc, &root)?;
-        let stops = walk(alloc, &root)?;
-        if let Some((kind, place)) = first_fault(&numbers, &stops) {
+        Equipment::of_root(alloc, &root)
+    }
+
+    /// The equipment of a root table, or its first fault.
+    fn of_root(alloc: Global, root: &Value) -> Result<Equipment, TableFault>
+        ensures { IsJudged (view root.now) result }
+    {
+        let numbers = Numbers::of(alloc, root)?;
+        Equipment::of_numbers(alloc, &numbers)
+    }
+
+    /// The same, once the names of the table have numbers.
+    fn of_numbers(alloc: Global, numbers: &Numbers<'_>) -> Result<Equipment, TableFault>
+        ensures { IsJudged (table_of numbers.now) result }
+    {
+        if let Some((kind, place)) = fault_of(alloc, numbers)? {
             return Err(TableFault::At(kind, place));
         }
-        Ok(Equipment::stated_by(alloc, &numbers)?)
+        Ok(Equipment::stated_by(alloc, numbers)?)
     }
 
     /// The equipment of a table without faults.

@@ -2,7 +2,7 @@
 //!
 //! A table may have hundreds of names, and each is looked up for several faults: so they are gathered once.
 
-ghost use Rattle.std.specs.Prelude.{◌≡◌, map, codes, IfOk, OnOk, option_map};
+ghost use Rattle.std.specs.Prelude.{◌≡◌, map, codes, IfOk, OnOk, option_map, []};
 ghost use Rattle.toml.specs.View.{view};
 ghost use Rattle.a429_equipment.specs.Names.{number_named};
 ghost use Rattle.a429_equipment.specs.Numbers.{NumbersNames, NumbersOneMore};
@@ -27,19 +27,15 @@ use toml::Value;
 pub struct Numbers<'a> {
     pub root: &'a Value,
     pub version: TableVersion,
-    receivers: IndexMap<String, usize>,
-    sources: IndexMap<String, usize>,
-    groups: IndexMap<String, usize>,
-    pub keys: Vec<SourceKey<'a>>,
-    pub key_chains: Chains,
-    pub senders: Vec<Senders<'a>>,
+    names: Names,
+    pub words: SourceWords<'a>,
     ghost of_version: { version ≡ version_of (view root.now) },
-    ghost of_receivers: { NumbersNames receivers (rows_at (codes "receiver") (view root.now)) },
-    ghost of_sources: { NumbersNames sources (rows_at (codes "source") (view root.now)) },
-    ghost of_groups: { NumbersNames groups (rows_at (codes "group") (view root.now)) },
-    ghost of_keys: { map key_view keys.items ≡ map key_of (rows_at (codes "source") (view root.now)) },
-    ghost of_key_chains: { AreChained (map key_bucket keys.items) key_chains.last.items key_chains.before.items },
-    ghost of_senders: { senders_view senders.items ≡ map (senders_of (view root.now)) (rows_at (codes "group") (view root.now)) },
+    ghost of_receivers: { NumbersNames names.receivers (rows_at (codes "receiver") (view root.now)) },
+    ghost of_sources: { NumbersNames names.sources (rows_at (codes "source") (view root.now)) },
+    ghost of_groups: { NumbersNames names.groups (rows_at (codes "group") (view root.now)) },
+    ghost of_keys: { map key_view words.keys.items ≡ map key_of (rows_at (codes "source") (view root.now)) },
+    ghost of_chains: { AreChained (map key_bucket words.keys.items) words.chains.last.items words.chains.before.items },
+    ghost of_senders: { senders_view words.senders.items ≡ map (senders_of (view root.now)) (rows_at (codes "group") (view root.now)) },
 }
 
 impl<'a> Numbers<'a> {
@@ -50,16 +46,12 @@ impl<'a> Numbers<'a> {
         ensures { IfOk result (λ numbers. table_of numbers ≡ view root.now) }
     {
         let names = names_of(alloc, root)?;
-        let sources = sources_of(alloc, root, &names.sources)?;
+        let words = words_of(alloc, root, &names.sources)?;
         Ok(Numbers {
             root,
             version: version_of(root),
-            receivers: names.receivers,
-            sources: names.sources,
-            groups: names.groups,
-            keys: sources.keys,
-            key_chains: sources.chains,
-            senders: sources.senders,
+            names,
+            words,
         })
     }
 
@@ -67,28 +59,28 @@ impl<'a> Numbers<'a> {
     pub fn receiver(&self, name: &str) -> Option<usize>
         ensures { result ≡ number_named name.now (rows_at (codes "receiver") (table_of self.now)) }
     {
-        self.receivers.get(name).copied()
+        self.names.receivers.get(name).copied()
     }
 
     /// The number of the first source with the name.
     pub fn source(&self, name: &str) -> Option<usize>
         ensures { result ≡ number_named name.now (rows_at (codes "source") (table_of self.now)) }
     {
-        self.sources.get(name).copied()
+        self.names.sources.get(name).copied()
     }
 
     /// The number of the first group with the name.
     pub fn group(&self, name: &str) -> Option<usize>
         ensures { result ≡ number_named name.now (rows_at (codes "group") (table_of self.now)) }
     {
-        self.groups.get(name).copied()
+        self.names.groups.get(name).copied()
     }
 
     /// The key of the source of an output.
     pub fn sender(&self, output: &Value) -> Option<SourceKey<'a>>
         ensures { option_map key_view result ≡ sender_of (table_of self.now) (view output.now) }
     {
-        sender_key(&self.sources, &self.keys, output)
+        sender_key(&self.names.sources, &self.words.keys, output)
     }
 }
 
@@ -102,33 +94,48 @@ struct Names {
 
 /// The keys of a table's sources, in buckets, and those of the sources of each group's outputs.
 #[derive(Drop)]
-struct KeysOf<'a> {
-    keys: Vec<SourceKey<'a>>,
-    chains: Chains,
-    senders: Vec<Senders<'a>>,
+pub struct SourceWords<'a> {
+    pub keys: Vec<SourceKey<'a>>,
+    pub chains: Chains,
+    pub senders: Vec<Senders<'a>>,
 }
 
+/// The names of a root table. What is filled is one value, so that a refusal drops one.
+#[tactic(auto, unfolding(crate::specs::Names::number_named))]
 fn names_of(alloc: Global, root: &Value) -> Result<Names, AllocError>
     ensures receivers { IfOk result (λ names. NumbersNames names.receivers (rows_at (codes "receiver") (view root.now))) }
     ensures sources { IfOk result (λ names. NumbersNames names.sources (rows_at (codes "source") (view root.now))) }
     ensures groups { IfOk result (λ names. NumbersNames names.groups (rows_at (codes "group") (view root.now))) }
 {
-    let receivers = number_names(alloc, rows_at(root, "receiver"))?;
-    let sources = number_names(alloc, rows_at(root, "source"))?;
-    let groups = number_names(alloc, rows_at(root, "group"))?;
-    Ok(Names {
-        receivers,
-        sources,
-        groups,
-    })
+    let mut names = Names {
+        receivers: IndexMap::new(alloc),
+        sources: IndexMap::new(alloc),
+        groups: IndexMap::new(alloc),
+    };
+    note_names(&mut names, alloc, root)?;
+    Ok(names)
 }
 
-/// The keys of a root table, whose sources have these numbers.
-fn sources_of<'a>(
+/// Gives the receivers, the sources and the groups of a root table their numbers.
+fn note_names(names: &mut Names, alloc: Global, root: &Value) -> Result<(), AllocError>
+    requires receivers { NumbersNames names.old.receivers [] }
+    requires sources { NumbersNames names.old.sources [] }
+    requires groups { NumbersNames names.old.groups [] }
+    ensures receivers { OnOk result (NumbersNames names.new.receivers (rows_at (codes "receiver") (view root.now))) }
+    ensures sources { OnOk result (NumbersNames names.new.sources (rows_at (codes "source") (view root.now))) }
+    ensures groups { OnOk result (NumbersNames names.new.groups (rows_at (codes "group") (view root.now))) }
+{
+    number_names(&mut names.receivers, alloc, rows_at(root, "receiver"))?;
+    number_names(&mut names.sources, alloc, rows_at(root, "source"))?;
+    number_names(&mut names.groups, alloc, rows_at(root, "group"))
+}
+
+/// The words of a root table, whose sources have these numbers.
+fn words_of<'a>(
     alloc: Global,
     root: &'a Value,
     numbers: &IndexMap<String, usize>,
-) -> Result<KeysOf<'a>, AllocError>
+) -> Result<SourceWords<'a>, AllocError>
     ensures keys { IfOk result (λ all. map key_view all.keys.items ≡ map key_of (rows_at (codes "source") (view root.now))) }
     ensures chains { IfOk result (λ all. AreChained (map key_bucket all.keys.items) all.chains.last.items all.chains.before.items) }
     ensures senders { IfOk result (λ all. AreSendersOfGroups numbers.now all.keys.items (rows_at (codes "group") (view root.now)) all.senders.items) }
@@ -136,7 +143,7 @@ fn sources_of<'a>(
     let keys = source_keys(alloc, rows_at(root, "source"))?;
     let chains = key_chains(alloc, &keys)?;
     let senders = sender_keys(alloc, numbers, &keys, rows_at(root, "group"))?;
-    Ok(KeysOf {
+    Ok(SourceWords {
         keys,
         chains,
         senders,
@@ -158,14 +165,18 @@ fn number_name(
     Ok(())
 }
 
-/// The numbers of the tables of an array. Of tables with one name it has the first.
+/// Numbers the tables of an array by their names, where there were none. Of tables with one name the first has it.
 #[tactic(auto, unfolding(crate::specs::Names::number_named))]
-fn number_names(alloc: Global, tables: &[Value]) -> Result<IndexMap<String, usize>, AllocError>
-    ensures { IfOk result (λ m. NumbersNames m (map view tables.now)) }
+fn number_names(
+    numbers: &mut IndexMap<String, usize>,
+    alloc: Global,
+    tables: &[Value],
+) -> Result<(), AllocError>
+    requires { NumbersNames numbers.old [] }
+    ensures { OnOk result (NumbersNames numbers.new (map view tables.now)) }
 {
-    let mut numbers = IndexMap::new(alloc);
     for (row, table) in tables.iter().enumerate() {
-        number_name(&mut numbers, alloc, text_at(table, "name"), row)?;
+        number_name(numbers, alloc, text_at(table, "name"), row)?;
     }
-    Ok(numbers)
+    Ok(())
 }

@@ -49,7 +49,7 @@ pub fn repeats_source(numbers: &Numbers<'_>, stop: &Stop) -> bool
     match stop.place {
         TablePlace::Source(row) => {
             let source = source_key(stop.value);
-            meets_any(&numbers.keys, &numbers.key_chains, row, &source)
+            meets_any(&numbers.words.keys, &numbers.words.chains, row, &source)
         }
         _ => false,
     }
@@ -111,7 +111,7 @@ pub fn repeats_output(numbers: &Numbers<'_>, stop: &Stop) -> bool
     match stop.place {
         TablePlace::Output(group, row) => {
             let source = numbers.sender(stop.value);
-            sends_before(&numbers.senders, group, row, source)
+            sends_before(&numbers.words.senders, group, row, source)
         }
         _ => false,
     }

@@ -1,6 +1,6 @@
 //! The first fault of a table.
 
-ghost use Rattle.std.specs.Prelude.{◌≡◌, map, option_map};
+ghost use Rattle.std.specs.Prelude.{◌≡◌, map, option_map, IfOk};
 ghost use Rattle.std.specs.List.{find, flat_map};
 ghost use Rattle.a429_equipment.specs.Stops.{stop_view, table_of};
 ghost use Rattle.a429_equipment.specs.Walk.{walk};
@@ -15,7 +15,8 @@ use crate::values::{
     has_bad_hold, has_bad_interval, has_bad_label, has_bad_name, has_bad_sdi, has_too_many,
     has_wrong_rate, is_empty_group,
 };
-use crate::walk::Stop;
+use crate::walk::{Stop, walk};
+use std::alloc::{AllocError, Global};
 
 /// The kinds that a document can have, in the order in which they are asked.
 const KINDS: [FaultKind; 16] = [
@@ -88,9 +89,20 @@ fn first_of_kinds(
 
 /// The first fault, by kind and then in walk order.
 #[tactic(auto, unfolding(crate::specs::Faults::faults, crate::specs::Faults::kinds))]
-pub fn first_fault(numbers: &Numbers<'_>, stops: &[Stop]) -> Option<(FaultKind, TablePlace)>
+fn first_fault(numbers: &Numbers<'_>, stops: &[Stop]) -> Option<(FaultKind, TablePlace)>
     requires { map stop_view stops.now ≡ walk (table_of numbers.now) }
     ensures { result ≡ first (faults (table_of numbers.now)) }
 {
     first_of_kinds(numbers, stops, &KINDS)
+}
+
+/// The first fault of a table.
+pub fn fault_of(
+    alloc: Global,
+    numbers: &Numbers<'_>,
+) -> Result<Option<(FaultKind, TablePlace)>, AllocError>
+    ensures { IfOk result (λ fault. fault ≡ first (faults (table_of numbers.now))) }
+{
+    let stops = walk(alloc, numbers.root)?;
+    Ok(first_fault(numbers, &stops))
 }

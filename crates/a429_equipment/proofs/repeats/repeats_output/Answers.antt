@@ -14,4 +14,4 @@ returns-in-Output c =
     let root = table_of c.args.numbers.now in
     rw c.in-Output.is
     ((rw c.deref.ensures.value at c.sends_before.ensures)
-    ∙ sent_before root c.args.numbers.now.senders.items (rows_at (codes "group") root) c.in-Output.group c.in-Output.row (option_map key_view c.sender-source.result) (view c.args.stop.now.value.now) c.args.numbers.now.of_senders c.sender-source.ensures)
+    ∙ sent_before root c.args.numbers.now.words.senders.items (rows_at (codes "group") root) c.in-Output.group c.in-Output.row (option_map key_view c.sender-source.result) (view c.args.stop.now.value.now) c.args.numbers.now.of_senders c.sender-source.ensures)

@@ -13,4 +13,4 @@ unfolding repeats_source earlier
 returns-in-Source c =
     rw c.in-Source.is
     ((rw c.deref.ensures.value at c.meets_any.ensures)
-    ∙ meets_before c.args.numbers.now.keys.items (key_view c.source_key-source.result) (rows_at (codes "source") (table_of c.args.numbers.now)) c.in-Source.row (view c.args.stop.now.value.now) c.args.numbers.now.of_keys c.source_key-source.ensures)
+    ∙ meets_before c.args.numbers.now.words.keys.items (key_view c.source_key-source.result) (rows_at (codes "source") (table_of c.args.numbers.now)) c.in-Source.row (view c.args.stop.now.value.now) c.args.numbers.now.of_keys c.source_key-source.ensures)
