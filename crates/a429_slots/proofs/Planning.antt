@@ -1,5 +1,5 @@
 -- The groups of a station, one after another.
-use Rattle.std.proofs.Common.{◌≡◌, ℕ, ◌+◌, ◌≤◌, ◌∷◌, [], ◌++◌, List, length, map, take, arith, ap, ◌∙◌, sym, subst, inl, inr}
+use Rattle.std.proofs.Common.{◌≡◌, ℕ, ◌+◌, ◌<◌, ◌≤◌, ◌∷◌, [], ◌++◌, List, length, map, take, arith, ap, ◌∙◌, sym, subst, inl, inr}
 use Rattle.std.specs.Prelude.{Some, slice_get, option_map}
 use Rattle.std.specs.List.{AllZip, AllByRecursion}
 use Rattle.std.proofs.lemmas.List.{length-map, length-take, take_all}
@@ -71,6 +71,15 @@ could_next e sources g rate rows t here there could new =
     all_next CanBePlannedAt (rated_outputs e) g (rate, rows) (rated_at e g rate rows here there) could (could_be rate sources rows t new)
 
 -- and all of them, once as many are planned as the station has groups
+-- the plan of a station's first groups has room for the next
+pub room_for : (e : TableRecord) (sources : List SourceRow) (g : ℕ) (tables : List GroupTable) → IsSound e → g < length e.groups
+    → AllZip (IsPlannedAt sources) (take g (rated_outputs e)) tables → length tables < 8
+room_for e sources g tables sound below planned =
+    let few : length e.groups ≤ 8 = sound.few_groups in
+    let groups : length e.outputs ≡ length e.groups = sound.outputs_of_groups in
+    let rated : length (rated_outputs e) ≡ length e.outputs = length-rated e groups in
+    let long : length tables ≡ g = length-zipped (IsPlannedAt sources) (rated_outputs e) tables g (omega arith) planned in omega arith
+
 pub all_planned : (e : TableRecord) (sources : List SourceRow) (rows : List GroupRow) (g : ℕ) (p : PlanTable) → IsSound e → sources ≡ e.sources → rows ≡ e.groups → length rows ≤ g → p.number ≡ 0
     → AllZip (IsPlannedAt sources) (take g (rated_outputs e)) (groups_of p) → IsPlanOf e p
 all_planned e sources rows g p sound same-sources same-rows ended number planned =

@@ -1,14 +1,28 @@
-use Rattle.std.proofs.Common.{◌≡◌, ◌<◌, ◌≤◌, ◌∙◌, List, length, arith, rules, subst, sym, ap}
-use Rattle.std.specs.List.{AllByRecursion}
+use Rattle.std.proofs.Common.{◌≡◌, ◌<◌, ◌≤◌, ◌∙◌, List, [], length, arith, rules, subst, sym, ap}
+use Rattle.std.specs.List.{AllByRecursion, AllZip}
 use Rattle.a429_word.proofs.Lists.{all_at}
 use Rattle.a429_equipment.specs.Sound.{IsSound, IsInterval}
-use Rattle.a429_slots.specs.Tables.{groups_of}
+use Rattle.a429_slots.specs.Tables.{GroupTable, groups_of}
+use Rattle.a429_equipment.specs.declared.rows.GroupRow.{GroupRow}
 use Rattle.a429_slots.specs.Planned.{IsPlannedAt, rated_outputs}
 use Rattle.a429_equipment.specs.declared.rows.OutputRow.{OutputRow}
 use Rattle.a429_equipment.specs.declared.rows.SourceRow.{SourceRow}
-use Rattle.a429_slots.proofs.Planning.{rate_in_group, all_planned, length-zipped, length-rated, rated_at, fault_in, planned_next, could_next}
+use Rattle.a429_slots.proofs.Planning.{rate_in_group, all_planned, room_for, rated_at, fault_in, planned_next, could_next}
 use Rattle.a429_slots.specs.Faults.{IsFaultOf}
 use Rattle.a429_slots.proofs.planner.plan.Goals as goal
+
+pub group_rate-rate-requires : goal.group_rate-rate-requires
+group_rate-rate-requires g c = subst (λ (rows : List GroupRow). c.loop-group.group < length rows) c.groups-group-end.ensures.rows c.loop-group-test.true
+
+pub outputs-requires : goal.outputs-requires
+outputs-requires g c = subst (λ (rows : List GroupRow). c.loop-group.group < length rows) c.groups-group-end.ensures.rows c.loop-group-test.true
+
+pub loop-group-init : goal.loop-group-init
+loop-group-init g c = record {
+  planned = subst (λ (tables : List GroupTable). AllZip (IsPlannedAt c.sources-sources.result.now) [] tables) (sym c.empty-plan.ensures.none) tt;
+  could = tt;
+  number = c.empty-plan.ensures.number;
+}
 
 pub group_plan-requires : goal.group_plan-requires
 group_plan-requires g c =
@@ -37,17 +51,13 @@ group_plan-requires g c =
 pub push-requires : goal.push-requires
 push-requires g c =
     let e = c.args.equipment.now in
-    let sound : IsSound e = c.sources-sources.ensures.sound in
-    let below : c.loop-group.group < length e.groups = omega (arith, ap length c.groups-group-end.ensures.rows) in
-    let long : length (groups_of c.loop-group.plan) ≡ c.loop-group.group =
-    length-zipped (IsPlannedAt c.sources-sources.result.now) (rated_outputs e) (groups_of c.loop-group.plan) c.loop-group.group
-    (omega (arith, sound.outputs_of_groups, length-rated e sound.outputs_of_groups)) c.loop-group.invariant.planned in
-    (search rules, (search rules, omega (arith, sound.few_groups)))
+    let below : c.loop-group.group < length e.groups = subst (λ (rows : List GroupRow). c.loop-group.group < length rows) c.groups-group-end.ensures.rows c.loop-group-test.true in
+    (search rules, (search rules, room_for e c.sources-sources.result.now c.loop-group.group (groups_of c.loop-group.plan) c.sources-sources.ensures.sound below c.loop-group.invariant.planned))
 
 pub returns-clause-planned : goal.returns-clause-planned
 returns-clause-planned g c =
     all_planned c.args.equipment.now c.sources-sources.result.now c.groups-group-end.result.now c.loop-group.group c.loop-group.plan c.sources-sources.ensures.sound c.sources-sources.ensures.rows c.groups-group-end.ensures.rows
-    (omega arith) c.loop-group.invariant.number c.loop-group.invariant.planned
+    c.loop-group-test.false c.loop-group.invariant.number c.loop-group.invariant.planned
 
 pub returns-in-Err-clause-fault : goal.returns-in-Err-clause-fault
 returns-in-Err-clause-fault g c =

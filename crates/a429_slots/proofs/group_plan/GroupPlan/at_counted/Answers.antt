@@ -1,4 +1,4 @@
-use Rattle.std.proofs.Common.{◌≡◌, ◌+◌, ◌^◌, ◌<◌, ◌∙◌, ℕ, None, Some, ap, arith, length, sym, subst}
+use Rattle.std.proofs.Common.{◌≡◌, ◌+◌, ◌^◌, ◌<◌, ◌≤◌, ◌∙◌, ℕ, None, Some, ap, arith, length, sym, subst}
 use Rattle.std.specs.Prelude.{Option, IfSome}
 use Rattle.std.proofs.lemmas.Option.{none-some}
 use Rattle.a429_pack.specs.Sums.{Holds}
@@ -6,6 +6,18 @@ use Rattle.a429_slots.specs.Tables.{GroupTable, outputs_of, order_of, cell_at}
 use Rattle.a429_slots.specs.Kept.{IsTable, HoldsCell}
 use Rattle.a429_slots.proofs.Cells.{HasEach, length-outputs, cell_found, cell_empty, cell_outside, ordered_below}
 use Rattle.a429_slots.proofs.group_plan.GroupPlan.at_counted.Goals as goal
+
+pub place_of_cell-requires : goal.place_of_cell-requires
+place_of_cell-requires g c =
+    let few : c.self.inside.buses ≤ 16 = c.self.invariant.few in
+    let below : c.args.bus < c.self.inside.buses = c.if-bus-self.false in omega arith
+
+pub bounds-self-inside-place : goal.bounds-self-inside-place
+bounds-self-inside-place g c =
+    let found : IfSome (Some c.in-Some.place) (Holds c.self.inside.sums c.place_of_cell.result) =
+    subst (λ (r : Option ℕ). IfSome r (Holds c.self.inside.sums c.place_of_cell.result)) c.in-Some.is c.find_counted-found.ensures.found in
+    let within : c.in-Some.place < length c.self.inside.sums = found.0 in
+    let room : length c.self.inside.sums ≤ g.row.N = c.self.invariant.room in omega arith
 
 pub returns-then-bus-self-clause-cell : goal.returns-then-bus-self-clause-cell
 returns-then-bus-self-clause-cell g c =
@@ -64,3 +76,6 @@ pub returns-in-None-clause-probes : goal.returns-in-None-clause-probes
 returns-in-None-clause-probes g c digits below =
     let many : length c.self.inside.sums ≡ length c.args.self.now.demands = ap (λ (t : GroupTable). length t.demands) c.self.view_is in
     c.find_counted-found.ensures.probes digits (omega (arith, many, length-outputs c.args.self.now, below))
+
+pub returns-in-None-clause-outside : goal.returns-in-None-clause-outside
+returns-in-None-clause-outside g c none = c.find_counted-found.ensures.outside c.in-None.is

@@ -11,6 +11,27 @@ prove-unreachable-requires g c =
     let many : length c.self.inside.sums ≡ length c.args.self.now.demands = ap (λ (t : GroupTable). length t.demands) c.self.view_is in
     omega (arith, length-outputs c.args.self.now, c.requires, c.len.ensures.value, c.if-prove.true, c.number-number.ensures)
 
+pub of_digits-requires : goal.of_digits-requires
+of_digits-requires g c =
+    let below : c.number-number.result < length c.self.inside.sums = omega (arith, c.len.ensures.value, c.if-prove.false) in
+    let within : get_or c.self.inside.periods c.number-number.result 0 ≤ c.self.inside.frame = c.self.invariant.within c.number-number.result below in
+    let few : c.self.inside.frame ≤ 13 = c.self.invariant.frame in omega arith
+
+pub bounds-self-inside-number : goal.bounds-self-inside-number
+bounds-self-inside-number g c =
+    let below : c.number-number.result < length c.self.inside.sums = omega (arith, c.len.ensures.value, c.if-prove.false) in
+    let room : length c.self.inside.sums ≤ g.row.N = c.self.invariant.room in omega arith
+
+pub bounds-self-inside-number-2 : goal.bounds-self-inside-number-2
+bounds-self-inside-number-2 g c =
+    let below : c.number-number.result < length c.self.inside.sums = omega (arith, c.len.ensures.value, c.if-prove.false) in
+    let room : length c.self.inside.sums ≤ g.row.N = c.self.invariant.room in omega arith
+
+pub bounds-self-inside-number-3 : goal.bounds-self-inside-number-3
+bounds-self-inside-number-3 g c =
+    let below : c.number-number.result < length c.self.inside.sums = omega (arith, c.len.ensures.value, c.if-prove.false) in
+    let room : length c.self.inside.sums ≤ g.row.N = c.self.invariant.room in omega arith
+
 pub returns-clause-place : goal.returns-clause-place
 returns-clause-place g c =
     let p = c.self.inside in
