@@ -22,10 +22,3 @@ pub mod OnGrid
 pub mod RowPlans
 pub mod CheckedFewest
 mod Shown
-pub mod Wider
-pub mod Margins
-pub mod Drawings
-pub mod MarginGroups
-pub mod RowFields
-pub mod AlignedRows
-pub mod DocumentRows

@@ -9,8 +9,3 @@ pub mod Checked
 pub mod PlanText
 pub mod Judged
 pub mod Printed
-pub mod Margins
-pub mod Drawing
-pub mod Aligned
-pub mod Document
-pub mod CsvLines

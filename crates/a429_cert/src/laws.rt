@@ -1,5 +1,5 @@
 //! What holds of the definitions that the contracts cite.
-ghost use Rattle.std.specs.Prelude.{◌≡◌, ◌≤◌, ◌*◌, List, ℕ, Some};
+ghost use Rattle.std.specs.Prelude.{◌≡◌, List, ℕ, Some};
 ghost use Rattle.a429_cert.specs.Judged.{ShowsFewest};
 ghost use Rattle.a429_equipment.specs.TableRecord.{TableRecord};
 ghost use Rattle.a429_equipment.specs.Sound.{IsSound};
@@ -15,8 +15,6 @@ ghost use Rattle.a429_cert.specs.Reading.{plan_line, rate_line, group_line, outp
 ghost use Rattle.a429_cert.specs.Due.{IsDue};
 ghost use Rattle.a429_cert.specs.PlanText.{plan_text_of};
 ghost use Rattle.a429_cert.specs.Verdicts.{verdict};
-ghost use Rattle.a429_cert.specs.Document.{slots_us};
-ghost use Rattle.a429_grid.specs.Grid.{IsGridPeriod, IsPeriod};
 
 use a429_pack::laws::fewest_by_demand;
 use a429_slots::laws::plans_are_unique;
@@ -81,10 +79,3 @@ pub fn fewest_is_shown()
 {
     fewest_by_demand();
 }
-
-/// An interval whose greatest time becomes what twice its grid period lasts, rounded up to a whole microsecond, has
-/// that as its grid period, where the grid has such a period.
-pub fn wider_intervals_are_next()
-    ensures { (min_us max_us rate p : ℕ) → 1 ≤ rate → rate ≤ 100000 → IsPeriod (2 * p) → IsGridPeriod min_us max_us rate p
-        → IsGridPeriod min_us (slots_us rate (2 * p)) rate (2 * p) }
-{}

@@ -11,8 +11,9 @@ use a429_slots::{GroupPlan, OUTPUTS, OutputId, Proposal, SlotPlace};
 use std::alloc::{AllocError, Global};
 use std::fmt::Write;
 
-/// Writes a group's first line.
-pub(crate) fn write_heading(
+/// Appends a group's first line to a text: in version 1 its name, its frame in slots and its buses, in version 2 also its
+/// rate in bit/s (profile: plan text). The error is that memory was refused.
+pub fn write_heading(
     text: &mut String,
     version: u32,
     group: &GroupRow,

@@ -5,7 +5,7 @@ use Rattle.std.specs.declared.vec.Vec.{Vec}
 use Rattle.std.specs.declared.alloc.Global.{Global}
 use Rattle.a429_equipment.specs.declared.rows.GroupRow.{GroupRow}
 use Rattle.a429_slots.specs.Proposed.{Proposed}
-use Rattle.a429_cert.specs.Drawing.{drawing_of}
+use Rattle.a429_documents.specs.Drawing.{drawing_of}
 use Rattle.a429_console.specs.Files.{readable}
 use Rattle.a429_console.specs.Tables.{IsGroupRefusal, IsProposedBy}
 use Rattle.a429_console.specs.RefusalText.{OrMemory, refusal_line}

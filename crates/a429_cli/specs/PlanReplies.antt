@@ -7,9 +7,9 @@ use Rattle.a429_equipment.specs.Reading.{reading}
 use Rattle.a429_slots.specs.Proposed.{Proposed}
 use Rattle.a429_slots.specs.Tables.{PlanTable}
 use Rattle.a429_cert.specs.PlanText.{plan_text_of}
-use Rattle.a429_cert.specs.Aligned.{aligned}
-use Rattle.a429_cert.specs.Document.{csv_text_of, icd_rows}
-use Rattle.a429_cert.specs.Margins.{IsMarginText}
+use Rattle.a429_documents.specs.Aligned.{aligned}
+use Rattle.a429_documents.specs.Document.{csv_text_of, icd_rows}
+use Rattle.a429_documents.specs.Margins.{IsMarginText}
 use Rattle.a429_cli.specs.declared.plan_texts.PlanText.{PlanText}
 use Rattle.a429_cli.specs.declared.plan_texts.PlanText.TheVariants.{Plan, Document, Sheet, Margin}
 use Rattle.a429_cert.specs.Due.{IsDue, IsFirstUnfitOf}

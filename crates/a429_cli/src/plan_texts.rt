@@ -6,13 +6,14 @@ ghost use Rattle.a429_console.specs.Outputs.{CountsFault, IsPut, OrNoMemory};
 ghost use Rattle.a429_cli.specs.PlanReplies.{IsCheckReply, IsJudged, IsJudging, IsPlanReply, IsPlanning, IsTextOf, IsUnjudged, IsVerdictReply, verdict_status};
 ghost use Rattle.a429_console.specs.RefusalText.{OrMemory};
 
-use a429_cert::{NoVerdict, Verdict, icd_csv, icd_text, judge, margin_text, plan_text};
+use a429_cert::{NoVerdict, Verdict, judge, plan_text};
 use a429_console::files::FileReader;
 use a429_console::files::reading::read_file;
 use a429_console::output::endings::{finish, refuse, refuse_memory};
 use a429_console::output::refusals::CommandRefusal;
 use a429_console::output::{Output, OutputFault};
 use a429_console::tables::{propose, read_table, unfit};
+use a429_documents::{icd_csv, icd_text, margin_text};
 use a429_slots::{OUTPUTS, Proposal};
 use std::alloc::{AllocError, Global};
 use std::io;

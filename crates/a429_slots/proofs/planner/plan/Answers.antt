@@ -1,10 +1,10 @@
-use Rattle.std.proofs.Common.{◌≡◌, ◌<◌, ◌≤◌, ◌∙◌, List, [], length, arith, rules, subst, sym, ap}
+use Rattle.std.proofs.Common.{◌<◌, ◌≤◌, ◌∙◌, List, [], length, rules, subst, sym}
 use Rattle.std.specs.List.{AllByRecursion, AllZip}
 use Rattle.a429_word.proofs.Lists.{all_at}
 use Rattle.a429_equipment.specs.Sound.{IsSound, IsInterval}
 use Rattle.a429_slots.specs.Tables.{GroupTable, groups_of}
 use Rattle.a429_equipment.specs.declared.rows.GroupRow.{GroupRow}
-use Rattle.a429_slots.specs.Planned.{IsPlannedAt, rated_outputs}
+use Rattle.a429_slots.specs.Planned.{IsPlannedAt}
 use Rattle.a429_equipment.specs.declared.rows.OutputRow.{OutputRow}
 use Rattle.a429_equipment.specs.declared.rows.SourceRow.{SourceRow}
 use Rattle.a429_slots.proofs.Planning.{rate_in_group, all_planned, room_for, rated_at, fault_in, planned_next, could_next}

@@ -1,7 +1,0 @@
-use Rattle.std.proofs.Common.{◌≡◌, ◌≤◌, ◌+◌, ◌*◌}
-use Rattle.std.specs.List.{range_with_len, sum_by}
-use Rattle.a429_cert.specs.Drawing.{height_at}
-use Rattle.a429_cert.proofs.drawing.places.height_of.Given as goal
-
-abbrev pub invariant-loop-place : goal.invariant-loop-place
-invariant-loop-place l = (l.height ≡ sum_by (λ k. height_at l.slots l.plan (l.first + k)) (range_with_len 0 l.place)) × (l.height ≤ 50000 * l.place)

@@ -1,5 +1,0 @@
-use Rattle.a429_cert.proofs.Wider.{next_period}
-use Rattle.a429_cert.proofs.laws.wider_intervals_are_next.Goals as goal
-
-pub returns : goal.returns
-returns c = next_period

@@ -1,6 +1,0 @@
-use Rattle.std.proofs.Common.{◌≡◌, map, take}
-use Rattle.a429_cert.specs.Margins.{window_of}
-use Rattle.a429_cert.proofs.margin.windows.Given as goal
-
-abbrev pub invariant-loop-row : goal.invariant-loop-row
-invariant-loop-row l = l.windows.items ≡ map (window_of l.rate) (take l.row-index l.rows)

@@ -1,0 +1,5 @@
+pub mod Margins
+pub mod Drawing
+pub mod Aligned
+pub mod Document
+pub mod CsvLines

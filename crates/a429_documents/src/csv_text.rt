@@ -1,0 +1,57 @@
+//! A document as comma-separated values.
+ghost use Rattle.std.specs.Prelude.{◌≡◌, IfOk, OnOk};
+ghost use Rattle.std.specs.Io.KnownBytes.{Appends};
+ghost use Rattle.csv.specs.Writing.{default_writer, row_text, text_written};
+ghost use Rattle.a429_documents.specs.Document.{csv_text_of, icd_rows};
+ghost use Rattle.a429_documents.specs.CsvLines.{IsAtLine};
+
+use crate::document::icd_rows;
+use crate::rows::Row;
+use a429_slots::{OUTPUTS, Proposal};
+use csv::{Error, Writer};
+use std::alloc::{AllocError, Global};
+use std::io::Write;
+
+/// Writes a row as a line.
+fn write_row<W: Write + Drop>(writer: &mut Writer<W>, row: &Row) -> Result<(), Error>
+    requires { IsAtLine writer.old }
+    ensures line { OnOk result (IsAtLine writer.new) }
+    ensures text { OnOk result (Appends (text_written W.contents writer.old) (text_written W.contents writer.new) (row_text default_writer row.now)) }
+{
+    writer.write_byte_record(row.record().as_byte_record())
+}
+
+/// Writes a line for each row.
+#[tactic(auto, unfolding(crate::specs::Document::csv_text_of))]
+fn write_rows<W: Write + Drop>(writer: &mut Writer<W>, rows: &[Row]) -> Result<(), Error>
+    requires { IsAtLine writer.old }
+    ensures line { OnOk result (IsAtLine writer.new) }
+    ensures text { OnOk result (Appends (text_written W.contents writer.old) (text_written W.contents writer.new) (csv_text_of rows.now)) }
+{
+    for row in rows {
+        write_row(writer, row)?;
+    }
+    Ok(())
+}
+
+/// Rows with commas between their fields. All have as many fields, and so an error of the writer is that memory was
+/// refused.
+fn csv_text(alloc: Global, rows: &[Row]) -> Result<Vec<u8>, AllocError>
+    ensures { IfOk result (λ text. text.items ≡ csv_text_of rows.now) }
+{
+    let mut writer = Writer::from_writer(Vec::new(alloc));
+    if write_rows(&mut writer, rows).is_err() {
+        return Err(AllocError);
+    }
+    writer.into_inner().map_err(|_| AllocError)
+}
+
+/// The interface control document of a proposal's plan, as comma-separated values (RFC 4180, with a line feed at each
+/// line's end): a line with the names of the columns, and then a line for each output, groups and outputs in table order,
+/// with the fields of `icd_text`. The error is that memory was refused.
+pub fn icd_csv(alloc: Global, proposal: &Proposal<OUTPUTS>) -> Result<Vec<u8>, AllocError>
+    ensures { IfOk result (λ text. text.items ≡ csv_text_of (icd_rows proposal.now.station proposal.now.plan)) }
+{
+    let rows = icd_rows(alloc, proposal)?;
+    csv_text(alloc, &rows)
+}
