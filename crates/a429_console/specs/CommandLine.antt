@@ -74,10 +74,17 @@ top_shape = record ((new_app (codes "a429")).top) { has_version = true; no_binar
 abbrev pub bare_line : App
 bare_line = record { top = top_shape; subs = [] }
 
+-- with the commands on words and lines
+abbrev pub reading_line : App
+reading_line = with_subcommand (with_subcommand bare_line word_app.top) lines_app.top
+
+-- and those on plans, but for their image
+abbrev pub planning_line : App
+planning_line =
+    with_subcommand (with_subcommand (with_subcommand (with_subcommand reading_line plan_app.top) check_app.top) icd_app.top) margin_app.top
+
 unfoldable pub command_line : App
-command_line =
-    with_subcommand (with_subcommand (with_subcommand (with_subcommand (with_subcommand (with_subcommand (with_subcommand (with_subcommand (with_subcommand bare_line word_app.top) lines_app.top) plan_app.top) check_app.top) icd_app.top) margin_app.top) draw_app.top) replay_app.top)
-    live_app.top
+command_line = with_subcommand (with_subcommand (with_subcommand planning_line draw_app.top) replay_app.top) live_app.top
 
 -- a name of a file, which no option can be
 abbrev pub IsName : Text → Type 0

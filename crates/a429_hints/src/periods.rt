@@ -1,7 +1,7 @@
 //! Hints about intervals that have no period of the grid.
 
-use std::io;
 use std::io::Write;
+use std::{fmt, io};
 
 /// The periods of the grid, in slots (profile).
 const PERIODS: [u64; 14] = [
@@ -19,6 +19,17 @@ pub struct Unfit {
     pub rate: u32,
 }
 
+/// A time in microseconds times bit/s, told in slots and thousandths of a slot.
+#[derive(Clone, Copy)]
+struct Slots(u64);
+
+impl fmt::Display for Slots {
+    fn fmt<W: fmt::Write>(&self, f: &mut fmt::Formatter<W>) -> fmt::Result {
+        let (whole, thousandths) = (self.0 / SLOT, self.0 % SLOT / (SLOT / 1000));
+        write!(f, "{whole}.{thousandths:03}")
+    }
+}
+
 /// Tells an interval in slots, the periods next to it, and what would admit them.
 pub fn tell_unfit<V: Write>(unfit: Unfit, err: &mut V) -> io::Result<()> {
     let Unfit {
@@ -26,30 +37,33 @@ pub fn tell_unfit<V: Write>(unfit: Unfit, err: &mut V) -> io::Result<()> {
         max_us,
         rate,
     } = unfit;
-    let (rate, min_us, max_us) = (u64::from(rate), u64::from(min_us), u64::from(max_us));
-    let (shortest, longest) = (min_us.saturating_mul(rate), max_us.saturating_mul(rate));
+    let shortest = u64::from(min_us).saturating_mul(u64::from(rate));
+    let longest = u64::from(max_us).saturating_mul(u64::from(rate));
+    let (least, most) = (Slots(shortest), Slots(longest));
     writeln!(
         err,
-        "a429: {min_us} to {max_us} us are {}.{:03} to {}.{:03} slots at {rate} bit/s, and no period (1, 2, 4 .. 8192 slots) lies within",
-        shortest / SLOT,
-        shortest % SLOT / (SLOT / 1000),
-        longest / SLOT,
-        longest % SLOT / (SLOT / 1000)
+        "a429: {min_us} to {max_us} us are {least} to {most} slots at {rate} bit/s, and no period (1, 2, 4 .. 8192 slots) lies within"
     )?;
-    let below = PERIODS
-        .iter()
-        .rev()
-        .find(|slots| slots.saturating_mul(SLOT) < shortest);
-    if let Some(slots) = below {
-        let us = slots.saturating_mul(SLOT).checked_div(rate).unwrap_or(0);
-        writeln!(err, "a429: min_us = {us} would admit period {slots}")?;
-    }
-    let above = PERIODS
-        .iter()
-        .find(|slots| slots.saturating_mul(SLOT) > longest);
-    if let Some(slots) = above {
-        let us = slots.saturating_mul(SLOT).div_ceil(rate.max(1));
-        writeln!(err, "a429: max_us = {us} would admit period {slots}")?;
-    }
-    Ok(())
+    tell_period_below(shortest, rate, err)?;
+    tell_period_above(longest, rate, err)
+}
+
+/// Tells the greatest period that is shorter than an interval, where there is one.
+fn tell_period_below<V: Write>(shortest: u64, rate: u32, err: &mut V) -> io::Result<()> {
+    let is_shorter = |slots: &&u64| slots.saturating_mul(SLOT) < shortest;
+    let Some(slots) = PERIODS.iter().rev().find(is_shorter) else {
+        return Ok(());
+    };
+    let us = slots.saturating_mul(SLOT) / u64::from(rate.max(1));
+    writeln!(err, "a429: min_us = {us} would admit period {slots}")
+}
+
+/// Tells the least period that is longer than an interval, where there is one.
+fn tell_period_above<V: Write>(longest: u64, rate: u32, err: &mut V) -> io::Result<()> {
+    let is_longer = |slots: &&u64| slots.saturating_mul(SLOT) > longest;
+    let Some(slots) = PERIODS.iter().find(is_longer) else {
+        return Ok(());
+    };
+    let us = slots.saturating_mul(SLOT).div_ceil(u64::from(rate.max(1)));
+    writeln!(err, "a429: max_us = {us} would admit period {slots}")
 }

@@ -13,13 +13,8 @@ use std::io::Write;
 
 /// Tells why a table has no plan, and what would help.
 pub fn tell_no_plan<V: Write>(alloc: Global, table: &[u8], err: &mut V) -> io::Result<()> {
-    let Some(equipment) = look_into(alloc, table, err)? else {
-        return Ok(());
-    };
-    match Proposal::<OUTPUTS>::of(alloc, equipment) {
-        Ok(_) => Ok(()),
-        Err(none) => tell_fault(&none.equipment, none.fault, err),
-    }
+    look_for_plan(alloc, table, err)?;
+    Ok(())
 }
 
 /// Tells why the plan of a table was not drawn: why there is none, or which groups there are, where none has the name
@@ -30,15 +25,27 @@ pub fn tell_no_drawing<V: Write>(
     group: Option<&str>,
     err: &mut V,
 ) -> io::Result<()> {
+    match (look_for_plan(alloc, table, err)?, group) {
+        (Some(proposal), Some(name)) => tell_groups(proposal.equipment().groups(), name, err),
+        _ => Ok(()),
+    }
+}
+
+/// The plan of a table with its equipment. Where there is none, it is told why.
+fn look_for_plan<V: Write>(
+    alloc: Global,
+    table: &[u8],
+    err: &mut V,
+) -> io::Result<Option<Proposal<OUTPUTS>>> {
     let Some(equipment) = look_into(alloc, table, err)? else {
-        return Ok(());
+        return Ok(None);
     };
-    match Proposal::<OUTPUTS>::of(alloc, equipment) {
-        Ok(proposal) => match group {
-            Some(name) => tell_groups(proposal.equipment().groups(), name, err),
-            None => Ok(()),
-        },
-        Err(none) => tell_fault(&none.equipment, none.fault, err),
+    match Proposal::of(alloc, equipment) {
+        Ok(proposal) => Ok(Some(proposal)),
+        Err(none) => {
+            tell_fault(&none.equipment, none.fault, err)?;
+            Ok(None)
+        }
     }
 }
 

@@ -22,14 +22,10 @@ pub fn tell_hint<F: FileReader, V: Write>(
             look_at(alloc, files, file, err)?;
         }
         Request::Plan { table } | Request::Icd { table, .. } | Request::Margin { table } => {
-            if let Some(table) = look_at(alloc, files, table, err)? {
-                tell_no_plan(alloc, &table, err)?;
-            }
+            tell_of_table(alloc, files, table, err)?;
         }
         Request::Draw { table, group, .. } => {
-            if let Some(table) = look_at(alloc, files, table, err)? {
-                tell_no_drawing(alloc, &table, *group, err)?;
-            }
+            tell_of_drawing(alloc, files, table, *group, err)?;
         }
         Request::Check { table, plan } => {
             tell_of_check(alloc, files, table, plan, err)?;
@@ -43,6 +39,31 @@ pub fn tell_hint<F: FileReader, V: Write>(
         }
     }
     err.flush()
+}
+
+fn tell_of_table<F: FileReader, V: Write>(
+    alloc: Global,
+    files: &mut F,
+    table: &str,
+    err: &mut V,
+) -> io::Result<()> {
+    match look_at(alloc, files, table, err)? {
+        Some(table) => tell_no_plan(alloc, &table, err),
+        None => Ok(()),
+    }
+}
+
+fn tell_of_drawing<F: FileReader, V: Write>(
+    alloc: Global,
+    files: &mut F,
+    table: &str,
+    group: Option<&str>,
+    err: &mut V,
+) -> io::Result<()> {
+    match look_at(alloc, files, table, err)? {
+        Some(table) => tell_no_drawing(alloc, &table, group, err),
+        None => Ok(()),
+    }
 }
 
 fn tell_of_check<F: FileReader, V: Write>(

@@ -1,7 +1,7 @@
 //! The command line: its commands, and the texts of their help.
 ghost use Rattle.std.specs.Prelude.{◌≡◌, IfOk, IsTrue, codes};
-ghost use Rattle.clap.specs.Words.{App, app_of, with_subcommand};
-ghost use Rattle.a429_console.specs.CommandLine.{HasRule, bare_line, check_app, command_line, draw_app, flag_rule, icd_app, lines_app, live_app, many_rule, margin_app, most_slots, number_option_rule, number_rule, option_rule, plan_app, replay_app, required_rule, word_app};
+ghost use Rattle.clap.specs.Words.{App, Rule, app_of, new_app, with_rule, with_subcommand};
+ghost use Rattle.a429_console.specs.CommandLine.{HasRule, bare_line, check_app, command_line, draw_app, flag_rule, icd_app, lines_app, live_app, many_rule, margin_app, most_slots, number_option_rule, number_rule, option_rule, plan_app, planning_line, reading_line, replay_app, required_rule, word_app};
 
 use clap::builder::ValueParser;
 use clap::{Arg, ArgAction, Command};
@@ -120,77 +120,100 @@ fn slots_option<'a>(alloc: Global) -> Arg<'a>
     value_option(alloc, "slots", "N", SLOTS).value_parser(ValueParser::unsigned(1, MOST_SLOTS))
 }
 
+/// A command with one more argument, if the command was made.
+fn with_argument<'a>(
+    command: Result<Command<'a>, AllocError>,
+    argument: Arg<'a>,
+) -> Result<Command<'a>, AllocError>
+    ensures { (a : App) → (rule : Rule) → IfOk command.entry (λ c. app_of c ≡ a) → HasRule argument.entry rule
+        → IfOk result (λ r. app_of r ≡ with_rule a rule) }
+{
+    let command = command?;
+    command.arg(argument)
+}
+
+/// A command of this name without arguments.
+fn named_command<'a>(
+    alloc: Global,
+    name: &'a str,
+    about: &'a str,
+) -> Result<Command<'a>, AllocError>
+    ensures { IfOk result (λ c. app_of c ≡ new_app name.entry.now) }
+{
+    Ok(Command::new(alloc, name).about(about))
+}
+
 fn word_command<'a>(alloc: Global) -> Result<Command<'a>, AllocError>
     ensures { IfOk result (λ c. app_of c ≡ word_app) }
 {
-    let word = Command::new(alloc, "word").about(WORD);
-    word.arg(required_argument(alloc, "HEX", HEX))
+    let word = named_command(alloc, "word", WORD);
+    with_argument(word, required_argument(alloc, "HEX", HEX))
 }
 
 fn lines_command<'a>(alloc: Global) -> Result<Command<'a>, AllocError>
     ensures { IfOk result (λ c. app_of c ≡ lines_app) }
 {
-    let lines = Command::new(alloc, "lines").about(LINES);
-    let lines = lines.arg(required_argument(alloc, "FILE", FILE))?;
-    lines.arg(repeated_argument(alloc, "FILTER", FILTER))
+    let lines = named_command(alloc, "lines", LINES);
+    let lines = with_argument(lines, required_argument(alloc, "FILE", FILE));
+    with_argument(lines, repeated_argument(alloc, "FILTER", FILTER))
 }
 
 fn plan_command<'a>(alloc: Global) -> Result<Command<'a>, AllocError>
     ensures { IfOk result (λ c. app_of c ≡ plan_app) }
 {
-    let plan = Command::new(alloc, "plan").about(PLAN);
-    plan.arg(required_argument(alloc, "TABLE", TABLE))
+    let plan = named_command(alloc, "plan", PLAN);
+    with_argument(plan, required_argument(alloc, "TABLE", TABLE))
 }
 
 fn check_command<'a>(alloc: Global) -> Result<Command<'a>, AllocError>
     ensures { IfOk result (λ c. app_of c ≡ check_app) }
 {
-    let check = Command::new(alloc, "check").about(CHECK);
-    let check = check.arg(required_argument(alloc, "TABLE", TABLE))?;
-    check.arg(required_argument(alloc, "PLAN", TEXT))
+    let check = named_command(alloc, "check", CHECK);
+    let check = with_argument(check, required_argument(alloc, "TABLE", TABLE));
+    with_argument(check, required_argument(alloc, "PLAN", TEXT))
 }
 
 fn icd_command<'a>(alloc: Global) -> Result<Command<'a>, AllocError>
     ensures { IfOk result (λ c. app_of c ≡ icd_app) }
 {
-    let icd = Command::new(alloc, "icd").about(ICD);
-    let icd = icd.arg(required_argument(alloc, "TABLE", TABLE))?;
-    icd.arg(flag_option(alloc, "csv", CSV))
+    let icd = named_command(alloc, "icd", ICD);
+    let icd = with_argument(icd, required_argument(alloc, "TABLE", TABLE));
+    with_argument(icd, flag_option(alloc, "csv", CSV))
 }
 
 fn margin_command<'a>(alloc: Global) -> Result<Command<'a>, AllocError>
     ensures { IfOk result (λ c. app_of c ≡ margin_app) }
 {
-    let margin = Command::new(alloc, "margin").about(MARGIN);
-    margin.arg(required_argument(alloc, "TABLE", TABLE))
+    let margin = named_command(alloc, "margin", MARGIN);
+    with_argument(margin, required_argument(alloc, "TABLE", TABLE))
 }
 
 fn draw_command<'a>(alloc: Global) -> Result<Command<'a>, AllocError>
     ensures { IfOk result (λ c. app_of c ≡ draw_app) }
 {
-    let draw = Command::new(alloc, "draw").about(DRAW);
-    let draw = draw.arg(required_argument(alloc, "TABLE", TABLE))?;
-    let draw = draw.arg(value_option(alloc, "group", "NAME", GROUP))?;
-    draw.arg(slots_option(alloc))
+    let draw = named_command(alloc, "draw", DRAW);
+    let draw = with_argument(draw, required_argument(alloc, "TABLE", TABLE));
+    let draw = with_argument(draw, value_option(alloc, "group", "NAME", GROUP));
+    with_argument(draw, slots_option(alloc))
 }
 
 fn replay_command<'a>(alloc: Global) -> Result<Command<'a>, AllocError>
     ensures { IfOk result (λ c. app_of c ≡ replay_app) }
 {
-    let replay = Command::new(alloc, "replay").about(REPLAY);
-    let replay = replay.arg(required_argument(alloc, "TABLE", TABLE))?;
-    let replay = replay.arg(required_argument(alloc, "SCRIPT", SCRIPT))?;
-    replay.arg(repeated_argument(alloc, "FURTHER", FURTHER))
+    let replay = named_command(alloc, "replay", REPLAY);
+    let replay = with_argument(replay, required_argument(alloc, "TABLE", TABLE));
+    let replay = with_argument(replay, required_argument(alloc, "SCRIPT", SCRIPT));
+    with_argument(replay, repeated_argument(alloc, "FURTHER", FURTHER))
 }
 
 fn live_command<'a>(alloc: Global) -> Result<Command<'a>, AllocError>
     ensures { IfOk result (λ c. app_of c ≡ live_app) }
 {
-    let live = Command::new(alloc, "live").about(LIVE);
-    let live = live.arg(required_argument(alloc, "TABLE", TABLE))?;
-    let live = live.arg(required_argument(alloc, "WORDS", WORDS))?;
-    let live = live.arg(number_argument(alloc, "FRAMES", FRAMES, MOST_FRAMES))?;
-    live.arg(repeated_argument(alloc, "FURTHER", RESUBMITTED))
+    let live = named_command(alloc, "live", LIVE);
+    let live = with_argument(live, required_argument(alloc, "TABLE", TABLE));
+    let live = with_argument(live, required_argument(alloc, "WORDS", WORDS));
+    let live = with_argument(live, number_argument(alloc, "FRAMES", FRAMES, MOST_FRAMES));
+    with_argument(live, repeated_argument(alloc, "FURTHER", RESUBMITTED))
 }
 
 /// The command line without its commands.
@@ -202,31 +225,51 @@ fn top_command<'a>(alloc: Global) -> Result<Command<'a>, AllocError>
     Ok(told.no_binary_name(true).subcommand_required(true))
 }
 
-/// A command line with one more command, if that was made.
+/// A command line with one more command, if both were made.
 fn with_command<'a>(
-    line: Command<'a>,
+    line: Result<Command<'a>, AllocError>,
     command: Result<Command<'a>, AllocError>,
 ) -> Result<Command<'a>, AllocError>
-    ensures { (a : App) → IfOk command.entry (λ c. app_of c ≡ a) → IsTrue a.top.is_plain
-        → IfOk result (λ r. app_of r ≡ with_subcommand (app_of line.entry) a.top) }
+    ensures { (a : App) → (b : App) → IfOk line.entry (λ c. app_of c ≡ a) → IfOk command.entry (λ c. app_of c ≡ b)
+        → IsTrue b.top.is_plain → IfOk result (λ r. app_of r ≡ with_subcommand a b.top) }
 {
+    let line = line?;
     let command = command?;
     line.subcommand(command)
+}
+
+/// The commands on words and lines.
+fn with_reading<'a>(
+    alloc: Global,
+    line: Result<Command<'a>, AllocError>,
+) -> Result<Command<'a>, AllocError>
+    ensures { IfOk line.entry (λ c. app_of c ≡ bare_line) → IfOk result (λ c. app_of c ≡ reading_line) }
+{
+    let line = with_command(line, word_command(alloc));
+    with_command(line, lines_command(alloc))
+}
+
+/// The commands on plans.
+fn with_planning<'a>(
+    alloc: Global,
+    line: Result<Command<'a>, AllocError>,
+) -> Result<Command<'a>, AllocError>
+    ensures { IfOk line.entry (λ c. app_of c ≡ reading_line) → IfOk result (λ c. app_of c ≡ planning_line) }
+{
+    let line = with_command(line, plan_command(alloc));
+    let line = with_command(line, check_command(alloc));
+    let line = with_command(line, icd_command(alloc));
+    with_command(line, margin_command(alloc))
 }
 
 /// The command line of the program.
 pub fn build_command<'a>(alloc: Global) -> Result<Command<'a>, AllocError>
     ensures { IfOk result (λ c. app_of c ≡ command_line) }
 {
-    // one at a time, and none beside a call that may fail: each early return would drop it, and the check takes minutes
-    let line = top_command(alloc)?;
-    let line = with_command(line, word_command(alloc))?;
-    let line = with_command(line, lines_command(alloc))?;
-    let line = with_command(line, plan_command(alloc))?;
-    let line = with_command(line, check_command(alloc))?;
-    let line = with_command(line, icd_command(alloc))?;
-    let line = with_command(line, margin_command(alloc))?;
-    let line = with_command(line, draw_command(alloc))?;
-    let line = with_command(line, replay_command(alloc))?;
+    // no call here returns early, and each has few commands: the check goes through all that would be dropped
+    let line = with_reading(alloc, top_command(alloc));
+    let line = with_planning(alloc, line);
+    let line = with_command(line, draw_command(alloc));
+    let line = with_command(line, replay_command(alloc));
     with_command(line, live_command(alloc))
 }

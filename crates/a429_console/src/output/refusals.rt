@@ -52,8 +52,8 @@ impl fmt::Display for CommandRefusal {
     fn fmt<W: fmt::Write>(&self, f: &mut fmt::Formatter<W>) -> fmt::Result {
         match self {
             CommandRefusal::File(name) => write!(f, "refused file {name}"),
-            CommandRefusal::WordText => write!(f, "refused word-text"),
-            CommandRefusal::Parity => write!(f, "refused parity"),
+            CommandRefusal::WordText => f.write_str("refused word-text"),
+            CommandRefusal::Parity => f.write_str("refused parity"),
             CommandRefusal::LineByte(place) => write!(f, "refused line byte {place}"),
             CommandRefusal::Filter(number) => write!(f, "refused filter {number}"),
             CommandRefusal::Table(kind, place) => write!(f, "refused table {kind} {place}"),
@@ -65,12 +65,12 @@ impl fmt::Display for CommandRefusal {
             }
             CommandRefusal::Group(name) => write!(f, "refused group {name}"),
             CommandRefusal::Script(line) => write!(f, "refused script line {line}"),
-            CommandRefusal::Join => write!(f, "refused join"),
-            CommandRefusal::Gate => write!(f, "refused gate"),
-            CommandRefusal::Source => write!(f, "refused source"),
-            CommandRefusal::Sink => write!(f, "refused sink"),
-            CommandRefusal::TooMuch => write!(f, "refused too-much"),
-            CommandRefusal::Memory => write!(f, "refused memory"),
+            CommandRefusal::Join => f.write_str("refused join"),
+            CommandRefusal::Gate => f.write_str("refused gate"),
+            CommandRefusal::Source => f.write_str("refused source"),
+            CommandRefusal::Sink => f.write_str("refused sink"),
+            CommandRefusal::TooMuch => f.write_str("refused too-much"),
+            CommandRefusal::Memory => f.write_str("refused memory"),
         }
     }
 }

@@ -1,11 +1,6 @@
-use Rattle.std.proofs.Common.{ap, ap₂, codes, ◌≡◌, ◌∙◌}
-use Rattle.std.proofs.lemmas.Result.{IfOk-weaker}
-use Rattle.clap.specs.Words.{app_of, new_app, with_rule}
-use Rattle.clap.specs.Simple.{app_of_fields}
 use Rattle.a429_console.proofs.arguments.command_line.check_command.Goals as goal
 
 pub returns : goal.returns
 returns c =
-    let named : app_of c.about-check.result ≡ new_app (codes "check") = ap app_of_fields c.about-check.ensures ∙ c.new.ensures.app in
-    let one = c.in_ok-check.ensures.shape c.required_argument.ensures.1 ∙ ap₂ with_rule named c.required_argument.ensures.0 in
-    IfOk-weaker c.arg-2.result _ _ (λ r h. h.shape c.required_argument-2.ensures.1 ∙ ap₂ with_rule one c.required_argument-2.ensures.0) c.arg-2.ensures
+    let one = c.with_argument-check.ensures _ _ c.named_command-check.ensures c.required_argument.ensures in
+    c.with_argument.ensures _ _ one c.required_argument-2.ensures

@@ -1,13 +1,8 @@
-use Rattle.std.proofs.Common.{ap, ap₂, codes, ◌≡◌, ◌∙◌}
-use Rattle.std.proofs.lemmas.Result.{IfOk-weaker}
-use Rattle.clap.specs.Words.{app_of, new_app, with_rule}
-use Rattle.clap.specs.Simple.{app_of_fields}
 use Rattle.a429_console.proofs.arguments.command_line.live_command.Goals as goal
 
 pub returns : goal.returns
 returns c =
-    let named : app_of c.about-live.result ≡ new_app (codes "live") = ap app_of_fields c.about-live.ensures ∙ c.new.ensures.app in
-    let one = c.in_ok-live.ensures.shape c.required_argument.ensures.1 ∙ ap₂ with_rule named c.required_argument.ensures.0 in
-    let two = c.in_ok-live-2.ensures.shape c.required_argument-2.ensures.1 ∙ ap₂ with_rule one c.required_argument-2.ensures.0 in
-    let three = c.in_ok-live-3.ensures.shape c.number_argument.ensures.1 ∙ ap₂ with_rule two c.number_argument.ensures.0 in
-    IfOk-weaker c.arg-4.result _ _ (λ r h. h.shape c.repeated_argument.ensures.1 ∙ ap₂ with_rule three c.repeated_argument.ensures.0) c.arg-4.ensures
+    let one = c.with_argument-live.ensures _ _ c.named_command-live.ensures c.required_argument.ensures in
+    let two = c.with_argument-live-2.ensures _ _ one c.required_argument-2.ensures in
+    let three = c.with_argument-live-3.ensures _ _ two c.number_argument.ensures in
+    c.with_argument.ensures _ _ three c.repeated_argument.ensures

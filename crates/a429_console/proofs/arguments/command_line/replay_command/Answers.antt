@@ -1,12 +1,7 @@
-use Rattle.std.proofs.Common.{ap, ap₂, codes, ◌≡◌, ◌∙◌}
-use Rattle.std.proofs.lemmas.Result.{IfOk-weaker}
-use Rattle.clap.specs.Words.{app_of, new_app, with_rule}
-use Rattle.clap.specs.Simple.{app_of_fields}
 use Rattle.a429_console.proofs.arguments.command_line.replay_command.Goals as goal
 
 pub returns : goal.returns
 returns c =
-    let named : app_of c.about-replay.result ≡ new_app (codes "replay") = ap app_of_fields c.about-replay.ensures ∙ c.new.ensures.app in
-    let one = c.in_ok-replay.ensures.shape c.required_argument.ensures.1 ∙ ap₂ with_rule named c.required_argument.ensures.0 in
-    let two = c.in_ok-replay-2.ensures.shape c.required_argument-2.ensures.1 ∙ ap₂ with_rule one c.required_argument-2.ensures.0 in
-    IfOk-weaker c.arg-3.result _ _ (λ r h. h.shape c.repeated_argument.ensures.1 ∙ ap₂ with_rule two c.repeated_argument.ensures.0) c.arg-3.ensures
+    let one = c.with_argument-replay.ensures _ _ c.named_command-replay.ensures c.required_argument.ensures in
+    let two = c.with_argument-replay-2.ensures _ _ one c.required_argument-2.ensures in
+    c.with_argument.ensures _ _ two c.repeated_argument.ensures
