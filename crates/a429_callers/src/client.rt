@@ -174,6 +174,47 @@ fn send_and_publish<R: Threads + Wait + Sync, B: BusSink + Send>(
     sent
 }
 
+/// Both receivers take the words of their lines, each on a thread of its own, beside a group that sends so many frames
+/// and a planner that publishes a plan meanwhile. Says whether both lines came to their ends and all frames went out.
+fn take_and_send<R: Threads + Wait + Sync, L: LineSource + Send, B: BusSink + Send>(
+    rt: &R,
+    first: &mut L,
+    one: &mut Receiver,
+    second: &mut L,
+    other: &mut Receiver,
+    transmit: &mut Transmit,
+    sink: &mut B,
+    frames: u32,
+    planner: &mut Planner,
+    plan: Plan<OUTPUTS>,
+    station: &Equipment,
+    next: &Equipment,
+) -> bool
+    requires begins { transmit.old.frame.sent ≡ 0 }
+    requires publish { CanPublish station.now next.now planner.old plan }
+    ensures first { HasHeard L.given first.old first.new one.old one.new result }
+    ensures second { HasHeard L.given second.old second.new other.old other.new result }
+    ensures receivers { IsSameReceiver one.old one.new × IsSameReceiver other.old other.new }
+    ensures sent { HasSentAll transmit.old transmit.new (B.taken sink.old) (B.taken sink.new) result }
+    ensures group { IsSameGroup transmit.old transmit.new }
+    ensures shown { AreShown (opening station.now planner.old.last) planner.new.list }
+    ensures book { planner.new.book ≡ planner.old.book }
+{
+    let ((heard, also), sent) = join_mut(
+        rt,
+        &mut || -> (bool, bool)
+            ensures first { HasHeard L.given first.entry.now first.exit.now one.entry.now one.exit.now result.0 }
+            ensures second { HasHeard L.given second.entry.now second.exit.now other.entry.now other.exit.now result.1 }
+            ensures same { IsSameReceiver one.entry.now one.exit.now × IsSameReceiver other.entry.now other.exit.now }
+        { join_mut(rt, &mut || hear(first, one), &mut || hear(second, other)) },
+        &mut ||
+            requires begins { transmit.now.frame.sent ≡ 0 }
+            requires publish { CanPublish station.now next.now planner.now plan }
+        { send_and_publish(rt, transmit, sink, frames, planner, plan, station, next) },
+    );
+    heard && also && sent
+}
+
 /// Runs a station of two receivers, each on a thread of its own that takes the words of its line, beside its first
 /// group, which sends so many frames, and beside a planner, which publishes the plan of the next table meanwhile.
 /// Nothing is answered where an equipment has no plan, memory is refused, a line does not come to its end, or the sink
@@ -214,41 +255,22 @@ pub fn run_once<R: Threads + Wait + Sync, L: LineSource + Send, B: BusSink + Sen
         planner.close(rt);
         return None;
     };
-    let ((heard, also), sent) = join_mut(
+    let done = take_and_send(
         rt,
-        &mut || -> (bool, bool)
-            ensures first { HasHeard L.given first.entry.now first.exit.now one.entry one.exit result.0 }
-            ensures second { HasHeard L.given second.entry.now second.exit.now other.entry other.exit result.1 }
-            ensures same { IsSameReceiver one.entry one.exit × IsSameReceiver other.entry other.exit }
-        {
-            join_mut(
-                rt,
-                &mut || hear(first, &mut one),
-                &mut || hear(second, &mut other),
-            )
-        },
-        &mut ||
-            requires begins { transmit.frame.sent ≡ 0 }
-            requires publish { CanPublish station.now next.now planner later }
-        {
-            send_and_publish(
-                rt,
-                &mut transmit,
-                sink,
-                frames,
-                &mut planner,
-                later,
-                station,
-                next,
-            )
-        },
+        first,
+        &mut one,
+        second,
+        &mut other,
+        &mut transmit,
+        sink,
+        frames,
+        &mut planner,
+        later,
+        station,
+        next,
     );
     meet(&mut transmit, &mut one, &mut other, &mut planner);
     planner.close(rt);
     ends_run_once();
-    if heard && also && sent {
-        Some(())
-    } else {
-        None
-    }
+    if done { Some(()) } else { None }
 }

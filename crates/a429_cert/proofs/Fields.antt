@@ -12,7 +12,7 @@ use Rattle.std.proofs.lemmas.Fmt.{decimal-digits_value, digits_decimal, digits_v
 use Rattle.std.proofs.lemmas.List.Sums.{prefix_len-le-length}
 use Rattle.std.proofs.lemmas.Option.{some_pair_parts}
 use Rattle.a429_cert.specs.Spelling.{when, is_break, IsWord, IsShort}
-use Rattle.a429_cert.specs.Reading.{◌>>=◌, after, word, is_numeral, value_of, number}
+use Rattle.a429_cert.specs.Reading.{◌>>=◌, after, word, is_numeral, value_of, number, word_after, number_after}
 use Rattle.a429_cert.proofs.Words.{digits_model, numeral_digits, numeral_short, numeral_fits}
 
 -- the value of a step that gave one
@@ -140,3 +140,27 @@ number_takes bytes n rest e =
 pub number_again : (n : ℕ) (rest : List ℕ) → n < 10 ^ 10 → EndsWord rest → number (decimal n ++ rest) ≡ Some (n, rest)
 unfolding number
 number_again n rest h ends = rw (word_again (decimal n) rest (decimal_word n h) ends, value_again n h) refl
+
+-- ---- behind a text
+
+pub word_after_takes : (text bytes w rest : List ℕ) → word_after text bytes ≡ Some (w, rest) → (bytes ≡ text ++ (w ++ rest)) × IsWord w
+unfolding word_after
+word_after_takes text bytes w rest e =
+    bind_some (after text bytes) _ _ e (λ a at-a e.
+    let t = word_takes a w rest e in
+    (after_takes text bytes a at-a ∙ ap (λ (x : List ℕ). text ++ x) t.0, t.1))
+
+pub word_after_again : (text w rest : List ℕ) → IsWord w → EndsWord rest → word_after text (text ++ (w ++ rest)) ≡ Some (w, rest)
+unfolding word_after
+word_after_again text w rest h ends = rw (after_again text (w ++ rest)) (word_again w rest h ends)
+
+pub number_after_takes : (text bytes : List ℕ) (n : ℕ) (rest : List ℕ) → number_after text bytes ≡ Some (n, rest) → (bytes ≡ text ++ (decimal n ++ rest)) × IsShort n
+unfolding number_after
+number_after_takes text bytes n rest e =
+    bind_some (after text bytes) _ _ e (λ a at-a e.
+    let t = number_takes a n rest e in
+    (after_takes text bytes a at-a ∙ ap (λ (x : List ℕ). text ++ x) t.0, t.1))
+
+pub number_after_again : (text : List ℕ) (n : ℕ) (rest : List ℕ) → n < 10 ^ 10 → EndsWord rest → number_after text (text ++ (decimal n ++ rest)) ≡ Some (n, rest)
+unfolding number_after
+number_after_again text n rest h ends = rw (after_again text (decimal n ++ rest)) (number_again n rest h ends)

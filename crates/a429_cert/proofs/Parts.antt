@@ -9,9 +9,9 @@ use Rattle.std.proofs.lemmas.Fmt.{digits_decimal}
 use Rattle.std.proofs.lemmas.Option.{same_Some, some_pair_parts}
 use Rattle.std.proofs.lemmas.Slice.Eq.{bytes_eq-Decides}
 use Rattle.a429_cert.specs.Spelling.{says_more, said_in, when, rate_before, limit_text, hold_before, IsWord, IsShort, IsShortLimit, IsPart}
-use Rattle.a429_cert.specs.Reading.{◌>>=◌, after, word, number, value_of, limit_of, limit, said_rate, rate_part, said_hold, hold_part}
+use Rattle.a429_cert.specs.Reading.{◌>>=◌, after, word, number_after, value_of, limit_of, limit, said_rate, rate_part, said_hold, hold_part}
 use Rattle.a429_cert.proofs.Words.{digits_model}
-use Rattle.a429_cert.proofs.Fields.{bind_some, after_takes, after_again, EndsWord, word_takes, word_again, value_takes, value_again, decimal_word, number_takes, number_again}
+use Rattle.a429_cert.proofs.Fields.{bind_some, after_takes, after_again, EndsWord, word_takes, word_again, value_takes, value_again, decimal_word, number_after_takes, number_after_again}
 
 -- ---- what is said where a text says more
 
@@ -72,11 +72,10 @@ rate_parts : (t : Bool) (bytes : List ℕ) (said : Option ℕ) (rest : List ℕ)
     → (bytes ≡ rate_before said rest) × (is_some said ≡ t) × IfSome said IsShort
 unfolding said_rate
 rate_parts true bytes said rest e =
-    bind_some (after (codes " rate ") bytes) _ _ e (λ a at-a e. bind_some (number a) _ _ e (λ n at-n e.
+    bind_some (number_after (codes " rate ") bytes) _ _ e (λ n at-n e.
     let p = some_pair_parts (Some n.0) said n.1 rest e in
-    let t0 = after_takes (codes " rate ") bytes a at-a in
-    let t1 = number_takes a n.0 n.1 at-n in
-    rw (← p.0, ← p.1) (t0 ∙ ap (λ (x : List ℕ). codes " rate " ++ x) t1.0, refl, t1.1)))
+    let t = number_after_takes (codes " rate ") bytes n.0 n.1 at-n in
+    rw (← p.0, ← p.1) (t.0, refl, t.1))
 rate_parts false bytes said rest e = let p = some_pair_parts None said bytes rest e in rw (← p.0) (p.1, refl, tt)
 
 pub rate_part_takes : (version : ℕ) (bytes : List ℕ) (said : Option ℕ) (rest : List ℕ) → rate_part version bytes ≡ Some (said, rest)
@@ -87,7 +86,7 @@ rate_part_takes version bytes said rest e = let p = rate_parts (says_more versio
 pub rate_part_again : (version : ℕ) (said : Option ℕ) (rest : List ℕ) → IsPart version IsShort said → EndsWord rest → rate_part version (rate_before said rest) ≡ Some (said, rest)
 unfolding rate_part said_rate
 rate_part_again version None rest h ends = let none = h.there in rw (← none) refl
-rate_part_again version (Some rate) rest h ends = let some = h.there in rw (← some, after_again (codes " rate ") _, number_again rate rest h.holds ends) refl
+rate_part_again version (Some rate) rest h ends = let some = h.there in rw (← some, number_after_again (codes " rate ") rate rest h.holds ends) refl
 
 pub ends_rate : (said : Option ℕ) (rest : List ℕ) → EndsWord rest → EndsWord (rate_before said rest)
 ends_rate None rest ends = ends

@@ -7,12 +7,12 @@ use Rattle.std.proofs.lemmas.List.Elements.{filter_map-append}
 use Rattle.a429_cert.specs.declared.verdicts.Reason.{Reason}
 use Rattle.a429_cert.specs.declared.due.DueGroup.{DueGroup}
 use Rattle.a429_cert.specs.Spelling.{Listing}
-use Rattle.a429_cert.specs.Reading.{output_line, after}
+use Rattle.a429_cert.specs.Reading.{output_line, word_after, after}
 use Rattle.a429_cert.specs.Lines.{line_at}
 use Rattle.a429_cert.specs.Faults.{output_fault, output_faults, first_no}
 
 absent_output : (version : ℕ) → output_line version [] ≡ None
-unfolding output_line after
+unfolding output_line word_after after
 absent_output version = refl
 
 -- one more line of an output

@@ -39,6 +39,14 @@ number bytes = do
   n ← value_of w.0
   Some (n, w.1)
 
+-- the word behind a text, and the bytes after it
+unfoldable pub word_after : List ℕ → List ℕ → Option (List ℕ × List ℕ)
+word_after text bytes = after text bytes >>= word
+
+-- the number behind a text, and the bytes after it
+unfoldable pub number_after : List ℕ → List ℕ → Option (ℕ × List ℕ)
+number_after text bytes = after text bytes >>= number
+
 -- the limit that a word spells: a number, or that there is no limit
 unfoldable pub limit_of : List ℕ → Option (Option ℕ)
 limit_of w = if bytes_eq w (codes "none") then Some None else (value_of w >>= λ n. Some (Some n))
@@ -57,8 +65,7 @@ is_end bytes = bytes_eq bytes (codes "\n")
 -- a number behind a text, and nothing else
 unfoldable pub number_line : List ℕ → List ℕ → Option ℕ
 number_line text line = do
-  rest ← after text line
-  n ← number rest
+  n ← number_after text line
   when (is_end n.1) n.0
 
 abbrev pub plan_line : List ℕ → Option ℕ
@@ -71,8 +78,7 @@ rate_line line = number_line (codes "rate ") line
 
 unfoldable pub said_rate : List ℕ → Option (Option ℕ × List ℕ)
 said_rate bytes = do
-  rest ← after (codes " rate ") bytes
-  rate ← number rest
+  rate ← number_after (codes " rate ") bytes
   Some (Some rate.0, rate.1)
 
 -- the rate at the front, and the bytes after it
@@ -93,34 +99,24 @@ hold_part version bytes = if says_more version then said_hold bytes else Some (N
 
 unfoldable pub group_line : ℕ → List ℕ → Option Heading
 group_line version line = do
-  rest ← after (codes "group ") line
-  name ← word rest
+  name ← word_after (codes "group ") line
   rate ← rate_part version name.1
-  rest ← after (codes " frame ") rate.1
-  frame ← number rest
-  rest ← after (codes " buses ") frame.1
-  buses ← number rest
+  frame ← number_after (codes " frame ") rate.1
+  buses ← number_after (codes " buses ") frame.1
   when (is_end buses.1) (record { name = name.0; rate = rate.0; frame = frame.0; buses = buses.0 })
 
 unfoldable pub output_line : ℕ → List ℕ → Option Listing
 output_line version line = do
-  rest ← after (codes "output ") line
-  source ← word rest
-  rest ← after (codes " period ") source.1
-  period ← number rest
-  rest ← after (codes " bus ") period.1
-  bus ← number rest
-  rest ← after (codes " offset ") bus.1
-  offset ← number rest
+  source ← word_after (codes "output ") line
+  period ← number_after (codes " period ") source.1
+  bus ← number_after (codes " bus ") period.1
+  offset ← number_after (codes " offset ") bus.1
   hold ← hold_part version offset.1
   when (is_end hold.1) (record { source = source.0; period = period.0; bus = bus.0; offset = offset.0; hold = hold.0 })
 
 unfoldable pub bound_line : List ℕ → Option Bounding
 bound_line line = do
-  rest ← after (codes "bound ") line
-  demand ← number rest
-  rest ← after (codes " > ") demand.1
-  full_buses ← number rest
-  rest ← after (codes " * ") full_buses.1
-  frame ← number rest
+  demand ← number_after (codes "bound ") line
+  full_buses ← number_after (codes " > ") demand.1
+  frame ← number_after (codes " * ") full_buses.1
   when (is_end frame.1) (record { demand = demand.0; full_buses = full_buses.0; frame = frame.0 })

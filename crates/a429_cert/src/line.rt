@@ -6,7 +6,7 @@ ghost use Rattle.std.specs.Char.{is_ascii_digit};
 ghost use Rattle.std.specs.Str.Parse.{digits_value};
 ghost use Rattle.std.specs.Option.{option_copied};
 ghost use Rattle.a429_cert.specs.Spelling.{says_more};
-ghost use Rattle.a429_cert.specs.Reading.{after, word, is_break, is_numeral, value_of, number, limit_of, limit, is_end, number_line, plan_line, rate_line, rate_part, hold_part, group_line, output_line, bound_line};
+ghost use Rattle.a429_cert.specs.Reading.{after, word, word_after, number_after, is_break, is_numeral, value_of, number, limit_of, limit, is_end, number_line, plan_line, rate_line, rate_part, hold_part, group_line, output_line, bound_line};
 ghost use Rattle.a429_cert.specs.Views.{heading, listing, bounding};
 
 /// What a group's first line says.
@@ -135,6 +135,22 @@ fn number(bytes: &[u8]) -> Option<(u64, &[u8])>
     Some((value_of(word)?, rest))
 }
 
+/// The word behind a text, and the bytes after it.
+#[tactic(auto, unfolding(crate::specs::Reading::word_after))]
+fn word_after<'a>(bytes: &'a [u8], text: &str) -> Option<(&'a [u8], &'a [u8])>
+    ensures { option_map (λ x. (x.0.now, x.1.now)) result ≡ word_after text.now bytes.now }
+{
+    word(after(bytes, text)?)
+}
+
+/// The number behind a text, and the bytes after it.
+#[tactic(auto, unfolding(crate::specs::Reading::number_after))]
+fn number_after<'a>(bytes: &'a [u8], text: &str) -> Option<(u64, &'a [u8])>
+    ensures { option_map (λ x. (x.0, x.1.now)) result ≡ number_after text.now bytes.now }
+{
+    number(after(bytes, text)?)
+}
+
 /// The limit that a word spells: a number, or that there is no limit.
 #[tactic(auto, unfolding(crate::specs::Reading::limit_of))]
 fn limit_of(word: &[u8]) -> Option<Option<u64>>
@@ -168,7 +184,7 @@ fn is_end(bytes: &[u8]) -> bool
 fn number_line(line: &[u8], text: &str) -> Option<u64>
     ensures { result ≡ number_line text.now line.now }
 {
-    let (number, rest) = number(after(line, text)?)?;
+    let (number, rest) = number_after(line, text)?;
     if is_end(rest) { Some(number) } else { None }
 }
 
@@ -194,7 +210,7 @@ fn rate_part(version: u32, bytes: &[u8]) -> Option<(Option<u64>, &[u8])>
     if !says_more(version) {
         return Some((None, bytes));
     }
-    let (rate, rest) = number(after(bytes, " rate ")?)?;
+    let (rate, rest) = number_after(bytes, " rate ")?;
     Some((Some(rate), rest))
 }
 
@@ -215,10 +231,10 @@ fn hold_part(version: u32, bytes: &[u8]) -> Option<(Option<Option<u64>>, &[u8])>
 pub fn group_line(version: u32, line: &[u8]) -> Option<GroupLine<'_>>
     ensures { option_map heading result ≡ group_line version line.now }
 {
-    let (name, rest) = word(after(line, "group ")?)?;
+    let (name, rest) = word_after(line, "group ")?;
     let (rate, rest) = rate_part(version, rest)?;
-    let (frame, rest) = number(after(rest, " frame ")?)?;
-    let (buses, rest) = number(after(rest, " buses ")?)?;
+    let (frame, rest) = number_after(rest, " frame ")?;
+    let (buses, rest) = number_after(rest, " buses ")?;
     if is_end(rest) {
         Some(GroupLine {
             name,
@@ -236,10 +252,10 @@ pub fn group_line(version: u32, line: &[u8]) -> Option<GroupLine<'_>>
 pub fn output_line(version: u32, line: &[u8]) -> Option<OutputLine<'_>>
     ensures { option_map listing result ≡ output_line version line.now }
 {
-    let (source, rest) = word(after(line, "output ")?)?;
-    let (period, rest) = number(after(rest, " period ")?)?;
-    let (bus, rest) = number(after(rest, " bus ")?)?;
-    let (offset, rest) = number(after(rest, " offset ")?)?;
+    let (source, rest) = word_after(line, "output ")?;
+    let (period, rest) = number_after(rest, " period ")?;
+    let (bus, rest) = number_after(rest, " bus ")?;
+    let (offset, rest) = number_after(rest, " offset ")?;
     let (hold, rest) = hold_part(version, rest)?;
     if is_end(rest) {
         Some(OutputLine {
@@ -259,9 +275,9 @@ pub fn output_line(version: u32, line: &[u8]) -> Option<OutputLine<'_>>
 pub fn bound_line(line: &[u8]) -> Option<BoundLine>
     ensures { option_map bounding result ≡ bound_line line.now }
 {
-    let (demand, rest) = number(after(line, "bound ")?)?;
-    let (full_buses, rest) = number(after(rest, " > ")?)?;
-    let (frame, rest) = number(after(rest, " * ")?)?;
+    let (demand, rest) = number_after(line, "bound ")?;
+    let (full_buses, rest) = number_after(rest, " > ")?;
+    let (frame, rest) = number_after(rest, " * ")?;
     if is_end(rest) {
         Some(BoundLine {
             demand,

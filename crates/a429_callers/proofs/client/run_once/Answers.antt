@@ -11,23 +11,23 @@ begun-requires-clause-group g c =
     let planned : IsPlanOf c.args.station.now c.in_ok-opens.opens = c.in_ok-opens.ensures in
     omega (arith, c.requires.group, planned.count, ap (λ (p : PlanTable). length (groups_of p)) c.in-Ok-open.ensures.planner.1)
 
-pub join_mut-heard-requires-after_bounds : goal.join_mut-heard-requires-after_bounds
-join_mut-heard-requires-after_bounds g c κs within =
-    let opens : IsPlanOf c.args.station.now c.in-Ok-open.planner.last = subst (IsPlanOf c.args.station.now) (sym c.in-Ok-open.ensures.planner.1) c.in_ok-opens.ensures in
+pub take_and_send-done-requires-clause-publish : goal.take_and_send-done-requires-clause-publish
+take_and_send-done-requires-clause-publish g c κs within =
     let publish : CanPublish c.args.station.now c.args.next.now c.in-Ok-open.planner c.in_ok-later.later = record {
       first = search rules;
-      planned = opens;
+      planned = subst (IsPlanOf c.args.station.now) (sym c.in-Ok-open.ensures.planner.1) c.in_ok-opens.ensures;
       next_planned = c.in_ok-later.ensures;
       same = c.requires.same;
     } in
-    ((search rules, search rules), (c.in-Some.ensures.first, (publish, (search rules, search rules))))
+    publish
 
-pub returns-then-sent : goal.returns-then-sent
-returns-then-sent g c =
+pub returns-then-done : goal.returns-then-done
+returns-then-done g c =
     let station = c.args.station.now in
+    let done = c.take_and_send-done.result in
     run_over g.L.LineSource.given g.B.BusSink.taken c.ends_run_once.ensures station c.in-Ok.hub (beginner c.in-Ok-open.planner) _ c.in_ok-one.field-0.transmitter c.in-Some.transmit _ _
-    c.in_ok-one.field-0.one _ c.in_ok-one.field-0.other _ c.join_mut-heard.result.0.0 c.join_mut-heard.result.0.1 c.join_mut-heard.result.1 _ _ _ _ _ _
+    c.in_ok-one.field-0.one _ c.in_ok-one.field-0.other _ done done done _ _ _ _ _ _
     c.in-Ok.ensures.station (record { apart = c.sources_apart.ensures; received = λ i s there. (c.numbers_in_range.ensures.sources i s there).1 }) c.requires.two c.requires.group
     (subst (IsPlanOf station) (sym c.in-Ok-open.ensures.planner.1) c.in_ok-opens.ensures)
     (search rules) c.in-Some.ensures.begins c.in-Some.ensures.ends.0 (search rules) (search rules) (search rules) (search rules) (search rules) (search rules)
-    c.meet.ensures c.if-heard.true c.if-also.true c.if-sent.true
+    c.meet.ensures c.if-done.true c.if-done.true c.if-done.true
