@@ -11,7 +11,7 @@ use a429_grid::grid_period;
 use std::alloc::{AllocError, Global};
 
 /// An output: the name of its source, its grid period in slots, and its hold.
-#[derive(Debug, Drop)]
+#[derive(Drop)]
 pub struct DueOutput {
     pub source: Name,
     pub period: u64,
@@ -20,7 +20,7 @@ pub struct DueOutput {
 }
 
 /// A group with its rate, and its outputs in table order.
-#[derive(Debug, Drop)]
+#[derive(Drop)]
 pub struct DueGroup {
     pub name: Name,
     /// In bit/s.
@@ -29,7 +29,7 @@ pub struct DueGroup {
 }
 
 /// The version of the table, its rate, and the groups in table order.
-#[derive(Debug, Drop)]
+#[derive(Drop)]
 pub struct DueTable {
     /// 1 or 2: that of the text.
     pub version: u32,

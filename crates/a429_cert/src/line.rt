@@ -10,7 +10,7 @@ ghost use Rattle.a429_cert.specs.Reading.{after, word, word_after, number_after,
 ghost use Rattle.a429_cert.specs.Views.{heading, listing, bounding};
 
 /// What a group's first line says.
-#[derive(Clone, Copy, Debug)]
+#[derive(Clone, Copy)]
 pub struct GroupLine<'a> {
     pub name: &'a [u8],
     /// In bit/s; only a line of version 2 says it.
@@ -20,7 +20,7 @@ pub struct GroupLine<'a> {
 }
 
 /// What the line of an output says.
-#[derive(Clone, Copy, Debug)]
+#[derive(Clone, Copy)]
 pub struct OutputLine<'a> {
     pub source: &'a [u8],
     pub period: u64,
@@ -32,7 +32,7 @@ pub struct OutputLine<'a> {
 }
 
 /// What a group's last line says.
-#[derive(Clone, Copy, Debug)]
+#[derive(Clone, Copy)]
 pub struct BoundLine {
     pub demand: u64,
     pub full_buses: u64,

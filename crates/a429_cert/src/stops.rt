@@ -6,7 +6,7 @@ use crate::verdicts::{No, Reason};
 use std::alloc::{AllocError, AllocFailed};
 
 /// What ends a check early.
-#[derive(Debug, Drop)]
+#[derive(Drop)]
 pub enum Stop {
     /// Memory was refused.
     Memory,

@@ -20,7 +20,7 @@ use std::io;
 use std::io::Write;
 
 /// What is told of a plan.
-#[derive(Clone, Copy, Debug, PartialEq, Eq)]
+#[derive(Clone, Copy)]
 pub enum PlanText {
     /// The plan itself, with its bounds.
     Plan,

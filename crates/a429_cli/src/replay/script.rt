@@ -11,7 +11,7 @@ use a429_word::raw_word;
 
 /// An event of a script. Receivers and groups are numbered from 0 in table order, the further tables of the
 /// command line from 1.
-#[derive(Clone, Copy, Debug, PartialEq, Eq)]
+#[derive(Clone, Copy)]
 pub enum ScriptEvent {
     Arrive(u8, u32),
     Cell(u8),
