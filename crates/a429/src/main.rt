@@ -4,6 +4,7 @@
 ghost use Rattle.std.specs.Prelude.{◌≡◌, ◌≢◌, ◌≤◌, IsTrue};
 
 use a429_cli::{CountedWriter, DiskFiles, Output, command};
+use a429_hints::HintLines;
 use a429_live::{NoProgress, Progress, ProgressLine, command_live};
 use std::alloc::{AllocError, Global};
 use std::env::{Env, FillError};
@@ -92,9 +93,18 @@ fn run<R: Env + Files + AllocGlobal + Threads + Wait, O: Output, V: Write, P: Pr
     let mut files = DiskFiles::new(rt);
     match words.first() {
         Some(first) if *first == "live" => {
-            command_live(rt, rt.alloc(), &words, &mut files, out, err, progress)
+            command_live(
+                rt,
+                rt.alloc(),
+                &words,
+                &HintLines,
+                &mut files,
+                out,
+                err,
+                progress,
+            )
         }
-        _ => command(rt.alloc(), &words, &mut files, out, err),
+        _ => command(rt.alloc(), &words, &HintLines, &mut files, out, err),
     }
 }
 

@@ -6,6 +6,7 @@ use crate::rows::has_place;
 use crate::spelling::cut_around;
 use crate::words::words_of;
 use a429_cli::{CountedWriter, MemoryFiles, command};
+use a429_hints::HintLines;
 use a429_live::{NoProgress, command_live};
 use std::alloc::Global;
 use std::sync::Wait;
@@ -171,9 +172,18 @@ impl<'a> Case<'a> {
         let Case { words, files, .. } = self;
         let is_live = words.first().is_some_and(|first| *first == "live");
         let status = if is_live {
-            command_live(rt, alloc, words, files, &mut out, &mut err, &NoProgress)
+            command_live(
+                rt,
+                alloc,
+                words,
+                &HintLines,
+                files,
+                &mut out,
+                &mut err,
+                &NoProgress,
+            )
         } else {
-            command(alloc, words, files, &mut out, &mut err)
+            command(alloc, words, &HintLines, files, &mut out, &mut err)
         };
         let CountedWriter { writer: out, .. } = out;
         Outcome { out, err, status }

@@ -15,18 +15,20 @@ use crate::word::tell_word;
 use a429_console::arguments::replies::explain;
 use a429_console::arguments::requests::{Request, parse};
 use a429_console::files::FileReader;
+use a429_console::hints::Hints;
+use a429_console::output::endings::tell_failed_output;
 use a429_console::output::{Output, OutputFault};
-use a429_hints::{tell_failed_output, tell_hint};
 use std::alloc::Global;
 use std::io::Write;
 
 /// Does a command: `words` are those of the command line without the program's name; answers, refusals and help
-/// that is asked for go to `out`, the text of a usage fault and hints about a refusal to `err`. The status is 0 where the command was done,
-/// 1 where it was refused, and 2 where the words are a mistake. Where the output fails, the status is 1 and
+/// that is asked for go to `out`, the text of a usage fault and what `hints` tells behind a refusal to `err`. The
+/// status is 0 where the command was done, 1 where it was refused, and 2 where the words are a mistake. Where the output fails, the status is 1 and
 /// nothing more is put; where `err` fails, nothing more is written to it and the status stays.
-pub fn command<'a, F: FileReader, O: Output, V: Write>(
+pub fn command<'a, H: Hints, F: FileReader, O: Output, V: Write>(
     alloc: Global,
     words: &'a [&'a str],
+    hints: &H,
     files: &mut F,
     out: &mut O,
     err: &mut V,
@@ -58,7 +60,7 @@ pub fn command<'a, F: FileReader, O: Output, V: Write>(
     ensures flushed { result ≡ 0 → IsTrue (O.is_flushed out.new) }
     ensures told { result ≡ 1 → NoneFailed (O.failures out.old) (O.failures out.new) → IsTrue (O.is_flushed out.new) }
 {
-    match run(alloc, words, files, out, err) {
+    match run(alloc, words, hints, files, out, err) {
         Ok(status) => status,
         Err(OutputFault) => {
             let _ = tell_failed_output(err);
@@ -68,9 +70,10 @@ pub fn command<'a, F: FileReader, O: Output, V: Write>(
 }
 
 /// The same, where the error is the output's.
-fn run<'a, F: FileReader, O: Output, V: Write>(
+fn run<'a, H: Hints, F: FileReader, O: Output, V: Write>(
     alloc: Global,
     words: &'a [&'a str],
+    hints: &H,
     files: &mut F,
     out: &mut O,
     err: &mut V,
@@ -91,15 +94,16 @@ fn run<'a, F: FileReader, O: Output, V: Write>(
     ensures silent { IfOk result (λ status. status ≡ 2 → O.contents out.new ≡ O.contents out.old) }
 {
     match parse(alloc, words) {
-        Ok(request) => answer_with_hint(alloc, &request, files, out, err),
+        Ok(request) => answer_with_hint(alloc, &request, hints, files, out, err),
         Err(error) => explain(alloc, &error, out, err),
     }
 }
 
 /// Answers a request, and behind a refusal tells on `err` what can be done about it.
-fn answer_with_hint<F: FileReader, O: Output, V: Write>(
+fn answer_with_hint<H: Hints, F: FileReader, O: Output, V: Write>(
     alloc: Global,
     request: &Request,
+    hints: &H,
     files: &mut F,
     out: &mut O,
     err: &mut V,
@@ -114,7 +118,7 @@ fn answer_with_hint<F: FileReader, O: Output, V: Write>(
     let result = answer(alloc, request, files, out);
     if let Ok(1) = result {
         // a hint that cannot be told changes nothing
-        let _ = tell_hint(alloc, request, files, err);
+        let _ = hints.tell(alloc, request, files, err);
     }
     result
 }

@@ -2,6 +2,7 @@
 
 use crate::support::{ONE, memory_files, repeated};
 use a429_cli::{CountedWriter, FileFault, FileReader, command};
+use a429_hints::HintLines;
 use std::alloc::Global;
 use std::io;
 use std::io::{ErrorKind, Write};
@@ -50,7 +51,14 @@ fn a_reader_may_refuse_any_file(rt: HostRuntime) {
             let mut out = CountedWriter::new(Vec::new(rt.alloc()));
             let mut err = Vec::new(rt.alloc());
             let words = ["replay", "t", "s", "u", "v"];
-            let status = command(rt.alloc(), &words, &mut files, &mut out, &mut err);
+            let status = command(
+                rt.alloc(),
+                &words,
+                &HintLines,
+                &mut files,
+                &mut out,
+                &mut err,
+            );
             assert!(rt; status == 1 && err.is_empty(), "after {given} files");
             assert!(rt;
                 out.writer.as_slice() == line.as_bytes(),
@@ -81,7 +89,14 @@ fn each_file_is_read_once(rt: HostRuntime) {
         };
         let mut out = CountedWriter::new(Vec::new(rt.alloc()));
         let mut err = Vec::new(rt.alloc());
-        let status = command(rt.alloc(), words, &mut files, &mut out, &mut err);
+        let status = command(
+            rt.alloc(),
+            words,
+            &HintLines,
+            &mut files,
+            &mut out,
+            &mut err,
+        );
         assert!(rt; status <= 1, "{words:?}");
         assert_eq!(rt; files.reads, reads, "{words:?}");
     }
@@ -149,7 +164,7 @@ fn cut_short(
     let mut files = memory_files(rt, alloc, ONE, script);
     let mut out = CountedWriter::new(Failing::new(alloc, piece, good_calls));
     let mut err = Failing::new(alloc, piece, good_calls);
-    let status = command(alloc, words, &mut files, &mut out, &mut err);
+    let status = command(alloc, words, &HintLines, &mut files, &mut out, &mut err);
     let CountedWriter {
         writer: out,
         failures,

@@ -2,6 +2,7 @@
 
 use crate::support::{ONE, memory_files, repeated};
 use a429_cli::CountedWriter;
+use a429_hints::HintLines;
 use a429_live::{Progress, ProgressLine, command_live};
 use std::io;
 use std::io::Write;
@@ -52,6 +53,7 @@ fn a_run_tells_cells_and_accepted_words_by_4096(rt: HostRuntime) {
         &rt,
         rt.alloc(),
         &words,
+        &HintLines,
         &mut files,
         &mut out,
         &mut err,

@@ -8,6 +8,7 @@ ghost use Rattle.a429_commands.specs.Replayed.{IsPlayedToTheEnd};
 
 use a429_cli::{CountedWriter, MemoryFiles, command};
 use a429_console::laws::plain_words_ask;
+use a429_hints::HintLines;
 use std::alloc::Global;
 
 /// The status of a replay over files in memory, and what it writes, where all of it was taken. With status 0 that is what
@@ -27,7 +28,7 @@ pub fn replay_in_memory(
     let words = ["replay", table, script];
     let mut out = CountedWriter::new(Vec::new(alloc));
     let mut err = Vec::new(alloc);
-    let status = command(alloc, &words, files, &mut out, &mut err);
+    let status = command(alloc, &words, &HintLines, files, &mut out, &mut err);
     if out.failures > 0 {
         return None;
     }

@@ -4,6 +4,7 @@
 
 pub mod arguments;
 pub mod files;
+pub mod hints;
 pub mod laws;
 pub mod output;
 pub mod tables;

@@ -5,12 +5,12 @@
 
 mod faults;
 mod keys;
-pub mod looks;
+mod looks;
 mod periods;
-pub mod plans;
+mod plans;
 mod reasons;
 mod rows;
 mod telling;
 mod twins;
 
-pub use telling::{tell_failed_output, tell_hint};
+pub use telling::HintLines;

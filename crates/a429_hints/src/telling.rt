@@ -1,44 +1,71 @@
-//! The hint about a refused request, and about an output that failed.
+//! The hint about a refused request.
 
 use crate::looks::{are_there, look_at};
 use crate::plans::{tell_no_drawing, tell_no_plan, tell_no_verdict};
-use a429_console::arguments::requests::Request;
+use a429_console::arguments::requests::{LiveRequest, Request};
 use a429_console::files::FileReader;
+use a429_console::hints::Hints;
 use std::alloc::Global;
 use std::io;
 use std::io::Write;
 
-/// Tells what can be done about the refusal of a request, where there is something to tell. The error is the
-/// writer's, or a want of memory.
-pub fn tell_hint<F: FileReader, V: Write>(
+/// Hints in lines that begin with `a429: `. The files are looked at anew.
+#[derive(Clone, Copy)]
+pub struct HintLines;
+
+impl Hints for HintLines {
+    fn tell<F: FileReader, V: Write>(
+        &self,
+        alloc: Global,
+        request: &Request,
+        files: &mut F,
+        err: &mut V,
+    ) -> io::Result<()> {
+        tell_of_request(alloc, request, files, err)?;
+        err.flush()
+    }
+
+    fn tell_live<F: FileReader, V: Write>(
+        &self,
+        alloc: Global,
+        request: &LiveRequest,
+        files: &mut F,
+        err: &mut V,
+    ) -> io::Result<()> {
+        let LiveRequest {
+            table,
+            words,
+            further,
+            ..
+        } = request;
+        tell_of_run(alloc, files, table, words, further, err)?;
+        err.flush()
+    }
+}
+
+fn tell_of_request<F: FileReader, V: Write>(
     alloc: Global,
     request: &Request,
     files: &mut F,
     err: &mut V,
 ) -> io::Result<()> {
     match request {
-        Request::Word { .. } => {}
+        Request::Word { .. } => Ok(()),
         Request::Lines { file, .. } => {
             look_at(alloc, files, file, err)?;
+            Ok(())
         }
         Request::Plan { table } | Request::Icd { table, .. } | Request::Margin { table } => {
-            tell_of_table(alloc, files, table, err)?;
+            tell_of_table(alloc, files, table, err)
         }
-        Request::Draw { table, group, .. } => {
-            tell_of_drawing(alloc, files, table, *group, err)?;
-        }
-        Request::Check { table, plan } => {
-            tell_of_check(alloc, files, table, plan, err)?;
-        }
+        Request::Draw { table, group, .. } => tell_of_drawing(alloc, files, table, *group, err),
+        Request::Check { table, plan } => tell_of_check(alloc, files, table, plan, err),
         Request::Replay {
             table,
             script,
             further,
-        } => {
-            tell_of_replay(alloc, files, table, script, further, err)?;
-        }
+        } => tell_of_run(alloc, files, table, script, further, err),
     }
-    err.flush()
 }
 
 fn tell_of_table<F: FileReader, V: Write>(
@@ -82,7 +109,8 @@ fn tell_of_check<F: FileReader, V: Write>(
     }
 }
 
-fn tell_of_replay<F: FileReader, V: Write>(
+/// Of a replay, and of a run on threads, whose words are the script.
+fn tell_of_run<F: FileReader, V: Write>(
     alloc: Global,
     files: &mut F,
     table: &str,
@@ -97,10 +125,4 @@ fn tell_of_replay<F: FileReader, V: Write>(
         tell_no_plan(alloc, &table, err)?;
     }
     Ok(())
-}
-
-/// Tells that the output failed.
-pub fn tell_failed_output<V: Write>(err: &mut V) -> io::Result<()> {
-    writeln!(err, "a429: standard output failed")?;
-    err.flush()
 }

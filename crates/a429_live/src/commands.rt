@@ -6,14 +6,14 @@ ghost use Rattle.a429_console.specs.LiveWords.{AsksForLive, AsksForLiveHelp, IsL
 ghost use Rattle.a429_console.specs.Outputs.{CountsFault, IsPut, NoneFailed, OrNoMemory};
 ghost use Rattle.a429_console.specs.Usage.{IsHelpReply, IsUsageReply};
 
-use crate::hints::tell_live_hint;
 use crate::progress::Progress;
 use crate::running::run_station;
 use a429_console::arguments::replies::explain;
 use a429_console::arguments::requests::{LiveRequest, parse_live};
 use a429_console::files::FileReader;
+use a429_console::hints::Hints;
+use a429_console::output::endings::tell_failed_output;
 use a429_console::output::{Output, OutputFault};
-use a429_hints::tell_failed_output;
 use std::alloc::Global;
 use std::io::Write;
 use std::sync::Wait;
@@ -21,10 +21,19 @@ use std::thread::Threads;
 
 /// Does the command `live`, as `command` does the others, which here are a mistake as `live` is there. Starts threads,
 /// and may wait for them: when it returns all have ended. While the station runs, `progress` is told how far it is.
-pub fn command_live<'a, R: Threads + Wait, F: FileReader, O: Output, V: Write, P: Progress + Sync>(
+pub fn command_live<
+    'a,
+    R: Threads + Wait,
+    H: Hints,
+    F: FileReader,
+    O: Output,
+    V: Write,
+    P: Progress + Sync,
+>(
     rt: &R,
     alloc: Global,
     words: &'a [&'a str],
+    hints: &H,
     files: &mut F,
     out: &mut O,
     err: &mut V,
@@ -57,7 +66,7 @@ pub fn command_live<'a, R: Threads + Wait, F: FileReader, O: Output, V: Write, P
     ensures flushed { result ≡ 0 → IsTrue (O.is_flushed out.new) }
     ensures told { result ≡ 1 → NoneFailed (O.failures out.old) (O.failures out.new) → IsTrue (O.is_flushed out.new) }
 {
-    match run_live(rt, alloc, words, files, out, err, progress) {
+    match run_live(rt, alloc, words, hints, files, out, err, progress) {
         Ok(status) => status,
         Err(OutputFault) => {
             let _ = tell_failed_output(err);
@@ -67,10 +76,19 @@ pub fn command_live<'a, R: Threads + Wait, F: FileReader, O: Output, V: Write, P
 }
 
 /// The same, where the error is the output's.
-fn run_live<'a, R: Threads + Wait, F: FileReader, O: Output, V: Write, P: Progress + Sync>(
+fn run_live<
+    'a,
+    R: Threads + Wait,
+    H: Hints,
+    F: FileReader,
+    O: Output,
+    V: Write,
+    P: Progress + Sync,
+>(
     rt: &R,
     alloc: Global,
     words: &'a [&'a str],
+    hints: &H,
     files: &mut F,
     out: &mut O,
     err: &mut V,
@@ -92,16 +110,24 @@ fn run_live<'a, R: Threads + Wait, F: FileReader, O: Output, V: Write, P: Progre
     ensures silent { IfOk result (λ status. status ≡ 2 → O.contents out.new ≡ O.contents out.old) }
 {
     match parse_live(alloc, words) {
-        Ok(request) => live_with_hint(rt, alloc, &request, files, out, err, progress),
+        Ok(request) => live_with_hint(rt, alloc, &request, hints, files, out, err, progress),
         Err(error) => explain(alloc, &error, out, err),
     }
 }
 
 /// Runs the station that is asked for, and behind a refusal tells on `err` what can be done about it.
-fn live_with_hint<R: Threads + Wait, F: FileReader, O: Output, V: Write, P: Progress + Sync>(
+fn live_with_hint<
+    R: Threads + Wait,
+    H: Hints,
+    F: FileReader,
+    O: Output,
+    V: Write,
+    P: Progress + Sync,
+>(
     rt: &R,
     alloc: Global,
     request: &LiveRequest,
+    hints: &H,
     files: &mut F,
     out: &mut O,
     err: &mut V,
@@ -117,7 +143,7 @@ fn live_with_hint<R: Threads + Wait, F: FileReader, O: Output, V: Write, P: Prog
     let result = run_station(rt, alloc, files, request, out, progress);
     if let Ok(1) = result {
         // a hint that cannot be told changes nothing
-        let _ = tell_live_hint(alloc, request, files, err);
+        let _ = hints.tell_live(alloc, request, files, err);
     }
     result
 }

@@ -4,7 +4,6 @@
 
 mod commands;
 mod control;
-mod hints;
 mod progress;
 mod report;
 mod running;

@@ -249,7 +249,7 @@ fn with_reading<'a>(
     with_command(line, lines_command(alloc))
 }
 
-/// The commands on plans.
+/// Behind the commands on words and lines those on plans, without the one that draws them.
 fn with_planning<'a>(
     alloc: Global,
     line: Result<Command<'a>, AllocError>,

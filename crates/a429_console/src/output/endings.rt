@@ -7,6 +7,7 @@ ghost use Rattle.a429_console.specs.RefusalText.{IsRefusalPut};
 use crate::output::refusals::CommandRefusal;
 use crate::output::{Output, OutputFault};
 use std::alloc::Global;
+use std::io;
 use std::io::Write;
 
 /// The line that says that memory was refused: putting it takes none.
@@ -66,4 +67,10 @@ pub fn finish<O: Output>(left: &[u8], sufficed: bool, out: &mut O) -> Result<u8,
     }
     out.flush()?;
     Ok(0)
+}
+
+/// Tells a person that the output failed. The error is the writer's.
+pub fn tell_failed_output<V: Write>(err: &mut V) -> io::Result<()> {
+    writeln!(err, "a429: standard output failed")?;
+    err.flush()
 }

@@ -1,0 +1,30 @@
+//! Who tells a person what can be done about a refusal.
+
+use crate::arguments::requests::{LiveRequest, Request};
+use crate::files::FileReader;
+use std::alloc::Global;
+use std::io;
+use std::io::Write;
+
+/// Tells a person, behind a refusal that was put, what can be done about it. No contract rests on what is told, and a
+/// hint that cannot be told changes nothing.
+pub trait Hints {
+    /// Tells of a request that was refused, where there is something to tell. The error is the writer's, or a want of
+    /// memory.
+    fn tell<F: FileReader, V: Write>(
+        &self,
+        alloc: Global,
+        request: &Request,
+        files: &mut F,
+        err: &mut V,
+    ) -> io::Result<()>;
+
+    /// The same of a run that was refused.
+    fn tell_live<F: FileReader, V: Write>(
+        &self,
+        alloc: Global,
+        request: &LiveRequest,
+        files: &mut F,
+        err: &mut V,
+    ) -> io::Result<()>;
+}
