@@ -1,4 +1,5 @@
 pub mod WordsLines
 pub mod LiveRuns
 pub mod ReportParts
+pub mod Resubmits
 pub mod WholeFrames

@@ -1,30 +1,27 @@
 -- How many cells a group sends in whole frames by the plan that a run began with, where none was published meanwhile.
-use Rattle.std.proofs.Common.{◌≡◌, ◌∙◌, ◌+◌, ◌*◌, ◌≤◌, ◌<◌, ◌∷◌, [], ◌++◌, ℕ, zero, suc, Bool, true, false, List, length, map, ap, subst, refl, arith}
+use Rattle.std.proofs.Common.{◌≡◌, ◌∙◌, ◌+◌, ◌*◌, ◌≤◌, ◌<◌, ◌∷◌, [], ◌++◌, ℕ, zero, suc, Bool, true, false, List, length, map, ap, subst, sym, refl, arith}
 use Rattle.std.specs.Prelude.{Option, Some, None, IsTrue, cond, count_by, if◌then◌else◌, nat_lt, slice_get, unwrap_or}
 use Rattle.std.specs.List.{AllByRecursion}
-use Rattle.std.specs.declared.vec.Vec.{Vec}
-use Rattle.std.specs.declared.alloc.Global.{Global}
-use Rattle.a429_console.specs.Files.{bytes_of}
 use mathlib.Core.List.{IsPrefix}
 use Rattle.std.proofs.lemmas.List.Sums.{sum_by-cons}
 use Rattle.a429_equipment.specs.TableRecord.{TableRecord}
 use Rattle.a429_slots.specs.Tables.{GroupTable, PlanTable, cells_of, groups_of}
 use Rattle.a429_slots.specs.Sending.{Sending, after_cell, fits_next, turned}
 use Rattle.a429_station.specs.Course.{Course, IsSentIn, meetings}
-use Rattle.a429_station.specs.Resubmitting.{TellsLater}
+use Rattle.a429_station.specs.Resubmitting.{IsDoneBetween, Running}
 use Rattle.a429_workers.specs.Calls.{Call, Asks, Meets, StaysMid, StaysSpent, Standing, Takes, Turns, AreLawful, IsAnswered, after, before_calls, standing_after, table_of}
 use Rattle.a429_workers.specs.Sends.{AreWhole, is_send, is_taken, sent_in}
 use Rattle.a429_workers.specs.declared.cells.Sent.{Sent}
 use Rattle.a429_workers.specs.declared.sending.SendTotals.{SendTotals}
 use Rattle.std.proofs.lemmas.Bool.{ltb-true, ltb-false}
-use Rattle.std.proofs.lemmas.Option.{none-some, same_Some}
 use Rattle.a429_word.proofs.Lists.{prefix_on}
 use Rattle.a429_workers.proofs.Calling.{due_is}
 use Rattle.a429_workers.proofs.Order.{seen_on}
 use Rattle.a429_slots.specs.Planned.{IsPlanOf}
 use Rattle.a429_slots.specs.Proposed.{Proposed}
 use Rattle.a429_station.specs.Numbered.{AllNumbered, AllOfThree}
-use Rattle.a429_live.specs.LiveReplies.{AreSentWhole, IsSentWhole, told_of}
+use Rattle.a429_live.specs.LiveReplies.{AreSentWhole, IsSentWhole}
+use Rattle.a429_live.specs.Resubmitted.{AreAnswers}
 
 -- lists that are each the beginning of the other
 one_prefix : (q : PlanTable) (plans : List PlanTable) → IsPrefix (q ∷ []) plans → IsPrefix plans (q ∷ []) → plans ≡ q ∷ []
@@ -124,25 +121,21 @@ all_of P Q each (x ∷ xs) [] zs all = absurd all
 all_of P Q each (x ∷ xs) (y ∷ ys) [] all = absurd all
 all_of P Q each (x ∷ xs) (y ∷ ys) (z ∷ zs) (one, all) = (each 0 x y z one, all_of (λ k. P (suc k)) (λ k. Q (suc k)) (λ k. each (suc k)) xs ys zs all)
 
--- ---- a control with no tables published none
+-- ---- where no table was submitted again, none was published
 
-none_mapped : (later : List Proposed) → [] ≡ map (λ (q : Proposed). q.plan) later → later ≡ []
-none_mapped [] is = refl
-none_mapped (q ∷ later) is = absurd (cc is)
+none_mapped : (opened q : PlanTable) (later : List Proposed) → opened ∷ map (λ (q : Proposed). q.plan) later ≡ q ∷ [] → later ≡ []
+none_mapped opened q [] is = refl
+none_mapped opened q (x ∷ later) is = absurd (cc is)
 
-none_later : {A : Type 0} (after : List A) (later : List Proposed) → told_of after ≡ Some (map (λ (q : Proposed). q.plan) later) → later ≡ []
-none_later [] later is = none_mapped later (same_Some [] (map (λ (q : Proposed). q.plan) later) is)
-none_later (x ∷ after) later is = absurd (none-some (map (λ (q : Proposed). q.plan) later) is)
+pub none_published : (did : Running → Running → Type 0) (t : TableRecord) (opened : PlanTable) (later : List Proposed) → (D : IsDoneBetween did t opened later) → D.end ≡ D.begin → later ≡ []
+none_published did t opened later D stays = none_mapped opened D.begin.planner.last later (sym D.list ∙ ap (λ (v : Running). v.planner.list) stays ∙ D.begun.first)
 
-pub none_published : {A : Type 0} (before after : List A) (later : List Proposed) → before ≡ [] → TellsLater (told_of before) later (told_of after) → later ≡ []
-none_published before after later none tells = none_later after later (subst (λ (x : Option (List PlanTable)). TellsLater x later (told_of after)) (ap told_of none) tells)
+-- the answers to no tables
+pub none_answered : (v w : Running) (answers : List (Option ℕ)) → AreAnswers v [] answers w → w ≡ v
+none_answered v w [] is = is
+none_answered v w (a ∷ answers) is = absurd is
 
 pub all_sent_whole : {B : Type 0} (taken : B → Option (List Sent)) (frames : ℕ) (t : TableRecord) (c : Course) (before after : List B) (totals : List SendTotals) → IsPlanOf t c.opened → c.later ≡ []
     → AllOfThree (IsSentIn taken frames t c) before after totals → AreSentWhole t frames totals
 all_sent_whole taken frames t c before after totals planned none sent =
     (c.opened, planned, all_of (IsSentIn taken frames t c) (IsSentWhole frames c.opened) (λ g b a x S. sent_whole taken frames t c g b a x none S) before after totals sent)
-
--- tables without bytes are no tables
-pub none_mapped_back : (tables : List (Vec ℕ Global)) → bytes_of tables ≡ [] → tables ≡ []
-none_mapped_back [] none = refl
-none_mapped_back (x ∷ tables) none = absurd (cc none)

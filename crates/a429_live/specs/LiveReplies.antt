@@ -1,6 +1,6 @@
 -- The command `live`: what it writes, and its status (profile: output).
-use Rattle.std.specs.Prelude.{◌≡◌, ◌*◌, slice_get, ◌∷◌, [], ◌++◌, ◌⊎◌, ⊤, ℕ, List, Bool, true, false, Option, Some, None, Ok, Result, MatchResult, codes, length}
-use Rattle.std.specs.List.{AllZip, concat}
+use Rattle.std.specs.Prelude.{◌≡◌, ◌+◌, ◌*◌, slice_get, ◌∷◌, [], ◌++◌, ◌⊎◌, ⊤, ℕ, List, true, false, Option, Some, Ok, Result, MatchResult, codes, length}
+use Rattle.std.specs.List.{concat}
 use Rattle.std.specs.Fmt.{decimal}
 use Rattle.std.specs.declared.vec.Vec.{Vec}
 use Rattle.std.specs.declared.alloc.Global.{Global}
@@ -23,6 +23,7 @@ use Rattle.a429_console.specs.RefusalText.{OrMemory, refusal_line}
 use Rattle.a429_console.specs.Tables.{IsProposedBy, IsTableRefusal}
 use Rattle.a429_station.specs.Course.{fresh}
 use Rattle.a429_station.specs.Numbered.{AllNumbered}
+use Rattle.a429_station.specs.Resubmitting.{Running}
 use Rattle.a429_live.specs.WordsFile.{IsWordsFault, arrivals_of, words_for}
 use Rattle.a429_live.specs.declared.running.LiveInput.{LiveInput}
 use Rattle.a429_live.specs.declared.running.Prepared.{Prepared}
@@ -98,23 +99,24 @@ abbrev pub group_lines : List GroupRow → List SendTotals → List ℕ
 group_lines (row ∷ rows) (t ∷ totals) = group_line row.name t ++ group_lines rows totals
 group_lines _ _ = []
 
--- what is told of a further table that can be planned: that it is of another station, the number under which it was published, or that there was
--- no number left
-abbrev pub published_line : Bool → Option ℕ → List ℕ
-published_line false number = codes "refused station-differs" ++ 10 ∷ []
-published_line true (Some n) = codes "published " ++ decimal n ++ 10 ∷ []
-published_line true None = codes "refused count-spent" ++ 10 ∷ []
+-- The line of a further table that is submitted again to a station for which n plans were published, and how many there are then: its own refusal or
+-- that of its plan; that it is of another station; or the number under which its plan is published.
+abbrev pub IsResubmitLine : TableRecord → ℕ → List ℕ → ℕ → List ℕ → Type 0
+IsResubmitLine t n table m line =
+    ((refusal : CommandRefusal) × IsTableRefusal table refusal × (line ≡ refusal_line refusal ++ 10 ∷ []) × (m ≡ n))
+    ⊎ (((q : Proposed) × IsProposedBy table q × (same_station t q.station ≡ false) × (line ≡ codes "refused station-differs" ++ 10 ∷ []) × (m ≡ n))
+    ⊎ ((q : Proposed) × IsProposedBy table q × (same_station t q.station ≡ true) × (line ≡ codes "published " ++ decimal m ++ 10 ∷ []) × (m ≡ n + 1)))
 
--- the line of a further table that was resubmitted to a station: its own refusal or that of its plan, or what is told of a plan
-abbrev pub IsResubmitLine : TableRecord → List ℕ → List ℕ → Type 0
-IsResubmitLine t table line =
-    ((refusal : CommandRefusal) × IsTableRefusal table refusal × (line ≡ refusal_line refusal ++ 10 ∷ []))
-    ⊎ ((q : Proposed) × (number : Option ℕ) × IsProposedBy table q × (line ≡ published_line (same_station t q.station) number))
+-- those of several, one after another
+abbrev pub AreResubmitLines : TableRecord → ℕ → List (List ℕ) → List (List ℕ) → Type 0
+AreResubmitLines t n [] [] = ⊤
+AreResubmitLines t n (table ∷ tables) (line ∷ lines) = (m : ℕ) × IsResubmitLine t n table m line × AreResubmitLines t m tables lines
+AreResubmitLines t n _ _ = ⊥
 
 -- one line for each further table, then one for each receiver and one for each group of the station, in table order
 abbrev pub IsReport : TableRecord → List (List ℕ) → List ReceiveTotals → List SendTotals → List ℕ → Type 0
 IsReport t further totals sent bytes =
-    (lines : List (List ℕ)) × AllZip (IsResubmitLine t) further lines × (bytes ≡ concat lines ++ receiver_lines t.receivers totals ++ group_lines t.groups sent)
+    (lines : List (List ℕ)) × AreResubmitLines t 0 further lines × (bytes ≡ concat lines ++ receiver_lines t.receivers totals ++ group_lines t.groups sent)
 
 -- the totals count what receiver r of the station, which had accepted nothing, answers to the words of the file that are for it, in order
 abbrev pub IsHeard : TableRecord → List Arrival → ℕ → ReceiveTotals → Type 0
@@ -163,10 +165,13 @@ IsLiveReading file r result = MatchResult result (λ i. AreLiveFiles file r (fil
 abbrev pub IsPreparedLive : LiveFiles → Prepared → Type 0
 IsPreparedLive i p = IsLiveStart i p.proposal p.arrivals.items
 
--- the plans that are published of these tables, where that is known: of no table, none
-abbrev pub told_of : {A : Type 0} → List A → Option (List PlanTable)
-told_of [] = Some []
-told_of (table ∷ tables) = None
+-- behind a text stands the line of a table that was submitted again between these two states of a station
+abbrev pub IsAppended : Running → Running → List ℕ → List ℕ → List ℕ → Type 0
+IsAppended v w table old new = (line : List ℕ) × IsResubmitLine v.station v.planner.last.number table w.planner.last.number line × (new ≡ old ++ line)
+
+-- behind a text stand the lines of tables that were submitted again to a station for which no plan was published
+abbrev pub AreAppended : TableRecord → List (List ℕ) → List ℕ → List ℕ → Type 0
+AreAppended t tables old new = (lines : List (List ℕ)) × AreResubmitLines t 0 tables lines × (new ≡ old ++ concat lines)
 
 -- the text of a report, or why there is none
 abbrev pub IsRunResult : TableRecord → List Arrival → ℕ → List (List ℕ) → Result (Vec ℕ Global) CommandRefusal → Type 0

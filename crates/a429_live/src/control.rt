@@ -1,5 +1,7 @@
 //! Further tables, resubmitted while a station runs.
-ghost use Rattle.std.specs.Prelude.{◌≡◌};
+ghost use Rattle.std.specs.Prelude.{◌≡◌, [], IfOk};
+ghost use Rattle.a429_live.specs.Resubmitted.{IsAnswer};
+ghost use Rattle.a429_station.specs.Resubmitting.{GoesOn};
 
 use a429_station::{Control, ReplanFault, Station};
 use std::alloc::{AllocError, Global};
@@ -16,7 +18,8 @@ pub struct Resubmits<'a> {
 impl<'a> Resubmits<'a> {
     /// None was resubmitted yet.
     pub fn new(alloc: Global, tables: &'a [Vec<u8>]) -> Resubmits<'a>
-        ensures { result.tables.now ≡ tables.now }
+        ensures tables { result.tables.now ≡ tables.now }
+        ensures none { result.answers.items ≡ [] }
     {
         Resubmits {
             tables,
@@ -25,22 +28,29 @@ impl<'a> Resubmits<'a> {
     }
 }
 
-impl<'a, R: Wait> Control<R> for Resubmits<'a> {
-    ghost use Rattle.a429_live.specs.LiveReplies.{told_of};
+/// Resubmits a table: the number of its plan, or None where it was refused. The error is that memory was refused.
+fn answer_to<R: Wait>(station: &mut Station<'_, R>, table: &[u8]) -> Result<Option<u64>, AllocError>
+    ensures answer { IfOk result (λ answer. IsAnswer station.old table.now answer station.new) }
+    ensures on { GoesOn station.old station.new }
+{
+    match station.resubmit(table) {
+        Ok(number) => Ok(Some(number)),
+        Err(ReplanFault::NoMemory) => Err(AllocError),
+        Err(_) => Ok(None),
+    }
+}
 
-    // that none was published, where there is no table
-    ghost published = { λ control. told_of control.tables.now };
+impl<'a, R: Wait> Control<R> for Resubmits<'a> {
+    ghost use Rattle.std.specs.Prelude.{◌≡◌, []};
+    ghost use Rattle.a429_console.specs.Files.{bytes_of};
+    ghost use Rattle.a429_live.specs.Resubmitted.{AreAnswers};
+
+    // from none on, its answers are those of the station to its tables
+    ghost did = { λ before begin end after. before.answers.items ≡ [] → AreAnswers begin (bytes_of before.tables.now) after.answers.items end };
 
     fn run(&mut self, station: &mut Station<'_, R>) -> Result<(), AllocError> {
-        if self.tables.is_empty() {
-            return Ok(());
-        }
         for table in self.tables {
-            let answer = match station.resubmit(table) {
-                Ok(number) => Some(number),
-                Err(ReplanFault::NoMemory) => return Err(AllocError),
-                Err(_) => None,
-            };
+            let answer = answer_to(station, table)?;
             self.answers.push(answer)?;
         }
         Ok(())

@@ -1,14 +1,16 @@
 //! The report of a run.
-ghost use Rattle.std.specs.Prelude.{◌≡◌, ◌++◌, ◌∷◌, [], ℕ, List, OnOk, MatchResult};
-ghost use Rattle.std.specs.List.{AllZip, concat};
+ghost use Rattle.std.specs.Prelude.{◌≡◌, ◌<◌, ◌+◌, ◌^◌, ◌++◌, ◌∷◌, [], OnOk, MatchResult};
 ghost use Rattle.a429_console.specs.Files.{bytes_of};
-ghost use Rattle.a429_live.specs.LiveReplies.{IsReport, IsResubmitLine, IsRunRefusal, group_line, group_lines, published_line, receiver_line, receiver_lines, refused_words};
+ghost use Rattle.a429_live.specs.LiveReplies.{AreAppended, IsAppended, IsReport, IsRunRefusal, group_line, group_lines, receiver_line, receiver_lines, refused_words};
+ghost use Rattle.a429_live.specs.Resubmitted.{AreAnswers, IsAnswer, IsRefusedBy};
+ghost use Rattle.a429_station.specs.Resubmitting.{Running};
 ghost use Rattle.a429_console.specs.RefusalText.{OrMemory, refusal_line};
 
 use a429_console::output::refusals::CommandRefusal;
 use a429_console::tables::propose;
 use a429_equipment::{Equipment, GroupRow, ReceiverRow};
 use a429_filter::MemoryLine;
+use a429_slots::laws::plans_are_unique;
 use a429_station::Report;
 use a429_workers::{CountSink, ReceiveTotals, SendTotals};
 use std::alloc::{AllocError, Global};
@@ -84,51 +86,50 @@ fn push_refused(text: &mut Vec<u8>, refusal: &CommandRefusal) -> io::Result<()>
     writeln!(text, "{refusal}")
 }
 
-/// Appends the line of a table that can be planned: that it is of another station, or its number, if there was one left.
-fn push_published(text: &mut Vec<u8>, same: bool, answer: Option<u64>) -> io::Result<()>
-    ensures { OnOk result (text.new.items ≡ text.old.items ++ published_line same answer) }
+/// Appends the line of a further table that was refused. Why is told by the table itself, with the names of its group
+/// and its source; a table that has a plan is of another station. The error is a want of memory.
+fn push_not_published(alloc: Global, text: &mut Vec<u8>, table: &[u8]) -> io::Result<()>
+    ensures { (v : Running) → IsRefusedBy v table.now → v.planner.last.number + 1 < 2 ^ 64 → OnOk result (IsAppended v v table.now text.old.items text.new.items) }
 {
-    match (same, answer) {
-        (false, _) => writeln!(text, "refused station-differs"),
-        (true, Some(number)) => writeln!(text, "published {number}"),
-        (true, None) => writeln!(text, "refused count-spent"),
+    plans_are_unique();
+    match propose(alloc, table) {
+        Ok(_) => writeln!(text, "refused station-differs"),
+        Err(CommandRefusal::Memory) => Err(io::Error::from(AllocError)),
+        Err(refusal) => push_refused(text, &refusal),
     }
 }
 
-/// Appends the line of a further table, by what it was answered when it was resubmitted. Why it was refused is told
-/// by the table itself, with the names of its group and its source. The error is a want of memory.
+/// Appends the line of a further table, by what it was answered when it was resubmitted.
 fn push_resubmitted(
     alloc: Global,
     text: &mut Vec<u8>,
-    station: &Equipment,
     table: &[u8],
     answer: Option<u64>,
 ) -> io::Result<()>
-    ensures { OnOk result ((line : List ℕ) × IsResubmitLine station.now table.now line × (text.new.items ≡ text.old.items ++ line)) }
+    ensures { (v w : Running) → IsAnswer v table.now answer w → v.planner.last.number + 1 < 2 ^ 64 → OnOk result (IsAppended v w table.now text.old.items text.new.items) }
 {
-    match propose(alloc, table) {
-        Err(CommandRefusal::Memory) => Err(io::Error::from(AllocError)),
-        Err(refusal) => push_refused(text, &refusal),
-        Ok(proposal) => {
-            let same = station.same_station(proposal.equipment());
-            push_published(text, same, answer)
-        }
+    match answer {
+        Some(number) => writeln!(text, "published {number}"),
+        None => push_not_published(alloc, text, table),
     }
 }
 
-/// Appends the lines of the further tables, in order.
+/// Appends the lines of the further tables, in order, by what they were answered.
 fn push_all_resubmitted(
     alloc: Global,
     text: &mut Vec<u8>,
-    station: &Equipment,
     further: &[Vec<u8>],
     answers: &[Option<u64>],
 ) -> io::Result<()>
-    ensures { OnOk result ((lines : List (List ℕ)) × AllZip (IsResubmitLine station.now) (bytes_of further.now) lines × (text.new.items ≡ text.old.items ++ concat lines)) }
+    ensures { (begin end : Running) → begin.planner.last.number ≡ 0 → AreAnswers begin (bytes_of further.now) answers.now end
+        → OnOk result (AreAppended begin.station (bytes_of further.now) text.old.items text.new.items) }
 {
     for (place, table) in further.iter().enumerate() {
-        let answer = answers.get(place).copied().flatten();
-        push_resubmitted(alloc, text, station, table, answer)?;
+        // there are as many answers
+        let Some(answer) = answers.get(place) else {
+            return Ok(());
+        };
+        push_resubmitted(alloc, text, table, *answer)?;
     }
     Ok(())
 }
@@ -141,10 +142,11 @@ pub fn report_text(
     answers: &[Option<u64>],
     report: &Report<MemoryLine, CountSink>,
 ) -> Result<Vec<u8>, CommandRefusal>
-    ensures { MatchResult result (λ text. IsReport station.now (bytes_of further.now) report.now.receivers.items report.now.groups.items text.items) (OrMemory IsRunRefusal) }
+    ensures { (begin end : Running) → begin.station ≡ station.now → begin.planner.last.number ≡ 0 → AreAnswers begin (bytes_of further.now) answers.now end
+        → MatchResult result (λ text. IsReport station.now (bytes_of further.now) report.now.receivers.items report.now.groups.items text.items) (OrMemory IsRunRefusal) }
 {
     let mut text = Vec::new(alloc);
-    let Ok(()) = push_all_resubmitted(alloc, &mut text, station, further, answers) else {
+    let Ok(()) = push_all_resubmitted(alloc, &mut text, further, answers) else {
         return Err(CommandRefusal::Memory);
     };
     match push_totals(&mut text, station, report) {

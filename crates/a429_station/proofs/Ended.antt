@@ -28,7 +28,7 @@ use Rattle.a429_workers.specs.declared.sending.SendFault.{SendFault}
 use Rattle.a429_station.specs.Course.{Course, IsHeardIn, IsSentIn, fresh, heard_in, meeting}
 use Rattle.a429_station.specs.Faults.{EndsGroup, EndsLine, GaveTooMuch, HasStopped, IsFirst, first_fault, of_receiver}
 use Rattle.a429_station.specs.Numbered.{AllNumbered}
-use Rattle.a429_station.specs.Resubmitting.{GoesOn, IsBegun, IsLed, Running, TellsLater, TellsPlans, opening}
+use Rattle.a429_station.specs.Resubmitting.{GoesOn, IsBegun, IsDoneBetween, IsLed, Running, opening}
 use Rattle.a429_station.specs.Working.{HasEmitted, HasReceived, IsJoined, IsOver, IsReady, IsReceiverAt, meeting_of}
 use Rattle.a429_station.specs.declared.faults.LiveFault.{LiveFault}
 use Rattle.a429_station.proofs.Numbered.{mapped_range, numbered_also, numbered_both, numbered_place, numbered_weaker, zip_mapped}
@@ -125,12 +125,9 @@ began_so old new B G N =
       station = G.station;
     }
 
--- who tells the plans that it published since the station began tells those after the first
-pub told_later : (old new : Running) (before after : Option (List PlanTable)) → IsBegun old → (N : IsLed new) → TellsPlans before old new after → TellsLater before N.later after
-told_later old new None after B N T = T
-told_later old new (Some before) after B N T =
-    let more : old.planner.last ∷ T.0 ≡ N.opened ∷ map (λ (q : Proposed). q.plan) N.later = ap (λ (l : List PlanTable). l ++ T.0) (sym B.first) ∙ (sym T.2 ∙ N.plans) in
-    T.1 ∙ ap (λ (ps : List PlanTable). Some (before ++ ps)) (rest_of old.planner.last N.opened T.0 (map (λ (q : Proposed). q.plan) N.later) more).1
+-- what was done to a station that began, up to its end
+pub done_between : (did : Running → Running → Type 0) (t : TableRecord) (old new : Running) → t ≡ old.station → IsBegun old → GoesOn old new → (N : IsLed new) → did old new → IsDoneBetween did t old.planner.last N.later
+done_between did t old new here B G N done = record { begin = old; end = new; begun = B; station = sym here; opens = refl; list = (began_so old new B G N).list; done = done }
 
 -- each receiver is what it was before its first word, with the words that came to it
 abbrev pub AreAfter : ends.Place → (ℕ → List ℕ) → List ends.Receiving → Type 0

@@ -1,5 +1,5 @@
 -- Plans that are published while a station runs: of the tables that are submitted again, those of the same station.
-use Rattle.std.specs.Prelude.{◌≡◌, ◌≤◌, ◌+◌, ◌^◌, ◌++◌, ◌∷◌, [], ⊤, ℕ, true, false, List, Option, Some, None, Ok, Err, length, map}
+use Rattle.std.specs.Prelude.{◌≡◌, ◌≤◌, ◌+◌, ◌^◌, ◌++◌, ◌∷◌, [], ⊤, ℕ, true, false, List, Ok, Err, length, map}
 use Rattle.std.specs.List.{AllByRecursion}
 use mathlib.Core.List.{IsPrefix}
 use Rattle.a429_equipment.specs.TableRecord.{TableRecord}
@@ -58,15 +58,16 @@ pub record GoesOn (old new : Running) : Type 0 where
   pub book : new.planner.book ≡ old.planner.book
   pub plans : IsPrefix old.planner.list new.planner.list
 
--- who tells the plans that it published tells those that were published in between too, each of them, in order
-abbrev pub TellsPlans : Option (List PlanTable) → Running → Running → Option (List PlanTable) → Type 0
-TellsPlans None old new after = after ≡ None
-TellsPlans (Some before) old new after = (plans : List PlanTable) × (after ≡ Some (before ++ plans)) × (new.planner.list ≡ old.planner.list ++ plans)
-
--- who tells the plans that it published tells these too, each under its number, in order
-abbrev pub TellsLater : Option (List PlanTable) → List Proposed → Option (List PlanTable) → Type 0
-TellsLater None later after = after ≡ None
-TellsLater (Some before) later after = after ≡ Some (before ++ map (λ q. q.plan) later)
+-- what was done to a station of this table between its beginning and its end: it began with the first of these plans, and the others, each under its
+-- number, in order, were published by then
+pub record IsDoneBetween (did : Running → Running → Type 0) (t : TableRecord) (opened : PlanTable) (later : List Proposed) : Type 0 where
+  pub begin : Running
+  pub end : Running
+  pub begun : IsBegun begin
+  pub station : begin.station ≡ t
+  pub opens : begin.planner.last ≡ opened
+  pub list : end.planner.list ≡ opened ∷ map (λ q. q.plan) later
+  pub done : did begin end
 
 -- ---- a table that is submitted again
 

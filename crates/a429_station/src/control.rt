@@ -1,7 +1,6 @@
 //! What runs beside the workers of a station.
-ghost use Rattle.a429_station.specs.Resubmitting.{GoesOn, TellsPlans};
-ghost use Rattle.std.specs.Prelude.{List, Option, None};
-ghost use Rattle.a429_slots.specs.Tables.{PlanTable};
+ghost use Rattle.a429_station.specs.Resubmitting.{GoesOn, Running};
+ghost use Rattle.std.specs.Prelude.{⊤, OnOk};
 
 use crate::station::Station;
 use crate::threads::Meanwhile;
@@ -10,13 +9,14 @@ use std::sync::Wait;
 
 /// Runs once on the calling thread while the workers of a station run, and may publish plans for it.
 pub trait Control<R: Wait> {
-    /// The plans that it published so far, where it tells them.
-    ghost published: { Self → Option (List PlanTable) } = { λ _. None };
+    /// What it tells of a run that memory was not refused: whether it and the station can so change. By default it
+    /// tells nothing.
+    ghost did: { Self → Running → Running → Self → Type 0 } = { λ _ _ _ _. ⊤ };
 
     /// Resubmits tables. The error is that memory was refused.
     fn run(&mut self, station: &mut Station<'_, R>) -> Result<(), AllocError>
         ensures station { GoesOn station.old station.new }
-        ensures told { TellsPlans (published self.old) station.old station.new (published self.new) };
+        ensures did { OnOk result (did self.old station.old station.new self.new) };
 }
 
 /// Publishes nothing.
@@ -24,15 +24,20 @@ pub trait Control<R: Wait> {
 pub struct NoControl;
 
 impl<R: Wait> Control<R> for NoControl {
+    ghost use Rattle.std.specs.Prelude.{◌≡◌};
+
+    ghost did = { λ _ old new _. new ≡ old };
+
     fn run(&mut self, _station: &mut Station<'_, R>) -> Result<(), AllocError> {
         Ok(())
     }
 }
 
 impl<'a, R: Wait, K: Control<R>> Meanwhile<Station<'a, R>> for K {
-    ghost use Rattle.a429_station.specs.Resubmitting.{GoesOn, TellsPlans};
+    ghost use Rattle.std.specs.Prelude.{IsTrue};
+    ghost use Rattle.a429_station.specs.Resubmitting.{GoesOn};
 
-    ghost did = { λ before old new after. GoesOn old new × TellsPlans (K.published before) old new (K.published after) };
+    ghost did = { λ before old new after well. GoesOn old new × (IsTrue well → K.did before old new after) };
 
     fn meanwhile(&mut self, station: &mut Station<'a, R>) -> Result<(), AllocError> {
         self.run(station)

@@ -9,7 +9,7 @@ ghost use Rattle.a429_workers.specs.Transmitting.{BeginsWith};
 ghost use Rattle.a429_station.specs.Course.{HasRun, fresh};
 ghost use Rattle.a429_station.specs.Faults.{IsLiveFault, IsRunFault};
 ghost use Rattle.a429_station.specs.Numbered.{AllNumbered};
-ghost use Rattle.a429_station.specs.Resubmitting.{HasFewSlots, IsBegun, TellsLater};
+ghost use Rattle.a429_station.specs.Resubmitting.{HasFewSlots, IsBegun, IsDoneBetween};
 ghost use Rattle.a429_station.specs.Working.{IsReady};
 ghost use Rattle.a429_station.specs.declared.faults.LiveFault.TheVariants.{NoMemory};
 
@@ -172,7 +172,8 @@ fn run<
     requires few { frames ≤ 1000000 }
     requires watchers { AllByRecursion (λ w. w ≡ beginner station.old.planner) watchers.items }
     requires enough { vec_len sinks ≤ vec_len watchers }
-    ensures ran { IfOk result (λ report. (ran : HasRun (Gives L.given L.left) L.ended B.taken hub.now.station frames (map (λ w. w.line) receiving.entry.items) sinks.items report) × TellsLater (K.published control.old) ran.course.later (K.published control.new)) }
+    ensures ran { IfOk result (λ report. (ran : HasRun (Gives L.given L.left) L.ended B.taken hub.now.station frames (map (λ w. w.line) receiving.entry.items) sinks.items report)
+        × IsDoneBetween (λ begin end. K.did control.old begin end control.new) hub.now.station ran.course.opened ran.course.later) }
     ensures fault { IfErr result (IsRunFault (Gives L.given L.left) L.ended L.failed B.failed (map (λ w. w.line) receiving.entry.items) sinks.items) }
 {
     let sending = groups(alloc, hub, desk, station, watchers, sinks, frames, gate)?;
@@ -212,8 +213,8 @@ fn run<
 /// Then each receiver took the words that its source gave up to its end, each sink took the cells of so many whole
 /// frames, and what a group did is one run of the machine: its calls meet the premises of
 /// `a429_workers::laws::one_run`, by the equipment's plan from slot 0 on, the plans that were published meanwhile, and
-/// what all receivers accepted, each of which its transmitter met in the end. Where the control tells the plans that it
-/// published, these are the ones that it told meanwhile.
+/// what all receivers accepted, each of which its transmitter met in the end. Those plans were published while the control ran:
+/// what it tells of its run holds between a station that began by the equipment's plan and one that has published them.
 ///
 /// Refused is, in this order, an equipment without a plan (`Plan`), and more than a million frames (`TooMuch`); then
 /// nothing was started. `Join` where a thread could not be started or taken in. When all have ended: the fault of the
@@ -239,7 +240,8 @@ pub fn live<
     requires sources { vec_len sources ≡ length equipment.now.receivers }
     requires sinks { vec_len sinks ≡ length equipment.now.groups }
     ensures ran { IfOk result (HasRun (Gives L.given L.left) L.ended B.taken equipment.now frames sources.items sinks.items) }
-    ensures told { IfOk result (λ report. (ran : HasRun (Gives L.given L.left) L.ended B.taken equipment.now frames sources.items sinks.items report) × TellsLater (K.published control.old) ran.course.later (K.published control.new)) }
+    ensures told { IfOk result (λ report. (ran : HasRun (Gives L.given L.left) L.ended B.taken equipment.now frames sources.items sinks.items report)
+        × IsDoneBetween (λ begin end. K.did control.old begin end control.new) equipment.now ran.course.opened ran.course.later) }
     ensures fault { IfErr result (IsLiveFault (Gives L.given L.left) L.ended L.failed B.failed equipment.now frames sources.items sinks.items) }
 {
     numbers_in_range(equipment);

@@ -1,5 +1,5 @@
 //! Workers, each on a thread of its own.
-ghost use Rattle.std.specs.Prelude.{◌≡◌, IfOk, map};
+ghost use Rattle.std.specs.Prelude.{◌≡◌, Bool, IfOk, is_ok, map};
 ghost use Rattle.std.specs.List.{AllZip};
 
 use core::scope::{Scope, scope_env, scoped};
@@ -69,11 +69,11 @@ fn joined<R: Threads, W: Work>(rt: &R, handles: Handles<W>) -> Result<Vec<W::Don
 
 /// What the calling thread does while workers run, to a value.
 pub trait Meanwhile<S> {
-    /// Whether it and the value can so change.
-    ghost did: { Self → S → S → Self → Type 0 };
+    /// Whether it and the value can so change, where it ends well or does not.
+    ghost did: { Self → S → S → Self → Bool → Type 0 };
 
     fn meanwhile(&mut self, to: &mut S) -> Result<(), AllocError>
-        ensures { did self.old to.old to.new self.new };
+        ensures { did self.old to.old to.new self.new (is_ok result) };
 }
 
 /// What workers did at once, and what the calling thread answered meanwhile.
@@ -106,7 +106,7 @@ fn worked<
 ) -> Result<Ended<X, Y>, NotJoined>
     ensures first { IfOk result (λ done. AllZip W.did first.items done.first.items) }
     ensures second { IfOk result (λ done. AllZip V.did second.items done.second.items) }
-    ensures meanwhile { IfOk result (λ done. M.did meanwhile.old to.old to.new meanwhile.new) }
+    ensures meanwhile { IfOk result (λ done. M.did meanwhile.old to.old to.new meanwhile.new (is_ok done.answer)) }
 {
     let first = started(scope, alloc, first)?;
     let second = started(scope, alloc, second)?;
@@ -149,7 +149,7 @@ fn lent_worked<
         × (lent.new.ended.ghost_name ≡ lent.old.ended.ghost_name) }
     ensures first { IfOk lent.new.ended.now (λ done. AllZip W.did first.items done.first.items) }
     ensures second { IfOk lent.new.ended.now (λ done. AllZip V.did second.items done.second.items) }
-    ensures meanwhile { IfOk lent.new.ended.now (λ done. M.did lent.old.meanwhile.now lent.old.to.now lent.new.to.now lent.new.meanwhile.now) }
+    ensures meanwhile { IfOk lent.new.ended.now (λ done. M.did lent.old.meanwhile.now lent.old.to.now lent.new.to.now lent.new.meanwhile.now (is_ok done.answer)) }
 {
     *lent.ended = worked(
         scope,
@@ -183,7 +183,7 @@ fn given_back<
         × (result.ended.ghost_name ≡ lent.entry.ended.ghost_name) }
     ensures first { IfOk result.ended.now (λ done. AllZip W.did first.items done.first.items) }
     ensures second { IfOk result.ended.now (λ done. AllZip V.did second.items done.second.items) }
-    ensures meanwhile { IfOk result.ended.now (λ done. M.did lent.entry.meanwhile.now lent.entry.to.now result.to.now result.meanwhile.now) }
+    ensures meanwhile { IfOk result.ended.now (λ done. M.did lent.entry.meanwhile.now lent.entry.to.now result.to.now result.meanwhile.now (is_ok done.answer)) }
 {
     scoped(
         scope_env(),
@@ -193,7 +193,7 @@ fn given_back<
                 × (result.ended.ghost_name ≡ lent.entry.ended.ghost_name) }
             ensures first { IfOk result.ended.now (λ done. AllZip W.did first.items done.first.items) }
             ensures second { IfOk result.ended.now (λ done. AllZip V.did second.items done.second.items) }
-            ensures meanwhile { IfOk result.ended.now (λ done. M.did lent.entry.meanwhile.now lent.entry.to.now result.to.now result.meanwhile.now) }
+            ensures meanwhile { IfOk result.ended.now (λ done. M.did lent.entry.meanwhile.now lent.entry.to.now result.to.now result.meanwhile.now (is_ok done.answer)) }
         {
             let mut lent = lent;
             lent_worked(scope, rt, alloc, first, second, &mut lent);
@@ -223,7 +223,7 @@ pub fn at_once<
 ) -> Result<Ended<X, Y>, NotJoined>
     ensures first { IfOk result (λ done. AllZip W.did first.items done.first.items) }
     ensures second { IfOk result (λ done. AllZip V.did second.items done.second.items) }
-    ensures meanwhile { IfOk result (λ done. M.did meanwhile.old to.old to.new meanwhile.new) }
+    ensures meanwhile { IfOk result (λ done. M.did meanwhile.old to.old to.new meanwhile.new (is_ok done.answer)) }
 {
     let mut ended = Err(NotJoined);
     {

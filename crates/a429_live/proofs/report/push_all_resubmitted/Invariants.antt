@@ -1,9 +1,10 @@
-use Rattle.std.proofs.Common.{◌≡◌, ◌++◌, List, ℕ, map, drop}
-use Rattle.std.specs.List.{AllZip, concat}
-use Rattle.a429_live.specs.LiveReplies.{IsResubmitLine}
+use Rattle.std.proofs.Common.{◌≡◌}
+use Rattle.a429_console.specs.Files.{bytes_of}
+use Rattle.a429_station.specs.Resubmitting.{Running}
+use Rattle.a429_live.specs.Resubmitted.{AreAnswers}
+use Rattle.a429_live.proofs.Resubmits.{AreTold}
 use Rattle.a429_live.proofs.report.push_all_resubmitted.Given as goal
 
 abbrev pub invariant-loop-place : goal.invariant-loop-place
 invariant-loop-place l =
-    (lines : List (List ℕ)) × (l.text.items ≡ l.initial.text.items ++ concat lines)
-    × ((rest : List (List ℕ)) → AllZip (IsResubmitLine l.station) (map (λ t. t.items) (drop l.place l.further)) rest → AllZip (IsResubmitLine l.station) (map (λ t. t.items) l.further) (lines ++ rest))
+    (begin end : Running) → begin.planner.last.number ≡ 0 → AreAnswers begin (bytes_of l.further) l.answers end → AreTold begin end l.further l.answers l.place l.initial.text.items l.text.items

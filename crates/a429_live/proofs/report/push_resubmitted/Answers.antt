@@ -1,11 +1,16 @@
-use Rattle.std.proofs.Common.{◌++◌, ◌∷◌, [], refl, inl, rules}
+use Rattle.std.proofs.Common.{subst, sym}
+use Rattle.std.specs.Prelude.{OnOk, None}
 use Rattle.std.proofs.lemmas.Result.{on_ok_weaker}
-use Rattle.a429_console.specs.RefusalText.{refusal_line}
-use Rattle.a429_console.specs.Tables.{IsTableRefusal}
+use Rattle.a429_station.specs.Resubmitting.{Running}
+use Rattle.a429_live.specs.LiveReplies.{IsAppended}
+use Rattle.a429_live.specs.Resubmitted.{IsAnswer}
+use Rattle.a429_live.proofs.Resubmits.{published}
 use Rattle.a429_live.proofs.report.push_resubmitted.Goals as goal
 
-pub returns-in-Err : goal.returns-in-Err
-returns-in-Err c =
-    let r = c.in-Err.refusal in
-    let stands : IsTableRefusal c.args.table.now r = search rules in
-    on_ok_weaker c.push_refused.result (λ put. (refusal_line r ++ 10 ∷ [], inl (r, stands, refl), put)) c.push_refused.ensures
+pub returns-in-Some : goal.returns-in-Some
+returns-in-Some c = λ v w A room. on_ok_weaker c.writeln.result (λ put. published v w c.args.table.now c.in-Some.number c.args.text.now.items c.writeln.new.self.items (subst (λ a. IsAnswer v c.args.table.now a w) c.in-Some.is A) put) c.writeln.ensures.bytes
+
+pub returns-in-None : goal.returns-in-None
+returns-in-None c = λ v w A room.
+    let R : IsAnswer v c.args.table.now None w = subst (λ a. IsAnswer v c.args.table.now a w) c.in-None.is A in
+    subst (λ (x : Running). OnOk c.push_not_published.result (IsAppended v x c.args.table.now c.args.text.now.items c.push_not_published.new.text.items)) (sym R.1) (c.push_not_published.ensures v R.0 room)

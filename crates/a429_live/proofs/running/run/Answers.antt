@@ -1,12 +1,16 @@
-use Rattle.std.proofs.Common.{◌≡◌, ◌∙◌, [], length, rules, subst}
+use Rattle.std.proofs.Common.{◌≡◌, ◌∙◌, [], ℕ, List, length, rules, subst, sym}
+use Rattle.std.specs.Prelude.{Option}
+use Rattle.std.specs.declared.vec.Vec.{Vec}
+use Rattle.std.specs.declared.alloc.Global.{Global}
 use Rattle.a429_filter.specs.Sources.{all_given}
 use Rattle.a429_station.specs.Course.{IsHeardIn}
 use Rattle.a429_station.specs.Numbered.{AllOfThree}
 use Rattle.a429_console.specs.Files.{bytes_of}
 use Rattle.a429_live.specs.LiveReplies.{AreSentWhole, IsReport, IsRunRefusal, IsRunReport}
+use Rattle.a429_live.specs.Resubmitted.{AreAnswers}
 use Rattle.a429_console.specs.RefusalText.{OrMemory}
 use Rattle.a429_live.proofs.LiveRuns.{GivesFrom, as_many, heard_rows}
-use Rattle.a429_live.proofs.WholeFrames.{all_sent_whole, none_mapped_back, none_published}
+use Rattle.a429_live.proofs.WholeFrames.{all_sent_whole, none_answered, none_published}
 use Rattle.a429_console.proofs.Refused.{matched_both}
 use Rattle.a429_live.proofs.running.run.Goals as goal
 
@@ -16,16 +20,22 @@ returns-in-Ok g c =
     let report = c.in-Ok.report in
     let told = c.in-Ok.ensures.told in
     let ran = told.0 in
+    let between = told.1 in
     let many : length c.in_ok-sources.sources.items ≡ length t.receivers = search rules in
     let few : length c.in_ok-sinks.sinks.items ≡ length t.groups = search rules in
     let words = c.args.arrivals.now in
     let further = bytes_of c.args.further.now in
+    let answers = c.deref.result.now in
+    let answered : AreAnswers between.begin further answers between.end =
+    subst (λ (xs : List (Option ℕ)). AreAnswers between.begin further xs between.end) (sym c.deref.ensures.value)
+    (subst (λ (tables : List (Vec ℕ Global)). AreAnswers between.begin (bytes_of tables) c.live.new.control.answers.items between.end) c.new-control.ensures.tables (between.done c.new-control.ensures.none)) in
     let heard = heard_rows t ran.course words (length t.receivers) report.sources.items report.receivers.items
     (subst (λ l. AllOfThree (IsHeardIn GivesFrom all_given t ran.course) l report.sources.items report.receivers.items) (search rules) ran.heard) in
     let receivers = as_many _ c.in_ok-sources.sources.items report.sources.items report.receivers.items ran.heard ∙ many in
     let groups = as_many _ c.in_ok-sinks.sinks.items report.sinks.items report.groups.items ran.sent ∙ few in
     let cells : further ≡ [] → AreSentWhole t c.args.frames report.groups.items = λ none.
-    all_sent_whole _ c.args.frames t ran.course c.in_ok-sinks.sinks.items report.sinks.items report.groups.items ran.planned
-    (none_published c.new-control.result.tables.now _ ran.course.later (c.new-control.ensures ∙ none_mapped_back c.args.further.now none) told.1) ran.sent in
+    let stays = none_answered between.begin between.end answers (subst (λ (tables : List (List ℕ)). AreAnswers between.begin tables answers between.end) none answered) in
+    all_sent_whole _ c.args.frames t ran.course c.in_ok-sinks.sinks.items report.sinks.items report.groups.items ran.planned (none_published _ t ran.course.opened ran.course.later between stays) ran.sent in
     matched_both c.report_text.result (λ text. IsReport t further report.receivers.items report.groups.items text.items) (λ text. IsRunReport t words c.args.frames further text.items)
-    (OrMemory IsRunRefusal) (OrMemory IsRunRefusal) (λ text is. (report.receivers.items, report.groups.items, record { heard = heard; receivers = receivers; groups = groups; cells = cells }, is)) (λ e why. why) c.report_text.ensures
+    (OrMemory IsRunRefusal) (OrMemory IsRunRefusal) (λ text is. (report.receivers.items, report.groups.items, record { heard = heard; receivers = receivers; groups = groups; cells = cells }, is)) (λ e why. why)
+    (c.report_text.ensures between.begin between.end between.station between.begun.planned.number answered)

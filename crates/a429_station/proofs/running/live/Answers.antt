@@ -9,7 +9,7 @@ use Rattle.a429_values.specs.Ends as ends
 use Rattle.a429_workers.specs.Runs.{IsWired}
 use Rattle.a429_station.specs.Course.{HasRun}
 use Rattle.a429_station.specs.Faults.{IsLiveFault, IsRunFault}
-use Rattle.a429_station.specs.Resubmitting.{IsBegun, Running, TellsLater}
+use Rattle.a429_station.specs.Resubmitting.{IsBegun, IsDoneBetween, Running}
 use Rattle.a429_station.specs.declared.reports.Report.{Report}
 use Rattle.a429_station.proofs.Numbered.{at_most}
 use Rattle.a429_station.proofs.Returned.{early_err, early_ok}
@@ -106,9 +106,8 @@ returns-clause-told g c =
     let gives = Gives g.L.LineSource.given g.L.LineSource.left in
     let ended = g.L.LineSource.ended in
     let taken = g.B.BusSink.taken in
-    let before = g.K.Control.published c.args.control.now in
-    let after = g.K.Control.published c.run-answer.new.control in
-    let ran : TableRecord → List g.row.L.Denot → Report g.row.L.Denot g.row.B.Denot → Type 0 = λ t l report. (x : HasRun gives ended taken t c.args.frames l c.args.sinks.items report) × TellsLater before x.course.later after in
+    let did : Running → Running → Type 0 = λ begin end. g.K.Control.did c.args.control.now begin end c.run-answer.new.control in
+    let ran : TableRecord → List g.row.L.Denot → Report g.row.L.Denot g.row.B.Denot → Type 0 = λ t l report. (x : HasRun gives ended taken t c.args.frames l c.args.sinks.items report) × IsDoneBetween did t x.course.opened x.course.later in
     subst (λ (l : List g.row.L.Denot). IfOk c.run-answer.result (ran c.args.equipment.now l)) c.in_ok-receiving.ensures.lines
     (subst (λ (t : TableRecord). IfOk c.run-answer.result (ran t (map (λ w. w.line) c.in_ok-receiving.receiving.items))) c.in_ok-hub.ensures.station c.run-answer.ensures.ran)
 

@@ -16,7 +16,7 @@ use Rattle.a429_station.specs.declared.working.Emitted.{Emitted}
 use Rattle.a429_station.specs.declared.working.Received.{Received}
 use Rattle.a429_station.specs.declared.working.Receiving.{Receiving}
 use Rattle.a429_station.specs.declared.working.Sending.{Sending}
-use Rattle.a429_station.proofs.Ended.{AreAfter, all_stopped, course_of, taken_in, group_one, group_over, heard_one, receiver_one, receiver_stays, all_well, first_of_receivers, told_later}
+use Rattle.a429_station.proofs.Ended.{AreAfter, all_stopped, course_of, taken_in, group_one, group_over, heard_one, receiver_one, receiver_stays, all_well, first_of_receivers, done_between}
 use Rattle.a429_station.proofs.Numbered.{at_most, middle, numbered_all, numbered_mapped, shown, shown_past, three_of, zip_length, zip_numbered, zip_with}
 use Rattle.a429_station.proofs.Plans.{plan_small}
 use Rattle.a429_station.proofs.Returned.{early_err, early_ok}
@@ -109,7 +109,7 @@ returns-clause-ran g c =
         sent = subst (λ l. AllOfThree (IsSentIn taken c.args.frames hub.station course) c.args.sinks.items l told.totals.items) (sym c.in_ok-told.ensures.sinks)
             (subst (λ l. AllOfThree (IsSentIn taken c.args.frames hub.station course) l (map (λ d. d.sink) c.in-Ok.done.second.items) told.totals.items) c.in_ok-sending.ensures.sinks cells);
       },
-      told_later old new (g.K.Control.published c.args.control.now) (g.K.Control.published c.at_once.new.meanwhile) c.requires.begun c.led.ensures c.in-Ok.ensures.meanwhile.1,
+      done_between (λ begin end. g.K.Control.did c.args.control.now begin end c.at_once.new.meanwhile) hub.station old new c.requires.hub.1 c.requires.begun c.in-Ok.ensures.meanwhile.0 c.led.ensures (c.in-Ok.ensures.meanwhile.1 (search rules)),
     )
 
 pub returns-in_err-heard-clause-fault : goal.returns-in_err-heard-clause-fault
