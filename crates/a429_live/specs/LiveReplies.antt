@@ -1,6 +1,6 @@
 -- The command `live`: what it writes, and its status (profile: output).
-use Rattle.std.specs.Prelude.{◌≡◌, ◌+◌, ◌*◌, slice_get, ◌∷◌, [], ◌++◌, ◌⊎◌, ⊤, ℕ, List, true, false, Option, Some, Ok, Result, MatchResult, codes, length}
-use Rattle.std.specs.List.{concat}
+use Rattle.std.specs.Prelude.{◌≡◌, ◌+◌, slice_get, sum_by, zero, suc, ◌∷◌, [], ◌++◌, ◌⊎◌, ⊤, ℕ, List, true, false, Option, Some, Ok, Result, MatchResult, codes, length}
+use Rattle.std.specs.List.{AllByRecursion, concat}
 use Rattle.std.specs.Fmt.{decimal}
 use Rattle.std.specs.declared.vec.Vec.{Vec}
 use Rattle.std.specs.declared.alloc.Global.{Global}
@@ -122,21 +122,33 @@ IsReport t further totals sent bytes =
 abbrev pub IsHeard : TableRecord → List Arrival → ℕ → ReceiveTotals → Type 0
 IsHeard t arrivals r totals = (hub : ends.Place) × (hub.station ≡ t) × (totals ≡ receives.totals_of (answers_to (fresh hub r) (words_for arrivals r)))
 
--- the cells are those of so many frames of group g, whole, by its table in this plan
-abbrev pub IsSentWhole : ℕ → PlanTable → ℕ → SendTotals → Type 0
-IsSentWhole frames plan g sent = (table : GroupTable) × (slice_get (groups_of plan) g ≡ Some table) × (sent.cells ≡ frames * cells_of table)
+-- one of these tables is of the station, and this is the slot table of group g by its plan
+abbrev pub HasTableOf : TableRecord → ℕ → GroupTable → List (List ℕ) → Type 0
+HasTableOf t g p [] = ⊥
+HasTableOf t g p (table ∷ tables) =
+    ((q : Proposed) × IsProposedBy table q × (same_station t q.station ≡ true) × (slice_get (groups_of q.plan) g ≡ Some p)) ⊎ HasTableOf t g p tables
 
--- each group sent its frames by the plan of the station
-abbrev pub AreSentWhole : TableRecord → ℕ → List SendTotals → Type 0
-AreSentWhole t frames sent = (plan : PlanTable) × IsPlanOf t plan × AllNumbered (IsSentWhole frames plan) sent
+-- the slot table of group g by the plan of the station, or by that of a further table
+abbrev pub IsTableOf : TableRecord → PlanTable → List (List ℕ) → ℕ → GroupTable → Type 0
+IsTableOf t plan further g p = (slice_get (groups_of plan) g ≡ Some p) ⊎ HasTableOf t g p further
 
--- A run of the station with these words for so many frames, with further tables: totals for each receiver, and for each group. Where there is no
--- further table the plan stays.
+-- group g sent so many frames, whole: the first by the plan of the station, each later one by it or by that of a further table
+abbrev pub IsSentWhole : TableRecord → PlanTable → List (List ℕ) → ℕ → ℕ → SendTotals → Type 0
+IsSentWhole t plan further zero g sent = sent.cells ≡ 0
+IsSentWhole t plan further (suc n) g sent =
+    (first : GroupTable) × (slice_get (groups_of plan) g ≡ Some first) × (later : List GroupTable) × (length later ≡ n) × AllByRecursion (IsTableOf t plan further g) later
+    × (sent.cells ≡ cells_of first + sum_by cells_of later)
+
+-- so did each group
+abbrev pub AreSentWhole : TableRecord → ℕ → List (List ℕ) → List SendTotals → Type 0
+AreSentWhole t frames further sent = (plan : PlanTable) × IsPlanOf t plan × AllNumbered (IsSentWhole t plan further frames) sent
+
+-- a run of the station with these words for so many frames, with further tables: totals for each receiver, and for each group
 pub record HasRun (t : TableRecord) (arrivals : List Arrival) (frames : ℕ) (further : List (List ℕ)) (totals : List ReceiveTotals) (sent : List SendTotals) : Type 0 where
   pub heard : AllNumbered (IsHeard t arrivals) totals
   pub receivers : length totals ≡ length t.receivers
   pub groups : length sent ≡ length t.groups
-  pub cells : further ≡ [] → AreSentWhole t frames sent
+  pub cells : AreSentWhole t frames further sent
 
 -- the report of a run of the station with these words for so many frames, with further tables
 abbrev pub IsRunReport : TableRecord → List Arrival → ℕ → List (List ℕ) → List ℕ → Type 0

@@ -1,4 +1,4 @@
-use Rattle.std.proofs.Common.{◌≡◌, ◌∙◌, [], ℕ, List, length, rules, subst, sym}
+use Rattle.std.proofs.Common.{◌≡◌, ◌∙◌, ℕ, List, length, rules, subst, sym}
 use Rattle.std.specs.Prelude.{Option}
 use Rattle.std.specs.declared.vec.Vec.{Vec}
 use Rattle.std.specs.declared.alloc.Global.{Global}
@@ -10,7 +10,7 @@ use Rattle.a429_live.specs.LiveReplies.{AreSentWhole, IsReport, IsRunRefusal, Is
 use Rattle.a429_live.specs.Resubmitted.{AreAnswers}
 use Rattle.a429_console.specs.RefusalText.{OrMemory}
 use Rattle.a429_live.proofs.LiveRuns.{GivesFrom, as_many, heard_rows}
-use Rattle.a429_live.proofs.WholeFrames.{all_sent_whole, none_answered, none_published}
+use Rattle.a429_live.proofs.WholeFrames.{all_sent_whole}
 use Rattle.a429_console.proofs.Refused.{matched_both}
 use Rattle.a429_live.proofs.running.run.Goals as goal
 
@@ -33,9 +33,8 @@ returns-in-Ok g c =
     (subst (λ l. AllOfThree (IsHeardIn GivesFrom all_given t ran.course) l report.sources.items report.receivers.items) (search rules) ran.heard) in
     let receivers = as_many _ c.in_ok-sources.sources.items report.sources.items report.receivers.items ran.heard ∙ many in
     let groups = as_many _ c.in_ok-sinks.sinks.items report.sinks.items report.groups.items ran.sent ∙ few in
-    let cells : further ≡ [] → AreSentWhole t c.args.frames report.groups.items = λ none.
-    let stays = none_answered between.begin between.end answers (subst (λ (tables : List (List ℕ)). AreAnswers between.begin tables answers between.end) none answered) in
-    all_sent_whole _ c.args.frames t ran.course c.in_ok-sinks.sinks.items report.sinks.items report.groups.items ran.planned (none_published _ t ran.course.opened ran.course.later between stays) ran.sent in
+    let cells : AreSentWhole t c.args.frames further report.groups.items =
+    all_sent_whole _ c.args.frames t ran.course further answers c.in_ok-sinks.sinks.items report.sinks.items report.groups.items _ between ran.planned answered ran.sent in
     matched_both c.report_text.result (λ text. IsReport t further report.receivers.items report.groups.items text.items) (λ text. IsRunReport t words c.args.frames further text.items)
     (OrMemory IsRunRefusal) (OrMemory IsRunRefusal) (λ text is. (report.receivers.items, report.groups.items, record { heard = heard; receivers = receivers; groups = groups; cells = cells }, is)) (λ e why. why)
     (c.report_text.ensures between.begin between.end between.station between.begun.planned.number answered)
