@@ -1,9 +1,8 @@
 -- How many cells a group sends in whole frames, by the plan that a run began with and those that were published meanwhile.
 use Rattle.std.proofs.Common.{◌≡◌, ◌∙◌, ◌+◌, ◌-◌, ◌≤◌, ◌<◌, ◌∷◌, [], ◌++◌, ℕ, zero, suc, Bool, true, false, List, length, map, ap, subst, sym, refl, arith, inl, inr}
-use Rattle.std.specs.Prelude.{Option, Some, None, IfSome, IsTrue, cond, count_by, if◌then◌else◌, nat_lt, slice_get, sum_by, unwrap_or}
+use Rattle.std.specs.Prelude.{Option, Some, None, IsTrue, cond, count_by, if◌then◌else◌, nat_lt, slice_get, sum_by, unwrap_or}
 use Rattle.std.specs.List.{AllByRecursion}
 use Rattle.std.specs.Option.{option_map_or}
-use mathlib.Core.List.{IsPrefix}
 use Rattle.std.proofs.lemmas.Bool.{ltb-true, ltb-false}
 use Rattle.std.proofs.lemmas.List.Sums.{sum_by-cons}
 use Rattle.a429_equipment.specs.TableRecord.{TableRecord}
@@ -20,28 +19,11 @@ use Rattle.a429_workers.specs.Calls.{Call, Asks, Meets, StaysMid, StaysSpent, St
 use Rattle.a429_workers.specs.Sends.{AreWhole, is_send, is_taken, sent_in}
 use Rattle.a429_workers.specs.declared.cells.Sent.{Sent}
 use Rattle.a429_workers.specs.declared.sending.SendTotals.{SendTotals}
+use Rattle.a429_word.proofs.Lists.{all_at, all_beginning, all_push}
 use Rattle.a429_workers.proofs.Calling.{due_is}
 use Rattle.a429_workers.proofs.Order.{seen_on}
 use Rattle.a429_live.specs.LiveReplies.{AreSentWhole, HasTableOf, IsSentWhole, IsTableOf}
 use Rattle.a429_live.specs.Resubmitted.{AreAnswers}
-
--- ---- lists
-
-all_front : {X : Type 0} (P : X → Type 0) (xs more : List X) → AllByRecursion P (xs ++ more) → AllByRecursion P xs
-all_front P [] more all = tt
-all_front P (x ∷ xs) more (here, all) = (here, all_front P xs more all)
-
-all_prefix : {X : Type 0} (P : X → Type 0) (xs ys : List X) → IsPrefix xs ys → AllByRecursion P ys → AllByRecursion P xs
-all_prefix P xs ys (more, is) all = all_front P xs more (subst (AllByRecursion P) (sym is) all)
-
-all_pushed : {X : Type 0} (P : X → Type 0) (xs : List X) (x : X) → AllByRecursion P xs → P x → AllByRecursion P (xs ++ x ∷ [])
-all_pushed P [] x all last = (last, tt)
-all_pushed P (y ∷ xs) x (here, all) last = (here, all_pushed P xs x all last)
-
-at_place : {X : Type 0} (P : X → Type 0) (xs : List X) (k : ℕ) → AllByRecursion P xs → IfSome (slice_get xs k) P
-at_place P [] k all = tt
-at_place P (x ∷ xs) zero (here, all) = here
-at_place P (x ∷ xs) (suc k) (here, all) = at_place P xs k all
 
 -- ---- one cell, one frame
 
@@ -123,12 +105,12 @@ module _ (g : ℕ) (p : GroupTable) where
     of_group None gives = own
     of_group (Some t) gives = gives t refl
 
-    of_last : (last : Option PlanTable) → IfSome last Gives → R (option_map_or (λ q. unwrap_or (slice_get (groups_of q) g) p) last p)
+    of_last : (last : Option PlanTable) → ((x : PlanTable) → last ≡ Some x → Gives x) → R (option_map_or (λ q. unwrap_or (slice_get (groups_of q) g) p) last p)
     of_last None gives = own
-    of_last (Some x) gives = of_group (slice_get (groups_of x) g) gives
+    of_last (Some x) gives = of_group (slice_get (groups_of x) g) (gives x refl)
 
     fits : (plans : List PlanTable) → AllByRecursion Gives plans → R (table_of g p plans)
-    fits plans all = of_last (last_of plans) (at_place Gives plans (length plans - 1) all)
+    fits plans all = of_last (last_of plans) (λ x is. all_at Gives plans (length plans - 1) x all is)
 
     all_fit : (rest : List Call) (s : Standing) (calls : List Call) → AreLawful g p s (calls ++ rest) → AllByRecursion Gives (standing_after g p s (calls ++ rest)).seen → AllByRecursion R (frames_in calls)
     all_fit rest s [] law seen = tt
@@ -140,7 +122,7 @@ module _ (g : ℕ) (p : GroupTable) where
     all_fit rest s (Turns plans (Takes n) ∷ calls) law seen =
         let next = after g p s (Turns plans (Takes n)) in
         let end = standing_after g p next (calls ++ rest) in
-        (fits plans (all_prefix Gives plans end.seen (seen_on g p next (calls ++ rest) law.1) seen), all_fit rest next calls law.1 seen)
+        (fits plans (all_beginning Gives plans end.seen (seen_on g p next (calls ++ rest) law.1) seen), all_fit rest next calls law.1 seen)
 
 -- ---- the plans that were published meanwhile
 
@@ -157,7 +139,7 @@ module _ (t : TableRecord) (g : ℕ) (R : GroupTable → Type 0) where
       all_given u w tables answers (ap (λ (x : Running). x.station) stays.1 ∙ here) (λ p has. each p (inr has)) later (subst (λ (x : Running). AllByRecursion Given x.planner.list) (sym stays.1) all)
   all_given v w (table ∷ tables) (Some n ∷ answers) here each (u, P, later) all =
       all_given u w tables answers (P.station ∙ here) (λ p has. each p (inr has)) later
-      (subst (AllByRecursion Given) (sym P.list) (all_pushed Given v.planner.list _ all
+      (subst (AllByRecursion Given) (sym P.list) (all_push Given v.planner.list _ all
       (λ p is. each p (inl (record { station = P.of.record_of; plan = P.of.plan }, (P.of.reads, P.of.planned), subst (λ (x : TableRecord). same_station x P.of.record_of ≡ true) here P.same, is)))))
 
 -- ---- a group of a run
@@ -176,7 +158,7 @@ sent_whole taken frames t c further g before after totals given S =
     let R = IsTableOf t c.opened further g in
     let rest = meetings t c in
     let own : R S.table = inl S.works.opens in
-    let seen = all_prefix (Given t g R) (standing_after g S.table start (S.calls ++ rest)).seen (c.opened ∷ map (λ (q : Proposed). q.plan) c.later) S.works.seen given in
+    let seen = all_beginning (Given t g R) (standing_after g S.table start (S.calls ++ rest)).seen (c.opened ∷ map (λ (q : Proposed). q.plan) c.later) S.works.seen given in
     whole_by frames S.table (frames_in g S.table S.calls) t c.opened further g totals S.calls (standing_after g S.table start S.calls).frame S.works.opens S.whole (as_many g S.table S.calls)
     (all_fit g S.table R own rest start S.calls S.works.lawful seen) (ap (λ (x : SendTotals). x.cells) S.counted) (counted g S.table rest start S.calls (omega arith) S.works.lawful S.only)
 
