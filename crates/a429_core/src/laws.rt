@@ -1,12 +1,24 @@
 //! What follows from the definition of answers.
-ghost use Rattle.std.specs.Prelude.{◌≡◌, ◌++◌, ℕ, List};
+ghost use Rattle.std.specs.Prelude.{◌≡◌, ◌++◌, ◌∷◌, [], ℕ, List};
 ghost use Rattle.a429_slots.specs.Events.{Event};
 ghost use Rattle.a429_slots.specs.History.{Opening};
-ghost use Rattle.a429_slots.specs.Answers.{answers};
+ghost use Rattle.a429_slots.specs.Answers.{answer, answers};
 ghost use Rattle.a429_core.specs.Spaced.{LaterCellsAreFull, OnlyFirstCellsAreEmpty, OpeningCellsAreFull, SentWordsAreApart};
+ghost use Rattle.a429_core.specs.Standing.{IsWholeEvent, Standing, StandsFor, stepped};
 ghost use Rattle.a429_core.specs.Sends.{CellsAreAnsweredInTurn, SentWordsWereAccepted, TakenFramesAreAnswered, TakenFramesFollowAllCells};
 
-use a429_slots::laws::{spacing_empties_first_cells_only, words_are_spaced};
+use a429_slots::laws::{sends_are_recalled, spacing_empties_first_cells_only, words_are_spaced};
+
+/// What `arrive`, `cell`, `frame` and `publish` answer, and what they make of what a state keeps, is what the
+/// definition of answers says of their events, for every history that the state stands for.
+pub fn calls_are_answered()
+    ensures answer { (C : ℕ) (o : Opening) (E : List Event) (e : Event) (v : Standing) → IsWholeEvent e → StandsFor C o E v
+        → (stepped C v e).0 ≡ answer C o E e }
+    ensures stands { (C : ℕ) (o : Opening) (E : List Event) (e : Event) (v : Standing) → IsWholeEvent e → StandsFor C o E v
+        → StandsFor C o (E ++ e ∷ []) (stepped C v e).1 }
+{
+    sends_are_recalled();
+}
 
 /// A word that is sent is the latest that was accepted before for the source of the output that stands in
 /// its slot.

@@ -170,7 +170,10 @@ impl<const C: u32> State<C> {
         })
     }
 
-    fn arrive(&mut self, receiver: usize, raw: u32) -> Answer
+    /// A raw word comes in at a receiver: the answer, and the word is kept, where it is accepted. As each of these four
+    /// calls it takes no memory and never fails, and its contract says exactly what it does to what the state keeps;
+    /// what that means for each history, `laws::calls_are_answered` says.
+    pub fn arrive(&mut self, receiver: usize, raw: u32) -> Answer
         ensures answer { result ≡ (arrived C self.old receiver raw).0 }
         ensures after { self.new ≡ (arrived C self.old receiver raw).1 }
     {
@@ -189,7 +192,8 @@ impl<const C: u32> State<C> {
         }
     }
 
-    fn cell(&mut self, group: usize) -> Answer
+    /// A group sends its next cell, with the word of the output that stands there, as it is kept in this moment.
+    pub fn cell(&mut self, group: usize) -> Answer
         ensures answer { result ≡ (cell_asked self.old group).0 }
         ensures after { self.new ≡ (cell_asked self.old group).1 }
     {
@@ -228,7 +232,8 @@ impl<const C: u32> State<C> {
         }
     }
 
-    fn frame(&mut self, group: usize) -> Answer
+    /// A group goes on to its next frame, by the newest plan.
+    pub fn frame(&mut self, group: usize) -> Answer
         ensures answer { result ≡ (frame_asked self.old group).0 }
         ensures after { self.new ≡ (frame_asked self.old group).1 }
     {
@@ -238,7 +243,8 @@ impl<const C: u32> State<C> {
         next_frame(&mut self.groups, &self.newest, group)
     }
 
-    fn publish(&mut self, proposal: Proposal<OUTPUTS>) -> Answer
+    /// A newer plan is proposed, for all groups: where it is of the same station it is the newest from now on.
+    pub fn publish(&mut self, proposal: Proposal<OUTPUTS>) -> Answer
         ensures answer { result ≡ (publish_asked self.old proposal).0 }
         ensures after { self.new ≡ (publish_asked self.old proposal).1 }
         ensures whole { IsWhole proposal }
