@@ -1,17 +1,17 @@
 //! The command that draws the plan of a table.
 ghost use Rattle.std.specs.Prelude.{◌≡◌, ◌≤◌, ◌<◌, IfOk, IfSome, IsTrue, MatchResult, OnOk, Some, length, option_map};
 ghost use Rattle.a429_console.specs.Outputs.{CountsFault, IsPut};
-ghost use Rattle.a429_console.specs.RefusalText.{OrMemory};
+ghost use Rattle.a429_inputs.specs.RefusalText.{OrMemory};
 ghost use Rattle.a429_cli.specs.Drawings.{IsDrawReply, IsDrawing, IsImage, IsNoGroup, group_asked, group_numbered};
 
 use a429_console::files::FileReader;
-use a429_console::files::reading::read_file;
-use a429_console::output::endings::{finish, refuse};
-use a429_console::output::refusals::CommandRefusal;
+use a429_console::output::endings::finish;
 use a429_console::output::{Output, OutputFault};
-use a429_console::tables::{no_group, propose};
 use a429_documents::draw_text;
 use a429_equipment::GroupRow;
+use a429_inputs::files::read_file;
+use a429_inputs::refusals::{CommandRefusal, refuse};
+use a429_inputs::tables::{no_group, propose};
 use a429_slots::{OUTPUTS, Proposal};
 use std::alloc::Global;
 

@@ -15,12 +15,12 @@ use crate::lines::line_bytes::first_bad_byte;
 use crate::lines::reports::{print_report, push_rest};
 use crate::pending::Pending;
 use a429_console::files::FileReader;
-use a429_console::files::reading::read_file;
-use a429_console::output::endings::{finish, refuse};
-use a429_console::output::refusals::CommandRefusal;
+use a429_console::output::endings::finish;
 use a429_console::output::{Output, OutputFault};
 use a429_equipment::filter_of_text;
 use a429_filter::FilterSet;
+use a429_inputs::files::read_file;
+use a429_inputs::refusals::{CommandRefusal, refuse};
 use a429_line::LineReader;
 use std::alloc::Global;
 

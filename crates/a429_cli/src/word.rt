@@ -7,9 +7,9 @@ ghost use Rattle.std.specs.Io.KnownBytes.{Appends};
 ghost use Rattle.a429_console.specs.Outputs.{CountsFault, IsPut, OrNoMemory};
 ghost use Rattle.a429_cli.specs.WordLines.{IsWordReply, bcd_digits, bcd_line, bnr_line, data_text, fields_line, name_text, status_text, word_lines};
 
-use a429_console::output::endings::{finish, refuse, refuse_memory};
-use a429_console::output::refusals::CommandRefusal;
+use a429_console::output::endings::{finish, refuse_memory};
 use a429_console::output::{Output, OutputFault};
+use a429_inputs::refusals::{CommandRefusal, refuse};
 use a429_word::{Label, Sdi, Ssm, Word, raw_word};
 use std::alloc::Global;
 use std::io;

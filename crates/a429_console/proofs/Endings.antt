@@ -1,12 +1,9 @@
 -- How a command ends, by the calls that end it.
-use Rattle.std.proofs.Common.{◌≡◌, ◌≤◌, ◌∙◌, ◌++◌, ◌∷◌, [], ◌+◌, ◌-◌, ◌^◌, ℕ, List, append-nil, arith, sym, subst}
+use Rattle.std.proofs.Common.{◌≡◌, ◌≤◌, ◌∙◌, ◌++◌, [], ◌+◌, ◌-◌, ◌^◌, ℕ, List, append-nil, arith, sym, subst}
 use Rattle.std.specs.Prelude.{Option, Result, Ok, Err, IfOk, OnOk, min}
 use Rattle.std.specs.Io.KnownBytes.{Appends}
 use Rattle.std.proofs.lemmas.Grind.{common_steps}
 use Rattle.a429_console.specs.Outputs.{IsPut, NoneFailed}
-use Rattle.a429_console.specs.RefusalText.{IsRefusalPut, OrMemory, refusal_line}
-use Rattle.a429_console.specs.declared.output.refusals.CommandRefusal.{CommandRefusal}
-use Rattle.a429_console.proofs.Refused.{told_or_memory}
 
 -- a text was put whole
 pub text_put : {E : Type 0} (result : Result ℕ E) (Says : ℕ → List ℕ → Type 0) (old new : Option (List ℕ)) (left text : List ℕ) → left ≡ text → Says 0 text
@@ -14,14 +11,6 @@ pub text_put : {E : Type 0} (result : Result ℕ E) (Says : ℕ → List ℕ →
 text_put (Ok status) Says old new left text is says zero put =
     (text, subst (λ (n : ℕ). Says n text) (sym zero) says, subst (λ (t : List ℕ). Appends old new t) (append-nil left ∙ is) put)
 text_put (Err e) Says old new left text is says zero put = tt
-
--- the line of a refusal was put, or the one of memory
-pub refusal_put : {E : Type 0} (result : Result ℕ E) (Why : CommandRefusal → Type 0) (Says : ℕ → List ℕ → Type 0) (refusal : CommandRefusal) (old new : Option (List ℕ))
-    → ((told : CommandRefusal) → OrMemory Why told → Says 1 (refusal_line told ++ 10 ∷ [])) → OrMemory Why refusal
-    → IfOk result (λ status. status ≡ 1) → OnOk result (IsRefusalPut refusal old new) → IfOk result (IsPut Says old new)
-refusal_put (Ok status) Why Says refusal old new says why one (told, is, put) =
-    (refusal_line told ++ 10 ∷ [], subst (λ (n : ℕ). Says n (refusal_line told ++ 10 ∷ [])) (sym one) (says told (told_or_memory Why refusal told is why)), put)
-refusal_put (Err e) Why Says refusal old new says why one put = tt
 
 pub done_is_few : {E : Type 0} (result : Result ℕ E) → IfOk result (λ status. status ≡ 0) → IfOk result (λ status. status ≤ 1)
 done_is_few (Ok status) is = omega (arith, is)

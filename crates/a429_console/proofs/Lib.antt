@@ -12,8 +12,6 @@ pub mod Elsewhere
 pub mod LiveFound
 pub mod DrawFound
 pub mod Found
-pub mod Refused
-pub mod Numbered
 pub mod HexDigits
 pub mod HexText
 pub mod CutLines

@@ -2,12 +2,8 @@ pub mod CommandLine
 pub mod Usage
 pub mod MemoryFile
 pub mod Files
-pub mod Names
-pub mod AnswerLines
 pub mod Nibbles
-pub mod RefusalText
 pub mod Outputs
-pub mod Tables
 pub mod Requests
 pub mod LiveWords
 pub mod RequestRows

@@ -1,5 +1,6 @@
 //! The words of the command line: which commands there are, and what the words ask for.
 
 pub mod command_line;
+pub mod given;
 pub mod replies;
 pub mod requests;

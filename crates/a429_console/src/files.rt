@@ -3,7 +3,6 @@ ghost use Rattle.std.specs.Prelude.{◌≡◌, Bool, List, ℕ, Option, Some, No
 
 pub mod disk;
 pub mod memory;
-pub mod reading;
 
 use thiserror::Error;
 

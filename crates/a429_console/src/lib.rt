@@ -1,5 +1,5 @@
-//! What every command of the program `a429` stands on: the words of a command line, the files that it reads, the
-//! output that it puts, and its refusals.
+//! What every command of the program `a429` stands on, without tables: the words of a command line, readers of files,
+//! and the output that it puts.
 #![tactic(auto)]
 
 pub mod arguments;
@@ -7,5 +7,4 @@ pub mod files;
 pub mod hints;
 pub mod laws;
 pub mod output;
-pub mod tables;
 pub mod texts;

@@ -5,7 +5,6 @@ ghost use Rattle.a429_console.specs.Outputs.{CountsFault};
 
 pub mod endings;
 pub mod from_end;
-pub mod refusals;
 
 use std::io::Write;
 use thiserror::Error;

@@ -18,7 +18,7 @@ use Rattle.a429_slots.specs.Proposed.{Proposed}
 use Rattle.a429_slots.specs.Tables.{PlanTable}
 use Rattle.a429_slots.specs.declared.planner.PlanFault.{PlanFault}
 use Rattle.a429_slots.specs.declared.planner.PlanFault.TheVariants as plan
-use Rattle.a429_console.specs.Tables.{IsProposedBy}
+use Rattle.a429_inputs.specs.Tables.{IsProposedBy}
 use Rattle.a429_station.specs.Resubmitting.{HasPlanFault, Running}
 use Rattle.a429_station.specs.declared.station.ReplanFault.TheVariants as replan
 use Rattle.a429_live.specs.LiveReplies.{AreAppended, AreResubmitLines, IsAppended, IsResubmitLine}

@@ -4,7 +4,7 @@ use Rattle.std.specs.Prelude.{Option, Some, None, Result, Ok, Err, option_map, o
 use Rattle.std.specs.List.{range_with_len}
 use Rattle.a429_console.specs.CutText.{cut}
 use Rattle.a429_live.specs.WordsFile.{arrival_then, arrivals_after, arrivals_before, arrivals_from, first_arrival, line_arrival}
-use Rattle.a429_console.specs.Names.{Naming}
+use Rattle.a429_inputs.specs.Names.{Naming}
 use Rattle.a429_live.specs.declared.words.Arrival.{Arrival}
 use Rattle.a429_console.proofs.CutLines.{lines_by, lines-cut}
 

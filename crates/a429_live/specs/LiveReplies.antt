@@ -16,11 +16,12 @@ use Rattle.a429_workers.specs.Receives as receives
 use Rattle.a429_workers.specs.Receives.{answers_to}
 use Rattle.a429_workers.specs.declared.receiving.ReceiveTotals.{ReceiveTotals}
 use Rattle.a429_workers.specs.declared.sending.SendTotals.{SendTotals}
-use Rattle.a429_console.specs.Files.{AreRead, IsFirstUnread, bytes_of}
+use Rattle.a429_console.specs.Files.{bytes_of}
+use Rattle.a429_inputs.specs.FileReadings.{AreRead, IsFirstUnread}
 use Rattle.a429_console.specs.LiveWords.{LiveAsk}
-use Rattle.a429_console.specs.Names.{naming_of}
-use Rattle.a429_console.specs.RefusalText.{OrMemory, refusal_line}
-use Rattle.a429_console.specs.Tables.{IsProposedBy, IsTableRefusal}
+use Rattle.a429_inputs.specs.Names.{naming_of}
+use Rattle.a429_inputs.specs.RefusalText.{OrMemory, refusal_line}
+use Rattle.a429_inputs.specs.Tables.{IsProposedBy, IsTableRefusal}
 use Rattle.a429_station.specs.Course.{fresh}
 use Rattle.a429_station.specs.Numbered.{AllNumbered}
 use Rattle.a429_station.specs.Resubmitting.{Running}
@@ -28,8 +29,8 @@ use Rattle.a429_live.specs.WordsFile.{IsWordsFault, arrivals_of, words_for}
 use Rattle.a429_live.specs.declared.running.LiveInput.{LiveInput}
 use Rattle.a429_live.specs.declared.running.Prepared.{Prepared}
 use Rattle.a429_live.specs.declared.words.Arrival.{Arrival}
-use Rattle.a429_console.specs.declared.output.refusals.CommandRefusal.{CommandRefusal}
-use Rattle.a429_console.specs.declared.output.refusals.CommandRefusal.TheVariants as refused
+use Rattle.a429_inputs.specs.declared.refusals.CommandRefusal.{CommandRefusal}
+use Rattle.a429_inputs.specs.declared.refusals.CommandRefusal.TheVariants as refused
 
 -- ---- before the run
 

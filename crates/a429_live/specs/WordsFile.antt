@@ -3,12 +3,12 @@ use Rattle.std.specs.Prelude.{◌≡◌, ◌==◌, ◌+◌, ◌∷◌, [], ◌++
 use Rattle.std.specs.declared.vec.Vec.{Vec}
 use Rattle.std.specs.declared.alloc.Global.{Global}
 use Rattle.a429_word.specs.Hexadecimal.{raw_word}
-use Rattle.a429_console.specs.Names.{Naming, number_named}
-use Rattle.a429_console.specs.RefusalText.{OrMemory}
+use Rattle.a429_inputs.specs.Names.{Naming, number_named}
+use Rattle.a429_inputs.specs.RefusalText.{OrMemory}
 use Rattle.a429_console.specs.CutText.{cut, lines_of}
 use Rattle.a429_live.specs.declared.words.Arrival.{Arrival}
-use Rattle.a429_console.specs.declared.output.refusals.CommandRefusal.{CommandRefusal}
-use Rattle.a429_console.specs.declared.output.refusals.CommandRefusal.TheVariants as refused
+use Rattle.a429_inputs.specs.declared.refusals.CommandRefusal.{CommandRefusal}
+use Rattle.a429_inputs.specs.declared.refusals.CommandRefusal.TheVariants as refused
 
 abbrev pub arrival : Option ℕ → Option ℕ → Option Arrival
 arrival (Some receiver) (Some raw) = Some (record { receiver = receiver; raw = raw })

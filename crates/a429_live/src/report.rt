@@ -4,12 +4,12 @@ ghost use Rattle.a429_console.specs.Files.{bytes_of};
 ghost use Rattle.a429_live.specs.LiveReplies.{AreAppended, IsAppended, IsReport, IsRunRefusal, group_line, group_lines, receiver_line, receiver_lines, refused_words};
 ghost use Rattle.a429_live.specs.Resubmitted.{AreAnswers, IsAnswer, IsRefusedBy};
 ghost use Rattle.a429_station.specs.Resubmitting.{Running};
-ghost use Rattle.a429_console.specs.RefusalText.{OrMemory, refusal_line};
+ghost use Rattle.a429_inputs.specs.RefusalText.{OrMemory, refusal_line};
 
-use a429_console::output::refusals::CommandRefusal;
-use a429_console::tables::propose;
 use a429_equipment::{Equipment, GroupRow, ReceiverRow};
 use a429_filter::MemoryLine;
+use a429_inputs::refusals::CommandRefusal;
+use a429_inputs::tables::propose;
 use a429_slots::laws::plans_are_unique;
 use a429_station::Report;
 use a429_workers::{CountSink, ReceiveTotals, SendTotals};

@@ -4,10 +4,10 @@ ghost use Rattle.std.specs.List.{range_with_len};
 ghost use Rattle.a429_filter.specs.Sources.{at_start};
 ghost use Rattle.a429_live.specs.WordsFile.{IsWordsReading, first_arrival, line_arrival, raw_for, words_for};
 
-use a429_console::output::refusals::CommandRefusal;
-use a429_console::tables::names::Names;
 use a429_console::texts::cut_at;
 use a429_filter::MemoryLine;
+use a429_inputs::names::Names;
+use a429_inputs::refusals::CommandRefusal;
 use a429_word::raw_word;
 use std::alloc::{AllocError, Global};
 

@@ -4,9 +4,9 @@ ghost use Rattle.a429_cli.specs.ScriptText.{decimal_digit, decimal_number};
 ghost use Rattle.a429_cli.specs.Script.{arrive_event, line_event, first_event, publish_event, IsScript, IsScriptFault};
 ghost use Rattle.a429_cli.specs.Playing.{HasTable};
 
-use a429_console::output::refusals::CommandRefusal;
-use a429_console::tables::names::Names;
 use a429_console::texts::cut_at;
+use a429_inputs::names::Names;
+use a429_inputs::refusals::CommandRefusal;
 use a429_word::raw_word;
 
 /// An event of a script. Receivers and groups are numbered from 0 in table order, the further tables of the

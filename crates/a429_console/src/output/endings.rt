@@ -2,19 +2,16 @@
 ghost use Rattle.std.specs.Prelude.{◌≡◌, ◌++◌, ◌∷◌, [], codes, IfOk, OnOk, IsTrue};
 ghost use Rattle.std.specs.Io.KnownBytes.{Appends};
 ghost use Rattle.a429_console.specs.Outputs.{CountsFault, ending, status_of};
-ghost use Rattle.a429_console.specs.RefusalText.{IsRefusalPut};
 
-use crate::output::refusals::CommandRefusal;
 use crate::output::{Output, OutputFault};
-use std::alloc::Global;
 use std::io;
 use std::io::Write;
 
 /// The line that says that memory was refused: putting it takes none.
 const MEMORY_REFUSED: &[u8] = b"refused memory\n";
 
-/// Puts the line of a refusal. The status is 1.
-fn put_refused<O: Output>(line: &[u8], out: &mut O) -> Result<u8, OutputFault>
+/// Puts the line of a refusal, which has its line feed. The status is 1.
+pub fn put_refused<O: Output>(line: &[u8], out: &mut O) -> Result<u8, OutputFault>
     ensures status { IfOk result (λ status. status ≡ 1) }
     ensures line { OnOk result (Appends (O.contents out.old) (O.contents out.new) line.now) }
     ensures flushed { OnOk result (IsTrue (O.is_flushed out.new)) }
@@ -33,24 +30,6 @@ pub fn refuse_memory<O: Output>(out: &mut O) -> Result<u8, OutputFault>
     ensures faults { CountsFault result (O.failures out.old) (O.failures out.new) }
 {
     put_refused(MEMORY_REFUSED, out)
-}
-
-/// Puts the line of a refusal, or where memory for it is refused the one that says so. The status is 1.
-pub fn refuse<O: Output>(
-    alloc: Global,
-    refusal: &CommandRefusal,
-    out: &mut O,
-) -> Result<u8, OutputFault>
-    ensures status { IfOk result (λ status. status ≡ 1) }
-    ensures line { OnOk result (IsRefusalPut refusal.now (O.contents out.old) (O.contents out.new)) }
-    ensures flushed { OnOk result (IsTrue (O.is_flushed out.new)) }
-    ensures faults { CountsFault result (O.failures out.old) (O.failures out.new) }
-{
-    let mut line = Vec::new(alloc);
-    match writeln!(line, "{refusal}") {
-        Ok(()) => put_refused(&line, out),
-        Err(_) => refuse_memory(out),
-    }
 }
 
 /// Puts the lines that are left, and behind them, where memory did not suffice for all, the one that says so.

@@ -1,10 +1,10 @@
 use Rattle.std.proofs.Common.{◌∙◌, ◌∷◌, [], ap, inl, inr}
 use Rattle.std.specs.Prelude.{Err}
 use Rattle.std.proofs.lemmas.Result.{err_from_is_err_and}
-use Rattle.a429_console.specs.Files.{AreRead, IsFileRefusal}
+use Rattle.a429_inputs.specs.FileReadings.{AreRead, IsFileRefusal}
 use Rattle.a429_cli.specs.PlanReplies.{IsJudged, IsNoVerdict, IsUnjudged, IsVerdictOf}
-use Rattle.a429_console.specs.RefusalText.{OrMemory}
-use Rattle.a429_console.proofs.Refused.{failed, file_refusal_by, matched_both, or_memory_weaker}
+use Rattle.a429_inputs.specs.RefusalText.{OrMemory}
+use Rattle.a429_inputs.proofs.Refused.{failed, file_refusal_by, matched_both, or_memory_weaker}
 use Rattle.a429_cli.proofs.plan_texts.judged_files.Goals as goal
 
 pub returns-in_err-table : goal.returns-in_err-table

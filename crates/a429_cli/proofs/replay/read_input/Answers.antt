@@ -1,9 +1,9 @@
 use Rattle.std.proofs.Common.{◌≡◌, ◌∙◌, ◌∷◌, ℕ, List, ap, map, inl, inr}
 use Rattle.std.specs.Prelude.{Err}
 use Rattle.std.proofs.lemmas.Result.{err_from_is_err_and}
-use Rattle.a429_console.specs.Files.{IsFileRefusal, IsFirstUnread}
-use Rattle.a429_console.specs.RefusalText.{OrMemory}
-use Rattle.a429_console.proofs.Refused.{failed, file_refusal_by, or_memory_weaker, unread_by, read_by}
+use Rattle.a429_inputs.specs.FileReadings.{IsFileRefusal, IsFirstUnread}
+use Rattle.a429_inputs.specs.RefusalText.{OrMemory}
+use Rattle.a429_inputs.proofs.Refused.{failed, file_refusal_by, or_memory_weaker, unread_by, read_by}
 use Rattle.a429_cli.proofs.replay.read_input.Goals as goal
 
 pub returns-in_err-table : goal.returns-in_err-table

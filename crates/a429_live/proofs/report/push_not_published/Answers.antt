@@ -1,8 +1,8 @@
 use Rattle.std.proofs.Common.{◌++◌, ◌∷◌, [], refl, inl, inr, rules}
 use Rattle.std.specs.Prelude.{codes}
 use Rattle.std.proofs.lemmas.Result.{on_ok_weaker}
-use Rattle.a429_console.specs.RefusalText.{refusal_line}
-use Rattle.a429_console.specs.Tables.{IsTableRefusal}
+use Rattle.a429_inputs.specs.RefusalText.{refusal_line}
+use Rattle.a429_inputs.specs.Tables.{IsTableRefusal}
 use Rattle.a429_live.proofs.Resubmits.{differs}
 use Rattle.a429_live.proofs.report.push_not_published.Goals as goal
 

@@ -4,12 +4,13 @@ use Rattle.std.proofs.lemmas.Result.{err_from_is_err_and}
 use Rattle.a429_equipment.specs.TableRecord.{TableRecord}
 use Rattle.std.specs.declared.vec.Vec.{Vec}
 use Rattle.std.specs.declared.alloc.Global.{Global}
-use Rattle.a429_console.specs.Files.{IsFirstUnread, bytes_of}
+use Rattle.a429_console.specs.Files.{bytes_of}
+use Rattle.a429_inputs.specs.FileReadings.{IsFirstUnread}
 use Rattle.a429_live.specs.LiveReplies.{IsLiveRefusal, IsNoLiveStart, IsReportOf, IsRunRefusal, IsRunReport, IsRunResult, files_of}
 use Rattle.a429_live.specs.declared.words.Arrival.{Arrival}
 use Rattle.a429_console.specs.LiveWords.{live_of}
-use Rattle.a429_console.specs.RefusalText.{OrMemory}
-use Rattle.a429_console.proofs.Refused.{failed, matched_both, or_memory_weaker}
+use Rattle.a429_inputs.specs.RefusalText.{OrMemory}
+use Rattle.a429_inputs.proofs.Refused.{failed, matched_both, or_memory_weaker}
 use Rattle.a429_live.proofs.running.lived.Goals as goal
 
 pub returns-in_err-input : goal.returns-in_err-input

@@ -2,11 +2,11 @@ use Rattle.std.proofs.Common.{◌∙◌, ap, inr, subst, List, ℕ}
 use Rattle.std.specs.Prelude.{Err}
 use Rattle.std.proofs.lemmas.Result.{err_from_is_err_and}
 use Rattle.a429_live.specs.LiveReplies.{IsNoLiveStart, files_of}
-use Rattle.a429_console.specs.RefusalText.{OrMemory}
-use Rattle.a429_console.specs.Names.{Naming, naming_of}
-use Rattle.a429_console.specs.Tables.{IsProposedBy}
+use Rattle.a429_inputs.specs.RefusalText.{OrMemory}
+use Rattle.a429_inputs.specs.Names.{Naming, naming_of}
+use Rattle.a429_inputs.specs.Tables.{IsProposedBy}
 use Rattle.a429_live.specs.WordsFile.{IsWordsFault}
-use Rattle.a429_console.proofs.Refused.{failed, or_memory_weaker}
+use Rattle.a429_inputs.proofs.Refused.{failed, or_memory_weaker}
 use Rattle.a429_live.proofs.running.prepare.Goals as goal
 
 pub returns-in_err-arrivals : goal.returns-in_err-arrivals

@@ -8,10 +8,10 @@ use Rattle.a429_station.specs.Numbered.{AllOfThree}
 use Rattle.a429_console.specs.Files.{bytes_of}
 use Rattle.a429_live.specs.LiveReplies.{AreSentWhole, IsReport, IsRunRefusal, IsRunReport}
 use Rattle.a429_live.specs.Resubmitted.{AreAnswers}
-use Rattle.a429_console.specs.RefusalText.{OrMemory}
+use Rattle.a429_inputs.specs.RefusalText.{OrMemory}
 use Rattle.a429_live.proofs.LiveRuns.{GivesFrom, as_many, heard_rows}
 use Rattle.a429_live.proofs.WholeFrames.{all_sent_whole}
-use Rattle.a429_console.proofs.Refused.{matched_both}
+use Rattle.a429_inputs.proofs.Refused.{matched_both}
 use Rattle.a429_live.proofs.running.run.Goals as goal
 
 pub returns-in-Ok : goal.returns-in-Ok

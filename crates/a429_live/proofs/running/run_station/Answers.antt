@@ -1,7 +1,8 @@
 use Rattle.std.proofs.Common.{inl, inr, refl}
 use Rattle.a429_live.specs.LiveReplies.{IsLiveRefusal, IsLiveReply}
 use Rattle.a429_console.specs.LiveWords.{live_of}
-use Rattle.a429_console.proofs.Endings.{done_is_few, refusal_put, refused_is_few, text_put}
+use Rattle.a429_console.proofs.Endings.{done_is_few, refused_is_few, text_put}
+use Rattle.a429_inputs.proofs.Endings.{refusal_put}
 use Rattle.a429_live.proofs.running.run_station.Goals as goal
 
 pub returns-in-Ok-clause-replied : goal.returns-in-Ok-clause-replied
