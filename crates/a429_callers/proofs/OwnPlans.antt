@@ -5,9 +5,9 @@ use Rattle.std.specs.List.{AllZip}
 use Rattle.std.proofs.lemmas.Option.{none-some, same_Some}
 use Rattle.a429_word.proofs.Lists.{same_Ok}
 use Rattle.a429_equipment.specs.TableRecord.{TableRecord}
-use Rattle.a429_equipment.specs.Reading.{reading}
+use Rattle.a429_table.specs.Reading.{reading}
 use Rattle.a429_equipment.specs.Sound.{IsSound}
-use Rattle.a429_equipment.specs.declared.fault.TableFault.TheVariants as table
+use Rattle.a429_table.specs.declared.fault.TableFault.TheVariants as table
 use Rattle.a429_slots.specs.Tables.{PlanTable, groups_of, outputs_of}
 use Rattle.a429_slots.specs.Planned.{IsPlanOf, IsPlannedAt, IsServed, rated_outputs}
 use Rattle.a429_cert.specs.Due.{IsDue, IsFirstUnfitOf}

@@ -20,7 +20,7 @@ use Rattle.a429_equipment.specs.declared.rows.GroupRow.{GroupRow}
 use Rattle.a429_equipment.specs.declared.rows.OutputRow.{OutputRow}
 use Rattle.a429_equipment.specs.declared.rows.SourceRow.{SourceRow}
 use Rattle.a429_equipment.specs.Sound.{HaveOwn, HaveOwnSources, IsRate, IsHold, IsSourceRow, IsGroupRow}
-use Rattle.a429_equipment.specs.Texts.{is_name, is_name_byte}
+use Rattle.a429_equipment.specs.NameForm.{is_name, is_name_byte}
 use Rattle.a429_pack.specs.Demanded.{demand_of, AreFewestBuses, IsBusCount}
 use Rattle.a429_pack.specs.Demands.{greatest, exponent_of}
 use Rattle.a429_pack.specs.Sums.{start_of}

@@ -2,9 +2,9 @@
 use Rattle.std.specs.Prelude.{◌≡◌, ◌+◌, ℕ, List, [], ◌∷◌, drop, length, slice_get, ⊤, Some, Ok, Err}
 use Rattle.std.specs.List.{zip}
 use Rattle.a429_equipment.specs.TableRecord.{TableRecord}
-use Rattle.a429_equipment.specs.Reading.{reading}
-use Rattle.a429_equipment.specs.declared.fault.TableFault.{TableFault}
-use Rattle.a429_equipment.specs.declared.fault.TableFault.TheVariants as table
+use Rattle.a429_table.specs.Reading.{reading}
+use Rattle.a429_table.specs.declared.fault.TableFault.{TableFault}
+use Rattle.a429_table.specs.declared.fault.TableFault.TheVariants as table
 use Rattle.a429_equipment.specs.declared.rows.GroupRow.{GroupRow}
 use Rattle.a429_equipment.specs.declared.rows.OutputRow.{OutputRow}
 use Rattle.a429_slots.specs.Planned.{AreFewestBusesFor, IsFirstUnfit}

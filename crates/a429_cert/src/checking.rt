@@ -2,7 +2,7 @@
 
 ghost use Rattle.std.specs.Prelude.{◌≡◌, Ok, IfOk, IfErr};
 ghost use Rattle.a429_equipment.specs.TableRecord.{TableRecord};
-ghost use Rattle.a429_equipment.specs.Reading.{reading};
+ghost use Rattle.a429_table.specs.Reading.{reading};
 ghost use Rattle.a429_cert.specs.declared.due.DueTable.{DueTable as Due};
 ghost use Rattle.a429_cert.specs.Due.{IsDue};
 ghost use Rattle.a429_cert.specs.Verdicts.{verdict};
@@ -10,7 +10,7 @@ ghost use Rattle.a429_cert.specs.Judged.{IsCheckFault, ShowsFewestOfBytes};
 
 use crate::judging::{NoVerdict, judge};
 use crate::verdicts::Verdict;
-use a429_equipment::{Equipment, TableFault};
+use a429_table::{TableFault, read_equipment};
 use std::alloc::Global;
 use thiserror::Error;
 
@@ -66,6 +66,6 @@ pub fn check(alloc: Global, table: &[u8], text: &[u8]) -> Result<Verdict, CheckF
     ensures fewest { IfOk result (λ v. v ≡ Verdict.Fewest → ShowsFewestOfBytes table.now text.now) }
     ensures fault { IfErr result (IsCheckFault table.now) }
 {
-    let equipment = Equipment::read(alloc, table)?;
+    let equipment = read_equipment(alloc, table)?;
     Ok(judge(alloc, &equipment, text)?)
 }

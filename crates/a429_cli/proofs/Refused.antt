@@ -2,7 +2,7 @@
 use Rattle.std.proofs.Common.{◌≡◌, ◌⊎◌, length, ℕ, List, inl, inr}
 use Rattle.std.specs.Prelude.{Option, Ok}
 use Rattle.a429_equipment.specs.TableRecord.{TableRecord}
-use Rattle.a429_equipment.specs.Reading.{reading}
+use Rattle.a429_table.specs.Reading.{reading}
 use Rattle.a429_cert.specs.Due.{IsFirstUnfitOf}
 use Rattle.a429_cert.specs.declared.verdicts.Verdict.{Verdict}
 use Rattle.a429_slots.specs.Proposed.{Proposed}

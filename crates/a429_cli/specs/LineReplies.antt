@@ -3,8 +3,8 @@ use Rattle.std.specs.Prelude.{◌≡◌, ◌==◌, ◌||◌, ◌+◌, ◌∷◌,
 use Rattle.a429_line.specs.declared.found.Symbol.{Symbol}
 use Rattle.a429_line.specs.Reports.{reports, rest}
 use Rattle.a429_filter.specs.declared.filters.Filter.{Filter}
-use Rattle.a429_equipment.specs.Stated.{filter_of}
-use Rattle.a429_equipment.specs.FilterTexts.{filter_read}
+use Rattle.a429_table.specs.Stated.{filter_of}
+use Rattle.a429_table.specs.FilterTexts.{filter_read}
 use Rattle.a429_inputs.specs.FileReadings.{readable, IsFileRefusal}
 use Rattle.a429_line.specs.LineBytes.{symbols_of}
 use Rattle.a429_cli.specs.LineFiles.{first_bad_byte}

@@ -2,8 +2,8 @@
 ghost use Rattle.std.specs.Prelude.{◌≡◌, ◌==◌, ◌||◌, ◌≤◌, ◌++◌, ◌∷◌, [], Some, IfOk, IsTrue, MatchResult, is_none, length, not, OnOk};
 ghost use Rattle.std.specs.Io.KnownBytes.{append_known};
 ghost use Rattle.a429_filter.specs.Filters.{filters_of};
-ghost use Rattle.a429_equipment.specs.Stated.{filter_of};
-ghost use Rattle.a429_equipment.specs.FilterTexts.{filter_read};
+ghost use Rattle.a429_table.specs.Stated.{filter_of};
+ghost use Rattle.a429_table.specs.FilterTexts.{filter_read};
 ghost use Rattle.a429_console.specs.Files.{texts_of};
 ghost use Rattle.a429_cli.specs.LineReplies.{AreFiltersOf, IsFilterRefusal, IsLinePrinted, IsLineReading, IsLineTold, IsLinesReply};
 ghost use Rattle.a429_console.specs.Outputs.{CountsFault, IsPut};
@@ -17,11 +17,11 @@ use crate::pending::Pending;
 use a429_console::files::FileReader;
 use a429_console::output::endings::finish;
 use a429_console::output::{Output, OutputFault};
-use a429_equipment::filter_of_text;
 use a429_filter::FilterSet;
 use a429_inputs::files::read_file;
 use a429_inputs::refusals::{CommandRefusal, refuse};
 use a429_line::LineReader;
+use a429_table::filter_of_text;
 use std::alloc::Global;
 
 /// The bytes of a line file, and the filters of its receiver.

@@ -9,7 +9,7 @@ use Rattle.a429_equipment.specs.declared.rows.GroupRow.{GroupRow}
 use Rattle.a429_equipment.specs.declared.rows.OutputRow.{OutputRow}
 use Rattle.a429_equipment.specs.TableRecord.{TableRecord}
 use Rattle.a429_equipment.specs.Arrivals.{AreApart}
-use Rattle.a429_equipment.specs.Texts.{is_name}
+use Rattle.a429_equipment.specs.NameForm.{is_name}
 
 -- 100000 bit/s, or 12000 to 14500
 abbrev pub IsRate : ℕ → Type 0

@@ -1,9 +1,11 @@
 -- The record that an equipment table states: receivers, sources, groups and outputs by their numbers in table order (profile: equipment table).
-use Rattle.std.specs.Prelude.{ℕ, List, [], Option, slice_index_or}
+use Rattle.std.specs.Prelude.{ℕ, List, [], Option, map, slice_index_or}
 use Rattle.a429_equipment.specs.declared.rows.ReceiverRow.{ReceiverRow}
 use Rattle.a429_equipment.specs.declared.rows.SourceRow.{SourceRow}
 use Rattle.a429_equipment.specs.declared.rows.GroupRow.{GroupRow}
 use Rattle.a429_equipment.specs.declared.rows.OutputRow.{OutputRow}
+use Rattle.a429_equipment.specs.declared.rows.StationRows.{StationRows}
+use Rattle.a429_equipment.specs.Version.{version_number}
 
 pub record TableRecord : Type 0 where
   -- 1 or 2
@@ -19,3 +21,14 @@ pub record TableRecord : Type 0 where
 -- those of a group, or none where there is no such group
 abbrev pub outputs_in : TableRecord → ℕ → List OutputRow
 outputs_in t group = slice_index_or t.outputs group []
+
+-- the record that the rows of a station are
+abbrev pub record_of : StationRows → TableRecord
+record_of rows = record {
+  version = version_number rows.version;
+  rate = rows.rate;
+  receivers = rows.receivers.items;
+  sources = rows.sources.items;
+  groups = rows.groups.items;
+  outputs = map (λ v. v.items) rows.outputs.items;
+}

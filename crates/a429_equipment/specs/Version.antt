@@ -1,14 +1,7 @@
--- The version of an equipment table (profile: equipment table).
-use Rattle.std.specs.Prelude.{codes, ℕ, pos, if◌then◌else◌}
-use Rattle.std.specs.Ordering.{int_eq}
-use Rattle.toml.specs.Data.{Data}
+-- The versions of equipment tables (profile: equipment table).
+use Rattle.std.specs.Prelude.{ℕ}
 use Rattle.a429_equipment.specs.declared.version.TableVersion.{TableVersion}
 use Rattle.a429_equipment.specs.declared.version.TableVersion.TheVariants.{One, Two}
-use Rattle.a429_equipment.specs.Tree.{integer_at}
-
--- 2 where the root states it, and else 1: where the root states neither, that is the fault which is asked first
-unfoldable pub version_of : Data → TableVersion
-version_of root = if int_eq (integer_at (codes "version") root) (pos 2) then Two else One
 
 abbrev pub version_number : TableVersion → ℕ
 version_number One = 1

@@ -1,7 +1,8 @@
 //! The same rows once more.
 ghost use Rattle.std.specs.Prelude.{◌≡◌, map, IfOk};
+ghost use Rattle.a429_equipment.specs.TableRecord.{record_of};
 
-use crate::rows::{GroupRow, OutputRow, ReceiverRow, SourceRow};
+use crate::rows::{GroupRow, OutputRow, ReceiverRow, SourceRow, StationRows};
 use std::alloc::{AllocError, Global};
 
 impl ReceiverRow {
@@ -40,7 +41,27 @@ impl GroupRow {
     }
 }
 
-pub fn copied_receivers(alloc: Global, rows: &[ReceiverRow]) -> Result<Vec<ReceiverRow>, AllocError>
+impl StationRows {
+    /// The same rows once more.
+    pub fn copied(&self, alloc: Global) -> Result<StationRows, AllocError>
+        ensures { IfOk result (λ rows. record_of rows ≡ record_of self.now) }
+    {
+        let receivers = copied_receivers(alloc, &self.receivers)?;
+        let sources = copied_sources(alloc, &self.sources)?;
+        let groups = copied_groups(alloc, &self.groups)?;
+        let outputs = copied_outputs(alloc, &self.outputs)?;
+        Ok(StationRows {
+            version: self.version,
+            rate: self.rate,
+            receivers,
+            sources,
+            groups,
+            outputs,
+        })
+    }
+}
+
+fn copied_receivers(alloc: Global, rows: &[ReceiverRow]) -> Result<Vec<ReceiverRow>, AllocError>
     ensures { IfOk result (λ v. v.items ≡ rows.now) }
 {
     let mut copies = Vec::with_capacity(alloc, rows.len())?;
@@ -50,7 +71,7 @@ pub fn copied_receivers(alloc: Global, rows: &[ReceiverRow]) -> Result<Vec<Recei
     Ok(copies)
 }
 
-pub fn copied_sources(alloc: Global, rows: &[SourceRow]) -> Result<Vec<SourceRow>, AllocError>
+fn copied_sources(alloc: Global, rows: &[SourceRow]) -> Result<Vec<SourceRow>, AllocError>
     ensures { IfOk result (λ v. v.items ≡ rows.now) }
 {
     let mut copies = Vec::with_capacity(alloc, rows.len())?;
@@ -60,7 +81,7 @@ pub fn copied_sources(alloc: Global, rows: &[SourceRow]) -> Result<Vec<SourceRow
     Ok(copies)
 }
 
-pub fn copied_groups(alloc: Global, rows: &[GroupRow]) -> Result<Vec<GroupRow>, AllocError>
+fn copied_groups(alloc: Global, rows: &[GroupRow]) -> Result<Vec<GroupRow>, AllocError>
     ensures { IfOk result (λ v. v.items ≡ rows.now) }
 {
     let mut copies = Vec::with_capacity(alloc, rows.len())?;
@@ -71,7 +92,7 @@ pub fn copied_groups(alloc: Global, rows: &[GroupRow]) -> Result<Vec<GroupRow>, 
 }
 
 /// The outputs of each group.
-pub fn copied_outputs(
+fn copied_outputs(
     alloc: Global,
     groups: &[Vec<OutputRow>],
 ) -> Result<Vec<Vec<OutputRow>>, AllocError>

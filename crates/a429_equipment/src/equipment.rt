@@ -3,31 +3,17 @@ ghost use Rattle.std.specs.Prelude.{◌≡◌, ◌<◌, slice_get, length, Some,
 ghost use Rattle.std.specs.Result.{result_map_both};
 
 use crate::arrivals::ArrivalRefusal;
-use crate::build::{group_outputs, group_rows, rate_of, receiver_rows, source_rows};
-use crate::copies::{copied_groups, copied_outputs, copied_receivers, copied_sources};
-use crate::document::document;
-use crate::fault::TableFault;
 use crate::index::Index;
-use crate::numbers::Numbers;
-use crate::rows::{GroupRow, OutputRow, ReceiverRow, SourceRow};
+use crate::rows::{GroupRow, OutputRow, ReceiverRow, SourceRow, StationRows};
 use crate::same::{same_groups, same_receivers, same_sources};
-use crate::search::fault_of;
-use crate::tree::rows_at;
-use crate::version::{TableVersion, version_of};
 use a429_word::Word;
 use std::alloc::{AllocError, Global};
 use std::marker::Model;
-use toml::Value;
 
 /// The receivers, sources, groups and outputs of a station, numbered from 0 in table order (profile).
 #[derive(Debug, Drop)]
 pub struct Equipment {
-    version: TableVersion,
-    rate: Option<u32>,
-    receivers: Vec<ReceiverRow>,
-    sources: Vec<SourceRow>,
-    groups: Vec<GroupRow>,
-    outputs: Vec<Vec<OutputRow>>,
+    rows: StationRows,
     index: Index,
 }
 
@@ -36,98 +22,36 @@ impl Model for Equipment {
 
     ghost Value = { TableRecord };
 
-    ghost use Rattle.a429_equipment.specs.Inside.{record_of, IsWhole};
+    ghost use Rattle.a429_equipment.specs.Inside.{record_inside, IsWhole};
 
-    ghost view = { record_of };
+    ghost view = { record_inside };
 
     ghost invariant = { IsWhole };
 }
 
 impl Equipment {
-    ghost use Rattle.a429_equipment.specs.TableRecord.{outputs_in};
+    ghost use Rattle.a429_equipment.specs.TableRecord.{outputs_in, record_of};
     ghost use Rattle.a429_equipment.specs.Sound.{IsSound};
     ghost use Rattle.a429_equipment.specs.Arrivals.{sorted, is_for};
     ghost use Rattle.a429_equipment.specs.SameStation.{same_station};
-    ghost use Rattle.std.specs.Prelude.{None};
-    ghost use Rattle.a429_equipment.specs.Faults.{first, faults};
-    ghost use Rattle.a429_equipment.specs.Stops.{table_of};
-    ghost use Rattle.a429_equipment.specs.Stated.{stated};
-    ghost use Rattle.a429_equipment.specs.Reading.{GivesUnlessMemory, IsJudged, reading};
-    ghost use Rattle.toml.specs.View.{view};
 
-    /// Reads an equipment table, as TOML (profile: equipment table, versions 1 and 2). The fault is the
-    /// first by kind, and of its kind the first in walk order: root, receivers, sources, then each group
-    /// followed by its outputs. It is `NoMemory` only where memory ran out, and for bytes that are UTF-8: others are
-    /// `NotToml`.
-    #[tactic(auto, using(crate::proofs::Documents::judged_gives))]
-    pub fn read(alloc: Global, bytes: &[u8]) -> Result<Equipment, TableFault>
-        ensures { GivesUnlessMemory (λ e. e) bytes.now result (reading bytes.now) }
+    /// The equipment of these rows, which keep to the limits of a table: each number and name is in range, no word of
+    /// a receiver is for two sources, and names and outputs are their own. The error is that memory was refused.
+    pub fn of_rows(alloc: Global, rows: StationRows) -> Result<Equipment, AllocError>
+        requires { IsSound (record_of rows) }
+        ensures { IfOk result (λ e. e ≡ record_of rows) }
     {
-        let root = document(alloc, bytes)?;
-        Equipment::of_root(alloc, &root)
-    }
-
-    /// The equipment of a root table, or its first fault.
-    fn of_root(alloc: Global, root: &Value) -> Result<Equipment, TableFault>
-        ensures { IsJudged (view root.now) result }
-    {
-        let numbers = Numbers::of(alloc, root)?;
-        Equipment::of_numbers(alloc, &numbers)
-    }
-
-    /// The same, once the names of the table have numbers.
-    fn of_numbers(alloc: Global, numbers: &Numbers<'_>) -> Result<Equipment, TableFault>
-        ensures { IsJudged (table_of numbers.now) result }
-    {
-        if let Some((kind, place)) = fault_of(alloc, numbers)? {
-            return Err(TableFault::At(kind, place));
-        }
-        Ok(Equipment::stated_by(alloc, numbers)?)
-    }
-
-    /// The equipment of a table without faults.
-    #[tactic(auto, unfolding(crate::specs::Stated::stated))]
-    fn stated_by(alloc: Global, numbers: &Numbers<'_>) -> Result<Equipment, AllocError>
-        requires { first (faults (table_of numbers.now)) ≡ None }
-        ensures { IfOk result (λ e. e ≡ stated (table_of numbers.now)) }
-    {
-        let root = numbers.root;
-        let receivers = receiver_rows(alloc, rows_at(root, "receiver"))?;
-        let sources = source_rows(alloc, numbers, rows_at(root, "source"))?;
-        let version = version_of(root);
-        let rate = rate_of(version, root);
-        let groups = group_rows(alloc, rate, rows_at(root, "group"))?;
-        let outputs = group_outputs(alloc, numbers, rows_at(root, "group"))?;
-        let index = Index::of(alloc, &receivers, &sources)?;
-        Ok(Equipment {
-            version,
-            rate,
-            receivers,
-            sources,
-            groups,
-            outputs,
-            index,
-        })
+        let index = Index::of(alloc, &rows.receivers, &rows.sources)?;
+        Ok(Equipment { rows, index })
     }
 
     /// The same equipment once more. The error is that memory was refused.
     pub fn copied(&self, alloc: Global) -> Result<Equipment, AllocError>
         ensures { IfOk result (λ e. e ≡ self.now) }
     {
-        let receivers = copied_receivers(alloc, &self.receivers)?;
-        let sources = copied_sources(alloc, &self.sources)?;
-        let groups = copied_groups(alloc, &self.groups)?;
-        let outputs = copied_outputs(alloc, &self.outputs)?;
+        let rows = self.rows.copied(alloc)?;
         let index = self.index.copied(alloc)?;
-        Ok(Equipment {
-            version: self.version,
-            rate: self.rate,
-            receivers,
-            sources,
-            groups,
-            outputs,
-            index,
-        })
+        Ok(Equipment { rows, index })
     }
 
     /// The version of its table: 1 or 2 (profile: equipment table).
@@ -135,7 +59,7 @@ impl Equipment {
         ensures version { result ≡ self.now.version }
         ensures sound { IsSound self.now }
     {
-        self.version.number()
+        self.rows.version.number()
     }
 
     /// The rate of every bus, in bit/s: 100000, or 12000 to 14500 (ARINC 429 Part 1, bit rates). None in
@@ -144,7 +68,7 @@ impl Equipment {
         ensures rate { result ≡ self.now.rate }
         ensures sound { IsSound self.now }
     {
-        self.rate
+        self.rows.rate
     }
 
     /// The receivers, at most 16.
@@ -152,7 +76,7 @@ impl Equipment {
         ensures rows { result.now ≡ self.now.receivers }
         ensures sound { IsSound self.now }
     {
-        self.receivers.as_slice()
+        self.rows.receivers.as_slice()
     }
 
     /// The sources, at most 256. No word of a receiver is for two of them.
@@ -160,7 +84,7 @@ impl Equipment {
         ensures rows { result.now ≡ self.now.sources }
         ensures sound { IsSound self.now }
     {
-        self.sources.as_slice()
+        self.rows.sources.as_slice()
     }
 
     /// The groups, at most 8.
@@ -168,7 +92,7 @@ impl Equipment {
         ensures rows { result.now ≡ self.now.groups }
         ensures sound { IsSound self.now }
     {
-        self.groups.as_slice()
+        self.rows.groups.as_slice()
     }
 
     /// The rate of the buses of a group, in bit/s: 100000, or 12000 to 14500 (ARINC 429 Part 1, bit rates).
@@ -177,7 +101,7 @@ impl Equipment {
         ensures rate { option_map (λ row. row.rate) (slice_get self.now.groups group) ≡ Some result }
         ensures sound { IsSound self.now }
     {
-        self.groups[group].rate
+        self.rows.groups[group].rate
     }
 
     /// The outputs of a group, 1 to 128.
@@ -186,7 +110,7 @@ impl Equipment {
         ensures rows { slice_get self.now.outputs group ≡ Some result.now }
         ensures sound { IsSound self.now }
     {
-        self.outputs[group].as_slice()
+        self.rows.outputs[group].as_slice()
     }
 
     /// How often an output of a group sends one accepted word at most, 1 to 1000000; None where there is
@@ -197,7 +121,7 @@ impl Equipment {
         ensures hold { option_map (λ row. row.hold) (slice_get (outputs_in self.now group) output) ≡ Some result }
         ensures sound { IsSound self.now }
     {
-        self.outputs[group][output].hold
+        self.rows.outputs[group][output].hold
     }
 
     /// The number of the source that a raw word is for, which came in at this receiver, with the word
@@ -212,7 +136,7 @@ impl Equipment {
         let Ok(word) = Word::from_raw(raw) else {
             return Err(ArrivalRefusal::Parity);
         };
-        let row = &self.receivers[receiver];
+        let row = &self.rows.receivers[receiver];
         if !row.filters.passes(word.label()) {
             return Err(ArrivalRefusal::Filtered);
         }
@@ -237,8 +161,8 @@ impl Equipment {
     pub fn same_station(&self, other: &Equipment) -> bool
         ensures { result ≡ same_station self.now other.now }
     {
-        same_receivers(&self.receivers, &other.receivers)
-            && same_sources(&self.sources, &other.sources)
-            && same_groups(&self.groups, &other.groups)
+        same_receivers(&self.rows.receivers, &other.rows.receivers)
+            && same_sources(&self.rows.sources, &other.rows.sources)
+            && same_groups(&self.rows.groups, &other.rows.groups)
     }
 }

@@ -1,12 +1,14 @@
 //! The rows of an equipment table.
 ghost use Rattle.std.specs.Prelude.{◌≡◌, List, ℕ, string_bytes, IfOk};
 
+use crate::version::TableVersion;
 use a429_filter::FilterSet;
 use a429_word::{Label, Sdi};
 use std::alloc::{AllocError, Global};
 use std::marker::Model;
 
-/// A name of a receiver, a source or a group: 1 to 16 of `a` to `z`, `0` to `9`, `-` and `_` (profile).
+/// A name of a receiver, a source or a group. In an equipment it is 1 to 16 of `a` to `z`, `0` to `9`, `-` and `_`
+/// (profile).
 #[derive(Debug, Drop)]
 pub struct Name {
     text: String,
@@ -19,8 +21,9 @@ impl Model for Name {
 }
 
 impl Name {
-    /// A copy of the text.
-    pub(crate) fn copy_of(alloc: Global, text: &str) -> Result<Name, AllocError>
+    /// A copy of the text, whose form is not asked here.
+    /// The error is that memory was refused.
+    pub fn copy_of(alloc: Global, text: &str) -> Result<Name, AllocError>
         ensures { IfOk result (λ n. n ≡ text.now) }
     {
         let text = String::from_str(alloc, text)?;
@@ -82,4 +85,17 @@ pub struct OutputRow {
     /// How often one accepted word is sent at most, 1 to 1000000; None where there is no limit, as always
     /// in version 1.
     pub hold: Option<u32>,
+}
+
+/// What an equipment is made of: the rows of a station, numbered from 0 in table order (profile).
+#[derive(Debug, Drop)]
+pub struct StationRows {
+    pub version: TableVersion,
+    /// In bit/s, of all groups in version 1; None in version 2, where each group has its own.
+    pub rate: Option<u32>,
+    pub receivers: Vec<ReceiverRow>,
+    pub sources: Vec<SourceRow>,
+    pub groups: Vec<GroupRow>,
+    /// Of each group, its outputs.
+    pub outputs: Vec<Vec<OutputRow>>,
 }

@@ -1,5 +1,5 @@
 //! Whether the rows of two tables are the same.
-ghost use Rattle.std.specs.Prelude.{◌≡◌, option_map};
+ghost use Rattle.std.specs.Prelude.{◌≡◌};
 ghost use Rattle.a429_equipment.specs.SameStation.{all_agree, same_filter, same_filters, same_receiver, same_sdi, same_source, same_group};
 
 use crate::rows::{GroupRow, ReceiverRow, SourceRow};

@@ -3,7 +3,7 @@
 use crate::keys::keys_of;
 use crate::rows::{Row, Shown, rows_at, shortened, text_at};
 use crate::twins::twin_of;
-use a429_equipment::{FaultKind, TablePlace, filter_of_text};
+use a429_table::{FaultKind, TablePlace, filter_of_text};
 use std::alloc::Global;
 use std::io;
 use std::io::Write;

@@ -1,6 +1,6 @@
 //! The keys of tables, and what is to stand at each, in words.
 
-use a429_equipment::{FaultKind, TablePlace};
+use a429_table::{FaultKind, TablePlace};
 use toml::Value;
 
 /// A key of a table.

@@ -4,9 +4,10 @@ use crate::faults::tell_table_fault;
 use crate::periods::{Unfit, tell_unfit};
 use crate::reasons::meaning;
 use a429_cert::{NoVerdict, Verdict, judge};
-use a429_equipment::{Equipment, GroupRow, TableFault};
+use a429_equipment::{Equipment, GroupRow};
 use a429_inputs::names::{group_name, source_name};
 use a429_slots::{OUTPUTS, PlanFault, Proposal};
+use a429_table::{TableFault, read_equipment};
 use std::alloc::Global;
 use std::io;
 use std::io::Write;
@@ -67,7 +68,7 @@ fn tell_groups<V: Write>(groups: &[GroupRow], name: &str, err: &mut V) -> io::Re
 
 /// The equipment of a table. Where the table has a fault, that is told.
 fn look_into<V: Write>(alloc: Global, table: &[u8], err: &mut V) -> io::Result<Option<Equipment>> {
-    match Equipment::read(alloc, table) {
+    match read_equipment(alloc, table) {
         Ok(equipment) => Ok(Some(equipment)),
         Err(TableFault::At(kind, place)) => {
             tell_table_fault(alloc, table, kind, place, err)?;

@@ -1,6 +1,6 @@
 //! Rows of a table and their values, as a person sees them.
 
-use a429_equipment::TablePlace;
+use a429_table::TablePlace;
 use std::fmt;
 use std::fmt::InlineText;
 use toml::Value;

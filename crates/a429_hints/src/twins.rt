@@ -1,7 +1,7 @@
 //! Rows that clash with an earlier one of their array.
 
 use crate::rows::{Row, rows_at, text_at};
-use a429_equipment::{FaultKind, TablePlace};
+use a429_table::{FaultKind, TablePlace};
 use toml::Value;
 
 /// The first earlier row of the same array with which a row clashes, by a fault of this kind.

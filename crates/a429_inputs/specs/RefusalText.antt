@@ -2,7 +2,7 @@
 use Rattle.std.specs.Prelude.{◌≡◌, ◌⊎◌, ◌++◌, ◌∷◌, [], ℕ, List, Option, ⊤, codes, string_bytes}
 use Rattle.std.specs.Fmt.{decimal}
 use Rattle.std.specs.Io.KnownBytes.{Appends}
-use Rattle.a429_equipment.specs.Printed.{kind_text, place_text}
+use Rattle.a429_table.specs.Printed.{kind_text, place_text}
 use Rattle.a429_inputs.specs.declared.refusals.CommandRefusal.{CommandRefusal}
 use Rattle.a429_inputs.specs.declared.refusals.CommandRefusal.TheVariants as refused
 

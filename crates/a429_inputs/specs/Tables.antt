@@ -1,7 +1,7 @@
 -- Tables as a command reads them: the proposal of a table, or why there is none.
 use Rattle.std.specs.Prelude.{◌≡◌, ℕ, List, Result, MatchResult, Ok, Err, string_bytes}
 use Rattle.a429_equipment.specs.TableRecord.{TableRecord}
-use Rattle.a429_equipment.specs.Reading.{reading}
+use Rattle.a429_table.specs.Reading.{reading}
 use Rattle.a429_slots.specs.Planned.{IsPlanOf}
 use Rattle.a429_slots.specs.Proposed.{Proposed}
 use Rattle.a429_slots.specs.Faults.{IsFaultOf}

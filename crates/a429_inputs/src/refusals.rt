@@ -5,7 +5,7 @@ ghost use Rattle.a429_inputs.specs.RefusalText.{IsRefusalPut};
 
 use a429_console::output::endings::{put_refused, refuse_memory};
 use a429_console::output::{Output, OutputFault};
-use a429_equipment::{FaultKind, TablePlace};
+use a429_table::{FaultKind, TablePlace};
 use std::alloc::{AllocError, AllocFailed, Global};
 use std::error::Error;
 use std::fmt;

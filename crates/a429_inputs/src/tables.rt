@@ -1,6 +1,6 @@
 //! Tables: their equipment, their proposals, and why there is none.
 ghost use Rattle.std.specs.Prelude.{◌≡◌, Ok, MatchResult};
-ghost use Rattle.a429_equipment.specs.Reading.{reading};
+ghost use Rattle.a429_table.specs.Reading.{reading};
 ghost use Rattle.a429_slots.specs.Faults.{IsFaultOf};
 ghost use Rattle.a429_slots.specs.declared.planner.PlanFault.TheVariants.{Unfit, TooManyBuses};
 ghost use Rattle.a429_inputs.specs.RefusalText.{OrMemory};
@@ -9,8 +9,9 @@ ghost use Rattle.a429_inputs.specs.Tables.{IsGroupRefusal, IsProposedBy, IsTable
 use crate::files::shown_name;
 use crate::names::{group_name, source_name};
 use crate::refusals::CommandRefusal;
-use a429_equipment::{Equipment, TableFault};
+use a429_equipment::Equipment;
 use a429_slots::{NoProposal, OUTPUTS, PlanFault, Proposal};
+use a429_table::{TableFault, read_equipment};
 use std::alloc::Global;
 
 /// The proposal of a table's bytes. Refused is the table's fault, or else the first fault of its plan.
@@ -28,7 +29,7 @@ pub fn propose(alloc: Global, table: &[u8]) -> Result<Proposal<OUTPUTS>, Command
 pub fn read_table(alloc: Global, table: &[u8]) -> Result<Equipment, CommandRefusal>
     ensures { MatchResult result (λ t. reading table.now ≡ Ok t) (OrMemory (IsTableFault table.now)) }
 {
-    match Equipment::read(alloc, table) {
+    match read_equipment(alloc, table) {
         Ok(equipment) => Ok(equipment),
         Err(TableFault::NoMemory) => Err(CommandRefusal::Memory),
         Err(TableFault::At(kind, place)) => Err(CommandRefusal::Table(kind, place)),

@@ -9,9 +9,9 @@ use Rattle.a429_live.proofs.ReportParts.{concat_push}
 use Rattle.std.specs.Fmt.{decimal}
 use Rattle.a429_word.proofs.Lists.{same_Ok}
 use Rattle.a429_equipment.specs.TableRecord.{TableRecord}
-use Rattle.a429_equipment.specs.Reading.{reading}
+use Rattle.a429_table.specs.Reading.{reading}
 use Rattle.a429_equipment.specs.SameStation.{same_station}
-use Rattle.a429_equipment.specs.declared.fault.TableFault.TheVariants as table
+use Rattle.a429_table.specs.declared.fault.TableFault.TheVariants as table
 use Rattle.a429_slots.specs.Faults.{IsFaultOf}
 use Rattle.a429_slots.specs.OnePlan.{PlansHaveNoFault}
 use Rattle.a429_slots.specs.Proposed.{Proposed}

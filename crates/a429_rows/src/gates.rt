@@ -6,6 +6,7 @@ use a429_board::{Board, Planner};
 use a429_equipment::Equipment;
 use a429_filter::MemoryLine;
 use a429_slots::plan;
+use a429_table::read_equipment;
 use a429_values::{Hub, Receiver};
 use a429_workers::{
     Gate, GateFault, MemorySink, Point, ReceiveFault, SendFault, Transmit, receive_all, send_frames,
@@ -21,7 +22,7 @@ use std::time::{Clock, Duration};
 fn three<R: Abort>(rt: &R, alloc: Global, table: &str) -> Equipment
     ensures { (length result.receivers ≡ 1) × (length result.groups ≡ 1) × (length result.sources ≡ 3) }
 {
-    let equipment = Equipment::read(alloc, table.as_bytes()).expect(rt, "a table");
+    let equipment = read_equipment(alloc, table.as_bytes()).expect(rt, "a table");
     assert_eq!(rt; equipment.receivers().len(), 1);
     assert_eq!(rt; equipment.groups().len(), 1);
     assert_eq!(rt; equipment.sources().len(), 3);

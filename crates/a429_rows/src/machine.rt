@@ -3,15 +3,15 @@ ghost use Rattle.std.specs.Prelude.{◌≤◌};
 
 use crate::support::{ONE, edited, standard};
 use a429_core::{Answer, Event, OpenFault, Refusal, State};
-use a429_equipment::Equipment;
 use a429_slots::{OUTPUTS, Proposal};
+use a429_table::read_equipment;
 use a429_word::Word;
 use std::alloc::Global;
 use std::process::Abort;
 
 /// The equipment of a table with its plan.
 pub fn proposal(rt: &impl Abort, alloc: Global, table: &str) -> Proposal<OUTPUTS> {
-    let equipment = Equipment::read(alloc, table.as_bytes()).expect(rt, "a table");
+    let equipment = read_equipment(alloc, table.as_bytes()).expect(rt, "a table");
     Proposal::of(alloc, equipment).expect(rt, "a proposal")
 }
 

@@ -3,15 +3,15 @@ ghost use Rattle.std.specs.Prelude.{◌≤◌};
 
 use crate::machine::proposal;
 use crate::support::{LIMITED, standard};
-use a429_equipment::Equipment;
 use a429_grid::Period;
 use a429_slots::{GroupPlan, OUTPUTS, OutputId, Plan, PlanFault, Proposal, SlotPlace, gap, plan};
+use a429_table::read_equipment;
 use std::alloc::Global;
 use std::process::Abort;
 
 /// The plan of a table's first group.
 fn first_group(rt: &impl Abort, alloc: Global, table: &str) -> GroupPlan<OUTPUTS> {
-    let equipment = Equipment::read(alloc, table.as_bytes()).expect(rt, "a table");
+    let equipment = read_equipment(alloc, table.as_bytes()).expect(rt, "a table");
     let made: Plan<OUTPUTS> = plan(alloc, &equipment).expect(rt, "a plan");
     assert!(rt; made.groups() > 0);
     *made.group(0)
@@ -275,7 +275,7 @@ fn no_schedule_has_fewer_buses(rt: HostRuntime) {
 #[test]
 fn equipment_without_a_plan_comes_back(rt: HostRuntime) {
     let table = standard(&rt, rt.alloc(), 100000, &[(1, 360), (1, 359)]);
-    let equipment = Equipment::read(rt.alloc(), table.as_bytes()).expect(&rt, "a table");
+    let equipment = read_equipment(rt.alloc(), table.as_bytes()).expect(&rt, "a table");
     let planned: Result<Plan<OUTPUTS>, PlanFault> = plan(rt.alloc(), &equipment);
     let unfit = PlanFault::Unfit {
         group: 0,

@@ -3,6 +3,7 @@
 use crate::support::{LIMITED, ONE, edited};
 use a429_equipment::{Equipment, OutputRow};
 use a429_slots::{OUTPUTS, PlanFault, plan};
+use a429_table::read_equipment;
 use std::alloc::{AllocError, Global};
 use std::process::Abort;
 
@@ -29,7 +30,7 @@ fn has_source(rt: &impl Abort, equipment: &Equipment) {
 fn gives_the_rows(rt: HostRuntime) {
     let filters = "name = \"r\"\nfilters = [\"200/370\"]";
     let table = edited(&rt, rt.alloc(), ONE, "name = \"r\"", filters);
-    let equipment = Equipment::read(rt.alloc(), table.as_bytes()).expect(&rt, "a table");
+    let equipment = read_equipment(rt.alloc(), table.as_bytes()).expect(&rt, "a table");
     assert_eq!(rt; (equipment.version(), equipment.rate()), (1, Some(100000)));
     has_receiver(&rt, &equipment);
     has_source(&rt, &equipment);
@@ -46,7 +47,7 @@ fn gives_the_rows(rt: HostRuntime) {
 
 #[test]
 fn gives_rates_and_holds_of_version_2(rt: HostRuntime) {
-    let equipment = Equipment::read(rt.alloc(), LIMITED.as_bytes()).expect(&rt, "a table");
+    let equipment = read_equipment(rt.alloc(), LIMITED.as_bytes()).expect(&rt, "a table");
     assert_eq!(rt; (equipment.version(), equipment.rate()), (2, None));
     assert_eq!(rt; equipment.groups().len(), 1);
     assert_eq!(rt; equipment.group_rate(0), 12500);
@@ -94,7 +95,7 @@ fn largest(rt: &impl Abort, alloc: Global, interval: u32) -> String {
 #[test]
 fn takes_the_largest_table(rt: HostRuntime) {
     let table = largest(&rt, rt.alloc(), 30000000);
-    let equipment = Equipment::read(rt.alloc(), table.as_bytes()).expect(&rt, "a table");
+    let equipment = read_equipment(rt.alloc(), table.as_bytes()).expect(&rt, "a table");
     assert_eq!(rt;
         (equipment.receivers().len(), equipment.sources().len()),
         (16, 256)
@@ -111,7 +112,7 @@ fn takes_the_largest_table(rt: HostRuntime) {
 #[test]
 fn refuses_the_largest_want_of_buses(rt: HostRuntime) {
     let table = largest(&rt, rt.alloc(), 360);
-    let equipment = Equipment::read(rt.alloc(), table.as_bytes()).expect(&rt, "a table");
+    let equipment = read_equipment(rt.alloc(), table.as_bytes()).expect(&rt, "a table");
     let _groups = equipment.groups();
     let Err(fault) = plan::<OUTPUTS>(rt.alloc(), &equipment) else {
         panic!(rt; "a plan");

@@ -4,6 +4,7 @@ ghost use Rattle.std.specs.Prelude.{◌≡◌, length};
 use a429_callers::client::run_once;
 use a429_equipment::Equipment;
 use a429_filter::MemoryLine;
+use a429_table::read_equipment;
 use a429_word::Word;
 use a429_workers::{MemorySink, Sent};
 use std::alloc::Global;
@@ -50,7 +51,7 @@ const Y: u32 = 0x00000040;
 fn read<R: Abort>(rt: &R, alloc: Global, table: &str) -> Equipment
     ensures { (length result.receivers ≡ 2) × (length result.groups ≡ 1) }
 {
-    let equipment = Equipment::read(alloc, table.as_bytes()).expect(rt, "a table");
+    let equipment = read_equipment(alloc, table.as_bytes()).expect(rt, "a table");
     assert_eq!(rt; equipment.receivers().len(), 2);
     assert_eq!(rt; equipment.groups().len(), 1);
     equipment

@@ -3,11 +3,11 @@ use Rattle.std.specs.Prelude.{◌≡◌, ◌≤◌, ◌+◌, ◌^◌, ◌++◌, 
 use Rattle.std.specs.List.{AllByRecursion}
 use mathlib.Core.List.{IsPrefix}
 use Rattle.a429_equipment.specs.TableRecord.{TableRecord}
-use Rattle.a429_equipment.specs.Reading.{reading}
+use Rattle.a429_table.specs.Reading.{reading}
 use Rattle.a429_equipment.specs.Sound.{IsSound}
 use Rattle.a429_equipment.specs.SameStation.{same_station}
-use Rattle.a429_equipment.specs.declared.fault.TableFault.{TableFault}
-use Rattle.a429_equipment.specs.declared.fault.TableFault.TheVariants as table
+use Rattle.a429_table.specs.declared.fault.TableFault.{TableFault}
+use Rattle.a429_table.specs.declared.fault.TableFault.TheVariants as table
 use Rattle.a429_slots.specs.Tables.{PlanTable, frame_of, groups_of}
 use Rattle.a429_slots.specs.Proposed.{Proposed}
 use Rattle.a429_slots.specs.History.{Opening}

@@ -9,8 +9,9 @@ ghost use Rattle.a429_station.specs.Resubmitting.{GoesOn, IsLed, IsPlanned, IsRe
 ghost use Rattle.a429_station.specs.Working.{told};
 
 use a429_board::{BoardFault, Planner};
-use a429_equipment::{Equipment, TableFault};
+use a429_equipment::Equipment;
 use a429_slots::{OUTPUTS, Plan, PlanFault, plan};
+use a429_table::{TableFault, read_equipment};
 use a429_workers::Transmit;
 use std::alloc::Global;
 use std::marker::Model;
@@ -90,7 +91,7 @@ fn replanned(alloc: Global, station: &Equipment, table: &[u8]) -> Result<Plan<OU
     ensures plan { IfOk result (λ plan. (of : IsPlanned table.now) × (same_station station.now of.record_of ≡ true) × (plan ≡ of.plan)) }
     ensures fault { IfErr result (λ fault. (p : Planning) → IsReplanFault (record { station = station.now; planner = p }) table.now fault) }
 {
-    let equipment = Equipment::read(alloc, table)?;
+    let equipment = read_equipment(alloc, table)?;
     let _sound = equipment.rate();
     let plan = plan(alloc, &equipment)?;
     if station.same_station(&equipment) {

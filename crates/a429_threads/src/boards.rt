@@ -3,8 +3,8 @@ ghost use Rattle.std.specs.Prelude.{◌≡◌};
 
 use crate::support::{ONE, one_of, planned};
 use a429_board::{Board, BoardFault, Planner, Watcher};
-use a429_equipment::Equipment;
 use a429_slots::{OUTPUTS, Plan};
+use a429_table::read_equipment;
 use std::alloc::Global;
 use std::process::Abort;
 use std::sync::Wait;
@@ -13,7 +13,7 @@ use std::thread::{Threads, for_each_mut, join_mut};
 
 /// The plan of one source, of number 0.
 fn opening<R: Abort>(rt: &R, alloc: Global) -> Plan<OUTPUTS> {
-    let equipment = Equipment::read(alloc, ONE.as_bytes()).expect(rt, "a table");
+    let equipment = read_equipment(alloc, ONE.as_bytes()).expect(rt, "a table");
     planned(rt, alloc, &equipment)
 }
 

@@ -4,9 +4,9 @@ mod spacing;
 mod stopping;
 
 use crate::support::{EVEN, FIRST, ONE, SECOND, TWO, three};
-use a429_equipment::{Equipment, FaultKind, TableFault, TablePlace};
 use a429_filter::MemoryLine;
 use a429_station::{Control, LiveFault, NoControl, ReplanFault, Report, Station, live};
+use a429_table::{FaultKind, TableFault, TablePlace, read_equipment};
 use a429_word::Word;
 use a429_workers::{Gate, GateFault, MemorySink, OpenGate, Point, Sent};
 use std::alloc::{AllocError, Global};
@@ -107,7 +107,7 @@ fn ran<R: Threads + Wait + Abort, G: Gate + Sync, K: Control<R>>(
     gate: &G,
     control: &mut K,
 ) -> Result<Report<MemoryLine, MemorySink>, LiveFault> {
-    let equipment = Equipment::read(alloc, table.as_bytes()).expect(rt, "a table");
+    let equipment = read_equipment(alloc, table.as_bytes()).expect(rt, "a table");
     let mut lines = Vec::new(alloc);
     for one in words {
         let mut given = Vec::new(alloc);

@@ -2,7 +2,7 @@
 ghost use Rattle.std.specs.Prelude.{◌≡◌, ◌<◌, ◌≤◌, length};
 
 use crate::support::{EVEN, FIRST, SECOND, TWO};
-use a429_equipment::Equipment;
+use a429_table::read_equipment;
 use a429_values::{Accept, Hub, HubFault, Receiver, Transmitter};
 use a429_word::Word;
 use std::alloc::Global;
@@ -33,7 +33,7 @@ fn ends<R: Abort, const C: u32>(rt: &R, alloc: Global) -> (Receiver, Transmitter
     requires { (1 ≤ C) × (C ≤ 41) }
     ensures { (result.0.at ≡ result.1.at) × (0 < length result.1.at.station.sources) }
 {
-    let equipment = Equipment::read(alloc, FILTERED.as_bytes()).expect(rt, "a table");
+    let equipment = read_equipment(alloc, FILTERED.as_bytes()).expect(rt, "a table");
     assert_eq!(rt; equipment.receivers().len(), 1);
     assert_eq!(rt; equipment.sources().len(), 1);
     assert_eq!(rt; equipment.groups().len(), 1);
@@ -134,7 +134,7 @@ fn loads_both(transmitter: &mut Transmitter, one: &mut Receiver, other: &mut Rec
 
 #[test]
 fn every_transmitter_meets_every_receiver(rt: HostRuntime) {
-    let equipment = Equipment::read(rt.alloc(), TWO.as_bytes()).expect(&rt, "a table");
+    let equipment = read_equipment(rt.alloc(), TWO.as_bytes()).expect(&rt, "a table");
     assert_eq!(rt; equipment.receivers().len(), 2);
     assert_eq!(rt; equipment.sources().len(), 2);
     assert_eq!(rt; equipment.groups().len(), 2);

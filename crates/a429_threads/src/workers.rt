@@ -10,6 +10,7 @@ use crate::support::{FIRST, one_of, planned, three};
 use a429_board::{Board, Planner};
 use a429_equipment::Equipment;
 use a429_slots::{OUTPUTS, Plan};
+use a429_table::read_equipment;
 use a429_values::{Accept, Hub, Receiver, Transmitter};
 use a429_word::Word;
 use a429_workers::{ChangeFault, FrameEnd, OpenFault, Transmit};
@@ -40,7 +41,7 @@ hold = 2
 fn read<R: Abort>(rt: &R, alloc: Global, table: &str) -> Equipment
     ensures { (length result.receivers ≡ 1) × (length result.groups ≡ 1) }
 {
-    let equipment = Equipment::read(alloc, table.as_bytes()).expect(rt, "a table");
+    let equipment = read_equipment(alloc, table.as_bytes()).expect(rt, "a table");
     assert_eq!(rt; equipment.receivers().len(), 1);
     assert_eq!(rt; equipment.groups().len(), 1);
     equipment

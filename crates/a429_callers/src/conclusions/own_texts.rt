@@ -3,8 +3,8 @@ ghost use Rattle.std.specs.Prelude.{◌≡◌, ◌⊎◌, Ok, Err, IfSome};
 
 use a429_cert::laws::own_text_is_fewest;
 use a429_cert::{CheckFault, Verdict, check, plan_text};
-use a429_equipment::Equipment;
 use a429_slots::Proposal;
+use a429_table::read_equipment;
 use std::alloc::Global;
 
 /// What the check of the text of a table's own plan answers, where there is a plan: that it shows the fewest buses, or
@@ -13,7 +13,7 @@ pub fn own_text_checked(alloc: Global, table: &[u8]) -> Option<Result<Verdict, C
     ensures { IfSome result (λ r. (r ≡ Ok Verdict.Fewest) ⊎ (r ≡ Err CheckFault.NoMemory)) }
 {
     own_text_is_fewest();
-    let Ok(equipment) = Equipment::read(alloc, table) else {
+    let Ok(equipment) = read_equipment(alloc, table) else {
         return None;
     };
     let _rate = equipment.rate();

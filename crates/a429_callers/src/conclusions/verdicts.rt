@@ -1,7 +1,7 @@
 //! The fewest buses, by a verdict.
 ghost use Rattle.std.specs.Prelude.{◌≡◌, Ok, IsTrue};
 ghost use Rattle.a429_equipment.specs.TableRecord.{TableRecord};
-ghost use Rattle.a429_equipment.specs.Reading.{reading};
+ghost use Rattle.a429_table.specs.Reading.{reading};
 ghost use Rattle.a429_callers.specs.Serving.{StatesFewestBuses};
 
 use a429_cert::{Verdict, check};

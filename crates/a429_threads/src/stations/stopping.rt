@@ -2,9 +2,9 @@
 
 use super::ran;
 use crate::support::{FIRST, ONE, TWO};
-use a429_equipment::Equipment;
 use a429_filter::{LineSource, MemoryLine, SourceFault};
 use a429_station::{LiveFault, NoControl, live};
+use a429_table::read_equipment;
 use a429_workers::{BusSink, Gate, GateFault, OpenGate, Point, Sent, SinkFault};
 use std::alloc::Global;
 use std::process::Abort;
@@ -99,7 +99,7 @@ fn stopped<R: Threads + Wait + Abort>(
     frames: u32,
     calls: &AtomicU64,
 ) -> Option<LiveFault> {
-    let equipment = Equipment::read(alloc, TWO.as_bytes()).expect(rt, "a table");
+    let equipment = read_equipment(alloc, TWO.as_bytes()).expect(rt, "a table");
     let mut lines = Vec::new(alloc);
     for number in 0..2u32 {
         let mut given = Vec::new(alloc);

@@ -1,8 +1,0 @@
-use Rattle.std.proofs.Common.{◌≡◌, ◌++◌, map, drop}
-use Rattle.toml.specs.View.{view}
-use Rattle.a429_equipment.specs.Stated.{output_row}
-use Rattle.a429_equipment.specs.Stops.{table_of}
-use Rattle.a429_equipment.proofs.build.output_rows.Given as goal
-
-abbrev pub invariant-loop-table : goal.invariant-loop-table
-invariant-loop-table l = l.rows.items ++ map (output_row (table_of l.numbers)) (map view (drop l.table-index l.tables)) ≡ map (output_row (table_of l.numbers)) (map view l.tables)

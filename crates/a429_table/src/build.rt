@@ -1,0 +1,224 @@
+//! The rows of a table without faults.
+
+ghost use Rattle.std.specs.Prelude.{◌≡◌, ◌≤◌, ◌^◌, All, map, length, codes, Some, IfOk};
+ghost use Rattle.toml.specs.View.{view};
+ghost use Rattle.a429_table.specs.Tree.{rows_at};
+ghost use Rattle.a429_table.specs.Stops.{table_of};
+ghost use Rattle.a429_table.specs.Stated.{natural, label_of, filter_of, filter_row, filters_of, receiver_row, source_row, rate_at, rate_of, group_row, hold_of, output_row, output_rows};
+
+use crate::keys::sdi_at;
+use crate::numbers::Numbers;
+use crate::tree::{get_integer, integer_at, rows_at, text_at, text_of};
+use crate::values::label_value;
+use a429_equipment::{GroupRow, Name, OutputRow, ReceiverRow, SourceRow, TableVersion};
+use a429_filter::{Filter, FilterSet};
+use a429_word::{Label, Sdi};
+use std::alloc::{AllocError, Global};
+use toml::Value;
+
+fn number(value: i64) -> u32
+    ensures { result ≡ natural (2 ^ 32) value }
+{
+    if 0 <= value && value < 4294967296 {
+        value as u32
+    } else {
+        0
+    }
+}
+
+fn rate_at(table: &Value) -> u32
+    ensures { result ≡ rate_at (view table.now) }
+{
+    number(integer_at(table, "rate"))
+}
+
+/// The rate of all groups, in bit/s, which the root has in version 1.
+pub fn rate_of(version: TableVersion, root: &Value) -> Option<u32>
+    ensures { result ≡ rate_of version (view root.now) }
+{
+    match version {
+        TableVersion::One => Some(rate_at(root)),
+        TableVersion::Two => None,
+    }
+}
+
+fn sdi_number(value: i64) -> Sdi
+    ensures { result ≡ natural 4 value }
+{
+    if 0 <= value && value < 4 {
+        Sdi::new(value as u8)
+    } else {
+        Sdi::new(0)
+    }
+}
+
+#[tactic(auto, unfolding(crate::specs::Stated::label_of))]
+fn label_of(text: &[u8]) -> u8
+    ensures { result ≡ label_of text.now }
+{
+    label_value(text).unwrap_or(0)
+}
+
+#[tactic(auto, unfolding(crate::specs::Stated::filter_of))]
+pub fn filter_of(text: &str) -> Filter
+    ensures { result ≡ filter_of text.now }
+{
+    let bytes = text.as_bytes();
+    if bytes.len() < 4 {
+        return Filter {
+            label: Label::new(label_of(bytes)),
+            mask: label_of(&[]),
+        };
+    }
+    Filter {
+        label: Label::new(label_of(&bytes[..3])),
+        mask: label_of(&bytes[4..]),
+    }
+}
+
+fn filter_list(texts: &[Value]) -> FilterSet
+    requires { length texts.now ≤ 32 }
+    ensures { result ≡ Some (map filter_row (map view texts.now)) }
+{
+    let mut filters = FilterSet::none();
+    for text in texts {
+        // A set takes 32 filters, so none of these is refused.
+        let _ = filters.add(filter_of(text_of(text)));
+    }
+    filters
+}
+
+fn filters_of(receiver: &Value) -> FilterSet
+    requires { length (rows_at (codes "filters") (view receiver.now)) ≤ 32 }
+    ensures { result ≡ filters_of (view receiver.now) }
+{
+    if receiver.get("filters").is_none() {
+        return FilterSet::all();
+    }
+    filter_list(rows_at(receiver, "filters"))
+}
+
+#[tactic(auto, unfolding(crate::specs::Stated::receiver_row))]
+fn receiver_row(alloc: Global, table: &Value) -> Result<ReceiverRow, AllocError>
+    requires { length (rows_at (codes "filters") (view table.now)) ≤ 32 }
+    ensures { IfOk result (λ r. r ≡ receiver_row (view table.now)) }
+{
+    let name = Name::copy_of(alloc, text_at(table, "name"))?;
+    let filters = filters_of(table);
+    Ok(ReceiverRow { name, filters })
+}
+
+pub fn receiver_rows(alloc: Global, tables: &[Value]) -> Result<Vec<ReceiverRow>, AllocError>
+    requires { All (λ d. length (rows_at (codes "filters") (view d)) ≤ 32) tables.now }
+    ensures { IfOk result (λ v. v.items ≡ map receiver_row (map view tables.now)) }
+{
+    let mut rows = Vec::new(alloc);
+    for table in tables {
+        rows.push(receiver_row(alloc, table)?)?;
+    }
+    Ok(rows)
+}
+
+#[tactic(auto, unfolding(crate::specs::Stated::source_row))]
+fn source_row(alloc: Global, numbers: &Numbers<'_>, table: &Value) -> Result<SourceRow, AllocError>
+    ensures { IfOk result (λ r. r ≡ source_row (table_of numbers.now) (view table.now)) }
+{
+    let name = Name::copy_of(alloc, text_at(table, "name"))?;
+    let receiver = numbers.receiver(text_at(table, "receiver")).unwrap_or(0);
+    let label = Label::new(label_of(text_at(table, "label").as_bytes()));
+    let sdi = sdi_at(table).map(sdi_number);
+    Ok(SourceRow {
+        name,
+        receiver,
+        label,
+        sdi,
+    })
+}
+
+pub fn source_rows(
+    alloc: Global,
+    numbers: &Numbers<'_>,
+    tables: &[Value],
+) -> Result<Vec<SourceRow>, AllocError>
+    ensures { IfOk result (λ v. v.items ≡ map (source_row (table_of numbers.now)) (map view tables.now)) }
+{
+    let mut rows = Vec::new(alloc);
+    for table in tables {
+        rows.push(source_row(alloc, numbers, table)?)?;
+    }
+    Ok(rows)
+}
+
+#[tactic(auto, unfolding(crate::specs::Stated::group_row))]
+fn group_row(alloc: Global, rate: Option<u32>, table: &Value) -> Result<GroupRow, AllocError>
+    ensures { IfOk result (λ r. r ≡ group_row rate (view table.now)) }
+{
+    let name = Name::copy_of(alloc, text_at(table, "name"))?;
+    let rate = rate.unwrap_or(rate_at(table));
+    Ok(GroupRow { name, rate })
+}
+
+/// The groups: each has this rate, where there is one, and else its own.
+pub fn group_rows(
+    alloc: Global,
+    rate: Option<u32>,
+    tables: &[Value],
+) -> Result<Vec<GroupRow>, AllocError>
+    ensures { IfOk result (λ v. v.items ≡ map (group_row rate) (map view tables.now)) }
+{
+    let mut rows = Vec::new(alloc);
+    for table in tables {
+        rows.push(group_row(alloc, rate, table)?)?;
+    }
+    Ok(rows)
+}
+
+fn hold_of(version: TableVersion, output: &Value) -> Option<u32>
+    ensures { result ≡ hold_of version (view output.now) }
+{
+    match version {
+        TableVersion::One => None,
+        TableVersion::Two => get_integer(output, "hold").map(number),
+    }
+}
+
+#[tactic(auto, unfolding(crate::specs::Stated::output_row))]
+fn output_row(numbers: &Numbers<'_>, table: &Value) -> OutputRow
+    ensures { result ≡ output_row (table_of numbers.now) (view table.now) }
+{
+    OutputRow {
+        source: numbers.source(text_at(table, "source")).unwrap_or(0),
+        min_us: number(integer_at(table, "min_us")),
+        max_us: number(integer_at(table, "max_us")),
+        hold: hold_of(numbers.version, table),
+    }
+}
+
+fn output_rows(
+    alloc: Global,
+    numbers: &Numbers<'_>,
+    tables: &[Value],
+) -> Result<Vec<OutputRow>, AllocError>
+    ensures { IfOk result (λ v. v.items ≡ map (output_row (table_of numbers.now)) (map view tables.now)) }
+{
+    let mut rows = Vec::new(alloc);
+    for table in tables {
+        rows.push(output_row(numbers, table))?;
+    }
+    Ok(rows)
+}
+
+/// The outputs of each group.
+pub fn group_outputs(
+    alloc: Global,
+    numbers: &Numbers<'_>,
+    groups: &[Value],
+) -> Result<Vec<Vec<OutputRow>>, AllocError>
+    ensures { IfOk result (λ v. map (λ w. w.items) v.items ≡ map (output_rows (table_of numbers.now)) (map view groups.now)) }
+{
+    let mut outputs = Vec::new(alloc);
+    for group in groups {
+        outputs.push(output_rows(alloc, numbers, rows_at(group, "output"))?)?;
+    }
+    Ok(outputs)
+}

@@ -1,0 +1,58 @@
+//! Faults in names: names given twice, and names that stand for nothing.
+
+ghost use Rattle.std.specs.Prelude.{◌≡◌, slice_get};
+ghost use Rattle.std.specs.Option.{option_copied};
+ghost use Rattle.toml.specs.View.{view};
+ghost use Rattle.a429_table.specs.Stops.{table_of};
+ghost use Rattle.a429_table.specs.Names.{is_below, name_of};
+ghost use Rattle.a429_table.specs.Faults.{repeats_name, names_nothing};
+
+use crate::fault::TablePlace;
+use crate::numbers::Numbers;
+use crate::tree::text_at;
+use crate::walk::Stop;
+use toml::Value;
+
+/// The row of a number.
+pub fn nth_row<T>(rows: &[T], row: usize) -> Option<&T>
+    ensures { option_copied result ≡ slice_get rows.now row }
+{
+    rows.get(row)
+}
+
+fn name_of(table: &Value) -> &str
+    ensures { result.now ≡ name_of (view table.now) }
+{
+    text_at(table, "name")
+}
+
+/// The name is that of an earlier table of the same array.
+#[tactic(auto, unfolding(crate::specs::Faults::repeats_name, crate::specs::Walk::earlier), using(crate::proofs::NameNumbers::named_before))]
+pub fn repeats_name(numbers: &Numbers<'_>, stop: &Stop) -> bool
+    ensures { result ≡ repeats_name (table_of numbers.now) stop.now.place (view stop.now.value.now) }
+{
+    match stop.place {
+        TablePlace::Receiver(row) => is_below(numbers.receiver(name_of(stop.value)), row),
+        TablePlace::Source(row) => is_below(numbers.source(name_of(stop.value)), row),
+        TablePlace::Group(row) => is_below(numbers.group(name_of(stop.value)), row),
+        _ => false,
+    }
+}
+
+fn is_below(number: Option<usize>, row: usize) -> bool
+    ensures { result ≡ is_below row number }
+{
+    number.is_some_and(|number| number < row)
+}
+
+/// A source's receiver or an output's source has no table.
+#[tactic(auto, unfolding(crate::specs::Faults::names_nothing))]
+pub fn names_nothing(numbers: &Numbers<'_>, stop: &Stop) -> bool
+    ensures { result ≡ names_nothing (table_of numbers.now) stop.now.place (view stop.now.value.now) }
+{
+    match stop.place {
+        TablePlace::Source(_) => numbers.receiver(text_at(stop.value, "receiver")).is_none(),
+        TablePlace::Output(_, _) => numbers.source(text_at(stop.value, "source")).is_none(),
+        _ => false,
+    }
+}

@@ -1,0 +1,183 @@
+//! The numbers of tables by their names.
+//!
+//! A table may have hundreds of names, and each is looked up for several faults: so they are gathered once.
+
+ghost use Rattle.std.specs.Prelude.{◌≡◌, map, codes, IfOk, OnOk, option_map, []};
+ghost use Rattle.toml.specs.View.{view};
+ghost use Rattle.a429_table.specs.Names.{number_named};
+ghost use Rattle.a429_table.specs.Numbers.{NumbersNames, NumbersOneMore};
+ghost use Rattle.a429_table.specs.Tree.{rows_at};
+ghost use Rattle.a429_table.specs.SourceKeys.{key_view, key_of, sender_of, senders_of, senders_view, AreSendersOfGroups};
+ghost use Rattle.a429_table.specs.Version.{version_of};
+ghost use Rattle.a429_table.specs.Chains.{AreChained};
+ghost use Rattle.a429_table.specs.KeyBuckets.{key_bucket};
+
+use crate::chains::Chains;
+use crate::keys::{SourceKey, key_chains, sender_key, sender_keys, source_keys};
+use crate::senders::Senders;
+use crate::tree::{rows_at, text_at};
+use crate::version::version_of;
+use a429_equipment::TableVersion;
+use indexmap::IndexMap;
+use std::alloc::{AllocError, Global};
+use toml::Value;
+
+/// A root table, with its version, the numbers of its receivers, sources and groups by their names, the keys of its
+/// sources, and those of the sources of each group's outputs.
+#[derive(Drop)]
+pub struct Numbers<'a> {
+    pub root: &'a Value,
+    pub version: TableVersion,
+    names: Names,
+    pub words: SourceWords<'a>,
+    ghost of_version: { version ≡ version_of (view root.now) },
+    ghost of_receivers: { NumbersNames names.receivers (rows_at (codes "receiver") (view root.now)) },
+    ghost of_sources: { NumbersNames names.sources (rows_at (codes "source") (view root.now)) },
+    ghost of_groups: { NumbersNames names.groups (rows_at (codes "group") (view root.now)) },
+    ghost of_keys: { map key_view words.keys.items ≡ map key_of (rows_at (codes "source") (view root.now)) },
+    ghost of_chains: { AreChained (map key_bucket words.keys.items) words.chains.last.items words.chains.before.items },
+    ghost of_senders: { senders_view words.senders.items ≡ map (senders_of (view root.now)) (rows_at (codes "group") (view root.now)) },
+}
+
+impl<'a> Numbers<'a> {
+    ghost use Rattle.a429_table.specs.Stops.{table_of};
+
+    /// Gathers the names of a root table.
+    pub fn of(alloc: Global, root: &'a Value) -> Result<Numbers<'a>, AllocError>
+        ensures { IfOk result (λ numbers. table_of numbers ≡ view root.now) }
+    {
+        let names = names_of(alloc, root)?;
+        let words = words_of(alloc, root, &names.sources)?;
+        Ok(Numbers {
+            root,
+            version: version_of(root),
+            names,
+            words,
+        })
+    }
+
+    /// The number of the first receiver with the name.
+    pub fn receiver(&self, name: &str) -> Option<usize>
+        ensures { result ≡ number_named name.now (rows_at (codes "receiver") (table_of self.now)) }
+    {
+        self.names.receivers.get(name).copied()
+    }
+
+    /// The number of the first source with the name.
+    pub fn source(&self, name: &str) -> Option<usize>
+        ensures { result ≡ number_named name.now (rows_at (codes "source") (table_of self.now)) }
+    {
+        self.names.sources.get(name).copied()
+    }
+
+    /// The number of the first group with the name.
+    pub fn group(&self, name: &str) -> Option<usize>
+        ensures { result ≡ number_named name.now (rows_at (codes "group") (table_of self.now)) }
+    {
+        self.names.groups.get(name).copied()
+    }
+
+    /// The key of the source of an output.
+    pub fn sender(&self, output: &Value) -> Option<SourceKey<'a>>
+        ensures { option_map key_view result ≡ sender_of (table_of self.now) (view output.now) }
+    {
+        sender_key(&self.names.sources, &self.words.keys, output)
+    }
+}
+
+/// The numbers of a table's receivers, sources and groups by their names.
+#[derive(Drop)]
+struct Names {
+    receivers: IndexMap<String, usize>,
+    sources: IndexMap<String, usize>,
+    groups: IndexMap<String, usize>,
+}
+
+/// The keys of a table's sources, in buckets, and those of the sources of each group's outputs.
+#[derive(Drop)]
+pub struct SourceWords<'a> {
+    pub keys: Vec<SourceKey<'a>>,
+    pub chains: Chains,
+    pub senders: Vec<Senders<'a>>,
+}
+
+/// The names of a root table. What is filled is one value, so that a refusal drops one.
+#[tactic(auto, unfolding(crate::specs::Names::number_named))]
+fn names_of(alloc: Global, root: &Value) -> Result<Names, AllocError>
+    ensures receivers { IfOk result (λ names. NumbersNames names.receivers (rows_at (codes "receiver") (view root.now))) }
+    ensures sources { IfOk result (λ names. NumbersNames names.sources (rows_at (codes "source") (view root.now))) }
+    ensures groups { IfOk result (λ names. NumbersNames names.groups (rows_at (codes "group") (view root.now))) }
+{
+    let mut names = Names {
+        receivers: IndexMap::new(alloc),
+        sources: IndexMap::new(alloc),
+        groups: IndexMap::new(alloc),
+    };
+    note_names(&mut names, alloc, root)?;
+    Ok(names)
+}
+
+/// Gives the receivers, the sources and the groups of a root table their numbers.
+fn note_names(names: &mut Names, alloc: Global, root: &Value) -> Result<(), AllocError>
+    requires receivers { NumbersNames names.old.receivers [] }
+    requires sources { NumbersNames names.old.sources [] }
+    requires groups { NumbersNames names.old.groups [] }
+    ensures receivers { OnOk result (NumbersNames names.new.receivers (rows_at (codes "receiver") (view root.now))) }
+    ensures sources { OnOk result (NumbersNames names.new.sources (rows_at (codes "source") (view root.now))) }
+    ensures groups { OnOk result (NumbersNames names.new.groups (rows_at (codes "group") (view root.now))) }
+{
+    number_names(&mut names.receivers, alloc, rows_at(root, "receiver"))?;
+    number_names(&mut names.sources, alloc, rows_at(root, "source"))?;
+    number_names(&mut names.groups, alloc, rows_at(root, "group"))
+}
+
+/// The words of a root table, whose sources have these numbers.
+fn words_of<'a>(
+    alloc: Global,
+    root: &'a Value,
+    numbers: &IndexMap<String, usize>,
+) -> Result<SourceWords<'a>, AllocError>
+    ensures keys { IfOk result (λ all. map key_view all.keys.items ≡ map key_of (rows_at (codes "source") (view root.now))) }
+    ensures chains { IfOk result (λ all. AreChained (map key_bucket all.keys.items) all.chains.last.items all.chains.before.items) }
+    ensures senders { IfOk result (λ all. AreSendersOfGroups numbers.now all.keys.items (rows_at (codes "group") (view root.now)) all.senders.items) }
+{
+    let keys = source_keys(alloc, rows_at(root, "source"))?;
+    let chains = key_chains(alloc, &keys)?;
+    let senders = sender_keys(alloc, numbers, &keys, rows_at(root, "group"))?;
+    Ok(SourceWords {
+        keys,
+        chains,
+        senders,
+    })
+}
+
+/// Gives a name a number, unless it has one.
+fn number_name(
+    numbers: &mut IndexMap<String, usize>,
+    alloc: Global,
+    name: &str,
+    number: usize,
+) -> Result<(), AllocError>
+    ensures { OnOk result (NumbersOneMore numbers.old numbers.new name.now number) }
+{
+    if !numbers.contains_key(name) {
+        numbers.insert(String::from_str(alloc, name)?, number)?;
+    }
+    Ok(())
+}
+
+/// Numbers the tables of an array by their names, where there were none. Of tables with one name the first has it.
+#[tactic(auto, unfolding(crate::specs::Names::number_named))]
+fn number_names(
+    numbers: &mut IndexMap<String, usize>,
+    alloc: Global,
+    tables: &[Value],
+) -> Result<(), AllocError>
+    requires { NumbersNames numbers.old [] }
+    ensures { OnOk result (NumbersNames numbers.new (map view tables.now)) }
+{
+    for (row, table) in tables.iter().enumerate() {
+        number_name(numbers, alloc, text_at(table, "name"), row)?;
+    }
+    Ok(())
+}

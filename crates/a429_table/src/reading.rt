@@ -1,0 +1,81 @@
+//! The equipment that a table states, read.
+ghost use Rattle.std.specs.Prelude.{◌≡◌, IfOk, None};
+ghost use Rattle.toml.specs.View.{view};
+ghost use Rattle.a429_equipment.specs.TableRecord.{record_of};
+ghost use Rattle.a429_table.specs.Faults.{first, faults};
+ghost use Rattle.a429_table.specs.Reading.{GivesUnlessMemory, IsJudged, reading};
+ghost use Rattle.a429_table.specs.Stated.{stated};
+ghost use Rattle.a429_table.specs.Stops.{table_of};
+
+use crate::build::{group_outputs, group_rows, rate_of, receiver_rows, source_rows};
+use crate::document::document;
+use crate::fault::TableFault;
+use crate::numbers::Numbers;
+use crate::search::fault_of;
+use crate::tree::rows_at;
+use crate::version::version_of;
+use a429_equipment::{Equipment, StationRows};
+use std::alloc::{AllocError, Global};
+use toml::Value;
+
+/// Reads an equipment table, as TOML (profile: equipment table, versions 1 and 2). The fault is the
+/// first by kind, and of its kind the first in walk order: root, receivers, sources, then each group
+/// followed by its outputs. It is `NoMemory` only where memory ran out, and for bytes that are UTF-8: others are
+/// `NotToml`.
+#[tactic(auto, using(crate::proofs::Documents::judged_gives))]
+pub fn read_equipment(alloc: Global, bytes: &[u8]) -> Result<Equipment, TableFault>
+    ensures { GivesUnlessMemory (λ e. e) bytes.now result (reading bytes.now) }
+{
+    let root = document(alloc, bytes)?;
+    of_root(alloc, &root)
+}
+
+/// The equipment of a root table, or its first fault.
+fn of_root(alloc: Global, root: &Value) -> Result<Equipment, TableFault>
+    ensures { IsJudged (view root.now) result }
+{
+    let numbers = Numbers::of(alloc, root)?;
+    of_numbers(alloc, &numbers)
+}
+
+/// The same, once the names of the table have numbers.
+fn of_numbers(alloc: Global, numbers: &Numbers<'_>) -> Result<Equipment, TableFault>
+    ensures { IsJudged (table_of numbers.now) result }
+{
+    if let Some((kind, place)) = fault_of(alloc, numbers)? {
+        return Err(TableFault::At(kind, place));
+    }
+    Ok(stated_by(alloc, numbers)?)
+}
+
+/// The equipment of a table without faults.
+fn stated_by(alloc: Global, numbers: &Numbers<'_>) -> Result<Equipment, AllocError>
+    requires { first (faults (table_of numbers.now)) ≡ None }
+    ensures { IfOk result (λ e. e ≡ stated (table_of numbers.now)) }
+{
+    let rows = stated_rows(alloc, numbers)?;
+    Equipment::of_rows(alloc, rows)
+}
+
+/// The rows of a table without faults.
+#[tactic(auto, unfolding(crate::specs::Stated::stated))]
+fn stated_rows(alloc: Global, numbers: &Numbers<'_>) -> Result<StationRows, AllocError>
+    requires { first (faults (table_of numbers.now)) ≡ None }
+    ensures { IfOk result (λ rows. record_of rows ≡ stated (table_of numbers.now)) }
+{
+    let root = numbers.root;
+    let receivers = receiver_rows(alloc, rows_at(root, "receiver"))?;
+    let sources = source_rows(alloc, numbers, rows_at(root, "source"))?;
+    let version = version_of(root);
+    let rate = rate_of(version, root);
+    let groups = group_rows(alloc, rate, rows_at(root, "group"))?;
+    let outputs = group_outputs(alloc, numbers, rows_at(root, "group"))?;
+    Ok(StationRows {
+        version,
+        rate,
+        receivers,
+        sources,
+        groups,
+        outputs,
+    })
+}

@@ -1,0 +1,102 @@
+//! Faults in the shape of a table: its version, its keys, and the kinds of its values.
+
+ghost use Rattle.std.specs.Prelude.{◌≡◌, not};
+ghost use Rattle.std.specs.List.{list_any};
+ghost use Rattle.toml.specs.Data.{get};
+ghost use Rattle.toml.specs.View.{view, table_view};
+ghost use Rattle.a429_table.specs.Tree.{is_table, member_keys};
+ghost use Rattle.a429_table.specs.Columns.{column_view};
+ghost use Rattle.a429_table.specs.Faults.{is_text, has_shape, misfits, is_column_key, has_wrong_version, has_unknown_key, lacks_key, has_wrong_kind};
+
+use crate::columns::{Column, Shape, columns};
+use crate::fault::TablePlace;
+use crate::tree::integer_at;
+use crate::walk::Stop;
+use a429_equipment::TableVersion;
+use toml::{Table, Value};
+
+/// `version` is absent, or is neither the integer 1 nor the integer 2.
+#[tactic(auto, unfolding(crate::specs::Faults::has_wrong_version))]
+pub fn has_wrong_version(stop: &Stop) -> bool
+    ensures { result ≡ has_wrong_version stop.now.place (view stop.now.value.now) }
+{
+    match stop.place {
+        TablePlace::Root => !matches!(integer_at(stop.value, "version"), 1 | 2),
+        _ => false,
+    }
+}
+
+fn is_column_key(version: TableVersion, place: TablePlace, key: &str) -> bool
+    ensures { result ≡ is_column_key version place key.now }
+{
+    columns(version, place)
+        .iter()
+        .any(|column| column.key == key)
+}
+
+/// The table has a key that isn't one of its columns.
+#[tactic(auto, unfolding(crate::specs::Faults::has_unknown_key))]
+pub fn has_unknown_key(version: TableVersion, stop: &Stop) -> bool
+    ensures { result ≡ has_unknown_key version stop.now.place (view stop.now.value.now) }
+{
+    match stop.value {
+        Value::Table(table) => table_has_unknown_key(version, stop.place, table),
+        _ => false,
+    }
+}
+
+fn table_has_unknown_key(version: TableVersion, place: TablePlace, table: &Table) -> bool
+    ensures { result ≡ list_any (λ key. not (is_column_key version place key)) (member_keys (table_view table.now)) }
+{
+    table
+        .keys()
+        .any(|key| !is_column_key(version, place, key.as_str()))
+}
+
+/// A key that isn't there must be.
+#[tactic(auto, unfolding(crate::specs::Faults::lacks_key))]
+pub fn lacks_key(version: TableVersion, stop: &Stop) -> bool
+    ensures { result ≡ lacks_key version stop.now.place (view stop.now.value.now) }
+{
+    stop.value.is_table()
+        && columns(version, stop.place).iter().any(|column| column.required
+            && stop.value.get(column.key).is_none())
+}
+
+fn is_text(value: &Value) -> bool
+    ensures { result ≡ is_text (view value.now) }
+{
+    matches!(value, Value::String(_))
+}
+
+fn has_shape(shape: Shape, value: &Value) -> bool
+    ensures { result ≡ has_shape shape (view value.now) }
+{
+    match (shape, value) {
+        (Shape::Integer | Shape::IntegerOrText, Value::Integer(_)) => true,
+        (Shape::Text | Shape::IntegerOrText, Value::String(_)) => true,
+        (Shape::Texts, Value::Array(values)) => values.iter().all(is_text),
+        (Shape::Tables, Value::Array(_)) => true,
+        _ => false,
+    }
+}
+
+fn misfits(value: &Value, c: &Column) -> bool
+    ensures { result ≡ misfits (view value.now) (column_view c.now) }
+{
+    match value.get(c.key) {
+        Some(found) => !has_shape(c.shape, found),
+        None => false,
+    }
+}
+
+/// The value is no table, or one of its values is of another kind than its column's.
+#[tactic(auto, unfolding(crate::specs::Faults::has_wrong_kind))]
+pub fn has_wrong_kind(version: TableVersion, stop: &Stop) -> bool
+    ensures { result ≡ has_wrong_kind version stop.now.place (view stop.now.value.now) }
+{
+    !stop.value.is_table()
+        || columns(version, stop.place)
+            .iter()
+            .any(|column| misfits(stop.value, column))
+}
