@@ -15,14 +15,13 @@ use Rattle.a429_equipment.specs.Sound.{IsSound}
 use Rattle.a429_slots.specs.Tables.{GroupTable, PlanTable, groups_of}
 use Rattle.a429_slots.specs.Planned.{IsPlanOf}
 use Rattle.a429_slots.specs.Proposed.{Proposed}
-use Rattle.a429_slots.specs.History.{Opening}
 use Rattle.a429_board.specs.Lists.{Planning, Watched, numbered}
 use Rattle.a429_board.specs.declared.planner.BoardFault.{BoardFault}
 use Rattle.a429_values.specs.Ends.{Place, Receiving, Sending}
 use Rattle.a429_values.specs.Later.{OthersStayAgreed}
 use Rattle.a429_workers.specs.Calls.{Call, Meets, loads_of}
 use Rattle.a429_workers.specs.Receives.{after_words}
-use Rattle.a429_workers.specs.Runs.{HasRun, IsWired, IsWorking}
+use Rattle.a429_workers.specs.Runs.{IsWired, IsWorking, WorkIsOneRun}
 use Rattle.a429_workers.specs.Sends.{HasSent, sent_in, with_cells}
 use Rattle.a429_workers.specs.Transmitting.{BeginsWith, GoesOnBy, HasMade, IsKnownPlan, Outset, StandsFor, Transmitting, led_by, met}
 use Rattle.a429_workers.specs.declared.cells.Sent.{Sent}
@@ -95,13 +94,7 @@ first_of : {X : Type 0} (xs : List X) → 0 < length xs → (x : X) × (slice_ge
 first_of [] some = absurd (omega (arith, some))
 first_of (x ∷ xs) some = (x, refl)
 
--- what the law of one run says
-abbrev pub OneRunHolds : Type 0
-OneRunHolds =
-    (C : ℕ) (o : Opening) (g : ℕ) (p : GroupTable) (later : List Proposed) (calls : List Call) (heard : ℕ → List (ℕ × ℕ))
-    → IsWorking C o g p later calls heard → HasRun C o g later calls heard
-
-pub one_run_of : (law : OneRunHolds) (at : Place) (w : Watched) (list : List PlanTable) (begun sent done : Transmitting) (a b : List ℕ) (calls : List Call) (before after : Option (List Sent))
+pub one_run_of : (law : WorkIsOneRun) (at : Place) (w : Watched) (list : List PlanTable) (begun sent done : Transmitting) (a b : List ℕ) (calls : List Call) (before after : Option (List Sent))
     → IsWired at.station → length at.station.receivers ≡ 2 → 0 < length at.station.groups → IsPlanOf at.station w.opened
     → BeginsWith (record { at = at; number = 0; loads = [] }) w 0 begun → begun.transmitter.at ≡ at → HasSent begun sent before after calls []
     → AreShown (opening at.station w.opened) list → HasMet sent done (heard_at at 0 a) (heard_at at 1 b) list

@@ -14,7 +14,13 @@ use Rattle.a429_cert.specs.declared.checking.CheckFault.{CheckFault}
 use Rattle.a429_cert.specs.declared.checking.CheckFault.TheVariants as check
 use Rattle.a429_cert.specs.Due.{IsFirstUnfitOf}
 use Rattle.a429_cert.specs.Lines.{lines_of, lines_of_groups}
-use Rattle.a429_cert.specs.Checked.{StatesPlan}
+use Rattle.a429_cert.specs.Checked.{IsChecked, Stated, StatesPlan}
+
+-- a checked plan of a group is on the fewest buses
+abbrev pub CheckedPlansAreFewest : Type 0
+CheckedPlansAreFewest =
+    (e : TableRecord) (group : GroupRow) (rows : List OutputRow) (s : Stated) → IsChecked e group rows s
+    → AreFewestBusesFor group.rate rows s.heading.buses
 
 -- the lines of a group state a checked plan, and no schedule that serves the group has fewer buses than they state
 pub record StatesFewest (e : TableRecord) (group : GroupRow) (rows : List OutputRow) (lines : List (List ℕ)) : Type 0 where

@@ -1,13 +1,10 @@
 //! What holds of the definitions that the contracts cite.
 ghost use Rattle.std.specs.Prelude.{◌≡◌, List, ℕ, Some};
-ghost use Rattle.a429_cert.specs.Judged.{ShowsFewest};
+ghost use Rattle.a429_cert.specs.Judged.{CheckedPlansAreFewest, ShowsFewest};
 ghost use Rattle.a429_equipment.specs.TableRecord.{TableRecord};
 ghost use Rattle.a429_equipment.specs.Sound.{IsSound};
 ghost use Rattle.a429_slots.specs.Tables.{PlanTable};
-ghost use Rattle.a429_slots.specs.Planned.{AreFewestBusesFor, IsPlanOf};
-ghost use Rattle.a429_equipment.specs.declared.rows.GroupRow.{GroupRow};
-ghost use Rattle.a429_equipment.specs.declared.rows.OutputRow.{OutputRow};
-ghost use Rattle.a429_cert.specs.Checked.{IsChecked, Stated};
+ghost use Rattle.a429_slots.specs.Planned.{IsPlanOf};
 ghost use Rattle.a429_cert.specs.declared.verdicts.Verdict.TheVariants.{Fewest};
 ghost use Rattle.a429_cert.specs.declared.due.DueTable.{DueTable};
 ghost use Rattle.a429_cert.specs.Spelling.{Heading, Listing, Bounding, version_text, rate_text, group_text, output_text, bound_text, IsShort, FitsHeading, FitsListing, FitsBounding};
@@ -67,8 +64,7 @@ pub fn own_text_is_fewest()
 /// A checked plan of a group, by whomever it is stated, is on the fewest buses: no schedule that serves the group has
 /// fewer.
 pub fn checked_plans_are_fewest()
-    ensures { (e : TableRecord) (group : GroupRow) (rows : List OutputRow) (s : Stated) → IsChecked e group rows s
-        → AreFewestBusesFor group.rate rows s.heading.buses }
+    ensures { CheckedPlansAreFewest }
 {
     fewest_by_demand();
 }

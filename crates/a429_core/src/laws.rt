@@ -4,7 +4,7 @@ ghost use Rattle.a429_slots.specs.Events.{Event};
 ghost use Rattle.a429_slots.specs.History.{Opening};
 ghost use Rattle.a429_slots.specs.Answers.{answer, answers};
 ghost use Rattle.a429_core.specs.Spaced.{LaterCellsAreFull, OnlyFirstCellsAreEmpty, OpeningCellsAreFull, SentWordsAreApart};
-ghost use Rattle.a429_core.specs.Standing.{IsWholeEvent, Standing, StandsFor, stepped};
+ghost use Rattle.a429_core.specs.Standing.{GoesOnBy, IsWholeEvent, Standing, StandsFor, stepped};
 ghost use Rattle.a429_core.specs.Sends.{CellsAreAnsweredInTurn, SentWordsWereAccepted, TakenFramesAreAnswered, TakenFramesFollowAllCells};
 
 use a429_slots::laws::{sends_are_recalled, spacing_empties_first_cells_only, words_are_spaced};
@@ -14,8 +14,7 @@ use a429_slots::laws::{sends_are_recalled, spacing_empties_first_cells_only, wor
 pub fn calls_are_answered()
     ensures answer { (C : ℕ) (o : Opening) (E : List Event) (e : Event) (v : Standing) → IsWholeEvent e → StandsFor C o E v
         → (stepped C v e).0 ≡ answer C o E e }
-    ensures stands { (C : ℕ) (o : Opening) (E : List Event) (e : Event) (v : Standing) → IsWholeEvent e → StandsFor C o E v
-        → StandsFor C o (E ++ e ∷ []) (stepped C v e).1 }
+    ensures stands { (C : ℕ) (e : Event) (v : Standing) → IsWholeEvent e → GoesOnBy C v (e ∷ []) (stepped C v e).1 }
 {
     sends_are_recalled();
 }

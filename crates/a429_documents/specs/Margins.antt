@@ -6,6 +6,7 @@ use Rattle.a429_equipment.specs.TableRecord.{TableRecord}
 use Rattle.a429_equipment.specs.declared.rows.GroupRow.{GroupRow}
 use Rattle.a429_equipment.specs.declared.rows.OutputRow.{OutputRow}
 use Rattle.a429_equipment.specs.declared.rows.SourceRow.{SourceRow}
+use Rattle.a429_grid.specs.Grid.{IsGridPeriod, IsPeriod}
 use Rattle.a429_pack.specs.Widening.{IsLeastSaving, NoneSaves}
 use Rattle.a429_pack.specs.Windows.{raw_bound}
 use Rattle.a429_slots.specs.Tables.{GroupTable, PlanTable, placed_at, outputs_of, frame_of, buses_of, cells_of, groups_of}
@@ -96,3 +97,9 @@ AreMargins sources (g ∷ gs) (rows ∷ rowss) (t ∷ ts) text =
 
 abbrev pub IsMarginText : TableRecord → PlanTable → List ℕ → Type 0
 IsMarginText e p text = AreMargins e.sources e.groups e.outputs (groups_of p) text
+
+-- an interval whose greatest time becomes what twice its grid period lasts has that as its grid period, where the grid has such a period
+abbrev pub WiderIntervalsAreNext : Type 0
+WiderIntervalsAreNext =
+    (min_us max_us rate p : ℕ) → 1 ≤ rate → rate ≤ 100000 → IsPeriod (2 * p) → IsGridPeriod min_us max_us rate p
+    → IsGridPeriod min_us (slots_us rate (2 * p)) rate (2 * p)

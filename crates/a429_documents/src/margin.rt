@@ -6,7 +6,7 @@ ghost use Rattle.a429_pack.specs.Demanded.{IsBusCount};
 ghost use Rattle.a429_pack.specs.Windows.{raw_bound};
 ghost use Rattle.a429_slots.specs.Planned.{HaveSources, IsPlannedFor};
 ghost use Rattle.a429_slots.specs.Tables.{buses_of, outputs_of, source_of};
-ghost use Rattle.a429_documents.specs.Margins.{AreMargins, IsChoice, IsGroupMargin, IsMarginText, cells_text, excess_text, is_chosen, no_choice_text, output_margin, outputs_margin, periods_of, raw_text, verb, wider_text, window_of};
+ghost use Rattle.a429_documents.specs.Margins.{IsChoice, IsGroupMargin, IsMarginText, cells_text, excess_text, is_chosen, no_choice_text, output_margin, outputs_margin, periods_of, raw_text, verb, wider_text, window_of};
 ghost use Rattle.a429_cert.specs.PlanText.{HasSources};
 
 use crate::document::slots_us;

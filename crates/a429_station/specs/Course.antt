@@ -18,7 +18,7 @@ use Rattle.a429_workers.specs.declared.cells.Sent.{Sent}
 use Rattle.a429_workers.specs.declared.receiving.ReceiveTotals.{ReceiveTotals}
 use Rattle.a429_workers.specs.declared.sending.SendTotals.{SendTotals}
 use Rattle.a429_station.specs.Numbered.{AllOfThree}
-use Rattle.a429_station.specs.Resubmitting.{opening}
+use Rattle.a429_station.specs.Resubmitting.{IsDoneBetween, Running, opening}
 use Rattle.a429_station.specs.declared.reports.Report.{Report}
 
 -- the plan that the run began with, the proposals that were published meanwhile, in order, and the raw words that came to each receiver
@@ -77,3 +77,9 @@ pub record HasRun {L B : Type 0} (gives : L → List ℕ → L → Type 0) (ende
   pub few : frames ≤ 1000000
   pub heard : AllOfThree (IsHeardIn gives ended t course) sources report.sources.items report.receivers.items
   pub sent : AllOfThree (IsSentIn taken frames t course) sinks report.sinks.items report.groups.items
+
+-- such a run beside a control, which tells what it did, from what it was to what it is: that was done to the station meanwhile
+abbrev pub HasRunBeside : {K L B : Type 0} → (K → Running → Running → K → Type 0) → K → K → (L → List ℕ → L → Type 0) → (L → Bool) → (B → Option (List Sent)) → TableRecord → ℕ → List L → List B → Report L B → Type 0
+HasRunBeside did before after gives ended taken t frames sources sinks report =
+    (ran : HasRun gives ended taken t frames sources sinks report)
+    × IsDoneBetween (λ begin end. did before begin end after) t ran.course.opened ran.course.later

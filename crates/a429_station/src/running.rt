@@ -6,10 +6,10 @@ ghost use Rattle.a429_slots.specs.Tables.{groups_of};
 ghost use Rattle.a429_board.specs.Lists.{beginner};
 ghost use Rattle.a429_workers.specs.Runs.{IsWired};
 ghost use Rattle.a429_workers.specs.Transmitting.{BeginsWith};
-ghost use Rattle.a429_station.specs.Course.{HasRun, fresh};
+ghost use Rattle.a429_station.specs.Course.{HasRun, HasRunBeside, fresh};
 ghost use Rattle.a429_station.specs.Faults.{IsLiveFault, IsRunFault};
 ghost use Rattle.a429_station.specs.Numbered.{AllNumbered};
-ghost use Rattle.a429_station.specs.Resubmitting.{HasFewSlots, IsBegun, IsDoneBetween};
+ghost use Rattle.a429_station.specs.Resubmitting.{HasFewSlots, IsBegun};
 ghost use Rattle.a429_station.specs.Working.{IsReady};
 ghost use Rattle.a429_station.specs.declared.faults.LiveFault.TheVariants.{NoMemory};
 
@@ -172,8 +172,8 @@ fn run<
     requires few { frames ≤ 1000000 }
     requires watchers { AllByRecursion (λ w. w ≡ beginner station.old.planner) watchers.items }
     requires enough { vec_len sinks ≤ vec_len watchers }
-    ensures ran { IfOk result (λ report. (ran : HasRun (Gives L.given L.left) L.ended B.taken hub.now.station frames (map (λ w. w.line) receiving.entry.items) sinks.items report)
-        × IsDoneBetween (λ begin end. K.did control.old begin end control.new) hub.now.station ran.course.opened ran.course.later) }
+    ensures ran { IfOk result (HasRunBeside K.did control.old control.new (Gives L.given L.left) L.ended B.taken
+        hub.now.station frames (map (λ w. w.line) receiving.entry.items) sinks.items) }
     ensures fault { IfErr result (IsRunFault (Gives L.given L.left) L.ended L.failed B.failed (map (λ w. w.line) receiving.entry.items) sinks.items) }
 {
     let sending = groups(alloc, hub, desk, station, watchers, sinks, frames, gate)?;
@@ -240,8 +240,8 @@ pub fn live<
     requires sources { vec_len sources ≡ length equipment.now.receivers }
     requires sinks { vec_len sinks ≡ length equipment.now.groups }
     ensures ran { IfOk result (HasRun (Gives L.given L.left) L.ended B.taken equipment.now frames sources.items sinks.items) }
-    ensures told { IfOk result (λ report. (ran : HasRun (Gives L.given L.left) L.ended B.taken equipment.now frames sources.items sinks.items report)
-        × IsDoneBetween (λ begin end. K.did control.old begin end control.new) equipment.now ran.course.opened ran.course.later) }
+    ensures told { IfOk result (HasRunBeside K.did control.old control.new (Gives L.given L.left) L.ended B.taken
+        equipment.now frames sources.items sinks.items) }
     ensures fault { IfErr result (IsLiveFault (Gives L.given L.left) L.ended L.failed B.failed equipment.now frames sources.items sinks.items) }
 {
     numbers_in_range(equipment);

@@ -1,5 +1,5 @@
 -- Rows in buckets, and the row before each in its bucket: how a row is looked for among those of one bucket alone.
-use Rattle.std.specs.Prelude.{◌≡◌, ◌==◌, ◌&&◌, ◌<◌, ℕ, zero, suc, Bool, false, List, Option, Some, None, length, nat_lt, slice_get, slice_index_or, if◌then◌else◌}
+use Rattle.std.specs.Prelude.{◌≡◌, ◌==◌, ◌&&◌, ◌<◌, ◌++◌, ℕ, zero, suc, Bool, false, List, [], ◌∷◌, Option, Some, None, length, nat_lt, slice_get, slice_index_or, if◌then◌else◌}
 use Rattle.std.specs.Option.{option_map_or}
 
 -- of the first n rows the last that passes a test
@@ -17,6 +17,11 @@ pub record AreChained (buckets : List ℕ) (last before : List (Option ℕ)) : T
   pub same : length before ≡ length buckets
   pub last_of : (b : ℕ) → b < 256 → slice_index_or last b None ≡ last_where (is_in buckets b) (length buckets)
   pub before_of : (row : ℕ) → row < length buckets → slice_index_or before row None ≡ last_where (is_in buckets (slice_index_or buckets row 256)) row
+
+-- where there are chains of some rows, these others are those of one row more, in this bucket
+abbrev pub AreChainsWith : ℕ → (last before last_after before_after : List (Option ℕ)) → Type 0
+AreChainsWith bucket last before last_after before_after =
+    (buckets : List ℕ) → AreChained buckets last before → AreChained (buckets ++ bucket ∷ []) last_after before_after
 
 -- a row at a place before another passes a test
 abbrev pub passes_before : {X : Type 0} → (X → Bool) → List X → ℕ → ℕ → Bool

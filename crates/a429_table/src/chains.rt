@@ -1,6 +1,6 @@
 //! Rows in buckets, so that one is looked for among those of its bucket alone.
-ghost use Rattle.std.specs.Prelude.{◌≡◌, ◌++◌, ◌∷◌, [], List, ℕ, IfOk, OnOk, Some, None, length, replicate, slice_index_or, slice_set};
-ghost use Rattle.a429_table.specs.Chains.{AreChained};
+ghost use Rattle.std.specs.Prelude.{◌≡◌, [], IfOk, OnOk, Some, None, length, replicate, slice_index_or, slice_set};
+ghost use Rattle.a429_table.specs.Chains.{AreChained, AreChainsWith};
 
 use std::alloc::{AllocError, Global};
 
@@ -55,8 +55,8 @@ impl Chains {
     /// Adds a row of this bucket behind the others.
     pub fn push(&mut self, bucket: u8) -> Result<(), AllocError>
         requires { length self.old.last.items ≡ 256 }
-        ensures { OnOk result ((buckets : List ℕ) → AreChained buckets self.old.last.items self.old.before.items
-            → AreChained (buckets ++ bucket ∷ []) self.new.last.items self.new.before.items) }
+        ensures { OnOk result
+            (AreChainsWith bucket self.old.last.items self.old.before.items self.new.last.items self.new.before.items) }
     {
         let row = self.before.as_slice().len();
         let before = note_last(&mut self.last, bucket, row);

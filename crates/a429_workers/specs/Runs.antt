@@ -103,3 +103,9 @@ pub record IsRun (C : ℕ) (o : Opening) (g : ℕ) (later : List Proposed) (call
 pub record HasRun (C : ℕ) (o : Opening) (g : ℕ) (later : List Proposed) (calls : List Call) (heard : ℕ → List (ℕ × ℕ)) : Type 0 where
   pub events : List Event
   pub is : IsRun C o g later calls heard events
+
+-- whatever lawful calls a group's transmitter was asked for, they are one run with what the receivers accepted and the plans that were published
+abbrev pub WorkIsOneRun : Type 0
+WorkIsOneRun =
+    (C : ℕ) (o : Opening) (g : ℕ) (p : GroupTable) (later : List Proposed) (calls : List Call) (heard : ℕ → List (ℕ × ℕ))
+    → IsWorking C o g p later calls heard → HasRun C o g later calls heard

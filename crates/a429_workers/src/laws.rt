@@ -1,12 +1,7 @@
 //! What a transmitter does is what the machine does: laws over the definitions alone.
-ghost use Rattle.std.specs.Prelude.{ℕ, List};
-ghost use Rattle.a429_slots.specs.Tables.{GroupTable};
-ghost use Rattle.a429_slots.specs.Proposed.{Proposed};
-ghost use Rattle.a429_slots.specs.History.{Opening};
-ghost use Rattle.a429_workers.specs.Calls.{Call};
 ghost use Rattle.a429_workers.specs.Example as example;
 ghost use Rattle.a429_workers.specs.MoreCalls.{LastCallLeads, LastCallLoads, LawfulCallsGrow};
-ghost use Rattle.a429_workers.specs.Runs.{IsWorking, HasRun};
+ghost use Rattle.a429_workers.specs.Runs.{IsWorking, WorkIsOneRun};
 ghost use Rattle.a429_workers.specs.SentWords.{HoldsAreKept, OtherWordsGoOut, WordsAreApart};
 
 use a429_equipment::laws::tables_receive_for_sources;
@@ -17,8 +12,7 @@ use a429_slots::laws::{answered_cells_grow, frames_go_on};
 /// calls, its arrivals what each receiver accepted, its publications the plans that were published, each list in
 /// its order and nothing else.
 pub fn one_run()
-    ensures { (C : ℕ) (o : Opening) (g : ℕ) (p : GroupTable) (later : List Proposed) (calls : List Call) (heard : ℕ → List (ℕ × ℕ))
-        → IsWorking C o g p later calls heard → HasRun C o g later calls heard }
+    ensures { WorkIsOneRun }
 {
     tables_receive_for_sources();
     frames_go_on();

@@ -1,5 +1,5 @@
 //! The loop of a receiver.
-ghost use Rattle.std.specs.Prelude.{◌≡◌, ◌≤◌, ◌+◌, ◌<◌, ◌++◌, ◌∷◌, [], ◌⊎◌, ℕ, List, true, OnOk, OnErr, MatchResult};
+ghost use Rattle.std.specs.Prelude.{◌≡◌, ◌+◌, ◌<◌, ◌∷◌, [], ◌⊎◌, ℕ, List, true, OnOk, OnErr};
 ghost use Rattle.a429_values.specs.Ends.{accept_answer};
 ghost use Rattle.a429_workers.specs.declared.gates.Point.{Point as At};
 ghost use Rattle.a429_workers.specs.Gates.{IsOfReceiver, MayEndReceiver};

@@ -1,5 +1,5 @@
 //! A group's transmitter.
-ghost use Rattle.std.specs.Prelude.{◌≡◌, ◌≤◌, ◌+◌, ◌<◌, ◌^◌, ◌↔◌, ◌∷◌, [], false, length, slice_get, IfOk, IfSome, IsErrOf, IsErr, OnOk, OnErr, None, Some};
+ghost use Rattle.std.specs.Prelude.{◌≡◌, ◌≤◌, ◌+◌, ◌<◌, ◌^◌, ◌↔◌, ◌∷◌, [], false, length, slice_get, IfOk, IfSome, IsErrOf, IsErr, OnErr, None, Some};
 ghost use Rattle.std.specs.List.{AllByRecursion};
 ghost use Rattle.a429_slots.specs.Tables.{GroupTable, groups_of, cells_of};
 ghost use Rattle.a429_slots.specs.Sending.{next_cell, after_cell};
@@ -8,7 +8,7 @@ ghost use Rattle.a429_equipment.specs.Agreement.{AgreesToTheEnd};
 ghost use Rattle.a429_values.specs.Later.{OthersStayAgreed, StaysWhole};
 ghost use Rattle.a429_workers.specs.Calls.{Meets, number_of, table_of};
 ghost use mathlib.Core.List.{IsPrefix};
-ghost use Rattle.a429_workers.specs.Transmitting.{BeginsWith, GoesOnBy, IsDone, IsKnownPlan, IsKnownTable, IsSameGroup, StandsFor, cell_call, change_call, first_fits, loads_since, met, sent_by};
+ghost use Rattle.a429_workers.specs.Transmitting.{BeginsWith, GoesOnBy, IsDone, IsKnownPlan, IsKnownTable, IsSameGroup, cell_call, change_call, first_fits, loads_since, met, sent_by};
 
 use crate::cells::{ChangeFault, FrameEnd, OpenFault, Sent};
 use a429_board::{Planner, Watcher};
