@@ -1,7 +1,6 @@
 -- Places in a list that is made element by element.
-use Rattle.std.proofs.Common.{◌≡◌, ◌+◌, ◌<◌, ℕ, zero, suc, Bool, cond, List, map, [], ◌∷◌, length, get_or, arith, refl, ap}
+use Rattle.std.proofs.Common.{◌≡◌, ◌+◌, ℕ, Bool, cond, List, map, [], ◌∷◌, refl, ap}
 use Rattle.std.proofs.lemmas.List.{length-map}
-use Rattle.std.specs.List.{AllByRecursion}
 use Rattle.std.specs.Prelude.{not, position}
 use Rattle.std.specs.List.{prefix_len}
 
@@ -11,8 +10,3 @@ prefix_len-map f p (x ∷ xs) = ap (λ n. cond (p (f x)) (1 + n) 0) (prefix_len-
 
 pub position-map : {X Y : Type 0} (f : X → Y) (p : Y → Bool) (xs : List X) → position p (map f xs) ≡ position (λ x. p (f x)) xs
 position-map f p xs = rw (prefix_len-map f (λ y. not (p y)) xs, length-map xs f) refl
-
-pub all_at : {X : Type 0} (P : X → Type 0) (xs : List X) (i : ℕ) (d : X) → AllByRecursion P xs → i < length xs → P (get_or xs i d)
-all_at P [] i d all below = absurd (omega (arith, below))
-all_at P (x ∷ xs) zero d (first, all) below = first
-all_at P (x ∷ xs) (suc i) d (first, all) below = all_at P xs i d all (omega (arith, below))

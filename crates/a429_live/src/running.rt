@@ -1,5 +1,5 @@
 //! A run of the station, from files to its report.
-ghost use Rattle.std.specs.Prelude.{◌≡◌, ◌≤◌, IfOk, IsTrue, MatchResult, OnOk, length, vec_len};
+ghost use Rattle.std.specs.Prelude.{◌≡◌, ◌≤◌, IfOk, IsTrue, MatchResult, OnOk, vec_len};
 ghost use Rattle.a429_console.specs.Files.{bytes_of};
 ghost use Rattle.a429_live.specs.LiveReplies.{IsLiveReading, IsLiveReply, IsLiving, IsNoLiveStart, IsPreparedLive, IsRunRefusal, IsRunResult, files_of};
 ghost use Rattle.a429_console.specs.LiveWords.{live_of};

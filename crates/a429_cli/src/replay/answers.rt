@@ -1,5 +1,5 @@
 //! Lines of answers.
-ghost use Rattle.std.specs.Prelude.{◌≡◌, ◌≤◌, ◌+◌, ◌++◌, ◌∷◌, [], drop, length, OnOk, OnErr};
+ghost use Rattle.std.specs.Prelude.{◌≡◌, ◌≤◌, ◌+◌, ◌++◌, [], drop, length, OnOk, OnErr};
 ghost use Rattle.a429_slots.specs.declared.answers.Answer.TheVariants.{Sent, Refused};
 ghost use Rattle.a429_inputs.specs.AnswerLines.{answer_line, cell_text};
 
