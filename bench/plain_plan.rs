@@ -215,9 +215,9 @@ fn slots_us(rate: u64, slots: u64) -> u64 {
     (36_000_000 * slots).div_ceil(rate)
 }
 
-const COLUMNS: [&str; 14] = [
+const COLUMNS: [&str; 15] = [
     "group", "rate", "source", "receiver", "label", "sdi", "bus", "slot", "period", "period_us", "min_us", "max_us", "hold",
-    "spacing",
+    "spacing", "latency_us",
 ];
 
 /// The rows of the interface control document, the columns' names first.
@@ -244,6 +244,7 @@ fn document(table: &Table) -> Result<Vec<Vec<String>>, Fault> {
                 output.max_us.to_string(),
                 "none".into(),
                 (output.min_us * table.rate).div_ceil(36_000_000).to_string(),
+                slots_us(table.rate, placed.period + 1).to_string(),
             ]);
         }
     }
