@@ -168,7 +168,7 @@ impl<'a> Case<'a> {
     pub fn played<R: AllocGlobal + Threads + Wait>(&mut self, rt: &R) -> Outcome {
         let alloc = rt.alloc();
         let mut out = CountedWriter::new(Vec::new(alloc));
-        let mut err = Vec::new(alloc);
+        let mut err = CountedWriter::new(Vec::new(alloc));
         let Case { words, files, .. } = self;
         let is_live = words.first().is_some_and(|first| *first == "live");
         let status = if is_live {
@@ -186,6 +186,7 @@ impl<'a> Case<'a> {
             command(alloc, words, &HintLines, files, &mut out, &mut err)
         };
         let CountedWriter { writer: out, .. } = out;
+        let CountedWriter { writer: err, .. } = err;
         Outcome { out, err, status }
     }
 

@@ -21,7 +21,7 @@ use Rattle.a429_slots.specs.declared.answers.Answer.{Answer}
 use Rattle.a429_slots.specs.declared.answers.Answer.TheVariants.{Accepted, Sent, Changed, Published, Refused}
 use Rattle.a429_slots.specs.declared.answers.Refusal.TheVariants.{NoSuch, CountSpent, FrameEnd, MidFrame, SlotsSpent, StationDiffers}
 use Rattle.a429_slots.specs.Answers.{answer, answers, source_answer, cell_answer, frame_answer}
-use Rattle.a429_core.specs.Sends.{IsLatest}
+use Rattle.a429_core.specs.Sends.{AddsNone, AddsWord, IsLatest}
 use Rattle.a429_core.proofs.Places.{first_passes}
 use Rattle.a429_core.proofs.Words.{words_in, accepted_none, accepted_some, accepted_full, word_accepted, word_even, word_filtered, word_unheard, nobody_hears}
 use Rattle.a429_core.proofs.Steps.{answers_push}
@@ -73,18 +73,18 @@ publish_accepts_none C o E q = by (newest_number o E + 1) (same_station o.propos
 
 -- ---- what an event does for a source
 
-record Grew (C : ℕ) (o : Opening) (E : List Event) (i : ℕ) (e : Event) (a : Answer) : Type 0 where
+pub record Grew (C : ℕ) (o : Opening) (E : List Event) (i : ℕ) (e : Event) (a : Answer) : Type 0 where
   pub receiver : ℕ
   pub word : ℕ
   pub event : e ≡ Arrive receiver word
   pub answered : a ≡ Accepted i
   pub more : accepted_by C o i (E ++ e ∷ []) ≡ accepted_by C o i E ++ word ∷ []
 
-record Stayed (C : ℕ) (o : Opening) (E : List Event) (i : ℕ) (e : Event) (a : Answer) : Type 0 where
+pub record Stayed (C : ℕ) (o : Opening) (E : List Event) (i : ℕ) (e : Event) (a : Answer) : Type 0 where
   pub other : a ≡ Accepted i → ⊥
   pub same : accepted_by C o i (E ++ e ∷ []) ≡ accepted_by C o i E
 
-Does : ℕ → Opening → List Event → ℕ → Event → Answer → Type 0
+unfoldable pub Does : ℕ → Opening → List Event → ℕ → Event → Answer → Type 0
 Does C o E i e a = Grew C o E i e a ⊎ Stayed C o E i e a
 
 -- where a source is given by its row
@@ -201,11 +201,18 @@ arrive_does C o E i r raw apart =
           subst (Does C o E i (Arrive r raw)) (sym is) (quiet C o E i (Arrive r raw) (Refused NoSuch) refl (λ s there. word_filtered o s r raw (nobody_hears t r raw ge)))
     ]
 
-does : (C : ℕ) (o : Opening) (E : List Event) (i : ℕ) (e : Event) → AreApart o.proposal.station.sources → Does C o E i e (answer C o E e)
+pub does : (C : ℕ) (o : Opening) (E : List Event) (i : ℕ) (e : Event) → AreApart o.proposal.station.sources → Does C o E i e (answer C o E e)
 does C o E i (Arrive r raw) apart = arrive_does C o E i r raw apart
 does C o E i (Cell g) apart = quiet C o E i (Cell g) (answer C o E (Cell g)) (cell_accepts_none C o E g) (λ s there. refl)
 does C o E i (Frame g) apart = quiet C o E i (Frame g) (answer C o E (Frame g)) (frame_accepts_none C o E g) (λ s there. refl)
 does C o E i (Publish q) apart = quiet C o E i (Publish q) (answer C o E (Publish q)) (publish_accepts_none C o E q) (λ s there. refl)
+
+pub one_by_one : (C : ℕ) (o : Opening) (E : List Event) (source : ℕ) (e : Event) → AreApart o.proposal.station.sources → AddsWord C o E source e ⊎ AddsNone C o E source e
+unfolding Does
+one_by_one C o E source e apart = elim (does C o E source e apart) [
+  | inl G ↦ inl (record { receiver = G.receiver; word = G.word; event = G.event; answered = G.answered; more = G.more })
+  | inr S ↦ inr (record { other = S.other; same = S.same })
+]
 
 -- ---- the latest word
 

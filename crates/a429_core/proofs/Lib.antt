@@ -12,3 +12,10 @@ pub mod Accepting
 pub mod Carrying
 pub mod SpacedWords
 pub mod Unmoved
+pub mod Passing
+pub mod Rounds
+pub mod Latest
+pub mod GoingOut
+pub mod AcrossChanges
+pub mod ManyChanges
+pub mod LatencyExample

@@ -1,5 +1,5 @@
 -- An element of a list, read and written back; the last of a list; the first that passes a test.
-use Rattle.std.proofs.Common.{◌≡◌, ℕ, ◌-◌, ◌*◌, ◌%◌, ◌<◌, Bool, true, false, List, length, ◌∙◌, sym, ap, subst, refl, inl, inr}
+use Rattle.std.proofs.Common.{◌≡◌, ℕ, ◌*◌, ◌%◌, ◌<◌, Bool, true, false, List, length, ◌∙◌, sym, ap, subst, refl, inl, inr}
 use Rattle.std.specs.Prelude.{Option, Some, None, slice_get, position, nat_lt, option_map, option_and_then}
 use Rattle.std.proofs.Math.Nat.{mod-lt}
 use Rattle.std.proofs.lemmas.List.Quantifiers.{position-Some}

@@ -6,19 +6,12 @@ use Rattle.std.proofs.lemmas.Option.{none-some, same_Some, slice_get_within}
 use Rattle.a429_slots.specs.Tables.{Placed, GroupTable, groups_of}
 use Rattle.a429_slots.specs.Events.{Event, Cell}
 use Rattle.a429_slots.specs.History.{Opening, current, accepted_by, answered_cells, last_of, is_too_close}
-use Rattle.a429_slots.specs.Spacing.{EmptyCellsAreFirst, EmptyCellsFollowWords, IsOutputCell, IsSpacedTable, IsTooClose, OpeningPlanEmptiesNone, Sends, WordsAreApart, answered_at, number_at}
+use Rattle.a429_slots.specs.Spacing.{IsOutputCell, IsSpacedTable, IsTooClose, Sends, answered_at, number_at}
 use Rattle.a429_slots.specs.declared.answers.Answer.TheVariants.{Sent, Refused}
 use Rattle.a429_slots.specs.declared.answers.Refusal.TheVariants.{NoSuch}
 use Rattle.a429_slots.specs.Answers.{answer, cell_answer}
-use Rattle.a429_core.specs.Spaced.{IsAnswered, IsFirstCell, is_held_at}
+use Rattle.a429_core.specs.Spaced.{AreSpaced, IsAnswered, IsFirstCell, is_held_at}
 use Rattle.a429_core.proofs.Carrying.{sent_in}
-
--- what the laws of the crate below say of spacing
-pub record AreSpaced : Type 0 where
-  pub apart : WordsAreApart
-  pub only : EmptyCellsFollowWords
-  pub first : EmptyCellsAreFirst
-  pub opening : OpeningPlanEmptiesNone
 
 -- ---- the answer to an output's cell
 
@@ -29,7 +22,7 @@ answer_is C o g p E k output slot there I =
     ap (λ (x : Option GroupTable). option_map_or (λ t. cell_answer C o F g (answered_cells C o g t F) (current o g t F)) x (Refused NoSuch)) there
     ∙ (rw (I.due, I.stands) refl ∙ ap (λ (s : ℕ). Sent I.cell.0 s (answered_at C o g p E k output s).word) (sym I.counted))
 
-word_of : (C : ℕ) (o : Opening) (g : ℕ) (p : GroupTable) (E : List Event) (k : ℕ) (output : Placed) (slot : ℕ) (word : Option ℕ) → slice_get (groups_of o.proposal.plan) g ≡ Some p → IsAnswered C o g p E k output slot word
+pub word_of : (C : ℕ) (o : Opening) (g : ℕ) (p : GroupTable) (E : List Event) (k : ℕ) (output : Placed) (slot : ℕ) (word : Option ℕ) → slice_get (groups_of o.proposal.plan) g ≡ Some p → IsAnswered C o g p E k output slot word
     → (answered_at C o g p E k output slot).word ≡ word
 word_of C o g p E k output slot word there A =
     let w = (answered_at C o g p E k output slot).word in
@@ -37,7 +30,7 @@ word_of C o g p E k output slot word there A =
     let all = same_Some (bus, slot, w) (bus, slot, word) (ap sent_in (sym (answer_is C o g p E k output slot there A.cell) ∙ A.answered)) in
     ap (λ (c : ℕ × ℕ × Option ℕ). c.2) all
 
-answered_by : (C : ℕ) (o : Opening) (g : ℕ) (p : GroupTable) (E : List Event) (k : ℕ) (output : Placed) (slot word : ℕ) → slice_get (groups_of o.proposal.plan) g ≡ Some p → Sends C o g p E k output slot word
+pub answered_by : (C : ℕ) (o : Opening) (g : ℕ) (p : GroupTable) (E : List Event) (k : ℕ) (output : Placed) (slot word : ℕ) → slice_get (groups_of o.proposal.plan) g ≡ Some p → Sends C o g p E k output slot word
     → IsAnswered C o g p E k output slot (Some word)
 answered_by C o g p E k output slot word there S = record {
   cell = S.cell;
@@ -84,7 +77,7 @@ sent_where_open true close x free far = absurd (cc)
 sent_where_open false true x free far = absurd (far refl)
 sent_where_open false false x free far = refl
 
-sends_last : (C : ℕ) (o : Opening) (g : ℕ) (p : GroupTable) (E : List Event) (k : ℕ) (now : Placed) (t : ℕ) → slice_get (groups_of o.proposal.plan) g ≡ Some p → IsOutputCell o g p E k now t → is_held_at C o g p E k now ≡ false
+pub sends_last : (C : ℕ) (o : Opening) (g : ℕ) (p : GroupTable) (E : List Event) (k : ℕ) (now : Placed) (t : ℕ) → slice_get (groups_of o.proposal.plan) g ≡ Some p → IsOutputCell o g p E k now t → is_held_at C o g p E k now ≡ false
     → (IsTooClose C o g p E k now t → ⊥) → IsAnswered C o g p E k now t (last_of (accepted_by C o now.source (take k E)))
 sends_last C o g p E k now t there I free far =
     let earlier = answered_cells C o g p (take k E) in

@@ -1,10 +1,10 @@
 -- What the answers of a history come to: which cells of a frame are answered, and where the words in them come from.
-use Rattle.std.specs.Prelude.{◌≡◌, ◌↔◌, ◌+◌, ◌<◌, ◌++◌, ◌∷◌, [], ℕ, List, Some, None, IsTrue, map, filter, take, replicate, count_by, flat_map}
+use Rattle.std.specs.Prelude.{◌≡◌, ◌↔◌, ◌⊎◌, ◌+◌, ◌<◌, ◌++◌, ◌∷◌, [], ℕ, List, Some, None, IsTrue, map, filter, take, replicate, count_by, flat_map}
 use Rattle.std.specs.List.{AllByRecursion, range_with_len, zip}
 use Rattle.a429_equipment.specs.Arrivals.{AreApart}
 use Rattle.a429_slots.specs.Tables.{GroupTable, cells_of, frame_of, buses_of, source_at}
 use Rattle.a429_slots.specs.Events.{Event, Arrive, Cell, Frame}
-use Rattle.a429_slots.specs.History.{Opening, OpensWith, Current, current, is_cell, newest_number}
+use Rattle.a429_slots.specs.History.{Opening, OpensWith, Current, accepted_by, current, is_cell, newest_number}
 use Rattle.a429_slots.specs.TakenFrames.{BeginsFrame, NoneTaken, is_taken_after}
 use Rattle.a429_slots.specs.declared.answers.Answer.{Answer}
 use Rattle.a429_slots.specs.declared.answers.Answer.TheVariants.{Accepted, Sent, Changed, Published, Refused}
@@ -61,7 +61,25 @@ without_word (Refused refusal) = Refused refusal
 abbrev pub in_turn : Current → ℕ → List Answer
 in_turn f n = take n (map cell_sent (cells_in_order f) ++ replicate n (Refused FrameEnd))
 
+-- the event is an arrival that is answered Accepted, and its word comes behind those that the source had accepted
+pub record AddsWord (C : ℕ) (o : Opening) (E : List Event) (source : ℕ) (e : Event) : Type 0 where
+  pub receiver : ℕ
+  pub word : ℕ
+  pub event : e ≡ Arrive receiver word
+  pub answered : answer C o E e ≡ Accepted source
+  pub more : accepted_by C o source (E ++ e ∷ []) ≡ accepted_by C o source E ++ word ∷ []
+
+-- it is not answered so, and the source has accepted what it had
+pub record AddsNone (C : ℕ) (o : Opening) (E : List Event) (source : ℕ) (e : Event) : Type 0 where
+  pub other : ¬ (answer C o E e ≡ Accepted source)
+  pub same : accepted_by C o source (E ++ e ∷ []) ≡ accepted_by C o source E
+
 -- ---- laws
+
+-- a source accepts just the words of the arrivals that are answered so, one by one
+abbrev pub WordsAreAcceptedOneByOne : Type 0
+WordsAreAcceptedOneByOne =
+    (C : ℕ) (o : Opening) (E : List Event) (source : ℕ) (e : Event) → AreApart o.proposal.station.sources → AddsWord C o E source e ⊎ AddsNone C o E source e
 
 -- a word that is sent is the latest that was accepted for the source of the output that stands in its slot
 abbrev pub SentWordsWereAccepted : Type 0

@@ -3,7 +3,7 @@ use Rattle.std.specs.Prelude.{◌≡◌, ◌+◌, ◌<◌, ◌≤◌, ℕ, Bool,
 use Rattle.a429_slots.specs.Tables.{Placed, GroupTable}
 use Rattle.a429_slots.specs.Events.{Event, Cell}
 use Rattle.a429_slots.specs.History.{Opening, OpensWith, accepted_by, answered_cells, is_held, last_of}
-use Rattle.a429_slots.specs.Spacing.{HasSpacedTable, IsOutputCell, number_at}
+use Rattle.a429_slots.specs.Spacing.{EmptyCellsAreFirst, EmptyCellsFollowWords, HasSpacedTable, IsOutputCell, OpeningPlanEmptiesNone, WordsAreApart, number_at}
 use Rattle.a429_slots.specs.declared.answers.Answer.TheVariants.{Sent}
 use Rattle.a429_slots.specs.Answers.{answer}
 
@@ -33,6 +33,13 @@ pub record IsFirstCell (C : ℕ) (o : Opening) (g : ℕ) (p : GroupTable) (E : L
   pub same : earlier.source ≡ output.source
   pub close : slot < at + output.limits.spacing
   pub first : (i : ℕ) (x : Placed) (s : ℕ) → i < k → IsOutputCell o g p E i x s → x.source ≡ output.source → ¬ (number_at o g p E i ≡ number_at o g p E k)
+
+-- what holds of the spacing of words and of the cells that are empty for it (`a429_slots::laws`)
+pub record AreSpaced : Type 0 where
+  pub apart : WordsAreApart
+  pub only : EmptyCellsFollowWords
+  pub first : EmptyCellsAreFirst
+  pub opening : OpeningPlanEmptiesNone
 
 -- ---- laws
 

@@ -1,5 +1,5 @@
 -- The interface control document of a plan: the names of its columns, and a row of texts for each output.
-use Rattle.std.specs.Prelude.{ℕ, ◌*◌, ◌^◌, List, [], ◌∷◌, ◌++◌, Option, None, Some, codes, slice_get}
+use Rattle.std.specs.Prelude.{ℕ, ◌+◌, ◌*◌, ◌^◌, List, [], ◌∷◌, ◌++◌, Option, None, Some, codes, slice_get}
 use Rattle.std.specs.Fmt.{decimal}
 use Rattle.std.specs.Int.{div_ceil}
 use Rattle.std.specs.List.{flat_map}
@@ -30,9 +30,13 @@ place_columns = codes "bus" ∷ codes "slot" ∷ codes "period" ∷ codes "perio
 abbrev pub limit_columns : List (List ℕ)
 limit_columns = codes "min_us" ∷ codes "max_us" ∷ codes "hold" ∷ codes "spacing" ∷ []
 
+-- how old a word is at most when it has gone out, in microseconds
+abbrev pub latency_columns : List (List ℕ)
+latency_columns = codes "latency_us" ∷ []
+
 -- the names of all columns
 abbrev pub icd_columns : List (List ℕ)
-icd_columns = sent_columns ++ (place_columns ++ limit_columns)
+icd_columns = sent_columns ++ (place_columns ++ (limit_columns ++ latency_columns))
 
 -- ---- the row of an output
 
@@ -55,6 +59,11 @@ sent_fields receivers group source =
 abbrev pub slots_us : ℕ → ℕ → ℕ
 slots_us rate slots = div_ceil (36000000 * slots) rate
 
+-- The longest time in microseconds, within one plan, from the acceptance of a word until it, or a later word of its source, has gone out whole,
+-- where its output has a period of so many slots: a cell of the output begins within one period, and lasts one slot.
+abbrev pub latency_us : ℕ → ℕ → ℕ
+latency_us rate period = slots_us rate (period + 1)
+
 -- where it stands, at the rate of its group in bit/s
 abbrev pub place_fields : ℕ → SlotPlace → List (List ℕ)
 place_fields rate place =
@@ -64,10 +73,14 @@ place_fields rate place =
 abbrev pub limit_fields : OutputRow → SendLimits → List (List ℕ)
 limit_fields row limits = decimal row.min_us ∷ decimal row.max_us ∷ limit_text limits.hold ∷ decimal limits.spacing ∷ []
 
+-- how old a word is at most when it has gone out, at the rate of its group in bit/s
+abbrev pub latency_fields : ℕ → ℕ → List (List ℕ)
+latency_fields rate period = decimal (latency_us rate period) ∷ []
+
 -- the row of an output of a group, which sends this source
 abbrev pub icd_row : List ReceiverRow → GroupRow → SourceRow → OutputRow → SlotPlace → SendLimits → List (List ℕ)
 icd_row receivers group source row place limits =
-    sent_fields receivers group source ++ (place_fields group.rate place ++ limit_fields row limits)
+    sent_fields receivers group source ++ (place_fields group.rate place ++ (limit_fields row limits ++ latency_fields group.rate (2 ^ place.period)))
 
 -- the same, of the source that the output's row names; behind the last source, nothing
 unfoldable pub output_row : TableRecord → GroupRow → OutputRow → Placed → List (List ℕ)

@@ -115,7 +115,9 @@ fn aligned(alloc: Global, rows: &[Row]) -> Result<Vec<u8>, AllocError>
 /// The interface control document of a proposal's plan, in columns for people: a line with the names of the columns, and
 /// then a line for each output, groups and outputs in table order. Each column is as wide as its widest field, and two
 /// spaces stand between two columns. The rate is in bit/s; a slot is counted from 0 at the frame's start, and lasts 36
-/// bit times; a period is in slots, and in whole microseconds, rounded up. The error is that memory was refused.
+/// bit times; a period is in slots, and in whole microseconds, rounded up. The latency is the longest time, within one
+/// plan, from the acceptance of a word until it, or a later word of its source, has gone out whole: a period and one
+/// slot, in whole microseconds, rounded up. The error is that memory was refused.
 pub fn icd_text(alloc: Global, proposal: &Proposal<OUTPUTS>) -> Result<Vec<u8>, AllocError>
     ensures { IfOk result (λ text. text.items ≡ aligned (icd_rows proposal.now.station proposal.now.plan)) }
 {

@@ -1,13 +1,14 @@
 //! The interface control document of a plan, as rows of texts.
-ghost use Rattle.std.specs.Prelude.{◌≡◌, ◌++◌, ◌∷◌, [], ◌<◌, ◌≤◌, length, IfOk, OnOk};
+ghost use Rattle.std.specs.Prelude.{◌≡◌, ◌++◌, ◌∷◌, [], ◌<◌, ◌≤◌, ◌^◌, length, IfOk, OnOk};
 ghost use Rattle.a429_slots.specs.Tables.{outputs_of, placed_at};
 ghost use Rattle.a429_slots.specs.Planned.{HaveSources};
 ghost use Rattle.a429_word.specs.Texts.{octal};
 ghost use Rattle.a429_cert.specs.Spelling.{limit_text};
-ghost use Rattle.a429_documents.specs.Document.{icd_columns, receiver_name, sdi_text, sent_fields, slots_us, place_fields, limit_fields, icd_row, output_row, output_rows, plan_rows, icd_rows};
+ghost use Rattle.a429_documents.specs.Document.{icd_columns, receiver_name, sdi_text, sent_fields, slots_us, place_fields, limit_fields, latency_us, latency_fields, icd_row, output_row, output_rows, plan_rows, icd_rows};
 
 use crate::rows::Row;
 use a429_equipment::{Equipment, GroupRow, OutputRow, ReceiverRow, SourceRow};
+use a429_grid::Period;
 use a429_slots::{GroupPlan, OUTPUTS, OutputId, Proposal, SendLimits, SlotPlace};
 use a429_word::{Label, Sdi};
 use std::alloc::{AllocError, Global};
@@ -33,6 +34,7 @@ fn columns(alloc: Global) -> Result<Row, AllocError>
             "max_us",
             "hold",
             "spacing",
+            "latency_us",
         ],
     )
 }
@@ -71,6 +73,15 @@ pub fn slots_us(rate: u32, slots: u32) -> u64
     ensures { result ≡ slots_us rate slots }
 {
     (36_000_000 * u64::from(slots)).div_ceil(u64::from(rate))
+}
+
+/// The longest time in microseconds, within one plan, from the acceptance of a word until it, or a later word of its
+/// source, has gone out whole: the period of its output and one slot, at the group's rate in bit/s, rounded up.
+pub fn latency_us(rate: u32, period: Period) -> u64
+    requires { 1 ≤ rate }
+    ensures { result ≡ latency_us rate (2 ^ period) }
+{
+    slots_us(rate, period.slots() + 1)
 }
 
 /// The name of a receiver.
@@ -128,6 +139,14 @@ fn push_limits(
     row.push_number(alloc, u64::from(limits.spacing))
 }
 
+/// Adds how old a word of an output is at most when it has gone out, at the rate of its group in bit/s.
+fn push_latency(alloc: Global, row: &mut Row, rate: u32, period: Period) -> Result<(), AllocError>
+    requires { 1 ≤ rate }
+    ensures { OnOk result (row.new ≡ row.old ++ latency_fields rate (2 ^ period)) }
+{
+    row.push_number(alloc, latency_us(rate, period))
+}
+
 /// The row of an output of a group, which sends this source.
 fn icd_row(
     alloc: Global,
@@ -143,9 +162,11 @@ fn icd_row(
     ensures { IfOk result (λ row. row ≡ icd_row receivers.now group.now source.now output.now place limits) }
 {
     let mut row = Row::new(alloc);
+    let period = place.period;
     push_sent(alloc, &mut row, receivers, group, source)?;
     push_place(alloc, &mut row, group.rate, place)?;
     push_limits(alloc, &mut row, output, limits)?;
+    push_latency(alloc, &mut row, group.rate, period)?;
     Ok(row)
 }
 

@@ -12,5 +12,6 @@ mod rows;
 
 pub use aligned::icd_text;
 pub use csv_text::icd_csv;
+pub use document::latency_us;
 pub use drawing::draw_text;
 pub use margin::margin_text;

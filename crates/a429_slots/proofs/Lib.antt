@@ -14,6 +14,7 @@ pub mod GoingOn
 pub mod Numbers
 pub mod Following
 pub mod SamePlan
+pub mod OnBuses
 pub mod SpacedTables
 pub mod SpacedPlans
 pub mod OnePlan

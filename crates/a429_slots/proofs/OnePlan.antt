@@ -62,7 +62,7 @@ OneOrder = (ds : List Demand) (xs ys : List ℕ) → IsLayoutOrder ds xs → IsL
 abbrev pub OneCount : Type 0
 OneCount = (exponents : List ℕ) (m n : ℕ) → AreFewestBuses exponents m → AreFewestBuses exponents n → m ≡ n
 
-abbrev NameEach : Type 0
+abbrev pub NameEach : Type 0
 NameEach = (n : ℕ) (xs : List ℕ) → IsPermutation (range_with_len 0 n) xs → NamesEachOnce n xs
 
 record AreFor (rate : ℕ) (sources : List SourceRow) (rows : List OutputRow) (t u : GroupTable) : Type 0 where

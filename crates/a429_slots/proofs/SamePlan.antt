@@ -18,7 +18,7 @@ use Rattle.a429_slots.proofs.Following.{IsAgain, IsLater, later_at, behind_cell,
 -- ---- numbers
 
 -- two numbers that leave one rest are as far apart as what they are divided by
-rests_apart : (a b n : ℕ) → a < b → a % n ≡ b % n → a + n ≤ b
+pub rests_apart : (a b n : ℕ) → a < b → a % n ≡ b % n → a + n ≤ b
 rests_apart a b n less same =
     let x = a / n in
     let y = b / n in
@@ -35,7 +35,7 @@ rests_apart a b n less same =
     ]
 
 -- whole frames leave the rest as it is
-rest_of_frames : (h e r s : ℕ) → e ≤ h → (r * 2 ^ h + s) % 2 ^ e ≡ s % 2 ^ e
+pub rest_of_frames : (h e r s : ℕ) → e ≤ h → (r * 2 ^ h + s) % 2 ^ e ≡ s % 2 ^ e
 rest_of_frames h e r s few =
     let digits : (h - e) + e ≡ h = omega (arith, few) in
     let whole : 2 ^ h ≡ 2 ^ (h - e) * 2 ^ e = ap (λ z. 2 ^ z) (sym digits) ∙ pow-add 2 (h - e) e in
@@ -43,7 +43,7 @@ rest_of_frames h e r s few =
     ap (λ z. (z + s) % 2 ^ e) product ∙ mul-add-mod_self_right (r * 2 ^ (h - e)) (2 ^ e) s
 
 -- a later cell on the same bus has a later slot
-later_slot : (c d m : ℕ) → c < d → c % m ≡ d % m → c / m < d / m
+pub later_slot : (c d m : ℕ) → c < d → c % m ≡ d % m → c / m < d / m
 later_slot c d m less same =
     let first : c % m + c / m * m ≡ c = mod-add-div' c m in
     let second : d % m + d / m * m ≡ d = mod-add-div' d m in
@@ -57,12 +57,12 @@ later_slot c d m less same =
 -- ---- one table
 
 -- what stands in a cell has a number
-record IsAt (t : GroupTable) (bus slot : ℕ) (x : Placed) : Type 0 where
+pub record IsAt (t : GroupTable) (bus slot : ℕ) (x : Placed) : Type 0 where
   pub number : ℕ
   pub cell : cell_at t bus slot ≡ Some number
   pub row : slice_get (outputs_of t) number ≡ Some x
 
-is_at : (t : GroupTable) (bus slot : ℕ) (x : Placed) → output_in t bus slot ≡ Some x → IsAt t bus slot x
+pub is_at : (t : GroupTable) (bus slot : ℕ) (x : Placed) → output_in t bus slot ≡ Some x → IsAt t bus slot x
 is_at t bus slot x h = go (cell_at t bus slot) refl h
   where
     go : (n : Option ℕ) → cell_at t bus slot ≡ n → option_and_then (λ k. slice_get (outputs_of t) k) n ≡ Some x → IsAt t bus slot x
@@ -70,13 +70,13 @@ is_at t bus slot x h = go (cell_at t bus slot) refl h
     go (Some n) is there = record { number = n; cell = is; row = there }
 
 -- two cells of one source
-record AreAlike (t : GroupTable) (b s c u : ℕ) (y : Placed) : Type 0 where
+pub record AreAlike (t : GroupTable) (b s c u : ℕ) (y : Placed) : Type 0 where
   pub bus : b ≡ c
   pub rest : s % 2 ^ y.place.period ≡ u % 2 ^ y.place.period
   pub fits : y.place.period ≤ t.frame
   pub spaced : y.limits.spacing ≤ 2 ^ y.place.period
 
-alike : (t : GroupTable) (b s c u : ℕ) (x y : Placed) → IsSpacedTable t → output_in t b s ≡ Some x → output_in t c u ≡ Some y → x.source ≡ y.source → AreAlike t b s c u y
+pub alike : (t : GroupTable) (b s c u : ℕ) (x y : Placed) → IsSpacedTable t → output_in t b s ≡ Some x → output_in t c u ≡ Some y → x.source ≡ y.source → AreAlike t b s c u y
 alike t b s c u x y S first second same =
     let A = is_at t b s x first in
     let B = is_at t c u y second in

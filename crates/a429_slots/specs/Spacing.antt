@@ -5,7 +5,7 @@ use Rattle.std.specs.List.{AllByRecursion}
 use Rattle.a429_equipment.specs.Sound.{HaveOwnSources}
 use Rattle.a429_equipment.specs.declared.rows.OutputRow.{OutputRow}
 use Rattle.a429_equipment.specs.declared.rows.SourceRow.{SourceRow}
-use Rattle.a429_slots.specs.Tables.{Placed, GroupTable, outputs_of, output_in}
+use Rattle.a429_slots.specs.Tables.{Placed, GroupTable, buses_of, outputs_of, output_in}
 use Rattle.a429_slots.specs.Kept.{StandsJustAt}
 use Rattle.a429_slots.specs.Planned.{IsPlannedFor, IsPlanOf}
 use Rattle.a429_slots.specs.Proposed.{Proposed}
@@ -48,9 +48,11 @@ pub record IsSentWithin (C : ℕ) (o : Opening) (g : ℕ) (p : GroupTable) (E : 
   pub same : earlier.source ≡ output.source
   pub close : slot < at + output.limits.spacing
 
--- a slot table in which each output has a source of its own, is exactly periodic, and has a period that keeps to its least spacing
+-- a slot table in which each output has a source of its own, stands on one of the buses, is exactly periodic, and has a period that keeps to
+-- its least spacing
 pub record IsSpacedTable (t : GroupTable) : Type 0 where
   pub own : (a b : ℕ) (x y : Placed) → slice_get (outputs_of t) a ≡ Some x → slice_get (outputs_of t) b ≡ Some y → x.source ≡ y.source → a ≡ b
+  pub on_a_bus : (n : ℕ) (x : Placed) → slice_get (outputs_of t) n ≡ Some x → x.place.bus < buses_of t
   pub periodic : (n : ℕ) (x : Placed) → slice_get (outputs_of t) n ≡ Some x → StandsJustAt t n x.place.bus x.place.offset (2 ^ x.place.period)
   pub fits : (n : ℕ) (x : Placed) → slice_get (outputs_of t) n ≡ Some x → x.place.period ≤ t.frame
   pub spaced : (n : ℕ) (x : Placed) → slice_get (outputs_of t) n ≡ Some x → x.limits.spacing ≤ 2 ^ x.place.period
@@ -59,9 +61,9 @@ pub record IsSpacedTable (t : GroupTable) : Type 0 where
 abbrev pub HasSpacedTable : Opening → ℕ → GroupTable → List Event → ℕ → Type 0
 HasSpacedTable o g p E k = IsSpacedTable (current o g p (take k E)).table
 
--- a proposal with the plan of its own table, whose outputs have sources of their own
+-- a proposal with the plan of its own table, its number apart, whose outputs have sources of their own
 pub record IsOwnPlan (q : Proposed) : Type 0 where
-  pub plan : IsPlanOf q.station q.plan
+  pub plan : IsPlanOf q.station (record q.plan { number = 0 })
   pub own : AllByRecursion HaveOwnSources q.station.outputs
 
 -- the opening proposal is one, and each that is published

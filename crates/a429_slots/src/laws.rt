@@ -12,6 +12,7 @@ ghost use Rattle.a429_slots.specs.TakenFrames.{AreTaken, FramesFollowTakenOnes, 
 
 use a429_pack::laws::{
     fewest_by_demand, layout_orders_are_unique, none_is_above_the_greatest, orders_name_each_once,
+    stretches_are_apart,
 };
 
 /// A table has one plan or one fault. Two plans of it have the same output in every cell of every group, on the same
@@ -101,11 +102,14 @@ pub fn spacing_empties_first_cells_only()
     ensures opening { OpeningPlanEmptiesNone }
 {}
 
-/// The slot tables of a plan keep to the least spacing of each output.
+/// The slot tables of a plan keep to the least spacing of each output, and have each output on one of their buses.
 pub fn planned_tables_are_spaced()
     ensures { PlannedTablesAreSpaced }
 {
     none_is_above_the_greatest();
+    fewest_by_demand();
+    orders_name_each_once();
+    stretches_are_apart();
 }
 
 /// Where each proposal, the opening one and those that are published, has the plan of its own table, the slot
@@ -115,4 +119,7 @@ pub fn plans_in_force_are_spaced()
     ensures { PlansInForceAreSpaced }
 {
     none_is_above_the_greatest();
+    fewest_by_demand();
+    orders_name_each_once();
+    stretches_are_apart();
 }

@@ -1,22 +1,8 @@
-use Rattle.a429_core.proofs.SpacedWords.{AreSpaced, recurs, opens}
+use Rattle.a429_core.proofs.SpacedWords.{recurs, opens}
 use Rattle.a429_core.proofs.laws.outputs_recur_within_a_plan.Goals as goal
 
 pub returns-clause-again : goal.returns-clause-again
-returns-clause-again c =
-    let law : AreSpaced = record {
-      apart = c.words_are_spaced.ensures.apart;
-      only = c.words_are_spaced.ensures.only;
-      first = c.spacing_empties_first_cells_only.ensures.first;
-      opening = c.spacing_empties_first_cells_only.ensures.opening;
-    } in
-    recurs law
+returns-clause-again c = recurs c.spacing_is_kept.ensures
 
 pub returns-clause-opening : goal.returns-clause-opening
-returns-clause-opening c =
-    let law : AreSpaced = record {
-      apart = c.words_are_spaced.ensures.apart;
-      only = c.words_are_spaced.ensures.only;
-      first = c.spacing_empties_first_cells_only.ensures.first;
-      opening = c.spacing_empties_first_cells_only.ensures.opening;
-    } in
-    opens law
+returns-clause-opening c = opens c.spacing_is_kept.ensures
