@@ -3,3 +3,7 @@ pub mod Served
 pub mod Shown
 pub mod OwnPlans
 pub mod Latest
+pub mod Between
+pub mod Origins
+pub mod RunPlaces
+pub mod KnownWords

@@ -1,2 +1,4 @@
 pub mod OneRun
 pub mod Serving
+pub mod Origins
+pub mod KnownWords

@@ -2,7 +2,9 @@
 //! from nothing else of them.
 
 pub mod buses;
+pub mod loads;
 pub mod own_texts;
 pub mod refusals;
+pub mod stations;
 pub mod verdicts;
 pub mod words;

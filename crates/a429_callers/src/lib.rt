@@ -4,3 +4,4 @@
 
 pub mod client;
 pub mod conclusions;
+pub mod latency;

@@ -1,5 +1,6 @@
 pub mod WordsLines
 pub mod LiveRuns
+pub mod LiveRefusals
 pub mod ReportParts
 pub mod Resubmits
 pub mod WholeFrames

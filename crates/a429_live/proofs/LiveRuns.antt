@@ -1,5 +1,5 @@
 -- What a run of a station tells of its totals.
-use Rattle.std.proofs.Common.{◌≡◌, ◌∙◌, ◌+◌, ◌∷◌, [], ◌++◌, ℕ, zero, suc, Bool, true, false, List, length, map, ap, subst, sym, refl, arith, append-nil}
+use Rattle.std.proofs.Common.{◌≡◌, ◌∙◌, ◌+◌, ◌≤◌, ◌∷◌, [], ◌++◌, ℕ, zero, suc, Bool, true, false, List, length, map, ap, subst, sym, refl, arith, append-nil}
 use Rattle.std.specs.Prelude.{Some, ◌&&◌}
 use Rattle.std.specs.List.{range_with_len}
 use Rattle.std.proofs.lemmas.Option.{same_Some}
@@ -51,7 +51,7 @@ heard_rows t course arrivals = each_heard (IsHeardIn GivesFrom all_given t cours
     (λ k after x heard.
     let same : 0 + k ≡ k = omega arith in
     let came : course.came k ≡ words_for arrivals k = came_whole (words_for arrivals (0 + k)) (course.came k) after heard.gave heard.at_end ∙ ap (λ (r : ℕ). words_for arrivals r) same in
-    (heard.hub, heard.station, heard.counted ∙ ap (λ (words : List ℕ). totals_of (answers_to (fresh heard.hub k) words)) came))
+    (heard.hub, heard.station, heard.counted ∙ ap (λ (words : List ℕ). totals_of (answers_to (fresh heard.hub k) words)) came, subst (λ (words : List ℕ). length words ≤ 1000000) came heard.few))
 
 pub as_many : {X Y Z : Type 0} (P : ℕ → X → Y → Z → Type 0) (xs : List X) (ys : List Y) (zs : List Z) → AllOfThree P xs ys zs → length zs ≡ length xs
 as_many P [] [] [] all = refl

@@ -1,5 +1,5 @@
 -- The command `live`: what it writes, and its status (profile: output).
-use Rattle.std.specs.Prelude.{◌≡◌, ◌+◌, slice_get, sum_by, zero, suc, ◌∷◌, [], ◌++◌, ◌⊎◌, ⊤, ℕ, List, true, false, Option, Some, Ok, Result, MatchResult, codes, length}
+use Rattle.std.specs.Prelude.{◌≡◌, ◌≤◌, ◌<◌, ◌+◌, slice_get, sum_by, zero, suc, ◌∷◌, [], ◌++◌, ◌⊎◌, ⊤, ℕ, List, true, false, Option, Some, Ok, Result, MatchResult, codes, length}
 use Rattle.std.specs.List.{AllByRecursion, concat}
 use Rattle.std.specs.Fmt.{decimal}
 use Rattle.std.specs.declared.vec.Vec.{Vec}
@@ -25,6 +25,8 @@ use Rattle.a429_inputs.specs.Tables.{IsProposedBy, IsTableRefusal}
 use Rattle.a429_station.specs.Course.{fresh}
 use Rattle.a429_station.specs.Numbered.{AllNumbered}
 use Rattle.a429_station.specs.Resubmitting.{Running}
+use Rattle.a429_station.specs.declared.faults.LiveFault.{LiveFault}
+use Rattle.a429_station.specs.declared.faults.LiveFault.TheVariants as live
 use Rattle.a429_live.specs.WordsFile.{IsWordsFault, arrivals_of, words_for}
 use Rattle.a429_live.specs.declared.running.LiveInput.{LiveInput}
 use Rattle.a429_live.specs.declared.running.Prepared.{Prepared}
@@ -57,24 +59,37 @@ IsWordsRefusal i refusal = (q : Proposed) × IsProposedBy i.table q × IsWordsFa
 abbrev pub IsNoLiveStart : LiveFiles → CommandRefusal → Type 0
 IsNoLiveStart i refusal = IsTableRefusal i.table refusal ⊎ IsWordsRefusal i refusal
 
--- why a run that began did not come to its end
-abbrev pub IsRunRefusal : CommandRefusal → Type 0
-IsRunRefusal refused.Join = ⊤
-IsRunRefusal refused.Gate = ⊤
-IsRunRefusal refused.Source = ⊤
-IsRunRefusal refused.Sink = ⊤
-IsRunRefusal refused.TooMuch = ⊤
-IsRunRefusal _ = ⊥
+-- a receiver of the station gets more than a million words
+abbrev pub HasTooMuch : TableRecord → List Arrival → Type 0
+HasTooMuch t arrivals = (r : ℕ) × (r < length t.receivers) × (1000000 < length (words_for arrivals r))
+
+-- Why a run of the station with these words for so many frames did not come to its end: a thread could not be started or taken in; or more than a
+-- million frames were asked for, or a receiver gets more than a million words. Lines in memory, sinks that count and a gate that shuts nowhere have no
+-- fault, so no refusal tells of one.
+abbrev pub IsRunRefusal : TableRecord → List Arrival → ℕ → CommandRefusal → Type 0
+IsRunRefusal t arrivals frames refused.Join = frames ≤ 1000000
+IsRunRefusal t arrivals frames refused.TooMuch = (1000000 < frames) ⊎ HasTooMuch t arrivals
+IsRunRefusal t arrivals frames _ = ⊥
 
 -- from these bytes a run began, and did not come to its end
-abbrev pub IsRunFault : LiveFiles → CommandRefusal → Type 0
-IsRunFault i refusal = (q : Proposed) × (arrivals : List Arrival) × IsLiveStart i q arrivals × IsRunRefusal refusal
+abbrev pub IsRunFault : LiveFiles → ℕ → CommandRefusal → Type 0
+IsRunFault i frames refusal = (q : Proposed) × (arrivals : List Arrival) × IsLiveStart i q arrivals × IsRunRefusal q.station arrivals frames refusal
+
+-- the refusal that tells of a fault of a run; its plan was made before, so where it cannot be made again memory was refused
+abbrev pub refusal_of : LiveFault → CommandRefusal
+refusal_of (live.Plan why) = refused.Memory
+refusal_of live.TooMuch = refused.TooMuch
+refusal_of live.Join = refused.Join
+refusal_of live.Source = refused.Source
+refusal_of live.Gate = refused.Gate
+refusal_of live.Sink = refused.Sink
+refusal_of live.NoMemory = refused.Memory
 
 -- why there is no report, the first that stands: a file, the bytes, or the run
 abbrev pub IsLiveRefusal : (List ℕ → Option (List ℕ)) → LiveAsk → CommandRefusal → Type 0
 IsLiveRefusal file r refusal =
     IsFirstUnread file (r.table ∷ r.words ∷ r.further) refusal
-    ⊎ ((i : LiveFiles) × AreLiveFiles file r i × (IsNoLiveStart i refusal ⊎ IsRunFault i refusal))
+    ⊎ ((i : LiveFiles) × AreLiveFiles file r i × (IsNoLiveStart i refusal ⊎ IsRunFault i r.frames refusal))
 
 -- ---- the report
 
@@ -119,9 +134,11 @@ abbrev pub IsReport : TableRecord → List (List ℕ) → List ReceiveTotals →
 IsReport t further totals sent bytes =
     (lines : List (List ℕ)) × AreResubmitLines t 0 further lines × (bytes ≡ concat lines ++ receiver_lines t.receivers totals ++ group_lines t.groups sent)
 
--- the totals count what receiver r of the station, which had accepted nothing, answers to the words of the file that are for it, in order
+-- The totals count what receiver r of the station, which had accepted nothing, answers to the words of the file that are for it, in order. There are at
+-- most a million of these.
 abbrev pub IsHeard : TableRecord → List Arrival → ℕ → ReceiveTotals → Type 0
-IsHeard t arrivals r totals = (hub : ends.Place) × (hub.station ≡ t) × (totals ≡ receives.totals_of (answers_to (fresh hub r) (words_for arrivals r)))
+IsHeard t arrivals r totals =
+    (hub : ends.Place) × (hub.station ≡ t) × (totals ≡ receives.totals_of (answers_to (fresh hub r) (words_for arrivals r))) × (length (words_for arrivals r) ≤ 1000000)
 
 -- one of these tables is of the station, and this is the slot table of group g by its plan
 abbrev pub HasTableOf : TableRecord → ℕ → GroupTable → List (List ℕ) → Type 0
@@ -144,8 +161,9 @@ IsSentWhole t plan further (suc n) g sent =
 abbrev pub AreSentWhole : TableRecord → ℕ → List (List ℕ) → List SendTotals → Type 0
 AreSentWhole t frames further sent = (plan : PlanTable) × IsPlanOf t plan × AllNumbered (IsSentWhole t plan further frames) sent
 
--- a run of the station with these words for so many frames, with further tables: totals for each receiver, and for each group
+-- a run of the station with these words for so many frames, at most a million, with further tables: totals for each receiver, and for each group
 pub record HasRun (t : TableRecord) (arrivals : List Arrival) (frames : ℕ) (further : List (List ℕ)) (totals : List ReceiveTotals) (sent : List SendTotals) : Type 0 where
+  pub few : frames ≤ 1000000
   pub heard : AllNumbered (IsHeard t arrivals) totals
   pub receivers : length totals ≡ length t.receivers
   pub groups : length sent ≡ length t.groups
@@ -188,7 +206,7 @@ AreAppended t tables old new = (lines : List (List ℕ)) × AreResubmitLines t 0
 
 -- the text of a report, or why there is none
 abbrev pub IsRunResult : TableRecord → List Arrival → ℕ → List (List ℕ) → Result (Vec ℕ Global) CommandRefusal → Type 0
-IsRunResult t arrivals frames further result = MatchResult result (λ text. IsRunReport t arrivals frames further text.items) (OrMemory IsRunRefusal)
+IsRunResult t arrivals frames further result = MatchResult result (λ text. IsRunReport t arrivals frames further text.items) (OrMemory (IsRunRefusal t arrivals frames))
 
 -- the text of the report of what is asked for, or why there is none
 abbrev pub IsLiving : (List ℕ → Option (List ℕ)) → LiveAsk → Result (Vec ℕ Global) CommandRefusal → Type 0

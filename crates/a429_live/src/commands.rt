@@ -1,9 +1,10 @@
 //! The command `live`, from words and files to bytes.
-ghost use Rattle.std.specs.Prelude.{◌≡◌, ◌≢◌, ◌≤◌, ◌+◌, ◌⊎◌, IfOk, IsTrue, OnOk};
+ghost use Rattle.std.specs.Io.KnownBytes.{Appends};
+ghost use Rattle.std.specs.Prelude.{◌≡◌, ◌≢◌, ◌≤◌, ◌+◌, ◌⊎◌, true, false, IfOk, IsTrue, OnErr, OnOk};
 ghost use Rattle.a429_console.specs.Files.{texts_of};
 ghost use Rattle.a429_live.specs.LiveReplies.{IsLiveReply};
 ghost use Rattle.a429_console.specs.LiveWords.{AsksForLive, AsksForLiveHelp, IsLiveMistake, IsNoLive, LiveAsk, live_of};
-ghost use Rattle.a429_console.specs.Outputs.{CountsFault, IsPut, NoneFailed, OrNoMemory};
+ghost use Rattle.a429_console.specs.Outputs.{CountsFault, HasFailed, HasFailedBy, IsPut, NoneFailed, OrNoMemory, failed_line};
 ghost use Rattle.a429_console.specs.Usage.{IsHelpReply, IsUsageReply};
 
 use crate::progress::Progress;
@@ -12,10 +13,9 @@ use a429_console::arguments::replies::explain;
 use a429_console::arguments::requests::{LiveRequest, parse_live};
 use a429_console::files::FileReader;
 use a429_console::hints::Hints;
-use a429_console::output::endings::tell_failed_output;
+use a429_console::output::endings::{put_whole, tell_fault};
 use a429_console::output::{Output, OutputFault};
 use std::alloc::Global;
-use std::io::Write;
 use std::sync::Wait;
 use std::thread::Threads;
 
@@ -27,7 +27,7 @@ pub fn command_live<
     H: Hints,
     F: FileReader,
     O: Output,
-    V: Write,
+    V: Output,
     P: Progress + Sync,
 >(
     rt: &R,
@@ -46,30 +46,37 @@ pub fn command_live<
     // Words that ask for help get a text, with status 0, unless memory is refused.
     ensures helped { AsksForLiveHelp (texts_of words.entry.now) → NoneFailed (O.failures out.old) (O.failures out.new)
         → IsPut (OrNoMemory IsHelpReply) (O.contents out.old) (O.contents out.new) result }
-    // Of a mistake nothing is put, with status 2, unless memory is refused.
+    // Of a mistake nothing is put, with status 2, or 1 where a call of `err` failed, unless memory is refused.
     ensures mistaken { IsLiveMistake (texts_of words.entry.now) → NoneFailed (O.failures out.old) (O.failures out.new)
-        → IsPut (OrNoMemory IsUsageReply) (O.contents out.old) (O.contents out.new) result }
-    // Where a call of the output failed, the status is 1.
-    ensures failed { (result ≡ 1) ⊎ (O.failures out.new ≡ O.failures out.old) }
+        → IsPut (OrNoMemory (IsUsageReply (V.failures err.old) (V.failures err.new))) (O.contents out.old) (O.contents out.new) result }
+    // Where a call of the output or of `err` failed, the status is 1.
+    ensures failed { (result ≡ 1) ⊎ ((O.failures out.new ≡ O.failures out.old) × (V.failures err.new ≡ V.failures err.old)) }
     // After a call that failed there is no further one: it would fail too.
-    ensures once { O.failures out.new ≤ O.failures out.old + 1 }
+    ensures once { (O.failures out.new).count ≤ (O.failures out.old).count + 1 }
+    ensures once_told { (V.failures err.new).count ≤ (V.failures err.old).count + 1 }
+    // Where the output failed, one line is written to `err`; where its reader has closed it, `err` is left as it was.
+    ensures announced { HasFailedBy false (O.failures out.old) (O.failures out.new) → NoneFailed (V.failures err.old) (V.failures err.new)
+        → Appends (V.contents err.old) (V.contents err.new) failed_line }
+    ensures hushed { HasFailedBy true (O.failures out.old) (O.failures out.new) → err.new ≡ err.old }
     ensures status { result ≤ 2 }
     ensures asked { (r : LiveAsk) → AsksForLive (texts_of words.entry.now) r → result ≤ 1 }
     ensures usage { IsLiveMistake (texts_of words.entry.now) → result ≢ 0 }
     // Status 2 stands only where the words ask for no run.
     ensures unasked { result ≡ 2 → IsNoLive (texts_of words.entry.now) }
-    // Where the command was done, nothing was written to `err`.
-    ensures quiet { result ≡ 0 → V.contents err.new ≡ V.contents err.old }
-    // Where the status is 2, nothing was put.
-    ensures silent { result ≡ 2 → O.contents out.new ≡ O.contents out.old }
+    // Where the command was done, `err` is left as it was.
+    ensures quiet { result ≡ 0 → err.new ≡ err.old }
+    // Where the status is 2, the output is left as it was, and what was written to `err` was passed on.
+    ensures silent { result ≡ 2 → out.new ≡ out.old }
+    ensures warned { result ≡ 2 → IsTrue (V.is_flushed err.new) }
     // Where the command was done, all that was put was passed on; so is a refusal where no call failed.
     ensures flushed { result ≡ 0 → IsTrue (O.is_flushed out.new) }
-    ensures told { result ≡ 1 → NoneFailed (O.failures out.old) (O.failures out.new) → IsTrue (O.is_flushed out.new) }
+    ensures told { result ≡ 1 → NoneFailed (O.failures out.old) (O.failures out.new)
+        → IsTrue (O.is_flushed out.new) ⊎ (IsNoLive (texts_of words.entry.now) × HasFailed (V.failures err.old) (V.failures err.new)) }
 {
     match run_live(rt, alloc, words, hints, files, out, err, progress) {
         Ok(status) => status,
-        Err(OutputFault) => {
-            let _ = tell_failed_output(err);
+        Err(fault) => {
+            tell_fault(fault, err);
             1
         }
     }
@@ -82,7 +89,7 @@ fn run_live<
     H: Hints,
     F: FileReader,
     O: Output,
-    V: Write,
+    V: Output,
     P: Progress + Sync,
 >(
     rt: &R,
@@ -99,15 +106,21 @@ fn run_live<
     ensures helped { AsksForLiveHelp (texts_of words.entry.now)
         → IfOk result (IsPut (OrNoMemory IsHelpReply) (O.contents out.old) (O.contents out.new)) }
     ensures mistaken { IsLiveMistake (texts_of words.entry.now)
-        → IfOk result (IsPut (OrNoMemory IsUsageReply) (O.contents out.old) (O.contents out.new)) }
+        → IfOk result (IsPut (OrNoMemory (IsUsageReply (V.failures err.old) (V.failures err.new))) (O.contents out.old) (O.contents out.new)) }
     ensures asked { (r : LiveAsk) → AsksForLive (texts_of words.entry.now) r → IfOk result (λ status. status ≤ 1) }
     ensures status { IfOk result (λ status. status ≤ 2) }
     ensures usage { IsLiveMistake (texts_of words.entry.now) → IfOk result (λ status. status ≢ 0) }
     ensures unasked { IfOk result (λ status. status ≡ 2 → IsNoLive (texts_of words.entry.now)) }
-    ensures flushed { IfOk result (λ status. status ≤ 1 → IsTrue (O.is_flushed out.new)) }
+    ensures flushed { IfOk result (λ status. status ≡ 0 → IsTrue (O.is_flushed out.new)) }
+    ensures told { IfOk result (λ status. status ≡ 1
+        → IsTrue (O.is_flushed out.new) ⊎ (IsNoLive (texts_of words.entry.now) × HasFailed (V.failures err.old) (V.failures err.new))) }
+    ensures warned { IfOk result (λ status. status ≡ 2 → IsTrue (V.is_flushed err.new)) }
     ensures faults { CountsFault result (O.failures out.old) (O.failures out.new) }
-    ensures quiet { IfOk result (λ status. status ≡ 0 → V.contents err.new ≡ V.contents err.old) }
-    ensures silent { IfOk result (λ status. status ≡ 2 → O.contents out.new ≡ O.contents out.old) }
+    ensures failed { IfOk result (λ status. (status ≡ 1) ⊎ (V.failures err.new ≡ V.failures err.old)) }
+    ensures once { (V.failures err.new).count ≤ (V.failures err.old).count + 1 }
+    ensures quiet { IfOk result (λ status. status ≡ 0 → err.new ≡ err.old) }
+    ensures left { OnErr result (err.new ≡ err.old) }
+    ensures silent { IfOk result (λ status. status ≡ 2 → out.new ≡ out.old) }
 {
     match parse_live(alloc, words) {
         Ok(request) => live_with_hint(rt, alloc, &request, hints, files, out, err, progress),
@@ -121,7 +134,7 @@ fn live_with_hint<
     H: Hints,
     F: FileReader,
     O: Output,
-    V: Write,
+    V: Output,
     P: Progress + Sync,
 >(
     rt: &R,
@@ -138,12 +151,29 @@ fn live_with_hint<
     ensures status { IfOk result (λ status. status ≤ 1) }
     ensures flushed { OnOk result (IsTrue (O.is_flushed out.new)) }
     ensures faults { CountsFault result (O.failures out.old) (O.failures out.new) }
-    ensures quiet { IfOk result (λ status. status ≡ 0 → V.contents err.new ≡ V.contents err.old) }
+    ensures quiet { IfOk result (λ status. status ≡ 0 → err.new ≡ err.old) }
+    ensures left { OnErr result (err.new ≡ err.old) }
+    ensures failed { IfOk result (λ status. (status ≡ 1) ⊎ (V.failures err.new ≡ V.failures err.old)) }
+    ensures once { (V.failures err.new).count ≤ (V.failures err.old).count + 1 }
 {
     let result = run_station(rt, alloc, files, request, out, progress);
     if let Ok(1) = result {
-        // a hint that cannot be told changes nothing
-        let _ = hints.tell_live(alloc, request, files, err);
+        hint(alloc, request, hints, files, err);
     }
     result
+}
+
+/// Tells on `err` what can be done about a run that was refused. A hint that cannot be told changes nothing.
+fn hint<H: Hints, F: FileReader, V: Output>(
+    alloc: Global,
+    request: &LiveRequest,
+    hints: &H,
+    files: &mut F,
+    err: &mut V,
+)
+    ensures once { (V.failures err.new).count ≤ (V.failures err.old).count + 1 }
+{
+    let mut text = Vec::new(alloc);
+    let _ = hints.tell_live(alloc, request, files, &mut text);
+    let _ = put_whole(&text, err);
 }

@@ -1,7 +1,7 @@
 //! The report of a run.
 ghost use Rattle.std.specs.Prelude.{◌≡◌, ◌<◌, ◌+◌, ◌^◌, ◌++◌, ◌∷◌, [], OnOk, MatchResult};
 ghost use Rattle.a429_console.specs.Files.{bytes_of};
-ghost use Rattle.a429_live.specs.LiveReplies.{AreAppended, IsAppended, IsReport, IsRunRefusal, group_line, group_lines, receiver_line, receiver_lines, refused_words};
+ghost use Rattle.a429_live.specs.LiveReplies.{AreAppended, IsAppended, IsReport, group_line, group_lines, receiver_line, receiver_lines, refused_words};
 ghost use Rattle.a429_live.specs.Resubmitted.{AreAnswers, IsAnswer, IsRefusedBy};
 ghost use Rattle.a429_station.specs.Resubmitting.{Running};
 ghost use Rattle.a429_inputs.specs.RefusalText.{OrMemory, refusal_line};
@@ -143,7 +143,7 @@ pub fn report_text(
     report: &Report<MemoryLine, CountSink>,
 ) -> Result<Vec<u8>, CommandRefusal>
     ensures { (begin end : Running) → begin.station ≡ station.now → begin.planner.last.number ≡ 0 → AreAnswers begin (bytes_of further.now) answers.now end
-        → MatchResult result (λ text. IsReport station.now (bytes_of further.now) report.now.receivers.items report.now.groups.items text.items) (OrMemory IsRunRefusal) }
+        → MatchResult result (λ text. IsReport station.now (bytes_of further.now) report.now.receivers.items report.now.groups.items text.items) (OrMemory (λ why. ⊥)) }
 {
     let mut text = Vec::new(alloc);
     let Ok(()) = push_all_resubmitted(alloc, &mut text, further, answers) else {

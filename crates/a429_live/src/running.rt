@@ -1,7 +1,7 @@
 //! A run of the station, from files to its report.
 ghost use Rattle.std.specs.Prelude.{◌≡◌, ◌≤◌, IfOk, IsTrue, MatchResult, OnOk, vec_len};
 ghost use Rattle.a429_console.specs.Files.{bytes_of};
-ghost use Rattle.a429_live.specs.LiveReplies.{IsLiveReading, IsLiveReply, IsLiving, IsNoLiveStart, IsPreparedLive, IsRunRefusal, IsRunResult, files_of};
+ghost use Rattle.a429_live.specs.LiveReplies.{IsLiveReading, IsLiveReply, IsLiving, IsNoLiveStart, IsPreparedLive, IsRunResult, files_of, refusal_of};
 ghost use Rattle.a429_console.specs.LiveWords.{live_of};
 ghost use Rattle.a429_console.specs.Outputs.{CountsFault, IsPut};
 ghost use Rattle.a429_inputs.specs.RefusalText.{OrMemory};
@@ -80,9 +80,9 @@ fn count_sinks(alloc: Global, groups: usize) -> Result<Vec<CountSink>, AllocErro
     Ok(sinks)
 }
 
-/// Why a run did not come to its end. The plan was made before: where it is not made again, memory was refused.
+/// The refusal that tells of a fault of a run. The plan was made before: where it is not made again, memory was refused.
 fn run_refusal(fault: LiveFault) -> CommandRefusal
-    ensures { OrMemory IsRunRefusal result }
+    ensures { result ≡ refusal_of fault }
 {
     match fault {
         LiveFault::TooMuch => CommandRefusal::TooMuch,
@@ -125,7 +125,8 @@ fn run<R: Threads + Wait, P: Progress + Sync>(
     }
 }
 
-/// The text of the report of a run. Refused is a file, the table, its plan, the file of words, or the run.
+/// The text of the report of a run. Refused is a file, the table, its plan, the file of words, or the run: `TooMuch` for
+/// more than a million frames or words of a receiver, `Join` where a thread could not be started or taken in.
 fn lived<R: Threads + Wait, F: FileReader, P: Progress + Sync>(
     rt: &R,
     alloc: Global,

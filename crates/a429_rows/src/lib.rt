@@ -19,8 +19,6 @@ mod plans;
 #[cfg(test)]
 mod records;
 #[cfg(test)]
-mod runs;
-#[cfg(test)]
 mod sockets;
 #[cfg(test)]
 mod support;

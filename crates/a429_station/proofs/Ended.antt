@@ -1,9 +1,9 @@
 -- What holds of workers that have ended, and of the station that they were of.
 use Rattle.std.proofs.Common.{◌≡◌, ◌∙◌, ℕ, ◌+◌, ◌-◌, ◌^◌, ◌≤◌, Bool, true, false, List, [], ◌∷◌, ◌++◌, length, drop, map, ap, subst, sym, refl, arith}
-use Rattle.std.specs.Prelude.{Option, Some, None, Result, Ok, Err, if◌then◌else◌, nat_lt, option_map, slice_get}
+use Rattle.std.specs.Prelude.{Option, None, Result, Ok, Err, if◌then◌else◌, nat_lt, slice_get}
 use Rattle.std.specs.List.{AllByRecursion, AllZip, range_with_len}
 use Rattle.std.proofs.lemmas.List.{map-append}
-use Rattle.std.proofs.lemmas.Option.{none-some, same_Some}
+use Rattle.std.proofs.lemmas.Option.{same_Some}
 use Rattle.a429_equipment.specs.declared.arrivals.ArrivalRefusal.{ArrivalRefusal}
 use Rattle.a429_equipment.specs.TableRecord.{TableRecord}
 use Rattle.a429_equipment.specs.Agreement.{Agrees, words_of}
@@ -17,21 +17,24 @@ use Rattle.a429_values.specs.Ends as ends
 use Rattle.a429_board.specs.Lists.{Planning, Watched}
 use Rattle.a429_workers.specs.Receives.{AreTaken, after_words, answers_to, totals_of}
 use Rattle.a429_workers.specs.Runs.{ArePublished, IsWired, plans_of}
-use Rattle.a429_workers.specs.Sends.{AreSent}
+use Rattle.a429_workers.specs.Gates.{IsGatedGroup}
+use Rattle.a429_workers.specs.Sends.{AreSent, sent_in}
 use Rattle.a429_workers.specs.Transmitting.{Transmitting, IsKnownPlan, IsSameGroup}
 use Rattle.a429_workers.specs.declared.cells.Sent.{Sent}
+use Rattle.a429_workers.specs.declared.gates.Point.{Point}
 use Rattle.a429_workers.specs.declared.receiving.ReceiveTotals.{ReceiveTotals}
 use Rattle.a429_workers.specs.declared.receiving.ReceiveFault.{ReceiveFault}
 use Rattle.a429_workers.specs.declared.receiving.ReceiveFault.TheVariants.{Source, Gate, TooMuch}
 use Rattle.a429_workers.specs.declared.sending.SendTotals.{SendTotals}
 use Rattle.a429_workers.specs.declared.sending.SendFault.{SendFault}
 use Rattle.a429_station.specs.Course.{Course, IsHeardIn, IsSentIn, fresh, heard_in, meeting}
-use Rattle.a429_station.specs.Faults.{EndsGroup, EndsLine, GaveTooMuch, HasStopped, IsFirst, first_fault, of_receiver}
-use Rattle.a429_station.specs.Numbered.{AllNumbered}
+use Rattle.a429_station.specs.Faults.{EndsGroup, EndsLine, GaveTooMuch, HasStopped, IsFirst, first_fault}
+use Rattle.a429_station.specs.Numbered.{AllNumbered, AllOfTwo}
 use Rattle.a429_station.specs.Resubmitting.{GoesOn, IsBegun, IsDoneBetween, IsLed, Running, opening}
 use Rattle.a429_station.specs.Working.{HasEmitted, HasReceived, IsJoined, IsOver, IsReady, IsReceiverAt, meeting_of}
 use Rattle.a429_station.specs.declared.faults.LiveFault.{LiveFault}
-use Rattle.a429_station.proofs.Numbered.{mapped_range, numbered_also, numbered_both, numbered_place, numbered_weaker, zip_mapped}
+use Rattle.a429_station.specs.declared.faults.LiveFault.TheVariants.{NoMemory}
+use Rattle.a429_station.proofs.Numbered.{mapped_range, numbered_also, numbered_both, numbered_place, numbered_weaker, two_of}
 use Rattle.a429_station.proofs.OneRun.{IsTakenIn, group_ran, never_refused, same_hub}
 use Rattle.a429_station.proofs.Plans.{plan_small}
 
@@ -49,14 +52,23 @@ gave_too_much words (Err Source) old new h = tt
 gave_too_much words (Err Gate) old new h = tt
 gave_too_much words (Err TooMuch) old new h = h.1
 
-module _ {L : Type 0} (gives : L → List ℕ → L → Type 0) (ended : L → Bool) (failed : L → ℕ) where
-  pub line_ended : (line line' : L) (r r' : ends.Receiving) (answer : Result ReceiveTotals ReceiveFault) → HasReceived gives ended failed line r line' r' answer → EndsLine gives ended failed line answer
-  line_ended line line' r r' answer h = record { after = line'; words = h.words; gave = h.gave; at_end = h.at_end; failures = h.failures; many = gave_too_much h.words answer r r' h.taken }
+module _ {L : Type 0} (gives : L → List ℕ → L → Type 0) (ended : L → Bool) (failed : L → ℕ) (passes shuts : Point → Type 0) where
+  pub line_ended : (k : ℕ) (line line' : L) (r r' : ends.Receiving) (answer : Result ReceiveTotals ReceiveFault) → HasReceived gives ended failed passes shuts k line r line' r' answer → EndsLine gives ended failed passes shuts k line answer
+  line_ended k line line' r r' answer h = record {
+    after = line';
+    words = h.words;
+    gave = h.gave;
+    at_end = h.at_end;
+    failures = h.failures;
+    many = gave_too_much h.words answer r r' h.taken;
+    taken = h.gated.0;
+    gated = h.gated.2;
+  }
 
   -- what it did, where it ended well
-  pub heard_one : (at : ends.Place) (c : Course) (k : ℕ) (line line' : L) (r r' : ends.Receiving) (answer : Result ReceiveTotals ReceiveFault) (totals : ReceiveTotals) (h : HasReceived gives ended failed line r line' r' answer)
+  pub heard_one : (own : ℕ) (at : ends.Place) (c : Course) (k : ℕ) (line line' : L) (r r' : ends.Receiving) (answer : Result ReceiveTotals ReceiveFault) (totals : ReceiveTotals) (h : HasReceived gives ended failed passes shuts own line r line' r' answer)
       → r ≡ fresh at k → answer ≡ Ok totals → c.came k ≡ h.words → IsHeardIn gives ended at.station c k line line' totals
-  heard_one at c k line line' r r' (Ok counts) totals h is same came =
+  heard_one own at c k line line' r r' (Ok counts) totals h is same came =
       let sum : counts ≡ totals = cc in
       record {
         gave = subst (λ (ws : List ℕ). gives line ws line') (sym came) h.gave;
@@ -66,20 +78,20 @@ module _ {L : Type 0} (gives : L → List ℕ → L → Type 0) (ended : L → B
         station = refl;
         counted = sym sum ∙ (h.taken.1 ∙ (ap (λ (x : ends.Receiving). totals_of (answers_to x h.words)) is ∙ ap (λ (ws : List ℕ). totals_of (answers_to (fresh at k) ws)) (sym came)));
       }
-  heard_one at c k line line' r r' (Err fault) totals h is same came = absurd (cc same)
+  heard_one own at c k line line' r r' (Err fault) totals h is same came = absurd (cc same)
 
   -- and what its receiver is then
-  pub receiver_one : (at : ends.Place) (k : ℕ) (came : List ℕ) (line line' : L) (r r' : ends.Receiving) (answer : Result ReceiveTotals ReceiveFault) (totals : ReceiveTotals) (h : HasReceived gives ended failed line r line' r' answer)
+  pub receiver_one : (own : ℕ) (at : ends.Place) (k : ℕ) (came : List ℕ) (line line' : L) (r r' : ends.Receiving) (answer : Result ReceiveTotals ReceiveFault) (totals : ReceiveTotals) (h : HasReceived gives ended failed passes shuts own line r line' r' answer)
       → r ≡ fresh at k → answer ≡ Ok totals → came ≡ h.words → r' ≡ after_words (fresh at k) came
-  receiver_one at k came line line' r r' (Ok counts) totals h is same words =
+  receiver_one own at k came line line' r r' (Ok counts) totals h is same words =
       h.taken.0 ∙ (ap (λ (x : ends.Receiving). after_words x h.words) is ∙ ap (λ (ws : List ℕ). after_words (fresh at k) ws) (sym words))
-  receiver_one at k came line line' r r' (Err fault) totals h is same words = absurd (cc same)
+  receiver_one own at k came line line' r r' (Err fault) totals h is same words = absurd (cc same)
 
 -- ---- one group
 
-pub group_stays : (frames : ℕ) (answer : Result SendTotals SendFault) (old new : Transmitting) (before after : Option (List Sent)) → AreSent frames old new before after answer → IsSameGroup old new
-group_stays frames (Ok totals) old new before after h = h.1.same
-group_stays frames (Err fault) old new before after h = h.2.same
+pub group_stays : (passes shuts : Point → Type 0) (r frames : ℕ) (answer : Result SendTotals SendFault) (old new : Transmitting) (before after : Option (List Sent)) → AreSent passes shuts r frames old new before after answer → IsSameGroup old new
+group_stays passes shuts r frames (Ok totals) old new before after h = h.1.same
+group_stays passes shuts r frames (Err fault) old new before after h = h.2.same
 
 -- ---- what a receiver accepted, it accepts
 
@@ -165,60 +177,70 @@ taken_in at old new came receivers here B G N wired each all past =
     }
 
 -- a group's worker that ended, which began ready
-pub group_over : {B : Type 0} (taken : B → Option (List Sent)) (failed : B → ℕ) (at : ends.Place) (old new : Running) (g frames : ℕ) (v w : Transmitting) (sink sink' : B) (answer : Result SendTotals SendFault)
+pub group_over : {B : Type 0} (passes shuts : Point → Type 0) (r : ℕ) (taken : B → Option (List Sent)) (failed : B → ℕ) (at : ends.Place) (old new : Running) (g frames : ℕ) (v w : Transmitting) (sink sink' : B) (answer : Result SendTotals SendFault)
     → at.station ≡ old.station → IsBegun old → GoesOn old new → IsLed new → frames ≤ 1000000
-    → HasEmitted taken failed frames v sink w sink' answer → IsReady at old.planner g v → IsOver at new.planner w answer
-group_over taken failed at old new g frames v w sink sink' answer here begun G N few E R =
-    let same = group_stays frames answer v w (taken sink) (taken sink') E.sent in
+    → HasEmitted taken failed passes shuts r frames v sink w sink' answer → IsReady at old.planner g v → IsOver at new.planner w answer
+group_over passes shuts r taken failed at old new g frames v w sink sink' answer here begun G N few E R =
+    let same = group_stays passes shuts r frames answer v w (taken sink) (taken sink') E.sent in
     record {
       hub = same_hub at old.planner g v w R same;
       board = same.board ∙ (ap (λ (x : Watched). x.book) R.watcher ∙ sym G.book);
       counts = λ beginning is.
-          never_refused at old.planner new.planner.list g frames v w (taken sink) (taken sink') answer R (plan_small old.station old.planner.last begun.planned)
+          never_refused passes shuts r at old.planner new.planner.list g frames v w (taken sink) (taken sink') answer R (plan_small old.station old.planner.last begun.planned)
           (omega (arith, R.inside, begun.planned.count, ap (λ (t : TableRecord). length t.groups) here))
           (subst (λ (x : TableRecord). AllByRecursion (IsKnownPlan x) new.planner.list) (G.station ∙ sym here) N.known) N.small few E.sent beginning is;
     }
 
 -- a group's worker that ended well, was told all plans, and met the receivers
-pub group_one : {B : Type 0} (taken : B → Option (List Sent)) (failed : B → ℕ) (at : ends.Place) (first last : Planning) (c : Course) (receivers : List ends.Receiving) (frames own g : ℕ) (v w : Transmitting) (sink sink' : B) (answer : Result SendTotals SendFault) (totals : SendTotals)
-    → IsTakenIn at first last c receivers → HasEmitted taken failed own v sink w sink' answer → IsJoined at.station last.list receivers w → IsReady at first g v → own ≡ frames → answer ≡ Ok totals
+pub group_one : {B : Type 0} (passes shuts : Point → Type 0) (r : ℕ) (taken : B → Option (List Sent)) (failed : B → ℕ) (at : ends.Place) (first last : Planning) (c : Course) (receivers : List ends.Receiving) (frames own g : ℕ) (v w : Transmitting) (sink sink' : B) (answer : Result SendTotals SendFault) (totals : SendTotals)
+    → IsTakenIn at first last c receivers → HasEmitted taken failed passes shuts r own v sink w sink' answer → IsJoined at.station last.list receivers w → IsReady at first g v → own ≡ frames → answer ≡ Ok totals
     → IsSentIn taken frames at.station c g sink sink' totals
-group_one taken failed at first last c receivers frames own g v w sink sink' answer totals K E J R same is =
-    let sent : AreSent frames v w (taken sink) (taken sink') (Ok totals) =
-    subst (λ (n : ℕ). AreSent n v w (taken sink) (taken sink') (Ok totals)) same (subst (AreSent own v w (taken sink) (taken sink')) is E.sent) in
-    group_ran taken at first last c receivers frames g v w sink sink' totals K R sent J
+group_one passes shuts r taken failed at first last c receivers frames own g v w sink sink' answer totals K E J R same is =
+    let sent : AreSent passes shuts r frames v w (taken sink) (taken sink') (Ok totals) =
+    subst (λ (n : ℕ). AreSent passes shuts r n v w (taken sink) (taken sink') (Ok totals)) same (subst (AreSent passes shuts r own v w (taken sink) (taken sink')) is E.sent) in
+    group_ran passes shuts r taken at first last c receivers frames g v w sink sink' totals K R sent J
 
-pub group_ended : {B : Type 0} (taken : B → Option (List Sent)) (failed : B → ℕ) (frames : ℕ) (v w : Transmitting) (sink sink' : B) (answer : Result SendTotals SendFault) → HasEmitted taken failed frames v sink w sink' answer → EndsGroup failed sink answer
-group_ended taken failed frames v w sink sink' answer E = record { after = sink'; failures = E.failures }
+-- how many cells the sink of a group took, and at which point of the gate the loop ended
+gated_so : (passes shuts : Point → Type 0) (g frames : ℕ) (v w : Transmitting) (before after : Option (List Sent)) (answer : Result SendTotals SendFault) → AreSent passes shuts g frames v w before after answer
+    → (n : ℕ) × IsGatedGroup passes shuts g n answer
+gated_so passes shuts g frames v w before after (Ok totals) S = (length (sent_in S.0), S.4)
+gated_so passes shuts g frames v w before after (Err fault) S = (length (sent_in S.0), S.5)
+
+pub group_ended : {B : Type 0} (taken : B → Option (List Sent)) (failed : B → ℕ) (passes shuts : Point → Type 0) (g frames : ℕ) (v w : Transmitting) (sink sink' : B) (answer : Result SendTotals SendFault)
+    → HasEmitted taken failed passes shuts g frames v sink w sink' answer → EndsGroup failed passes shuts g sink answer
+group_ended taken failed passes shuts g frames v w sink sink' answer E =
+    let G = gated_so passes shuts g frames v w (taken sink) (taken sink') answer E.sent in
+    record { after = sink'; failures = E.failures; taken = G.0; gated = G.1 }
 
 -- ---- the first fault
 
-pub all_well : {T E D : Type 0} (answer : D → Result T E) (ts : List T) (ds : List D) → map (λ (t : T). Ok t) ts ≡ map answer ds → first_fault (map answer ds) ≡ None
-all_well {T} {E} answer ts ds same = ap (λ (l : List (Result T E)). first_fault l) (sym same) ∙ none ts
-  where
-    none : (xs : List T) → first_fault {A = T} {E = E} (map (λ (t : T). Ok t) xs) ≡ None
-    none [] = refl
-    none (x ∷ xs) = none xs
+-- where no worker has a fault
+pub want_of_memory : (x : Option ReceiveFault) (y : Option SendFault) (fault : LiveFault) → x ≡ None → y ≡ None → fault ≡ NoMemory → IsFirst x y fault
+want_of_memory x y fault well none is = subst (λ (z : Option ReceiveFault). IsFirst z y fault) (sym well) (subst (λ (z : Option SendFault). IsFirst None z fault) (sym none) is)
 
-pub first_of_receivers : (x : Option ReceiveFault) (y : Option SendFault) (fault : LiveFault) → Some fault ≡ option_map of_receiver x → IsFirst x y fault
-first_of_receivers (Some why) y fault is = same_Some fault (of_receiver why) is
-first_of_receivers None y fault is = absurd (none-some fault (sym is))
-
--- the loops of all receivers and groups have ended
-pub all_stopped : {L B W D V E : Type 0} (gives : L → List ℕ → L → Type 0) (ended : L → Bool) (failed : L → ℕ) (taken : B → Option (List Sent)) (failed_sink : B → ℕ)
-    (line : W → L) (receiver : W → ends.Receiving) (line' : D → L) (receiver' : D → ends.Receiving) (answer : D → Result ReceiveTotals ReceiveFault)
-    (own : V → ℕ) (transmit : V → Transmitting) (sink : V → B) (transmit' : E → Transmitting) (sink' : E → B) (answer' : E → Result SendTotals SendFault)
+-- the loops of all receivers and groups have ended, each with its number and at one gate
+pub all_stopped : {L B G W D V E : Type 0} (gives : L → List ℕ → L → Type 0) (ended : L → Bool) (failed : L → ℕ) (taken : B → Option (List Sent)) (failed_sink : B → ℕ) (passes shuts : G → Point → Type 0) (at : G)
+    (line : W → L) (receiver : W → ends.Receiving) (number : W → ℕ) (gate : W → G) (line' : D → L) (receiver' : D → ends.Receiving) (answer : D → Result ReceiveTotals ReceiveFault)
+    (own : V → ℕ) (transmit : V → Transmitting) (sink : V → B) (group : V → ℕ) (gate' : V → G) (transmit' : E → Transmitting) (sink' : E → B) (answer' : E → Result SendTotals SendFault)
     (ws : List W) (ds : List D) (vs : List V) (es : List E) (sinks : List B) (fault : LiveFault)
-    → AllZip (λ w d. HasReceived gives ended failed (line w) (receiver w) (line' d) (receiver' d) (answer d)) ws ds
-    → AllZip (λ v e. HasEmitted taken failed_sink (own v) (transmit v) (sink v) (transmit' e) (sink' e) (answer' e)) vs es → map sink vs ≡ sinks
-    → IsFirst (first_fault (map answer ds)) (first_fault (map answer' es)) fault → HasStopped gives ended failed failed_sink (map line ws) sinks fault
-all_stopped gives ended failed taken failed_sink line receiver line' receiver' answer own transmit sink transmit' sink' answer' ws ds vs es sinks fault heard sent same first = record {
+    → AllZip (λ w d. HasReceived gives ended failed (passes (gate w)) (shuts (gate w)) (number w) (line w) (receiver w) (line' d) (receiver' d) (answer d)) ws ds
+    → AllNumbered (λ k w. (number w ≡ k) × (gate w ≡ at)) ws
+    → AllZip (λ v e. HasEmitted taken failed_sink (passes (gate' v)) (shuts (gate' v)) (group v) (own v) (transmit v) (sink v) (transmit' e) (sink' e) (answer' e)) vs es
+    → AllNumbered (λ k v. (group v ≡ k) × (gate' v ≡ at)) vs → map sink vs ≡ sinks
+    → IsFirst (first_fault (map answer ds)) (first_fault (map answer' es)) fault → HasStopped gives ended failed failed_sink (passes at) (shuts at) (map line ws) sinks fault
+all_stopped {G = G} gives ended failed taken failed_sink passes shuts at line receiver number gate line' receiver' answer own transmit sink group gate' transmit' sink' answer' ws ds vs es sinks fault heard places sent also same first = record {
   heard = map answer ds;
   sent = map answer' es;
-  lines = zip_mapped (λ w d. HasReceived gives ended failed (line w) (receiver w) (line' d) (receiver' d) (answer d)) (EndsLine gives ended failed) line answer
-      (λ w d h. line_ended gives ended failed (line w) (line' d) (receiver w) (receiver' d) (answer d) h) ws ds heard;
-  groups = subst (λ l. AllZip (EndsGroup failed_sink) l (map answer' es)) same
-      (zip_mapped (λ v e. HasEmitted taken failed_sink (own v) (transmit v) (sink v) (transmit' e) (sink' e) (answer' e)) (EndsGroup failed_sink) sink answer'
-      (λ v e h. group_ended taken failed_sink (own v) (transmit v) (transmit' e) (sink v) (sink' e) (answer' e) h) vs es sent);
+  lines = two_of (λ w d. HasReceived gives ended failed (passes (gate w)) (shuts (gate w)) (number w) (line w) (receiver w) (line' d) (receiver' d) (answer d)) (λ k w. (number w ≡ k) × (gate w ≡ at))
+      (EndsLine gives ended failed (passes at) (shuts at)) line answer
+      (λ k w d h p. line_ended gives ended failed (passes at) (shuts at) k (line w) (line' d) (receiver w) (receiver' d) (answer d)
+      (subst (λ (x : G). HasReceived gives ended failed (passes x) (shuts x) k (line w) (receiver w) (line' d) (receiver' d) (answer d)) p.1
+      (subst (λ (n : ℕ). HasReceived gives ended failed (passes (gate w)) (shuts (gate w)) n (line w) (receiver w) (line' d) (receiver' d) (answer d)) p.0 h))) ws ds heard places;
+  groups = subst (λ l. AllOfTwo (EndsGroup failed_sink (passes at) (shuts at)) l (map answer' es)) same
+      (two_of (λ v e. HasEmitted taken failed_sink (passes (gate' v)) (shuts (gate' v)) (group v) (own v) (transmit v) (sink v) (transmit' e) (sink' e) (answer' e)) (λ k v. (group v ≡ k) × (gate' v ≡ at))
+      (EndsGroup failed_sink (passes at) (shuts at)) sink answer'
+      (λ k v e h p. group_ended taken failed_sink (passes at) (shuts at) k (own v) (transmit v) (transmit' e) (sink v) (sink' e) (answer' e)
+      (subst (λ (x : G). HasEmitted taken failed_sink (passes x) (shuts x) k (own v) (transmit v) (sink v) (transmit' e) (sink' e) (answer' e)) p.1
+      (subst (λ (n : ℕ). HasEmitted taken failed_sink (passes (gate' v)) (shuts (gate' v)) n (own v) (transmit v) (sink v) (transmit' e) (sink' e) (answer' e)) p.0 h))) vs es sent also);
   first = first;
 }

@@ -5,7 +5,7 @@ use Rattle.std.specs.List.{AllByRecursion, AllZip, list_any, range_with_len}
 use Rattle.std.proofs.lemmas.Bool.{ne_eqb}
 use Rattle.std.proofs.lemmas.List.{length-append, map-append}
 use Rattle.std.proofs.lemmas.Option.{same_Some}
-use Rattle.a429_station.specs.Numbered.{AllNumbered, AllOfThree}
+use Rattle.a429_station.specs.Numbered.{AllNumbered, AllOfTwo, AllOfThree}
 
 -- ---- the last item
 
@@ -122,12 +122,12 @@ zip_numbered R P Q on [] (y ∷ ys) z all = absurd z
 zip_numbered R P Q on (x ∷ xs) [] z all = absurd z
 zip_numbered R P Q on (x ∷ xs) (y ∷ ys) z all = (on 0 x y z.0 all.0, zip_numbered R (λ k. P (suc k)) (λ k. Q (suc k)) (λ k. on (suc k)) xs ys z.1 all.1)
 
-pub zip_mapped : {A B C D : Type 0} (R : A → B → Type 0) (Q : C → D → Type 0) (f : A → C) (h : B → D) → ((a : A) (b : B) → R a b → Q (f a) (h b))
-    → (xs : List A) (ys : List B) → AllZip R xs ys → AllZip Q (map f xs) (map h ys)
-zip_mapped R Q f h on [] [] z = tt
-zip_mapped R Q f h on [] (y ∷ ys) z = absurd z
-zip_mapped R Q f h on (x ∷ xs) [] z = absurd z
-zip_mapped R Q f h on (x ∷ xs) (y ∷ ys) z = (on x y z.0, zip_mapped R Q f h on xs ys z.1)
+pub two_of : {A B C D : Type 0} (R : A → B → Type 0) (P : ℕ → A → Type 0) (Q : ℕ → C → D → Type 0) (f : A → C) (h : B → D) → ((k : ℕ) (a : A) (b : B) → R a b → P k a → Q k (f a) (h b))
+    → (xs : List A) (ys : List B) → AllZip R xs ys → AllNumbered P xs → AllOfTwo Q (map f xs) (map h ys)
+two_of R P Q f h on [] [] z all = tt
+two_of R P Q f h on [] (y ∷ ys) z all = absurd z
+two_of R P Q f h on (x ∷ xs) [] z all = absurd z
+two_of R P Q f h on (x ∷ xs) (y ∷ ys) z all = (on 0 x y z.0 all.0, two_of R (λ k. P (suc k)) (λ k. Q (suc k)) f h (λ k. on (suc k)) xs ys z.1 all.1)
 
 pub zip_length : {A B : Type 0} (R : A → B → Type 0) (xs : List A) (ys : List B) → AllZip R xs ys → length xs ≡ length ys
 zip_length R [] [] z = refl

@@ -17,6 +17,7 @@ use Rattle.a429_workers.specs.Runs.{ArePublished, AreHeard, IsWired, IsWorking, 
 use Rattle.a429_workers.specs.Transmitting.{Transmitting, Outset, BeginsWith, GoesOnBy, HasMade, IsKnownPlan, IsSameGroup, StandsFor, led_by}
 use Rattle.a429_workers.specs.Sends.{AreSent, AreWhole, HasSent, is_taken, sent_in, totals_of}
 use Rattle.a429_workers.specs.declared.cells.Sent.{Sent}
+use Rattle.a429_workers.specs.declared.gates.Point.{Point}
 use Rattle.a429_workers.specs.declared.sending.SendTotals.{SendTotals}
 use Rattle.a429_workers.specs.declared.sending.SendFault.{SendFault}
 use Rattle.a429_workers.specs.declared.sending.SendFault.TheVariants.{Change}
@@ -95,20 +96,20 @@ module _ (g : ℕ) (opened : PlanTable) (p : GroupTable) (there : slice_get (gro
       → AllByRecursion (IsKnownPlan w.transmitter.at.station) w.watcher.list → HasMade (outset opened g p) (calls ++ Turns plans StaysSpent ∷ []) w
   sent_on v w before then calls last plans stands H is known = subst (λ (cs : List Call). HasMade (outset opened g p) (calls ++ cs) w) is (H.stands (outset opened g p) [] stands known)
 
-never_by : (at : ends.Place) (planner : Planning) (list : List PlanTable) (g frames : ℕ) (v w : Transmitting) (before then : Option (List Sent))
+never_by : (passes shuts : Point → Type 0) (r : ℕ) (at : ends.Place) (planner : Planning) (list : List PlanTable) (g frames : ℕ) (v w : Transmitting) (before then : Option (List Sent))
     → IsReady at planner g v → HasFewSlots planner.last → AllByRecursion (IsKnownPlan at.station) list → AllByRecursion HasFewSlots list → frames ≤ 1000000 → IsPrefix w.watcher.list list
-    → (hit : (p : GroupTable) × (slice_get (groups_of planner.last) g ≡ Some p)) → AreSent frames v w before then (Err Change) → ⊥
-never_by at planner list g frames v w before then R first known small few beginning hit S =
+    → (hit : (p : GroupTable) × (slice_get (groups_of planner.last) g ≡ Some p)) → AreSent passes shuts r frames v w before then (Err Change) → ⊥
+never_by passes shuts r at planner list g frames v w before then R first known small few beginning hit S =
     made_on g planner.last hit.0 hit.1 w S.0 S.3.0 first (all_beginning HasFewSlots w.watcher.list list beginning small)
     (sent_on g planner.last hit.0 hit.1 v w before then S.0 S.1 S.3.0 (stands_first at planner g v hit.0 R hit.1) S.2 S.3.1 (known_there at w list (same_hub at planner g v w R S.2.same) beginning known))
     (room (count_by is_taken S.0) frames S.4 few)
 
 -- where the watcher saw published plans alone
-pub never_refused : (at : ends.Place) (planner : Planning) (list : List PlanTable) (g frames : ℕ) (v w : Transmitting) (before then : Option (List Sent)) (answer : Result SendTotals SendFault)
+pub never_refused : (passes shuts : Point → Type 0) (r : ℕ) (at : ends.Place) (planner : Planning) (list : List PlanTable) (g frames : ℕ) (v w : Transmitting) (before then : Option (List Sent)) (answer : Result SendTotals SendFault)
     → IsReady at planner g v → HasFewSlots planner.last → g < length (groups_of planner.last) → AllByRecursion (IsKnownPlan at.station) list → AllByRecursion HasFewSlots list → frames ≤ 1000000
-    → AreSent frames v w before then answer → IsPrefix w.watcher.list list → answer ≢ Err Change
-never_refused at planner list g frames v w before then answer R first inside known small few sent beginning is =
-    never_by at planner list g frames v w before then R first known small few beginning (table_there (groups_of planner.last) g inside) (subst (AreSent frames v w before then) is sent)
+    → AreSent passes shuts r frames v w before then answer → IsPrefix w.watcher.list list → answer ≢ Err Change
+never_refused passes shuts r at planner list g frames v w before then answer R first inside known small few sent beginning is =
+    never_by passes shuts r at planner list g frames v w before then R first known small few beginning (table_there (groups_of planner.last) g inside) (subst (AreSent passes shuts r frames v w before then) is sent)
 
 -- ---- one run
 
@@ -190,10 +191,10 @@ module _ (at : ends.Place) (first last : Planning) (c : Course) (receivers : Lis
         counted = counted ∙ ap (totals_of (sent_in calls)) made.at.number;
       }
 
-pub group_ran : {B : Type 0} (taken : B → Option (List Sent)) (at : ends.Place) (first last : Planning) (c : Course) (receivers : List ends.Receiving) (frames g : ℕ) (v w : Transmitting) (sink sink' : B) (totals : SendTotals)
-    → IsTakenIn at first last c receivers → IsReady at first g v → AreSent frames v w (taken sink) (taken sink') (Ok totals) → IsJoined at.station last.list receivers w
+pub group_ran : {B : Type 0} (passes shuts : Point → Type 0) (r : ℕ) (taken : B → Option (List Sent)) (at : ends.Place) (first last : Planning) (c : Course) (receivers : List ends.Receiving) (frames g : ℕ) (v w : Transmitting) (sink sink' : B) (totals : SendTotals)
+    → IsTakenIn at first last c receivers → IsReady at first g v → AreSent passes shuts r frames v w (taken sink) (taken sink') (Ok totals) → IsJoined at.station last.list receivers w
     → IsSentIn taken frames at.station c g sink sink' totals
-group_ran taken at first last c receivers frames g v w sink sink' totals K R S J =
+group_ran passes shuts r taken at first last c receivers frames g v w sink sink' totals K R S J =
     let hit = table_there (groups_of c.opened) g (subst (λ (n : ℕ). g < n) (sym K.planned.count) R.inside) in
     let b = outset c.opened g hit.0 in
     sent_so at first last c receivers K g hit.0 hit.1 taken frames v w J.end sink sink' totals S.0 (same_hub at first g v w R S.1.same)

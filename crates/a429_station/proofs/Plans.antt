@@ -1,21 +1,24 @@
 -- Plans of a station send its sources alone, and stay in order when one more is published.
-use Rattle.std.proofs.Common.{◌≡◌, ℕ, zero, suc, ◌+◌, ◌<◌, ◌≤◌, ◌^◌, true, List, [], ◌∷◌, ◌++◌, length, ◌∙◌, sym, ap, subst, refl, arith, append-nil, append_assoc}
+use Rattle.std.proofs.Common.{◌≡◌, ℕ, zero, suc, ◌+◌, ◌<◌, ◌≤◌, ◌^◌, true, List, [], ◌∷◌, ◌++◌, length, map, ◌∙◌, sym, ap, subst, refl, arith, append-nil, append_assoc}
 use Rattle.std.specs.Prelude.{Some, IsTrue, slice_get, ◌==◌, ◌&&◌}
-use Rattle.std.specs.List.{AllByRecursion, AllZip}
+use Rattle.std.specs.List.{AllByRecursion, AllZip, zip}
 use Rattle.std.proofs.lemmas.Bool.{and_parts, eqb-true}
 use Rattle.std.proofs.lemmas.List.{length-append, map-append}
 use Rattle.std.proofs.lemmas.Option.{none-some, same_Some}
 use Rattle.a429_word.proofs.Lists.{all_push}
 use Rattle.a429_equipment.specs.TableRecord.{TableRecord}
-use Rattle.a429_equipment.specs.Sound.{IsSound}
+use Rattle.a429_equipment.specs.Sound.{HaveOwnSources, IsSound}
 use Rattle.a429_equipment.specs.SameStation.{same_station, all_agree, same_receiver, same_source, same_group}
+use Rattle.a429_equipment.specs.declared.rows.GroupRow.{GroupRow}
 use Rattle.a429_equipment.specs.declared.rows.OutputRow.{OutputRow}
 use Rattle.a429_equipment.specs.declared.rows.SourceRow.{SourceRow}
 use Rattle.a429_slots.specs.Tables.{GroupTable, PlanTable, frame_of, groups_of}
 use Rattle.a429_slots.specs.Planned.{IsPlannedAt, IsPlanOf, rated_outputs}
 use Rattle.a429_slots.specs.Proposed.{Proposed}
+use Rattle.a429_slots.specs.Spacing.{IsOwnPlan, IsSpacedTable, PlannedTablesAreSpaced}
 use Rattle.a429_board.specs.Lists.{Planning, numbered}
 use Rattle.a429_workers.specs.Runs.{ArePublished, plans_of}
+use Rattle.a429_workers.specs.SentWords.{IsSpacedPlan}
 use Rattle.a429_workers.specs.Transmitting.{IsKnownPlan}
 use Rattle.a429_board.specs.Refused.{IsWhy}
 use Rattle.a429_board.specs.declared.planner.BoardFault.{BoardFault}
@@ -43,6 +46,29 @@ tables_small sources (r ∷ rated) (u ∷ ts) planned = (planned.0.few_slots, ta
 pub plan_small : (e : TableRecord) (p : PlanTable) → IsPlanOf e p → HasFewSlots p
 plan_small e p planned = tables_small e.sources (rated_outputs e) (groups_of p) planned.groups
 
+-- ---- spacing
+
+module _ (law : PlannedTablesAreSpaced) where
+  tables_spaced : (sources : List SourceRow) (rates : List ℕ) (rowss : List (List OutputRow)) (ts : List GroupTable) → AllZip (IsPlannedAt sources) (zip rates rowss) ts → AllByRecursion HaveOwnSources rowss
+      → AllByRecursion IsSpacedTable ts
+  tables_spaced sources [] rowss [] planned own = tt
+  tables_spaced sources [] rowss (u ∷ ts) planned own = absurd planned
+  tables_spaced sources (rate ∷ rates) [] [] planned own = tt
+  tables_spaced sources (rate ∷ rates) [] (u ∷ ts) planned own = absurd planned
+  tables_spaced sources (rate ∷ rates) (rows ∷ rowss) [] planned own = absurd planned
+  tables_spaced sources (rate ∷ rates) (rows ∷ rowss) (u ∷ ts) planned own = (law rate sources rows u planned.0 own.0, tables_spaced sources rates rowss ts planned.1 own.1)
+
+  plan_spaced : (e : TableRecord) (p : PlanTable) → AllZip (IsPlannedAt e.sources) (rated_outputs e) (groups_of p) → AllByRecursion HaveOwnSources e.outputs → IsSpacedPlan p
+  plan_spaced e p planned own = tables_spaced e.sources (map (λ (g : GroupRow). g.rate) e.groups) e.outputs (groups_of p) planned own
+
+  later_spaced : (later : List Proposed) → AllByRecursion IsOwnPlan later → AllByRecursion IsSpacedPlan (map (λ (q : Proposed). q.plan) later)
+  later_spaced [] own = tt
+  later_spaced (q ∷ later) own = (plan_spaced q.station q.plan own.0.plan.groups own.0.own, later_spaced later own.1)
+
+  pub plans_spaced : (t : TableRecord) (opened : PlanTable) (later : List Proposed) → IsPlanOf t opened → AllByRecursion HaveOwnSources t.outputs → AllByRecursion IsOwnPlan later
+      → AllByRecursion IsSpacedPlan (plans_of (opening t opened) later)
+  plans_spaced t opened later planned own all = (plan_spaced t opened planned.groups own, later_spaced later all)
+
 -- ---- the planner's list
 
 numbered_on : (base : ℕ) (later : List Proposed) (q : Proposed) → ((k : ℕ) (x : Proposed) → slice_get later k ≡ Some x → x.plan.number ≡ base + (k + 1)) → q.plan.number ≡ base + (length later + 1)
@@ -61,10 +87,16 @@ led_first t v sound planned first = record {
   later = [];
   plans = first;
   published = record { of_station = tt; numbered = λ k q h. absurd (none-some q h); countable = omega (arith, planned.number) };
+  own = tt;
+  own_sources = sound.own_sources;
   last = omega arith;
   known = subst (AllByRecursion (IsKnownPlan t)) (sym first) (plan_known t t v.last refl sound planned, tt);
   small = subst (AllByRecursion HasFewSlots) (sym first) (plan_small t v.last planned, tt);
 }
+
+-- a plan of a sound table is its own, under whatever number
+own_but_number : (e : TableRecord) (p : PlanTable) (n : ℕ) → IsSound e → IsPlanOf e p → IsOwnPlan (record { station = e; plan = numbered p n })
+own_but_number e p n sound planned = record { plan = record { number = refl; count = planned.count; groups = planned.groups }; own = sound.own_sources }
 
 -- where one more is published
 pub led_on : (old new : Running) (bytes : List ℕ) (n : ℕ) (P : Publishes old bytes n new) → n < 2 ^ 64 → IsLed old → IsLed new
@@ -86,6 +118,8 @@ led_on old new bytes n P fits L =
         numbered = numbered_on L.opened.number L.later q L.published.numbered next;
         countable = omega (arith, long, next, fits);
       });
+      own = all_push IsOwnPlan L.later q L.own (own_but_number P.of.record_of P.of.plan n P.of.sound P.of.planned);
+      own_sources = subst (λ (t : TableRecord). AllByRecursion HaveOwnSources t.outputs) (sym station) L.own_sources;
       last = omega (arith, last, next, long);
       known = subst (λ (t : TableRecord). AllByRecursion (IsKnownPlan t) new.planner.list) (sym station) (
           subst (AllByRecursion (IsKnownPlan old.station)) (sym P.list) (

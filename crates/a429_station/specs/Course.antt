@@ -4,9 +4,11 @@ use Rattle.std.specs.List.{AllByRecursion, range_with_len}
 use Rattle.a429_equipment.specs.TableRecord.{TableRecord}
 use Rattle.a429_equipment.specs.Receiving.{accepted_after}
 use Rattle.a429_equipment.specs.Agreement.{loads_of_all}
+use Rattle.a429_equipment.specs.Sound.{HaveOwnSources}
 use Rattle.a429_slots.specs.Tables.{GroupTable, PlanTable}
 use Rattle.a429_slots.specs.Planned.{IsPlanOf}
 use Rattle.a429_slots.specs.Proposed.{Proposed}
+use Rattle.a429_slots.specs.Spacing.{IsOwnPlan}
 use Rattle.a429_values.specs.Ends as ends
 use Rattle.a429_workers.specs.Calls.{Call, Meets}
 use Rattle.a429_workers.specs.Receives as receives
@@ -70,10 +72,13 @@ pub record IsSentIn {B : Type 0} (taken : B → Option (List Sent)) (frames : �
 
 -- ---- the station
 
--- The station ran by a plan of its own table. Receivers and groups go by their numbers, which are their places in the table.
+-- The station ran by a plan of its own table, and by plans of their own tables that were published meanwhile. Receivers and groups go by their
+-- numbers, which are their places in the table.
 pub record HasRun {L B : Type 0} (gives : L → List ℕ → L → Type 0) (ended : L → Bool) (taken : B → Option (List Sent)) (t : TableRecord) (frames : ℕ) (sources : List L) (sinks : List B) (report : Report L B) : Type 0 where
   pub course : Course
   pub planned : IsPlanOf t course.opened
+  pub own_sources : AllByRecursion HaveOwnSources t.outputs
+  pub own_plans : AllByRecursion IsOwnPlan course.later
   pub few : frames ≤ 1000000
   pub heard : AllOfThree (IsHeardIn gives ended t course) sources report.sources.items report.receivers.items
   pub sent : AllOfThree (IsSentIn taken frames t course) sinks report.sinks.items report.groups.items

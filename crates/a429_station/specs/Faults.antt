@@ -1,18 +1,20 @@
 -- Why a station did not run, or not to its end: the faults of its plan and of its workers.
 use Rattle.std.specs.Prelude.{◌≡◌, ◌<◌, ◌≤◌, List, [], ◌∷◌, ◌⊎◌, ⊤, ℕ, Bool, true, Option, Some, None, Result, Ok, Err, OnOk, length}
-use Rattle.std.specs.List.{AllZip}
 use Rattle.a429_equipment.specs.TableRecord.{TableRecord}
 use Rattle.a429_slots.specs.Tables.{PlanTable}
 use Rattle.a429_slots.specs.Planned.{IsPlanOf}
 use Rattle.a429_slots.specs.Faults.{IsFaultOf}
+use Rattle.a429_workers.specs.Gates.{IsGatedGroup, IsGatedLine}
 use Rattle.a429_workers.specs.Receives.{source_failures}
 use Rattle.a429_workers.specs.Sends.{sink_failures}
+use Rattle.a429_workers.specs.declared.gates.Point.{Point}
 use Rattle.a429_workers.specs.declared.receiving.ReceiveTotals.{ReceiveTotals}
 use Rattle.a429_workers.specs.declared.receiving.ReceiveFault.{ReceiveFault}
 use Rattle.a429_workers.specs.declared.receiving.ReceiveFault.TheVariants as receive
 use Rattle.a429_workers.specs.declared.sending.SendTotals.{SendTotals}
 use Rattle.a429_workers.specs.declared.sending.SendFault.{SendFault}
 use Rattle.a429_workers.specs.declared.sending.SendFault.TheVariants as send
+use Rattle.a429_station.specs.Numbered.{AllOfTwo}
 use Rattle.a429_station.specs.declared.faults.LiveFault.{LiveFault}
 use Rattle.a429_station.specs.declared.faults.LiveFault.TheVariants as live
 
@@ -37,11 +39,11 @@ first_fault [] = None
 first_fault (Ok done ∷ answers) = first_fault answers
 first_fault (Err fault ∷ answers) = Some fault
 
--- the fault is that of the first receiver that has one, or else of the first group
+-- the fault is that of the first receiver that has one, or else of the first group, or else want of memory
 abbrev pub IsFirst : Option ReceiveFault → Option SendFault → LiveFault → Type 0
 IsFirst (Some why) groups fault = fault ≡ of_receiver why
 IsFirst None (Some why) fault = IsOfGroup why fault
-IsFirst None None fault = ⊥
+IsFirst None None fault = fault ≡ live.NoMemory
 
 -- the line gave a word after a million, where that is why its receiver's loop ended
 abbrev pub GaveTooMuch : List ℕ → Result ReceiveTotals ReceiveFault → Type 0
@@ -50,21 +52,26 @@ GaveTooMuch words (Err receive.Source) = ⊤
 GaveTooMuch words (Err receive.Gate) = ⊤
 GaveTooMuch words (Ok totals) = ⊤
 
--- The source of a line gave words until the loop of its receiver ended with this answer. Where that is Ok the source was at its end; its count of
--- failures rose where it is Source, as far as 64 bits count, and stayed where it is another.
-pub record EndsLine {L : Type 0} (gives : L → List ℕ → L → Type 0) (ended : L → Bool) (failed : L → ℕ) (before : L) (answer : Result ReceiveTotals ReceiveFault) : Type 0 where
+-- The source of receiver r's line gave words until the loop of that receiver ended with this answer, at the point of the gate to which it had come.
+-- Where the answer is Ok the source was at its end; its count of failures rose where it is Source, as far as 64 bits count, and stayed where it is
+-- another.
+pub record EndsLine {L : Type 0} (gives : L → List ℕ → L → Type 0) (ended : L → Bool) (failed : L → ℕ) (passes shuts : Point → Type 0) (r : ℕ) (before : L) (answer : Result ReceiveTotals ReceiveFault) : Type 0 where
   pub after : L
   pub words : List ℕ
   pub gave : gives before words after
   pub at_end : OnOk answer (ended after ≡ true)
   pub failures : failed after ≡ source_failures (failed before) answer
   pub many : GaveTooMuch words answer
+  pub taken : ℕ
+  pub gated : IsGatedLine passes shuts r (length words) taken answer
 
--- The sink of a group was there until the group's loop ended with this answer. Its count of failures rose where that is Sink, as far as 64 bits
--- count, and stayed where it is another.
-pub record EndsGroup {B : Type 0} (failed : B → ℕ) (before : B) (answer : Result SendTotals SendFault) : Type 0 where
+-- The sink of group g was there until the group's loop ended with this answer, at the point of the gate to which it had come. Its count of failures
+-- rose where the answer is Sink, as far as 64 bits count, and stayed where it is another.
+pub record EndsGroup {B : Type 0} (failed : B → ℕ) (passes shuts : Point → Type 0) (g : ℕ) (before : B) (answer : Result SendTotals SendFault) : Type 0 where
   pub after : B
   pub failures : failed after ≡ sink_failures (failed before) answer
+  pub taken : ℕ
+  pub gated : IsGatedGroup passes shuts g taken answer
 
 -- ---- of a run
 
@@ -74,26 +81,28 @@ pub record CanStart (t : TableRecord) (frames : ℕ) : Type 0 where
   pub planned : IsPlanOf t plan
   pub few : frames ≤ 1000000
 
--- the loops of all receivers and groups ended, and the fault is the first of theirs
-pub record HasStopped {L B : Type 0} (gives : L → List ℕ → L → Type 0) (ended : L → Bool) (failed : L → ℕ) (failed_sink : B → ℕ) (sources : List L) (sinks : List B) (fault : LiveFault) : Type 0 where
+-- the loops of all receivers and groups ended, and the fault is the first of theirs, or want of memory where none has one
+pub record HasStopped {L B : Type 0} (gives : L → List ℕ → L → Type 0) (ended : L → Bool) (failed : L → ℕ) (failed_sink : B → ℕ) (passes shuts : Point → Type 0) (sources : List L) (sinks : List B) (fault : LiveFault) : Type 0 where
   pub heard : List (Result ReceiveTotals ReceiveFault)
   pub sent : List (Result SendTotals SendFault)
-  pub lines : AllZip (EndsLine gives ended failed) sources heard
-  pub groups : AllZip (EndsGroup failed_sink) sinks sent
+  pub lines : AllOfTwo (EndsLine gives ended failed passes shuts) sources heard
+  pub groups : AllOfTwo (EndsGroup failed_sink passes shuts) sinks sent
   pub first : IsFirst (first_fault heard) (first_fault sent) fault
 
--- why the workers of a run did not come to their end, or what they did was not reported
-abbrev pub IsRunFault : {L B : Type 0} → (L → List ℕ → L → Type 0) → (L → Bool) → (L → ℕ) → (B → ℕ) → List L → List B → LiveFault → Type 0
-IsRunFault gives ended failed failed_sink sources sinks fault =
-    (fault ≡ live.NoMemory) ⊎ ((fault ≡ live.Join) ⊎ HasStopped gives ended failed failed_sink sources sinks fault)
+-- why a run has no report: memory was refused while the run was idle, before its control began; or a thread could not be started or taken in; or all
+-- loops ended, and it is the first fault
+abbrev pub IsRunFault : {L B : Type 0} → Type 0 → (L → List ℕ → L → Type 0) → (L → Bool) → (L → ℕ) → (B → ℕ) → (Point → Type 0) → (Point → Type 0) → List L → List B → LiveFault → Type 0
+IsRunFault idle gives ended failed failed_sink passes shuts sources sinks fault =
+    ((fault ≡ live.NoMemory) × idle) ⊎ ((fault ≡ live.Join) ⊎ HasStopped gives ended failed failed_sink passes shuts sources sinks fault)
 
--- why a station of this table did not run, or not to its end
-abbrev pub IsLiveFault : {L B : Type 0} → (L → List ℕ → L → Type 0) → (L → Bool) → (L → ℕ) → (B → ℕ) → TableRecord → ℕ → List L → List B → LiveFault → Type 0
-IsLiveFault gives ended failed failed_sink t frames sources sinks (live.Plan why) = IsFaultOf t why
-IsLiveFault gives ended failed failed_sink t frames sources sinks live.TooMuch =
-    ((plan : PlanTable) × IsPlanOf t plan × (1000000 < frames)) ⊎ (CanStart t frames × HasStopped gives ended failed failed_sink sources sinks live.TooMuch)
-IsLiveFault gives ended failed failed_sink t frames sources sinks live.Source = CanStart t frames × HasStopped gives ended failed failed_sink sources sinks live.Source
-IsLiveFault gives ended failed failed_sink t frames sources sinks live.Gate = CanStart t frames × HasStopped gives ended failed failed_sink sources sinks live.Gate
-IsLiveFault gives ended failed failed_sink t frames sources sinks live.Sink = CanStart t frames × HasStopped gives ended failed failed_sink sources sinks live.Sink
-IsLiveFault gives ended failed failed_sink t frames sources sinks live.Join = CanStart t frames
-IsLiveFault gives ended failed failed_sink t frames sources sinks live.NoMemory = CanStart t frames
+-- why a station of this table did not run, or not to its end, or has no report
+abbrev pub IsLiveFault : {L B : Type 0} → Type 0 → (L → List ℕ → L → Type 0) → (L → Bool) → (L → ℕ) → (B → ℕ) → (Point → Type 0) → (Point → Type 0) → TableRecord → ℕ → List L → List B → LiveFault → Type 0
+IsLiveFault idle gives ended failed failed_sink passes shuts t frames sources sinks (live.Plan why) = IsFaultOf t why
+IsLiveFault idle gives ended failed failed_sink passes shuts t frames sources sinks live.TooMuch =
+    ((plan : PlanTable) × IsPlanOf t plan × (1000000 < frames)) ⊎ (CanStart t frames × HasStopped gives ended failed failed_sink passes shuts sources sinks live.TooMuch)
+IsLiveFault idle gives ended failed failed_sink passes shuts t frames sources sinks live.Source = CanStart t frames × HasStopped gives ended failed failed_sink passes shuts sources sinks live.Source
+IsLiveFault idle gives ended failed failed_sink passes shuts t frames sources sinks live.Gate = CanStart t frames × HasStopped gives ended failed failed_sink passes shuts sources sinks live.Gate
+IsLiveFault idle gives ended failed failed_sink passes shuts t frames sources sinks live.Sink = CanStart t frames × HasStopped gives ended failed failed_sink passes shuts sources sinks live.Sink
+IsLiveFault idle gives ended failed failed_sink passes shuts t frames sources sinks live.Join = CanStart t frames
+IsLiveFault idle gives ended failed failed_sink passes shuts t frames sources sinks live.NoMemory =
+    CanStart t frames × (idle ⊎ HasStopped gives ended failed failed_sink passes shuts sources sinks live.NoMemory)

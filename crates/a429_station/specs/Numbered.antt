@@ -6,6 +6,12 @@ abbrev pub AllNumbered : {X : Type 0} → (ℕ → X → Type 0) → List X → 
 AllNumbered P [] = ⊤
 AllNumbered P (x ∷ xs) = P 0 x × AllNumbered (λ k. P (suc k)) xs
 
+-- P of each place and the items there of two lists, which are as long as one another
+abbrev pub AllOfTwo : {X Y : Type 0} → (ℕ → X → Y → Type 0) → List X → List Y → Type 0
+AllOfTwo P [] [] = ⊤
+AllOfTwo P (x ∷ xs) (y ∷ ys) = P 0 x y × AllOfTwo (λ k. P (suc k)) xs ys
+AllOfTwo P _ _ = ⊥
+
 -- P of each place and the items there of three lists, which are as long as one another
 abbrev pub AllOfThree : {X Y Z : Type 0} → (ℕ → X → Y → Z → Type 0) → List X → List Y → List Z → Type 0
 AllOfThree P [] [] [] = ⊤

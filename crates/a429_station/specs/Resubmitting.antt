@@ -4,7 +4,7 @@ use Rattle.std.specs.List.{AllByRecursion}
 use mathlib.Core.List.{IsPrefix}
 use Rattle.a429_equipment.specs.TableRecord.{TableRecord}
 use Rattle.a429_table.specs.Reading.{reading}
-use Rattle.a429_equipment.specs.Sound.{IsSound}
+use Rattle.a429_equipment.specs.Sound.{HaveOwnSources, IsSound}
 use Rattle.a429_equipment.specs.SameStation.{same_station}
 use Rattle.a429_table.specs.declared.fault.TableFault.{TableFault}
 use Rattle.a429_table.specs.declared.fault.TableFault.TheVariants as table
@@ -12,6 +12,7 @@ use Rattle.a429_slots.specs.Tables.{PlanTable, frame_of, groups_of}
 use Rattle.a429_slots.specs.Proposed.{Proposed}
 use Rattle.a429_slots.specs.History.{Opening}
 use Rattle.a429_slots.specs.Planned.{IsPlanOf}
+use Rattle.a429_slots.specs.Spacing.{IsOwnPlan}
 use Rattle.a429_slots.specs.Faults.{IsFaultOf}
 use Rattle.a429_slots.specs.declared.planner.PlanFault.{PlanFault}
 use Rattle.a429_slots.specs.declared.planner.PlanFault.TheVariants as plan
@@ -19,6 +20,7 @@ use Rattle.a429_board.specs.declared.planner.BoardFault.{BoardFault}
 use Rattle.a429_board.specs.declared.planner.BoardFault.TheVariants as board
 use Rattle.a429_board.specs.Lists.{Planning, numbered}
 use Rattle.a429_workers.specs.Runs.{ArePublished, plans_of}
+use Rattle.a429_workers.specs.SentWords.{IsSpacedPlan}
 use Rattle.a429_workers.specs.Transmitting.{IsKnownPlan}
 use Rattle.a429_station.specs.declared.station.ReplanFault.{ReplanFault}
 use Rattle.a429_station.specs.declared.station.ReplanFault.TheVariants as replan
@@ -36,13 +38,15 @@ opening t p = record { proposal = record { station = t; plan = p }; first = 0 }
 abbrev pub HasFewSlots : PlanTable → Type 0
 HasFewSlots p = AllByRecursion (λ t. frame_of t ≤ 8192) (groups_of p)
 
--- The planner's list is the opening plan and those of later proposals of the station, numbered on from it. Its plans send no sources but the
--- station's.
+-- The planner's list is the opening plan and those of later proposals of the station, numbered on from it, each of its own table. Its plans send no
+-- sources but the station's, whose outputs have sources of their own.
 pub record IsLed (v : Running) : Type 0 where
   pub opened : PlanTable
   pub later : List Proposed
   pub plans : v.planner.list ≡ plans_of (opening v.station opened) later
   pub published : ArePublished (opening v.station opened) later
+  pub own : AllByRecursion IsOwnPlan later
+  pub own_sources : AllByRecursion HaveOwnSources v.station.outputs
   pub last : v.planner.last.number ≡ opened.number + length later
   pub known : AllByRecursion (IsKnownPlan v.station) v.planner.list
   pub small : AllByRecursion HasFewSlots v.planner.list
@@ -68,6 +72,16 @@ pub record IsDoneBetween (did : Running → Running → Type 0) (t : TableRecord
   pub opens : begin.planner.last ≡ opened
   pub list : end.planner.list ≡ opened ∷ map (λ q. q.plan) later
   pub done : did begin end
+
+-- ---- laws
+
+-- The plans of a run keep to the least spacings of their outputs, where each is the plan of its own table, and the table's outputs have sources of
+-- their own.
+abbrev pub PlansOfRunsAreSpaced : Type 0
+PlansOfRunsAreSpaced =
+    (t : TableRecord) (opened : PlanTable) (later : List Proposed)
+    → IsPlanOf t opened → AllByRecursion HaveOwnSources t.outputs → AllByRecursion IsOwnPlan later
+    → AllByRecursion IsSpacedPlan (plans_of (opening t opened) later)
 
 -- ---- a table that is submitted again
 

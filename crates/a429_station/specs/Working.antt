@@ -8,10 +8,12 @@ use Rattle.a429_equipment.specs.Agreement.{Agrees, loads_of_all}
 use Rattle.a429_slots.specs.Tables.{PlanTable}
 use Rattle.a429_board.specs.Lists.{Planning, beginner}
 use Rattle.a429_workers.specs.Calls.{Call, Meets}
+use Rattle.a429_workers.specs.Gates.{AreGated}
 use Rattle.a429_workers.specs.Receives.{AreTaken, source_failures}
 use Rattle.a429_workers.specs.Sends.{AreSent, sink_failures}
 use Rattle.a429_workers.specs.Transmitting.{Transmitting, BeginsWith, GoesOnBy}
 use Rattle.a429_workers.specs.declared.cells.Sent.{Sent}
+use Rattle.a429_workers.specs.declared.gates.Point.{Point}
 use Rattle.a429_workers.specs.declared.receiving.ReceiveTotals.{ReceiveTotals}
 use Rattle.a429_workers.specs.declared.receiving.ReceiveFault.{ReceiveFault}
 use Rattle.a429_workers.specs.declared.sending.SendTotals.{SendTotals}
@@ -20,11 +22,13 @@ use Rattle.a429_workers.specs.declared.sending.SendFault.TheVariants.{Change}
 
 -- ---- receivers
 
--- the line gave words, the receiver took them, and the answer says how many and why it ended; where it is Ok the line's last call answered the end
-pub record HasReceived {L : Type 0} (gives : L → List ℕ → L → Type 0) (ended : L → Bool) (failed : L → ℕ) (line : L) (receiver : ends.Receiving) (line' : L) (receiver' : ends.Receiving) (answer : Result ReceiveTotals ReceiveFault) : Type 0 where
+-- The line gave words, the receiver took them, each between two points of the gate, and the answer says how many and why it ended; where it is Ok the
+-- line's last call answered the end.
+pub record HasReceived {L : Type 0} (gives : L → List ℕ → L → Type 0) (ended : L → Bool) (failed : L → ℕ) (passes shuts : Point → Type 0) (r : ℕ) (line : L) (receiver : ends.Receiving) (line' : L) (receiver' : ends.Receiving) (answer : Result ReceiveTotals ReceiveFault) : Type 0 where
   pub words : List ℕ
   pub gave : gives line words line'
   pub taken : AreTaken words answer receiver receiver'
+  pub gated : AreGated passes shuts r words answer receiver receiver'
   pub at_end : OnOk answer (ended line' ≡ true)
   pub failures : failed line' ≡ source_failures (failed line) answer
 
@@ -41,9 +45,9 @@ pub record IsReady (at : ends.Place) (p : Planning) (g : ℕ) (v : Transmitting)
   pub watcher : v.watcher ≡ beginner p
   pub begins : BeginsWith v.transmitter v.watcher 0 v
 
--- the group sent its frames, or fewer, and the sink took cells
-pub record HasEmitted {B : Type 0} (taken : B → Option (List Sent)) (failed : B → ℕ) (frames : ℕ) (old : Transmitting) (sink : B) (new : Transmitting) (sink' : B) (answer : Result SendTotals SendFault) : Type 0 where
-  pub sent : AreSent frames old new (taken sink) (taken sink') answer
+-- the group sent its frames, or fewer, and the sink took cells, each between two points of the gate
+pub record HasEmitted {B : Type 0} (taken : B → Option (List Sent)) (failed : B → ℕ) (passes shuts : Point → Type 0) (g frames : ℕ) (old : Transmitting) (sink : B) (new : Transmitting) (sink' : B) (answer : Result SendTotals SendFault) : Type 0 where
+  pub sent : AreSent passes shuts g frames old new (taken sink) (taken sink') answer
   pub failures : failed sink' ≡ sink_failures (failed sink) answer
 
 -- the transmitter of a group after its loop: still at the hub and of the board, and its next frame was not refused if its watcher saw published

@@ -3,6 +3,7 @@
 
 mod control;
 mod faults;
+pub mod laws;
 mod reports;
 mod running;
 mod station;

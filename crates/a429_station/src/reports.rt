@@ -1,5 +1,5 @@
 //! What a station did, from what its workers did.
-ghost use Rattle.std.specs.Prelude.{◌≡◌, ◌⊎◌, Ok, None, Some, IfOk, IfErr, map, option_map};
+ghost use Rattle.std.specs.Prelude.{◌≡◌, ◌⊎◌, Ok, None, Some, IfOk, IfErr, IsTrue, OnOk, is_ok, map, option_map};
 ghost use Rattle.std.specs.List.{AllByRecursion};
 ghost use Rattle.a429_station.specs.Faults.{IsFirst, first_fault, of_receiver};
 ghost use Rattle.a429_station.specs.Numbered.{AllNumbered};
@@ -12,7 +12,7 @@ use crate::station::Station;
 use crate::working::{Emitted, Received};
 use a429_values::Receiver;
 use a429_workers::{ReceiveTotals, SendTotals, Transmit};
-use std::alloc::Global;
+use std::alloc::{AllocError, Global};
 use std::sync::Wait;
 
 /// What a station did, and its devices.
@@ -41,6 +41,67 @@ pub(crate) struct Heard<L> {
 pub(crate) struct Told<B> {
     pub totals: Vec<SendTotals>,
     pub sinks: Vec<B>,
+}
+
+/// Whether the loops of all receivers came to their ends. The error is the fault of the first that has one. It takes no
+/// memory.
+fn receivers_ended<L: Drop>(received: &Vec<Received<L>>) -> Result<(), LiveFault>
+    ensures ended { OnOk result (first_fault (map (λ d. d.answer) received.now.items) ≡ None) }
+    ensures fault { IfErr result (λ f. Some f ≡ option_map of_receiver (first_fault (map (λ d. d.answer) received.now.items))) }
+{
+    for place in 0..received.len() {
+        if let Err(fault) = received[place].answer {
+            return Err(LiveFault::from(fault));
+        }
+    }
+    Ok(())
+}
+
+/// Whether the loops of all groups came to their ends. The error is the fault of the first that has one. It takes no
+/// memory.
+fn groups_ended<R: Wait, B: Drop>(
+    hub: &Values,
+    station: &mut Station<'_, R>,
+    sent: &mut Vec<Emitted<B>>,
+) -> Result<(), LiveFault>
+    requires groups { AllByRecursion (λ d. IsOver hub.now station.old.planner d.transmit d.answer) sent.old.items }
+    ensures station { station.new ≡ station.old }
+    ensures same { OnOk result (sent.new.items ≡ sent.old.items) }
+    ensures ended { OnOk result (first_fault (map (λ d. d.answer) sent.old.items) ≡ None) }
+    ensures fault { IfErr result (IsFirst None (first_fault (map (λ d. d.answer) sent.old.items))) }
+{
+    let _at = hub;
+    for place in 0..sent.len() {
+        if let Err(fault) = sent[place].answer {
+            station.tell(&mut sent[place].transmit);
+            return Err(group_fault(fault));
+        }
+    }
+    Ok(())
+}
+
+/// Whether all loops came to their ends, and the control too. The error is the fault of the first receiver that has one,
+/// or else of the first group, or else `NoMemory` of the control. It takes no memory, so a worker's fault is told
+/// whatever memory the report would take.
+pub(crate) fn all_ended<R: Wait, L: Drop, B: Drop>(
+    hub: &Values,
+    station: &mut Station<'_, R>,
+    received: &Vec<Received<L>>,
+    sent: &mut Vec<Emitted<B>>,
+    answer: Result<(), AllocError>,
+) -> Result<(), LiveFault>
+    requires groups { AllByRecursion (λ d. IsOver hub.now station.old.planner d.transmit d.answer) sent.old.items }
+    ensures station { station.new ≡ station.old }
+    ensures same { OnOk result (sent.new.items ≡ sent.old.items) }
+    ensures receivers { OnOk result (first_fault (map (λ d. d.answer) received.now.items) ≡ None) }
+    ensures groups { OnOk result (first_fault (map (λ d. d.answer) sent.old.items) ≡ None) }
+    ensures control { OnOk result (IsTrue (is_ok answer)) }
+    ensures fault { IfErr result (IsFirst (first_fault (map (λ d. d.answer) received.now.items)) (first_fault (map (λ d. d.answer) sent.old.items))) }
+{
+    receivers_ended(received)?;
+    groups_ended(hub, station, sent)?;
+    answer?;
+    Ok(())
 }
 
 /// The totals of the receivers, or the fault of the first that has one.

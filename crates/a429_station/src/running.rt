@@ -15,7 +15,7 @@ ghost use Rattle.a429_station.specs.declared.faults.LiveFault.TheVariants.{NoMem
 
 use crate::control::Control;
 use crate::faults::LiveFault;
-use crate::reports::{Heard, Report, Told, groups_reported, receivers_reported};
+use crate::reports::{Heard, Report, Told, all_ended, groups_reported, receivers_reported};
 use crate::station::Station;
 use crate::threads::{Ended, at_once};
 use crate::working::{Receiving, Sending, group_worker};
@@ -52,6 +52,7 @@ fn receivers<'a, L: LineSource + Drop, G: Gate>(
     requires sources { vec_len sources ≤ length hub.now.station.receivers }
     ensures lines { IfOk result (λ workers. map (λ w. w.line) workers.items ≡ sources.items) }
     ensures fresh { IfOk result (λ workers. AllNumbered (λ r w. w.receiver ≡ fresh hub.now r) workers.items) }
+    ensures gates { IfOk result (λ workers. AllNumbered (λ r w. (w.number ≡ r) × (w.gate.now ≡ gate.now)) workers.items) }
     ensures desk { desk.new.at ≡ desk.old.at }
     ensures transmitters { desk.new.transmitters ≡ desk.old.transmitters }
     ensures fault { IfErr result (λ fault. fault ≡ NoMemory) }
@@ -127,6 +128,7 @@ fn groups<'a, R: Wait, B: BusSink + Drop, G: Gate>(
     requires enough { vec_len sinks ≤ vec_len watchers }
     ensures sinks { IfOk result (λ workers. map (λ w. w.sink) workers.items ≡ sinks.items) }
     ensures ready { IfOk result (λ workers. AllNumbered (λ g w. IsReady hub.now station.now.planner g w.transmit × (w.frames ≡ frames)) workers.items) }
+    ensures gates { IfOk result (λ workers. AllNumbered (λ g w. (w.number ≡ g) × (w.gate.now ≡ gate.now)) workers.items) }
     ensures fault { IfErr result (λ fault. fault ≡ NoMemory) }
 {
     let mut workers = Vec::new(alloc);
@@ -164,6 +166,7 @@ fn run<
     control: &mut K,
 ) -> Result<Report<L, B>, LiveFault>
     requires receivers { AllNumbered (λ r w. w.receiver ≡ fresh hub.now r) receiving.items }
+    requires gates { AllNumbered (λ r w. (w.number ≡ r) × (w.gate.now ≡ gate.now)) receiving.items }
     requires all { vec_len receiving ≡ length hub.now.station.receivers }
     requires hub { IsWired hub.now.station × (hub.now.station ≡ station.old.station) }
     requires desk { (desk.old.at ≡ hub.now) × (desk.old.transmitters ≡ []) }
@@ -174,7 +177,8 @@ fn run<
     requires enough { vec_len sinks ≤ vec_len watchers }
     ensures ran { IfOk result (HasRunBeside K.did control.old control.new (Gives L.given L.left) L.ended B.taken
         hub.now.station frames (map (λ w. w.line) receiving.entry.items) sinks.items) }
-    ensures fault { IfErr result (IsRunFault (Gives L.given L.left) L.ended L.failed B.failed (map (λ w. w.line) receiving.entry.items) sinks.items) }
+    ensures fault { IfErr result (IsRunFault (control.new ≡ control.old) (Gives L.given L.left) L.ended L.failed B.failed (G.passes gate.now) (G.shuts gate.now)
+        (map (λ w. w.line) receiving.entry.items) sinks.items) }
 {
     let sending = groups(alloc, hub, desk, station, watchers, sinks, frames, gate)?;
     let Ok(done) = at_once(rt, alloc, receiving, sending, station, control) else {
@@ -183,12 +187,12 @@ fn run<
     station.led();
     let Ended {
         first,
-        second,
+        mut second,
         answer,
     } = done;
+    all_ended(hub, station, &first, &mut second, answer)?;
     let mut heard = receivers_reported(alloc, first)?;
     let told = groups_reported(alloc, hub, station, heard.receivers.as_mut_slice(), second)?;
-    answer?;
     let Heard {
         totals: receivers,
         sources,
@@ -219,8 +223,9 @@ fn run<
 /// Refused is, in this order, an equipment without a plan (`Plan`), and more than a million frames (`TooMuch`); then
 /// nothing was started. `Join` where a thread could not be started or taken in. When all have ended: the fault of the
 /// first receiver that has one (`Source`, `Gate`, or `TooMuch` where its source gave a word after a million), or else
-/// of the first group (`Sink`, `Gate`), or else `NoMemory` of the control. `NoMemory` may come in place of any later
-/// answer.
+/// of the first group (`Sink`, `Gate`), or else `NoMemory` of the control. `NoMemory` may also come before the control
+/// ran, or where no worker has a fault, in place of the report. `Gate` stands only at a point at which the gate may end
+/// a loop, and to which the worker's loop had come.
 pub fn live<
     R: Threads + Wait,
     L: LineSource + Send + Drop,
@@ -242,7 +247,8 @@ pub fn live<
     ensures ran { IfOk result (HasRun (Gives L.given L.left) L.ended B.taken equipment.now frames sources.items sinks.items) }
     ensures told { IfOk result (HasRunBeside K.did control.old control.new (Gives L.given L.left) L.ended B.taken
         equipment.now frames sources.items sinks.items) }
-    ensures fault { IfErr result (IsLiveFault (Gives L.given L.left) L.ended L.failed B.failed equipment.now frames sources.items sinks.items) }
+    ensures fault { IfErr result (IsLiveFault (control.new ≡ control.old) (Gives L.given L.left) L.ended L.failed B.failed (G.passes gate.now) (G.shuts gate.now)
+        equipment.now frames sources.items sinks.items) }
 {
     numbers_in_range(equipment);
     sources_apart(equipment);

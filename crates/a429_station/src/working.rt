@@ -32,7 +32,8 @@ impl<'a, L: LineSource + Send + Drop, G: Gate + Sync> Work for Receiving<'a, L, 
 
     type Done = Received<L>;
 
-    ghost did = { λ w d. HasReceived (Gives L.given L.left) L.ended L.failed w.line w.receiver d.line d.receiver d.answer };
+    ghost did = { λ w d. HasReceived (Gives L.given L.left) L.ended L.failed (G.passes w.gate.now) (G.shuts w.gate.now) w.number
+        w.line w.receiver d.line d.receiver d.answer };
 
     fn work(self) -> Received<L> {
         let Receiving {
@@ -74,7 +75,8 @@ impl<'a, B: BusSink + Send + Drop, G: Gate + Sync> Work for Sending<'a, B, G> {
 
     type Done = Emitted<B>;
 
-    ghost did = { λ w d. HasEmitted B.taken B.failed w.frames w.transmit w.sink d.transmit d.sink d.answer };
+    ghost did = { λ w d. HasEmitted B.taken B.failed (G.passes w.gate.now) (G.shuts w.gate.now) w.number w.frames
+        w.transmit w.sink d.transmit d.sink d.answer };
 
     fn work(self) -> Emitted<B> {
         let Sending {
@@ -103,7 +105,8 @@ pub(crate) fn group_worker<'a, B: BusSink + Drop, G: Gate>(
     gate: &'a G,
 ) -> Sending<'a, B, G>
     requires { transmit.frame.sent ≡ 0 }
-    ensures { (result.transmit ≡ transmit) × (result.sink ≡ sink) × (result.frames ≡ frames) }
+    ensures group { (result.transmit ≡ transmit) × (result.sink ≡ sink) × (result.frames ≡ frames) }
+    ensures gate { (result.number ≡ number) × (result.gate.now ≡ gate.now) }
 {
     Sending {
         transmit,

@@ -4,6 +4,8 @@
 #[cfg(test)]
 mod boards;
 #[cfg(test)]
+mod runs;
+#[cfg(test)]
 mod stations;
 #[cfg(test)]
 mod support;

@@ -1,15 +1,14 @@
 -- Words that come in at a receiver one after another, and how many are answered how.
-use Rattle.std.proofs.Common.{◌≡◌, ℕ, ◌+◌, ◌≤◌, ◌<◌, Bool, true, false, List, [], ◌∷◌, ◌++◌, length, take, ◌∙◌, sym, ap, subst, refl, inl, inr, arith, append_assoc}
-use Rattle.std.specs.Prelude.{◌⊎◌, Ok, Err, Option, Some, None, cond, count_by, if◌then◌else◌, option_map}
+use Rattle.std.proofs.Common.{◌≡◌, ℕ, ◌+◌, ◌≤◌, Bool, true, false, List, [], ◌∷◌, ◌++◌, length, ◌∙◌, sym, ap, subst, refl, arith, append_assoc}
+use Rattle.std.specs.Prelude.{Ok, Option, Some, None, cond, count_by, if◌then◌else◌, option_map}
 use Rattle.a429_filter.specs.Sources.{SourceAnswer, word_given}
-use Rattle.std.proofs.lemmas.List.{length_push, take_all, take-append-le}
+use Rattle.std.proofs.lemmas.List.{length_push}
 use Rattle.std.proofs.lemmas.List.Sums.{sum_by-append, sum_by-cons}
 use Rattle.a429_values.specs.Ends.{Receiving, accept_answer}
 use Rattle.a429_values.specs.declared.receiver.Accept.{Accept}
 use Rattle.a429_values.specs.declared.receiver.Accept.TheVariants.{Accepted, Parity, Filtered, NoSource, CountSpent}
 use Rattle.a429_workers.specs.declared.receiving.ReceiveTotals.{ReceiveTotals}
-use Rattle.a429_workers.specs.declared.receiving.ReceiveFault.TheVariants.{Gate, TooMuch}
-use Rattle.a429_workers.specs.Receives.{AreAtMost, AreTaken, Gives, IsSameReceiver, after_words, answers_to, counted, is_accepted, is_filtered, is_no_source, is_parity, is_spent, totals_of}
+use Rattle.a429_workers.specs.Receives.{AreAtMost, Gives, IsSameReceiver, after_words, answers_to, counted, is_accepted, is_filtered, is_no_source, is_parity, is_spent, totals_of}
 use Rattle.a429_equipment.proofs.Receiving.{in_pieces}
 
 -- ---- in pieces
@@ -105,29 +104,3 @@ one_more Now Next old mid new totals later n raw S given taken counts = record {
 pub small_so_far : (Gave : List ℕ → Type 0) (old new : Receiving) (totals : ReceiveTotals) (n : ℕ) → SoFar Gave old new totals n → AreAtMost n totals
 small_so_far Gave old new totals n S =
     subst (λ (t : ReceiveTotals). AreAtMost n t) (sym S.counts) (subst (λ (m : ℕ). AreAtMost m (totals_of (answers_to old S.came))) (length_answers old S.came ∙ S.many) (totals_small (answers_to old S.came)))
-
--- the gate ended the loop before or after the last word
-pub gate_shut : (Now Next : List ℕ → Type 0) (old mid new : Receiving) (totals : ReceiveTotals) (n raw : ℕ) → SoFar Now old mid totals n → n < 1000000 → ((words : List ℕ) → Now words → Next (words ++ raw ∷ []))
-    → (new ≡ mid) ⊎ (new ≡ after_words mid (raw ∷ [])) → (given : List ℕ) × Next given × AreTaken given (Err Gate) old new
-gate_shut Now Next old mid new totals n raw S low given either =
-    let all = S.came ++ raw ∷ [] in
-    let is = given S.came S.given in
-    let many : length all ≡ n + 1 = length_push S.came raw ∙ ap (λ (m : ℕ). m + 1) S.many in
-    elim either [
-      | inl left ↦
-          let front : take n all ≡ S.came = take-append-le n S.came (raw ∷ []) (omega (arith, S.many)) ∙ take_all n S.came (omega (arith, S.many)) in
-          (all, is, (n, left ∙ (S.taken ∙ ap (after_words old) (sym front)), omega arith, omega arith))
-      | inr through ↦
-          let whole : take (n + 1) all ≡ all = take_all (n + 1) all (omega arith) in
-          (all, is, (n + 1, through ∙ (ap (λ (r : Receiving). after_words r (raw ∷ [])) S.taken ∙ (after_append old S.came (raw ∷ []) ∙ ap (after_words old) (sym whole))), omega arith, omega arith))
-    ]
-
--- the line gave one word too many
-pub one_too_many : (Now Next : List ℕ → Type 0) (old mid : Receiving) (totals : ReceiveTotals) (n raw : ℕ) → SoFar Now old mid totals n → n ≡ 1000000 → ((words : List ℕ) → Now words → Next (words ++ raw ∷ []))
-    → (given : List ℕ) × Next given × AreTaken given (Err TooMuch) old mid
-one_too_many Now Next old mid totals n raw S full given =
-    let all = S.came ++ raw ∷ [] in
-    let is = given S.came S.given in
-    let many : length all ≡ n + 1 = length_push S.came raw ∙ ap (λ (m : ℕ). m + 1) S.many in
-    let front : take 1000000 all ≡ S.came = take-append-le 1000000 S.came (raw ∷ []) (omega (arith, S.many)) ∙ take_all 1000000 S.came (omega (arith, S.many)) in
-    (all, is, (S.taken ∙ ap (after_words old) (sym front), omega arith))

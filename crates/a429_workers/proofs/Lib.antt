@@ -1,6 +1,7 @@
 pub mod Lists
 pub mod Heard
 pub mod Steps
+pub mod Counting
 pub mod Order
 pub mod Growing
 pub mod Answering
@@ -8,7 +9,9 @@ pub mod Beginning
 pub mod Calling
 pub mod Changing
 pub mod SentWords
+pub mod OneTable
 pub mod Example
 pub mod Hearing
+pub mod Gating
 pub mod Stretching
 pub mod Known

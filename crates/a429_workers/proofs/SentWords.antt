@@ -33,7 +33,7 @@ earlier_is g p s [] = sym (append-nil s.earlier)
 earlier_is g p s (c ∷ calls) =
     earlier_is g p (after g p s c) calls ∙ (ap (λ (cs : List AnsweredCell). cs ++ cells_of calls) (earlier_after g p s c) ∙ append_assoc s.earlier (cells_in c) (cells_of calls))
 
-lawful_at : (g : ℕ) (p : GroupTable) (s : Standing) (calls : List Call) (k : ℕ) (c : Call) → AreLawful g p s calls → slice_get calls k ≡ Some c → IsLawful g p (standing_at g p s calls k) c
+pub lawful_at : (g : ℕ) (p : GroupTable) (s : Standing) (calls : List Call) (k : ℕ) (c : Call) → AreLawful g p s calls → slice_get calls k ≡ Some c → IsLawful g p (standing_at g p s calls k) c
 lawful_at g p s [] k c all h = absurd (none-some c h)
 lawful_at g p s (d ∷ calls) zero c all h = subst (IsLawful g p s) (same_Some d c h) all.0
 lawful_at g p s (d ∷ calls) (suc k) c all h = lawful_at g p (after g p s d) calls k c all.1 h
@@ -69,7 +69,7 @@ free false true x word h = absurd (none-some word h)
 free false false x word h = (refl, refl)
 
 -- the output of an answered cell, and the source of its load
-stands_there : (now : Standing) (c : Carried) (output : Placed) (A : IsAnswered now c) → output_due now ≡ Some output → output_in now.frame.table A.cell.0 A.cell.1 ≡ Some output
+pub stands_there : (now : Standing) (c : Carried) (output : Placed) (A : IsAnswered now c) → output_due now ≡ Some output → output_in now.frame.table A.cell.0 A.cell.1 ≡ Some output
 stands_there now c output A due = sym (ap (λ (x : Option (ℕ × ℕ)). option_and_then (λ cell. output_in now.frame.table cell.0 cell.1) x) A.due) ∙ due
 
 own_source : (now : Standing) (c : Carried) (l : Load) (output : Placed) (A : IsAnswered now c) → c.load ≡ Some l → output_in now.frame.table A.cell.0 A.cell.1 ≡ Some output → l.source ≡ output.source
@@ -135,7 +135,7 @@ find_call test (c ∷ calls) (suc k) h = elim (or_parts (list_any test (cells_in
 ]
 
 -- it is a cell in which a word of the source went out too closely
-record IsNear (calls : List Call) (j source slot q : ℕ) : Type 0 where
+pub record IsNear (calls : List Call) (j source slot q : ℕ) : Type 0 where
   pub cell : Carried
   pub load : Load
   pub sends : SendsAt calls j cell load
@@ -161,6 +161,20 @@ is_near calls j source slot q (Asks (Some c)) there h = by c.load refl h
         let (w, word) = some_word c.word some in
         record { cell = c; load = l; sends = record { asked = there; load = is; word = w; sent = word }; same = eqb-true l.source source same; near = ltb-true slot (c.slot + q) near }
 
+-- a word of the output's source that was sent too closely before the cell at place k
+pub record HasWordNear (calls : List Call) (k source slot q : ℕ) : Type 0 where
+  pub place : ℕ
+  pub before : place < k
+  pub near : IsNear calls place source slot q
+
+pub word_near : (g : ℕ) (p : GroupTable) (s : Standing) (calls : List Call) (k : ℕ) (output : Placed) (d : Carried) → s.earlier ≡ []
+    → is_too_close (standing_at g p s calls k).earlier d.slot output.source output.limits.spacing ≡ true → HasWordNear calls k output.source d.slot output.limits.spacing
+word_near g p s calls k output d none close =
+    let cells : (standing_at g p s calls k).earlier ≡ cells_of (take k calls) = earlier_is g p s (take k calls) ∙ ap (λ (cs : List AnsweredCell). cs ++ cells_of (take k calls)) none in
+    let test : AnsweredCell → Bool = λ x. has_sent output.source x && nat_lt d.slot (x.slot + output.limits.spacing) in
+    let F = find_call test calls k (ap (list_any test) (sym cells) ∙ close) in
+    record { place = F.place; before = F.before; near = is_near calls F.place output.source d.slot output.limits.spacing F.call F.there F.passes }
+
 pub goes_out : (g : ℕ) (p : GroupTable) (s : Standing) (calls : List Call) (k : ℕ) (d : Carried) (m : Load) (output : Placed) → s.earlier ≡ [] → AreLawful g p s calls → slice_get calls k ≡ Some (Asks (Some d)) → d.load ≡ Some m
     → output_due (standing_at g p s calls k) ≡ Some output → MayGoOut calls k output d m → d.word ≡ m.word
 goes_out g p s calls k d m output none all asked load due M =
@@ -172,10 +186,9 @@ goes_out g p s calls k d m output none all asked load due M =
     let held : is_held now.earlier output.source output.limits.hold m.count ≡ false = not_held output.limits.hold (λ hold is. subst (λ (i : ℕ). times_sent now.earlier i m.count < hold) source (subst (λ (cs : List AnsweredCell). times_sent cs m.source m.count < hold) (sym cells) (M.held hold is))) in
     let close : is_too_close now.earlier d.slot output.source output.limits.spacing ≡ false = elim (cases_Bool (is_too_close now.earlier d.slot output.source output.limits.spacing)) [
       | inl near ↦
-          let test : AnsweredCell → Bool = λ x. has_sent output.source x && nat_lt d.slot (x.slot + output.limits.spacing) in
-          let F = find_call test calls k (ap (list_any test) (sym cells) ∙ near) in
-          let N = is_near calls F.place output.source d.slot output.limits.spacing F.call F.there F.passes in
-          absurd (omega (arith, N.near, M.apart F.place N.cell N.load F.before N.sends (N.same ∙ sym source)))
+          let W = word_near g p s calls k output d none near in
+          let N = W.near in
+          absurd (omega (arith, N.near, M.apart W.place N.cell N.load W.before N.sends (N.same ∙ sym source)))
       | inr far ↦ far
     ] in
     A.word ∙ (ap (λ (x : Option Placed). word_of now.earlier d.slot x d.load) stands ∙ (ap (word_of now.earlier d.slot (Some output)) load ∙ rw (held, close) refl))

@@ -1,5 +1,5 @@
 -- Stretches of calls, one after another, and what the sink took of them.
-use Rattle.std.proofs.Common.{◌≡◌, ℕ, ◌+◌, ◌*◌, ◌<◌, ◌≤◌, List, [], ◌∷◌, ◌++◌, ◌∙◌, sym, ap, subst, refl, inl, inr, arith, append-nil, append_assoc, length-append}
+use Rattle.std.proofs.Common.{◌≡◌, ℕ, ◌+◌, ◌*◌, ◌<◌, ◌≤◌, List, [], ◌∷◌, ◌++◌, length, ◌∙◌, sym, ap, subst, refl, inl, inr, arith, append-nil, append_assoc, length-append}
 use Rattle.std.specs.Prelude.{Option, Some, None, Ok, Err, IsTrue, cond, count_by}
 use Rattle.std.proofs.lemmas.List.Elements.{filter_map-append}
 use Rattle.std.proofs.lemmas.List.Sums.{sum_by-append}
@@ -8,8 +8,10 @@ use Rattle.a429_slots.specs.Tables.{PlanTable, cells_of}
 use Rattle.a429_slots.specs.Sending.{Sending, after_cell}
 use Rattle.a429_workers.specs.Calls.{Call, Carried, Asks, Turns, Takes, StaysSpent}
 use Rattle.a429_workers.specs.Transmitting.{Transmitting, GoesOnBy, IsSameGroup, StandsFor}
+use Rattle.a429_workers.specs.Gates.{HaveCellsPassed, IsStoppedGroup}
 use Rattle.a429_workers.specs.Sends.{AreSent, HasSent, IsCell, IsCellMade, IsFrame, IsTallied, IsTurn, has_word, is_send, is_taken, sent_in, sent_of, with_cells}
 use Rattle.a429_workers.specs.declared.cells.Sent.{Sent}
+use Rattle.a429_workers.specs.declared.gates.Point.{Point}
 use Rattle.a429_workers.specs.declared.sending.SendTotals.{SendTotals}
 use Rattle.a429_workers.specs.declared.sending.SendFault.{SendFault}
 use Rattle.a429_workers.specs.declared.sending.SendFault.TheVariants.{Gate, Sink, Change}
@@ -122,13 +124,13 @@ pub frame_stops : (old now next : Transmitting) (a b c : Option (List Sent)) (st
     → IsCell now next b c totals later (Err fault) → IsFrame old next a c start later (Err fault)
 frame_stops old now next a b c start totals later n Gate F C = elim C [
   | inl left ↦
-      (F.calls, [], subst (λ (w : Transmitting). HasSent old w a c F.calls []) (sym left.0) (subst (λ (x : Option (List Sent)). HasSent old now a x F.calls []) (sym left.1) F.sends), refl, F.turns)
+      (F.calls, [], subst (λ (w : Transmitting). HasSent old w a c F.calls []) (sym left.0) (subst (λ (x : Option (List Sent)). HasSent old now a x F.calls []) (sym left.1) F.sends), refl, F.turns, subst (λ (t : SendTotals). IsTallied start t (sent_in F.calls)) (sym left.2) F.tallied)
   | inr made ↦
       let one = Asks (Some made.0) ∷ [] in
-      (F.calls ++ one, [], further old now next a b c F.calls one [] F.sends (cell_sent now next made.0 b c made.1 made.2), refl, taken_append F.calls one ∙ omega (arith, F.turns))
+      (F.calls ++ one, [], further old now next a b c F.calls one [] F.sends (cell_sent now next made.0 b c made.1 made.2), refl, taken_append F.calls one ∙ omega (arith, F.turns), tallied_more start totals later F.calls one F.tallied made.3)
 ]
 frame_stops old now next a b c start totals later n Sink F C =
-    (F.calls ++ [], Asks (Some C.0) ∷ [], further old now next a b c F.calls [] (Asks (Some C.0) ∷ []) F.sends (cell_lost now next C.0 b c C.1 C.2), (C.0, refl), taken_append F.calls [] ∙ omega (arith, F.turns))
+    (F.calls ++ [], Asks (Some C.0) ∷ [], further old now next a b c F.calls [] (Asks (Some C.0) ∷ []) F.sends (cell_lost now next C.0 b c C.1 C.2), (C.0, refl), taken_append F.calls [] ∙ omega (arith, F.turns), subst (λ (t : SendTotals). IsTallied start t (sent_in (F.calls ++ []))) (sym C.3) (tallied_more start totals totals F.calls [] F.tallied (tallied_none totals)))
 frame_stops old now next a b c start totals later n Change F C = absurd C
 
 pub frame_over : (old now : Transmitting) (a b : Option (List Sent)) (start totals : SendTotals) (n : ℕ) → IsInFrame old now a b start totals n → n ≡ cells_of old.frame.table
@@ -166,23 +168,46 @@ frames_go_on old now mid next a b c start totals later n A T F small =
       cells = omega (arith, small.1, A.cells);
     }
 
--- the next frame was not taken
-pub frames_end : (old now next : Transmitting) (a b : Option (List Sent)) (start totals : SendTotals) (n frames : ℕ) (fault : SendFault) → AreInFrames old now a b start totals n → n < frames
-    → IsTurn now next (Err fault) → AreSent frames old next a b (Err fault)
-frames_end old now next a b start totals n frames Change A low T = (
-  A.calls ++ [],
-  Turns T.0 StaysSpent ∷ [],
-  further old now next a b b A.calls [] (Turns T.0 StaysSpent ∷ []) A.sends (record { stands = T.1; same = T.2; sends = tt; took = cells_none b }),
-  (T.0, refl),
-  omega (arith, taken_append A.calls [], A.turns, low),
-)
-frames_end old now next a b start totals n frames Gate A low T = absurd T
-frames_end old now next a b start totals n frames Sink A low T = absurd T
+-- ---- at the gate
 
--- a frame ended early
-pub frames_stop : (old now mid next : Transmitting) (a b c : Option (List Sent)) (start totals later : SendTotals) (n frames : ℕ) (fault : SendFault) → AreInFrames old now a b start totals n → n < frames
-    → IsTurn now mid (Ok tt) → IsFrame mid next b c totals later (Err fault) → AreSent frames old next a c (Err fault)
-frames_stop old now mid next a b c start totals later n frames fault A low T F =
-    let turn = Turns T.0 (Takes T.1) ∷ [] in
-    let there : HasSent old mid a b (A.calls ++ turn) [] = further old now mid a b b A.calls turn [] A.sends (turned now mid b T.0 T.1 T.2 T.3) in
-    ((A.calls ++ turn) ++ F.0, F.1, further old mid next a b c (A.calls ++ turn) F.0 F.1 there F.2, F.3, omega (arith, taken_append (A.calls ++ turn) F.0, taken_append A.calls turn, A.turns, F.4, low))
+module _ (passes shuts : Point → Type 0) (g : ℕ) (start : SendTotals) (none : start.cells ≡ 0) where
+  counted : (totals : SendTotals) (calls : List Call) → IsTallied start totals (sent_in calls) → totals.cells ≡ length (sent_in calls)
+  counted totals calls T = omega (arith, T.cells, none)
+
+  gated : (totals : SendTotals) (calls : List Call) (fault : SendFault) → IsTallied start totals (sent_in calls) → IsStoppedGroup passes shuts g totals.cells fault
+      → IsStoppedGroup passes shuts g (length (sent_in calls)) fault
+  gated totals calls fault T G = subst (λ (n : ℕ). IsStoppedGroup passes shuts g n fault) (counted totals calls T) G
+
+  -- the next frame was not taken
+  pub frames_end : (old now next : Transmitting) (a b : Option (List Sent)) (totals : SendTotals) (n frames : ℕ) (fault : SendFault) → AreInFrames old now a b start totals n → n < frames
+      → IsTurn now next (Err fault) → HaveCellsPassed passes g totals.cells → AreSent passes shuts g frames old next a b (Err fault)
+  frames_end old now next a b totals n frames Change A low T P = (
+    A.calls ++ [],
+    Turns T.0 StaysSpent ∷ [],
+    further old now next a b b A.calls [] (Turns T.0 StaysSpent ∷ []) A.sends (record { stands = T.1; same = T.2; sends = tt; took = cells_none b }),
+    (T.0, refl),
+    omega (arith, taken_append A.calls [], A.turns, low),
+    gated totals (A.calls ++ []) Change (tallied_more start totals totals A.calls [] A.tallied (tallied_none totals)) P,
+  )
+  frames_end old now next a b totals n frames Gate A low T P = absurd T
+  frames_end old now next a b totals n frames Sink A low T P = absurd T
+
+  -- the first frame ended early
+  pub frame_first : (old next : Transmitting) (a c : Option (List Sent)) (later : SendTotals) (frames : ℕ) (fault : SendFault) → 0 < frames
+      → IsFrame old next a c start later (Err fault) → IsStoppedGroup passes shuts g later.cells fault → AreSent passes shuts g frames old next a c (Err fault)
+  frame_first old next a c later frames fault some F G = (F.0, F.1, F.2, F.3, omega (arith, F.4, some), gated later F.0 fault F.5 G)
+
+  -- a later frame ended early
+  pub frames_stop : (old now mid next : Transmitting) (a b c : Option (List Sent)) (totals later : SendTotals) (n frames : ℕ) (fault : SendFault) → AreInFrames old now a b start totals n → n < frames
+      → IsTurn now mid (Ok tt) → IsFrame mid next b c totals later (Err fault) → IsStoppedGroup passes shuts g later.cells fault → AreSent passes shuts g frames old next a c (Err fault)
+  frames_stop old now mid next a b c totals later n frames fault A low T F G =
+      let turn = Turns T.0 (Takes T.1) ∷ [] in
+      let there : HasSent old mid a b (A.calls ++ turn) [] = further old now mid a b b A.calls turn [] A.sends (turned now mid b T.0 T.1 T.2 T.3) in
+      let tallied : IsTallied start totals (sent_in (A.calls ++ turn)) = tallied_more start totals totals A.calls turn A.tallied (tallied_none totals) in (
+        (A.calls ++ turn) ++ F.0,
+        F.1,
+        further old mid next a b c (A.calls ++ turn) F.0 F.1 there F.2,
+        F.3,
+        omega (arith, taken_append (A.calls ++ turn) F.0, taken_append A.calls turn, A.turns, F.4, low),
+        gated later ((A.calls ++ turn) ++ F.0) fault (tallied_more start totals later (A.calls ++ turn) F.0 tallied F.5) G,
+      )

@@ -1,8 +1,9 @@
 -- One run: the events of a station whose cells and frames the machine answers as a group's transmitter did.
-use Rattle.std.specs.Prelude.{◌≡◌, ◌+◌, ◌==◌, ◌<◌, ◌≤◌, ◌-◌, ◌^◌, ◌∷◌, [], ℕ, Bool, true, false, List, Option, Some, None, IsTrue, map, filter, filter_map, length, slice_get}
+use Rattle.std.specs.Prelude.{◌≡◌, ◌+◌, ◌==◌, ◌<◌, ◌≤◌, ◌-◌, ◌^◌, ◌∷◌, [], ℕ, Bool, true, false, List, Option, Some, None, IsTrue, map, filter, filter_map, length, slice_get, take}
 use Rattle.std.specs.List.{AllByRecursion, zip}
 use mathlib.Core.List.{IsPrefix}
 use Rattle.a429_equipment.specs.TableRecord.{TableRecord}
+use Rattle.a429_equipment.specs.declared.loads.Load.{Load}
 use Rattle.a429_equipment.specs.Arrivals.{AcceptApart}
 use Rattle.a429_equipment.specs.Receiving.{IsReceived}
 use Rattle.a429_equipment.specs.Agreement.{Agrees}
@@ -11,12 +12,13 @@ use Rattle.a429_equipment.specs.Sound.{OfEach}
 use Rattle.a429_slots.specs.Tables.{GroupTable, PlanTable}
 use Rattle.a429_slots.specs.Proposed.{Proposed}
 use Rattle.a429_slots.specs.Events.{Event, Arrive, Cell, Frame, Publish}
-use Rattle.a429_slots.specs.History.{Opening, OpensWith}
+use Rattle.a429_slots.specs.History.{Opening, OpensWith, accepted_by, latest_by}
+use Rattle.a429_slots.specs.GoingOn.{stands_after}
 use Rattle.a429_slots.specs.declared.answers.Answer.{Answer}
 use Rattle.a429_slots.specs.declared.answers.Answer.TheVariants.{Accepted, Sent, Changed, Published, Refused}
 use Rattle.a429_slots.specs.declared.answers.Refusal.TheVariants.{FrameEnd, MidFrame, SlotsSpent}
 use Rattle.a429_slots.specs.Answers.{answers}
-use Rattle.a429_workers.specs.Calls.{Call, Turn, Asks, Turns, Meets, Takes, StaysMid, StaysSpent, Standing, AreLawful, before_calls, standing_after, loads_of}
+use Rattle.a429_workers.specs.Calls.{Call, Carried, Turn, Asks, Turns, Meets, Takes, StaysMid, StaysSpent, Standing, AreLawful, before_calls, standing_after, loads_of}
 
 -- ---- what is given
 
@@ -92,12 +94,33 @@ event_of g (Asks None) = Some (Cell g, Refused FrameEnd)
 event_of g (Turns plans t) = Some (Frame g, turn_answer t)
 event_of g (Meets loads) = None
 
+-- The place in a run to which some calls lead, the first of the transmitter's: the events before it have just the cells and frames of these
+-- calls, lead the group to the frame that the calls led to, and have as many accepted words of each source that was loaded as each load counted,
+-- or more.
+pub record HavePlace (C : ℕ) (o : Opening) (g : ℕ) (p : GroupTable) (calls : List Call) (E : List Event) : Type 0 where
+  pub place : ℕ
+  pub within : place ≤ length E
+  pub sends : filter (λ x. is_sending x.0) (answered C o (take place E)) ≡ filter_map (event_of g) calls
+  pub frame : stands_after o g p (take place E) ≡ (led_to o g p calls).frame
+  pub loaded : AllByRecursion (λ l. l.count ≤ length (accepted_by C o l.source (take place E))) (loads_of calls)
+
+-- The place in a run at which the group is asked for a cell of an output, after some calls: by then the source has accepted as many words as the
+-- load for the cell counted, and the word that it found is the last of them.
+pub record HasCellPlace (C : ℕ) (o : Opening) (g : ℕ) (calls : List Call) (l : Load) (E : List Event) : Type 0 where
+  pub place : ℕ
+  pub asked : slice_get E place ≡ Some (Cell g)
+  pub sends : filter (λ x. is_sending x.0) (answered C o (take place E)) ≡ filter_map (event_of g) calls
+  pub latest : latest_by C o l.source (take place E) ≡ (l.count, l.word)
+
 -- The cells and frames of the events, with the machine's answers, are the calls with theirs; what comes to each receiver is what it
--- accepted, and is accepted; the publications are the proposals, under their numbers. Each list in its order, and nothing else.
+-- accepted, and is accepted; the publications are the proposals, under their numbers. Each list in its order, and nothing else. A word that was
+-- loaded in a call comes in before the events of the calls behind it, and for a cell no later word of the source does before its own.
 pub record IsRun (C : ℕ) (o : Opening) (g : ℕ) (later : List Proposed) (calls : List Call) (heard : ℕ → List (ℕ × ℕ)) (E : List Event) : Type 0 where
   pub sends : filter (λ x. is_sending x.0) (answered C o E) ≡ filter_map (event_of g) calls
   pub arrivals : (r : ℕ) → filter (λ x. comes_to r x.0) (answered C o E) ≡ map (λ a. (Arrive r a.1, Accepted a.0)) (heard r)
   pub publications : filter (λ x. is_publish x.0) (answered C o E) ≡ map (λ q. (Publish q, Published q.plan.number)) later
+  pub places : (p : GroupTable) (n : ℕ) → OpensWith o g p → HavePlace C o g p (take n calls) E
+  pub cells : (n : ℕ) (c : Carried) (l : Load) → slice_get calls n ≡ Some (Asks (Some c)) → c.load ≡ Some l → HasCellPlace C o g (take n calls) l E
 
 -- what was done is one run
 pub record HasRun (C : ℕ) (o : Opening) (g : ℕ) (later : List Proposed) (calls : List Call) (heard : ℕ → List (ℕ × ℕ)) : Type 0 where

@@ -3,10 +3,12 @@ use Rattle.std.specs.Prelude.{◌≡◌, ◌+◌, ◌<◌, ◌++◌, ◌∷◌, 
 use Rattle.std.specs.List.{AllByRecursion}
 use Rattle.a429_slots.specs.Tables.{PlanTable, cells_of}
 use Rattle.a429_slots.specs.Sending.{Sending, after_cell}
+use Rattle.a429_workers.specs.Gates.{IsGatedGroup}
 use Rattle.a429_workers.specs.Calls.{Call, Carried, Asks, Turns, Meets, Takes, StaysMid, StaysSpent}
 use Rattle.a429_workers.specs.Sinks.{failures_by}
 use Rattle.a429_workers.specs.Transmitting.{Transmitting, GoesOnBy, IsSameGroup}
 use Rattle.a429_workers.specs.declared.cells.Sent.{Sent}
+use Rattle.a429_workers.specs.declared.gates.Point.{Point}
 use Rattle.a429_workers.specs.declared.sending.SendTotals.{SendTotals}
 use Rattle.a429_workers.specs.declared.sending.SendFault.{SendFault}
 use Rattle.a429_workers.specs.declared.sending.SendFault.TheVariants.{Gate, Sink, Change}
@@ -66,12 +68,14 @@ AreWhole (suc n) calls frame = (count_by is_taken calls ≡ n) × (frame.sent �
 abbrev pub totals_of : List Sent → ℕ → SendTotals
 totals_of cells plan = record { cells = length cells; words = count_by has_word cells; plan = plan }
 
--- so many frames were sent from the beginning of a frame on, or fewer where the loop ended before
-abbrev pub AreSent : ℕ → Transmitting → Transmitting → Option (List Sent) → Option (List Sent) → Result SendTotals SendFault → Type 0
-AreSent frames old new before after (Ok totals) =
+-- so many frames of group g were sent from the beginning of a frame on, or fewer where the loop ended before, each cell between two points of the gate
+abbrev pub AreSent : (Point → Type 0) → (Point → Type 0) → ℕ → ℕ → Transmitting → Transmitting → Option (List Sent) → Option (List Sent) → Result SendTotals SendFault → Type 0
+AreSent passes shuts g frames old new before after (Ok totals) =
     (calls : List Call) × HasSent old new before after calls [] × (totals ≡ totals_of (sent_in calls) new.number) × AreWhole frames calls new.frame
-AreSent frames old new before after (Err fault) =
+    × IsGatedGroup {A = SendTotals} passes shuts g (length (sent_in calls)) (Ok totals)
+AreSent passes shuts g frames old new before after (Err fault) =
     (calls : List Call) × (last : List Call) × HasSent old new before after calls last × IsLast fault last × (count_by is_taken calls < frames)
+    × IsGatedGroup {A = SendTotals} passes shuts g (length (sent_in calls)) (Err fault)
 
 -- the count of failures of the sink: it rises by one where the sink failed
 abbrev pub sink_failures : {A : Type 0} → ℕ → Result A SendFault → ℕ
@@ -99,8 +103,9 @@ abbrev pub IsCell : Transmitting → Transmitting → Option (List Sent) → Opt
 IsCell old new before after start totals (Ok done) =
     (c : Carried) × IsCellMade old new c × (after ≡ with_cells before (sent_in (Asks (Some c) ∷ []))) × IsTallied start totals (sent_in (Asks (Some c) ∷ []))
 IsCell old new before after start totals (Err Gate) =
-    ((new ≡ old) × (after ≡ before)) ⊎ ((c : Carried) × IsCellMade old new c × (after ≡ with_cells before (sent_in (Asks (Some c) ∷ []))))
-IsCell old new before after start totals (Err Sink) = (c : Carried) × IsCellMade old new c × (after ≡ with_cells before [])
+    ((new ≡ old) × (after ≡ before) × (totals ≡ start))
+    ⊎ ((c : Carried) × IsCellMade old new c × (after ≡ with_cells before (sent_in (Asks (Some c) ∷ []))) × IsTallied start totals (sent_in (Asks (Some c) ∷ [])))
+IsCell old new before after start totals (Err Sink) = (c : Carried) × IsCellMade old new c × (after ≡ with_cells before []) × (totals ≡ start)
 IsCell old new before after start totals (Err Change) = ⊥
 
 -- all cells of a frame were sent from its beginning on, or fewer where the loop ended before
@@ -109,6 +114,7 @@ IsFrame old new before after start totals (Ok done) =
     (calls : List Call) × HasSent old new before after calls [] × IsTallied start totals (sent_in calls) × (count_by is_taken calls ≡ 0) × (new.frame.sent ≡ cells_of new.frame.table)
 IsFrame old new before after start totals (Err fault) =
     (calls : List Call) × (last : List Call) × HasSent old new before after calls last × IsLast fault last × (count_by is_taken calls ≡ 0)
+    × IsTallied start totals (sent_in calls)
 
 -- the next frame was taken, or its slots cannot be counted
 abbrev pub IsTurn : Transmitting → Transmitting → Result (Unit {0}) SendFault → Type 0

@@ -1,10 +1,12 @@
 -- The words that a transmitter sends, by the places of its calls: how far apart they are, and how often one accepted word is sent. A place is
 -- how many calls come before it.
-use Rattle.std.specs.Prelude.{◌≡◌, ◌+◌, ◌<◌, ◌≤◌, [], ℕ, List, Option, Some, None, take, slice_get, flat_map, option_and_then}
+use Rattle.std.specs.Prelude.{◌≡◌, ◌+◌, ◌<◌, ◌≤◌, [], ℕ, true, List, Option, Some, None, take, slice_get, flat_map, option_and_then}
+use Rattle.std.specs.List.{AllByRecursion}
 use Rattle.a429_equipment.specs.declared.loads.Load.{Load}
-use Rattle.a429_slots.specs.Tables.{Placed, GroupTable, output_in}
-use Rattle.a429_slots.specs.History.{AnsweredCell, times_sent}
+use Rattle.a429_slots.specs.Tables.{Placed, GroupTable, PlanTable, groups_of, output_in}
+use Rattle.a429_slots.specs.History.{AnsweredCell, is_too_close, times_sent}
 use Rattle.a429_slots.specs.Sending.{next_cell}
+use Rattle.a429_slots.specs.Spacing.{IsSpacedTable}
 use Rattle.a429_workers.specs.Calls.{Call, Asks, Turns, Meets, Carried, Standing, AreLawful, standing_after, answered_by}
 
 -- where the calls before this place led
@@ -58,3 +60,54 @@ OtherWordsGoOut =
     (g : ℕ) (p : GroupTable) (s : Standing) (calls : List Call) (k : ℕ) (d : Carried) (m : Load) (output : Placed)
     → s.earlier ≡ [] → AreLawful g p s calls → slice_get calls k ≡ Some (Asks (Some d)) → d.load ≡ Some m
     → output_due (standing_at g p s calls k) ≡ Some output → MayGoOut calls k output d m → d.word ≡ m.word
+
+-- ---- cells that spacing leaves empty
+
+-- the slot table in force at this place
+abbrev pub table_at : ℕ → GroupTable → Standing → List Call → ℕ → GroupTable
+table_at g p s calls k = (standing_at g p s calls k).frame.table
+
+-- at this place a cell of the output is answered
+pub record AnswersAt (g : ℕ) (p : GroupTable) (s : Standing) (calls : List Call) (k : ℕ) (output : Placed) (c : Carried) : Type 0 where
+  pub asked : slice_get calls k ≡ Some (Asks (Some c))
+  pub due : output_due (standing_at g p s calls k) ≡ Some output
+
+-- the cell that is answered there has no word for the sake of the least spacing of its output
+abbrev pub IsTooCloseAt : ℕ → GroupTable → Standing → List Call → ℕ → Placed → Carried → Type 0
+IsTooCloseAt g p s calls k output c = is_too_close (standing_at g p s calls k).earlier c.slot output.source output.limits.spacing ≡ true
+
+-- from one place up to another one slot table is in force
+abbrev pub HasOneTable : ℕ → GroupTable → Standing → List Call → ℕ → ℕ → Type 0
+HasOneTable g p s calls j k = (i : ℕ) → j ≤ i → i ≤ k → table_at g p s calls i ≡ table_at g p s calls k
+
+-- while one slot table is in force, two cells of one source are as far apart as it asks
+abbrev pub CellsOfOneTableAreApart : Type 0
+CellsOfOneTableAreApart =
+    (g : ℕ) (p : GroupTable) (s : Standing) (calls : List Call) (j k : ℕ) (earlier now : Placed) (c d : Carried)
+    → AreLawful g p s calls → j < k → AnswersAt g p s calls j earlier c → AnswersAt g p s calls k now d → earlier.source ≡ now.source
+    → IsSpacedTable (table_at g p s calls k) → HasOneTable g p s calls j k → c.slot + now.limits.spacing ≤ d.slot
+
+-- before a cell that is empty for the sake of the least spacing there is none of its source since the slot table changed
+abbrev pub EmptyCellsAreFirst : Type 0
+EmptyCellsAreFirst =
+    (g : ℕ) (p : GroupTable) (s : Standing) (calls : List Call) (i k : ℕ) (earlier now : Placed) (c d : Carried)
+    → s.earlier ≡ [] → AreLawful g p s calls → i < k → AnswersAt g p s calls i earlier c → AnswersAt g p s calls k now d
+    → earlier.source ≡ now.source → IsSpacedTable (table_at g p s calls k) → IsTooCloseAt g p s calls k now d → ¬ (HasOneTable g p s calls i k)
+
+-- before the slot table changes no cell is empty for the sake of the least spacing
+abbrev pub FirstTableEmptiesNone : Type 0
+FirstTableEmptiesNone =
+    (g : ℕ) (p : GroupTable) (s : Standing) (calls : List Call) (k : ℕ) (now : Placed) (d : Carried)
+    → s.earlier ≡ [] → AreLawful g p s calls → AnswersAt g p s calls k now d → IsSpacedTable (table_at g p s calls k)
+    → HasOneTable g p s calls 0 k → ¬ (IsTooCloseAt g p s calls k now d)
+
+-- each slot table of the plan keeps to the least spacings of its outputs
+abbrev pub IsSpacedPlan : PlanTable → Type 0
+IsSpacedPlan q = AllByRecursion IsSpacedTable (groups_of q)
+
+-- where the plans that were seen keep to their least spacings, and the tables that the group began with, so does the table in force at each place
+abbrev pub TablesInForceAreSpaced : Type 0
+TablesInForceAreSpaced =
+    (g : ℕ) (p : GroupTable) (s : Standing) (calls : List Call) (k : ℕ)
+    → AreLawful g p s calls → IsSpacedTable p → IsSpacedTable s.frame.table → AllByRecursion IsSpacedPlan (standing_after g p s calls).seen
+    → IsSpacedTable (table_at g p s calls k)

@@ -1,19 +1,19 @@
 -- A group's transmitter as contracts see it, and the lists of calls that it stands for.
-use Rattle.std.specs.Prelude.{◌≡◌, ◌+◌, ◌/◌, ◌^◌, ◌<◌, ◌≤◌, ◌++◌, ◌∷◌, [], ℕ, Bool, false, List, Option, Some, None, Result, Ok, Err, if◌then◌else◌, nat_lt, length, drop, slice_get}
+use Rattle.std.specs.Prelude.{◌≡◌, ◌+◌, ◌/◌, ◌^◌, ◌<◌, ◌≤◌, ◌↔◌, ◌++◌, ◌∷◌, [], ℕ, Bool, false, List, Option, Some, None, Result, Ok, Err, IsErrOf, OnOk, if◌then◌else◌, nat_lt, length, drop, option_map, slice_get}
 use Rattle.std.specs.Option.{option_map_or}
 use Rattle.std.specs.List.{AllByRecursion}
 use mathlib.Core.List.{IsPrefix}
 use Rattle.a429_equipment.specs.declared.loads.Load.{Load}
 use Rattle.a429_equipment.specs.TableRecord.{TableRecord}
 use Rattle.a429_equipment.specs.Agreement.{CountsNoLess, loads_of_all}
-use Rattle.a429_slots.specs.Tables.{GroupTable, PlanTable, groups_of, outputs_of, buses_of, frame_of}
-use Rattle.a429_slots.specs.Sending.{Sending}
+use Rattle.a429_slots.specs.Tables.{GroupTable, PlanTable, groups_of, outputs_of, buses_of, cells_of, frame_of}
+use Rattle.a429_slots.specs.Sending.{Sending, begun, fits_next, next_cell}
 use Rattle.a429_slots.specs.Recalling.{Recent, Recalls, source_sends, source_after}
 use Rattle.a429_slots.specs.declared.senders.Due.{Due}
 use Rattle.a429_values.specs.Ends as ends
 use Rattle.a429_values.specs.Words.{load_of}
 use Rattle.a429_board.specs.Lists.{Watched}
-use Rattle.a429_workers.specs.Calls.{Call, Asks, Turns, Takes, StaysMid, StaysSpent, Standing, AreLawful, before_calls, standing_after, loads_of}
+use Rattle.a429_workers.specs.Calls.{Call, Asks, Turns, Takes, StaysMid, StaysSpent, Standing, AreLawful, before_calls, standing_after, loads_of, table_of}
 use Rattle.a429_workers.specs.declared.cells.Sent.{Sent}
 use Rattle.a429_workers.specs.declared.cells.FrameEnd.{FrameEnd}
 use Rattle.a429_workers.specs.declared.cells.ChangeFault.{ChangeFault}
@@ -38,6 +38,36 @@ pub record IsSameGroup (old new : Transmitting) : Type 0 where
 -- 64 bits can count the slots of the group's first frame
 abbrev pub first_fits : PlanTable → ℕ → ℕ → Bool
 first_fits opened g first = option_map_or (λ p. nat_lt (first + frame_of p) (2 ^ 64)) (slice_get (groups_of opened) g) false
+
+-- ---- the next cell and the next frame
+
+-- the bus of the next cell of a frame, and its slot counted from the station's first; none where all cells of the frame were sent
+abbrev pub place_due : Sending → Option (ℕ × ℕ)
+place_due f = option_map (λ cell. (cell.0, f.first + cell.1)) (next_cell f)
+
+-- the group has this slot table in the plan that the board was opened with
+abbrev pub OpensBy : Transmitting → GroupTable → Type 0
+OpensBy v p = slice_get (groups_of v.watcher.opened) v.transmitter.number ≡ Some p
+
+-- the group's slot table in the last plan that was seen; p where that plan has no such group
+abbrev pub newest_table : Transmitting → GroupTable → GroupTable
+newest_table v p = table_of v.transmitter.number p v.watcher.list
+
+-- all cells of the frame were sent, and 64 bits cannot count the slots of a next one by this table
+abbrev pub IsSpent : Sending → GroupTable → Type 0
+IsSpent f t = (cells_of f.table ≤ f.sent) × (fits_next f t ≡ false)
+
+-- the frame that follows one that is over, by this table
+abbrev pub frame_behind : Sending → GroupTable → Sending
+frame_behind f t = begun (f.first + frame_of f.table) t
+
+-- where the group opened with table p, a change answers SlotsSpent just where the frame is over and 64 bits cannot count the slots of the next one
+abbrev pub TellsSpent : Transmitting → Result ℕ ChangeFault → Transmitting → Type 0
+TellsSpent old answer new = (p : GroupTable) → OpensBy old p → (IsErrOf answer SlotsSpent ↔ IsSpent old.frame (newest_table new p))
+
+-- and where it is Ok it begins the next frame, by the newest table
+abbrev pub TakesNext : Transmitting → Result ℕ ChangeFault → Transmitting → Type 0
+TakesNext old answer new = (p : GroupTable) → OpensBy old p → OnOk answer (new.frame ≡ frame_behind old.frame (newest_table new p))
 
 -- ---- plans of a station
 

@@ -1,5 +1,5 @@
 //! Gates, which the loops of a station pass at each word and each cell.
-ghost use Rattle.std.specs.Prelude.{⊤, OnErr};
+ghost use Rattle.std.specs.Prelude.{⊤, OnErr, OnOk};
 ghost use Rattle.a429_workers.specs.declared.gates.Point.{Point as At};
 
 use crate::receiving::ReceiveTotals;
@@ -29,9 +29,14 @@ pub trait Gate {
     /// The points at which it may end a loop: all, where it does not say.
     ghost shuts: { Self → At → Type 0 } = { λ _ _. ⊤ };
 
+    /// The points at which it may let a loop go on: all, where it does not say. A loop over any gate knows this of a
+    /// point by asking there alone.
+    ghost passes: { Self → At → Type 0 } = { λ _ _. ⊤ };
+
     /// Lets the loop at this point go on, or ends it.
     fn pass(&self, point: Point) -> Result<(), GateFault>
-        ensures { OnErr result (shuts self.now point) };
+        ensures passed { OnOk result (passes self.now point) }
+        ensures shut { OnErr result (shuts self.now point) };
 
     /// Is told what a receiver counted so far, and its answer to the last word: between the two points of that word.
     /// A gate that does not care does nothing.

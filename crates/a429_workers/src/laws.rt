@@ -2,7 +2,7 @@
 ghost use Rattle.a429_workers.specs.Example as example;
 ghost use Rattle.a429_workers.specs.MoreCalls.{LastCallLeads, LastCallLoads, LawfulCallsGrow};
 ghost use Rattle.a429_workers.specs.Runs.{IsWorking, WorkIsOneRun};
-ghost use Rattle.a429_workers.specs.SentWords.{HoldsAreKept, OtherWordsGoOut, WordsAreApart};
+ghost use Rattle.a429_workers.specs.SentWords.{CellsOfOneTableAreApart, EmptyCellsAreFirst, FirstTableEmptiesNone, HoldsAreKept, OtherWordsGoOut, TablesInForceAreSpaced, WordsAreApart};
 
 use a429_equipment::laws::tables_receive_for_sources;
 use a429_slots::laws::{answered_cells_grow, frames_go_on};
@@ -35,6 +35,21 @@ pub fn lawful_calls_grow()
 /// the second asks, whatever plans changed between.
 pub fn words_are_spaced()
     ensures { WordsAreApart }
+{}
+
+/// While one slot table is in force, which keeps to its least spacings, two cells of an output are far enough apart: so
+/// a cell is empty for the sake of the least spacing only as the output's first one since the slot table changed, and
+/// before the first change never. The transmitter had answered no cell before the first call.
+pub fn spacing_empties_first_cells_only()
+    ensures table { CellsOfOneTableAreApart }
+    ensures first { EmptyCellsAreFirst }
+    ensures opening { FirstTableEmptiesNone }
+{}
+
+/// Where the plans that a transmitter saw keep to their least spacings, so does the slot table in force at each call: it
+/// is what `spacing_empties_first_cells_only` asks for.
+pub fn tables_in_force_are_spaced()
+    ensures { TablesInForceAreSpaced }
 {}
 
 /// A transmitter sends one accepted word at most as often as the output's hold says, under whatever plans: each

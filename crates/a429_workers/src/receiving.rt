@@ -1,9 +1,8 @@
 //! The loop of a receiver.
-ghost use Rattle.std.specs.Prelude.{◌≡◌, ◌+◌, ◌<◌, ◌∷◌, [], ◌⊎◌, ℕ, List, true, OnOk, OnErr};
+ghost use Rattle.std.specs.Prelude.{◌≡◌, ◌+◌, ◌<◌, ◌∷◌, [], ℕ, true, OnOk, OnErr};
 ghost use Rattle.a429_values.specs.Ends.{accept_answer};
-ghost use Rattle.a429_workers.specs.declared.gates.Point.{Point as At};
-ghost use Rattle.a429_workers.specs.Gates.{IsOfReceiver, MayEndReceiver};
-ghost use Rattle.a429_workers.specs.Receives.{AreAtMost, AreTaken, Gives, IsSameReceiver, after_words, counted, source_failures};
+ghost use Rattle.a429_workers.specs.Gates.{HasTaken, IsShutAt, point_after_word, point_before_word};
+ghost use Rattle.a429_workers.specs.Receives.{AreAtMost, Gives, IsSameReceiver, after_words, counted, source_failures};
 
 use crate::gates::{Gate, GateFault, Point};
 use a429_filter::LineSource;
@@ -64,8 +63,8 @@ fn receive<G: Gate>(
     ensures ok { OnOk result (receiver.new ≡ after_words receiver.old (raw ∷ [])) }
     ensures totals { OnOk result (totals.new ≡ counted totals.old (accept_answer receiver.old raw)) }
     ensures same { IsSameReceiver receiver.old receiver.new }
-    ensures either { (receiver.new ≡ receiver.old) ⊎ (receiver.new ≡ after_words receiver.old (raw ∷ [])) }
-    ensures gate { OnErr result ((at : At) × IsOfReceiver number at × G.shuts gate.now at) }
+    ensures passed { OnOk result (G.passes gate.now (point_before_word number place) × G.passes gate.now (point_after_word number place)) }
+    ensures shut { OnErr result (IsShutAt (G.passes gate.now) (G.shuts gate.now) number place raw receiver.old receiver.new) }
 {
     gate.pass(Point::BeforeAccept(number, place))?;
     let answer = receiver.accept(raw);
@@ -74,21 +73,22 @@ fn receive<G: Gate>(
     gate.pass(Point::AfterAccept(number, place))
 }
 
-/// Takes the words of a line for a receiver, each between two passes of the gate, until the line ends. Answers how
+/// Takes the words of a line for a receiver, each between two points of the gate, until the line ends. Answers how
 /// many it accepted and refused. `Source` where the line failed, `TooMuch` where it gave a word after a million,
-/// before that word's gate, and `Gate` where the gate ended the loop. What was taken before stays taken, and what
-/// was accepted accepted. It takes no memory.
+/// before that word's gate, and `Gate` where the gate ended the loop, at the point that the loop had come to: a word
+/// is taken only after its first point. What was taken before stays taken, and what was accepted accepted. It takes no
+/// memory.
 pub fn receive_all<L: LineSource, G: Gate>(
     line: &mut L,
     receiver: &mut Receiver,
     number: usize,
     gate: &G,
 ) -> Result<ReceiveTotals, ReceiveFault>
-    ensures taken { (given : List ℕ) × Gives L.given L.left line.old given line.new × AreTaken given result receiver.old receiver.new }
+    ensures taken { HasTaken (Gives L.given L.left) (G.passes gate.now) (G.shuts gate.now) number line.old line.new
+        receiver.old receiver.new result }
     ensures same { IsSameReceiver receiver.old receiver.new }
     ensures ended { OnOk result (L.ended line.new ≡ true) }
     ensures failed { L.failed line.new ≡ source_failures (L.failed line.old) result }
-    ensures gate { MayEndReceiver (G.shuts gate.now) number result }
 {
     let mut totals = ReceiveTotals {
         accepted: 0,

@@ -1,7 +1,7 @@
 //! The loop of a group.
 ghost use Rattle.std.specs.Prelude.{◌≡◌, ◌≤◌, ◌+◌, ◌<◌, ◌^◌, OnOk, IfErr};
 ghost use Rattle.a429_slots.specs.Tables.{cells_of};
-ghost use Rattle.a429_workers.specs.Gates.{MayEndGroup};
+ghost use Rattle.a429_workers.specs.Gates.{HaveCellsPassed, IsGatedGroup};
 ghost use Rattle.a429_workers.specs.Transmitting.{IsSameGroup};
 ghost use Rattle.a429_workers.specs.declared.sending.SendFault.TheVariants.{Change};
 ghost use Rattle.a429_workers.specs.Sends.{AreSent, IsCell, IsFrame, IsTurn, sink_failures};
@@ -43,11 +43,12 @@ fn send_cell<B: BusSink, G: Gate>(
 ) -> Result<(), SendFault>
     requires due { transmit.old.frame.sent < cells_of transmit.old.frame.table }
     requires room { (totals.old.words ≤ totals.old.cells) × (totals.old.cells + 1 < 2 ^ 64) }
+    requires passed { HaveCellsPassed (G.passes gate.now) group totals.old.cells }
     ensures done { IsCell transmit.old transmit.new (B.taken sink.old) (B.taken sink.new) totals.old totals.new result }
     ensures same { IsSameGroup transmit.old transmit.new }
     ensures few { OnOk result ((totals.new.words ≤ totals.new.cells) × (totals.new.cells ≡ totals.old.cells + 1)) }
     ensures failed { B.failed sink.new ≡ sink_failures (B.failed sink.old) result }
-    ensures gate { MayEndGroup (G.shuts gate.now) group result }
+    ensures gate { IsGatedGroup (G.passes gate.now) (G.shuts gate.now) group totals.new.cells result }
 {
     if let Err(_) = gate.pass(Point::BeforeCell(group, totals.cells)) {
         return Err(SendFault::Gate);
@@ -77,11 +78,12 @@ fn send_frame<B: BusSink, G: Gate>(
 ) -> Result<(), SendFault>
     requires begins { transmit.old.frame.sent ≡ 0 }
     requires room { (totals.old.words ≤ totals.old.cells) × (totals.old.cells + 131072 < 2 ^ 64) }
+    requires passed { HaveCellsPassed (G.passes gate.now) group totals.old.cells }
     ensures done { IsFrame transmit.old transmit.new (B.taken sink.old) (B.taken sink.new) totals.old totals.new result }
     ensures same { IsSameGroup transmit.old transmit.new }
     ensures few { OnOk result ((totals.new.words ≤ totals.new.cells) × (totals.new.cells ≤ totals.old.cells + 131072)) }
     ensures failed { B.failed sink.new ≡ sink_failures (B.failed sink.old) result }
-    ensures gate { MayEndGroup (G.shuts gate.now) group result }
+    ensures gate { IsGatedGroup (G.passes gate.now) (G.shuts gate.now) group totals.new.cells result }
 {
     for _ in 0..transmit.cells() {
         send_cell(transmit, sink, group, totals, gate)?;
@@ -105,8 +107,9 @@ fn next_frame(transmit: &mut Transmit) -> Result<(), SendFault>
 /// Sends so many whole frames of a group, from the first cell of a frame on, and goes on to the next frame between
 /// two. Each cell passes the gate, is asked for, goes to the sink, and passes the gate again. Answers how many cells
 /// were sent. `Sink` where the sink failed: it took all cells but the last. `Change` where the slots of the next
-/// frame cannot be counted, and `Gate` where the gate ended the loop. What was sent before stays sent, and frames
-/// that were taken stay taken. It takes no memory, if the sink takes none.
+/// frame cannot be counted, and `Gate` where the gate ended the loop, at the point that the loop had come to: a cell is
+/// asked for only after its first point. What was sent before stays sent, and frames that were taken stay taken. It
+/// takes no memory, if the sink takes none.
 pub fn send_frames<B: BusSink, G: Gate>(
     transmit: &mut Transmit,
     sink: &mut B,
@@ -116,9 +119,9 @@ pub fn send_frames<B: BusSink, G: Gate>(
 ) -> Result<SendTotals, SendFault>
     requires { transmit.old.frame.sent ≡ 0 }
     ensures same { IsSameGroup transmit.old transmit.new }
-    ensures sent { AreSent frames transmit.old transmit.new (B.taken sink.old) (B.taken sink.new) result }
+    ensures sent { AreSent (G.passes gate.now) (G.shuts gate.now) group frames transmit.old transmit.new
+        (B.taken sink.old) (B.taken sink.new) result }
     ensures failed { B.failed sink.new ≡ sink_failures (B.failed sink.old) result }
-    ensures gate { MayEndGroup (G.shuts gate.now) group result }
 {
     let mut totals = SendTotals {
         cells: 0,

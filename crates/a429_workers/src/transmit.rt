@@ -8,7 +8,7 @@ ghost use Rattle.a429_equipment.specs.Agreement.{AgreesToTheEnd};
 ghost use Rattle.a429_values.specs.Later.{OthersStayAgreed, StaysWhole};
 ghost use Rattle.a429_workers.specs.Calls.{Meets, number_of, table_of};
 ghost use mathlib.Core.List.{IsPrefix};
-ghost use Rattle.a429_workers.specs.Transmitting.{BeginsWith, GoesOnBy, IsDone, IsKnownPlan, IsKnownTable, IsSameGroup, cell_call, change_call, first_fits, loads_since, met, sent_by};
+ghost use Rattle.a429_workers.specs.Transmitting.{BeginsWith, GoesOnBy, IsDone, IsKnownPlan, IsKnownTable, IsSameGroup, TakesNext, TellsSpent, cell_call, change_call, first_fits, loads_since, met, place_due, sent_by};
 
 use crate::cells::{ChangeFault, FrameEnd, OpenFault, Sent};
 use a429_board::{Planner, Watcher};
@@ -175,6 +175,7 @@ impl Transmit {
     pub fn cell(&mut self) -> Result<Sent, FrameEnd>
         ensures stands { GoesOnBy self.old (cell_call result (loads_since self.old self.new) ∷ []) self.new }
         ensures end { IsErr result ↔ (next_cell self.old.frame ≡ None) }
+        ensures place { IfOk result (λ sent. place_due self.old.frame ≡ Some (sent.bus, sent.slot)) }
         ensures err { OnErr result (self.new ≡ self.old) }
         ensures frame { self.new.frame ≡ after_cell self.old.frame }
         ensures number { self.new.number ≡ self.old.number }
@@ -208,9 +209,14 @@ impl Transmit {
     pub fn change(&mut self) -> Result<u64, ChangeFault>
         ensures stands { GoesOnBy self.old (change_call result self.new.watcher.list ∷ []) self.new }
         ensures mid { IsErrOf result ChangeFault.MidFrame ↔ (self.old.frame.sent < cells_of self.old.frame.table) }
+        ensures spent { TellsSpent self.old result self.new }
+        ensures next { TakesNext self.old result self.new }
+        ensures newest { IfOk result (λ n. n ≡ number_of self.new.watcher.list) }
+        ensures seen { IsPrefix self.old.watcher.list self.new.watcher.list }
         ensures begins { IfOk result (λ n. (self.new.number ≡ n) × (self.new.frame.sent ≡ 0)) }
         ensures err { OnErr result ((self.new.frame ≡ self.old.frame) × (self.new.number ≡ self.old.number)) }
         ensures transmitter { self.new.transmitter ≡ self.old.transmitter }
+        ensures sends { self.new.sends ≡ self.old.sends }
         ensures same { IsSameGroup self.old self.new }
     {
         let Transmit {

@@ -3,10 +3,10 @@
 use super::ran;
 use crate::support::{FIRST, ONE, TWO};
 use a429_filter::{LineSource, MemoryLine, SourceFault};
-use a429_station::{LiveFault, NoControl, live};
+use a429_station::{Control, LiveFault, NoControl, Station, live};
 use a429_table::read_equipment;
 use a429_workers::{BusSink, Gate, GateFault, OpenGate, Point, Sent, SinkFault};
-use std::alloc::Global;
+use std::alloc::{AllocError, Global};
 use std::process::Abort;
 use std::sync::Wait;
 use std::sync::atomic::{AtomicU64, Ordering};
@@ -89,15 +89,26 @@ impl BusSink for FailingSink {
     }
 }
 
+/// Answers at once that memory was refused.
+#[derive(Clone, Copy)]
+struct Refused;
+
+impl<R: Wait> Control<R> for Refused {
+    fn run(&mut self, _station: &mut Station<'_, R>) -> Result<(), AllocError> {
+        Err(AllocError)
+    }
+}
+
 /// Why the station of two receivers stops where the line of the first gives so many words, that of the second fails
 /// if it is said so, and both sinks fail.
-fn stopped<R: Threads + Wait + Abort>(
+fn stopped<R: Threads + Wait + Abort, K: Control<R>>(
     rt: &R,
     alloc: Global,
     words: u32,
     fails: bool,
     frames: u32,
     calls: &AtomicU64,
+    control: &mut K,
 ) -> Option<LiveFault> {
     let equipment = read_equipment(alloc, TWO.as_bytes()).expect(rt, "a table");
     let mut lines = Vec::new(alloc);
@@ -122,29 +133,31 @@ fn stopped<R: Threads + Wait + Abort>(
     assert!(rt; lines.len() == equipment.receivers().len());
     assert!(rt; sinks.len() == equipment.groups().len());
     let gate = OpenGate;
-    live(
-        rt,
-        alloc,
-        &equipment,
-        lines,
-        sinks,
-        frames,
-        &gate,
-        &mut NoControl,
-    )
-    .err()
+    live(rt, alloc, &equipment, lines, sinks, frames, &gate, control).err()
 }
 
 #[test]
 fn the_first_fault_is_answered(rt: HostRuntime) {
     let calls = AtomicU64::new(0);
-    let none = stopped(&rt, rt.alloc(), 1, false, 1000001, &calls);
+    let none = stopped(&rt, rt.alloc(), 1, false, 1000001, &calls, &mut NoControl);
     assert_eq!(rt; none, Some(LiveFault::TooMuch));
     assert_eq!(rt; calls.load(Ordering::SeqCst), 0);
-    let sink = stopped(&rt, rt.alloc(), 1, false, 1, &calls);
+    let sink = stopped(&rt, rt.alloc(), 1, false, 1, &calls, &mut NoControl);
     assert_eq!(rt; sink, Some(LiveFault::Sink));
-    let source = stopped(&rt, rt.alloc(), 1, true, 1, &calls);
+    let source = stopped(&rt, rt.alloc(), 1, true, 1, &calls, &mut NoControl);
     assert_eq!(rt; source, Some(LiveFault::Source));
-    let words = stopped(&rt, rt.alloc(), 1000001, true, 1, &calls);
+    let words = stopped(&rt, rt.alloc(), 1000001, true, 1, &calls, &mut NoControl);
     assert_eq!(rt; words, Some(LiveFault::TooMuch));
+}
+
+#[test]
+fn a_workers_fault_is_answered_before_the_controls(rt: HostRuntime) {
+    let calls = AtomicU64::new(0);
+    let source = stopped(&rt, rt.alloc(), 1, true, 1, &calls, &mut Refused);
+    assert_eq!(rt; source, Some(LiveFault::Source));
+    let sink = stopped(&rt, rt.alloc(), 1, false, 1, &calls, &mut Refused);
+    assert_eq!(rt; sink, Some(LiveFault::Sink));
+    let words: &[&[u32]] = &[&[FIRST]];
+    let answer = ran(&rt, rt.alloc(), ONE, words, 1, &OpenGate, &mut Refused);
+    assert!(rt; answer.err() == Some(LiveFault::NoMemory));
 }

@@ -47,6 +47,6 @@ returns g c = λ tells.
     subst (λ (a : List Arrival). IsRunResult q.station a r.frames (bytes_of c.deref-2.result.now) c.run-result.result) c.deref.ensures.value of_station in
     let of_files : IsRunResult q.station came r.frames i.further c.run-result.result =
     subst (λ (tables : List (Vec ℕ Global)). IsRunResult q.station came r.frames (bytes_of tables) c.run-result.result) c.deref-2.ensures.value of_words in
-    matched_both c.run-result.result (λ text. IsRunReport q.station came r.frames i.further text.items) (λ text. IsReportOf file r text.items) (OrMemory IsRunRefusal) (OrMemory (IsLiveRefusal file r))
+    matched_both c.run-result.result (λ text. IsRunReport q.station came r.frames i.further text.items) (λ text. IsReportOf file r text.items) (OrMemory (IsRunRefusal q.station came r.frames)) (OrMemory (IsLiveRefusal file r))
     (λ text report. (i, q, came, read, start, report))
-    (λ e why. or_memory_weaker IsRunRefusal (IsLiveRefusal file r) e (λ one. inr (i, read, inr (q, came, start, one))) why) of_files
+    (λ e why. or_memory_weaker (IsRunRefusal q.station came r.frames) (IsLiveRefusal file r) e (λ one. inr (i, read, inr (q, came, start, one))) why) of_files

@@ -40,6 +40,9 @@ returns-in_err-transmit-clause-sinks g c = early_ok _ _ c.from_residual.result c
 pub returns-in_err-transmit-clause-ready : goal.returns-in_err-transmit-clause-ready
 returns-in_err-transmit-clause-ready g c = early_ok _ _ c.from_residual.result c.from_residual.ensures.1
 
+pub returns-in_err-transmit-clause-gates : goal.returns-in_err-transmit-clause-gates
+returns-in_err-transmit-clause-gates g c = early_ok _ _ c.from_residual.result c.from_residual.ensures.1
+
 pub returns-in_err-transmit-clause-fault : goal.returns-in_err-transmit-clause-fault
 returns-in_err-transmit-clause-fault g c = early_err _ c.from_residual.result c.from_residual.ensures.1 (λ e is. is ∙ c.in_err-transmit.ensures.fault)
 
@@ -52,13 +55,16 @@ returns-in_err-push-clause-sinks g c = early_ok _ _ c.from_residual-in_err-push.
 pub returns-in_err-push-clause-ready : goal.returns-in_err-push-clause-ready
 returns-in_err-push-clause-ready g c = early_ok _ _ c.from_residual-in_err-push.result c.from_residual-in_err-push.ensures.1
 
+pub returns-in_err-push-clause-gates : goal.returns-in_err-push-clause-gates
+returns-in_err-push-clause-gates g c = early_ok _ _ c.from_residual-in_err-push.result c.from_residual-in_err-push.ensures.1
+
 pub returns-in_err-push-clause-fault : goal.returns-in_err-push-clause-fault
 returns-in_err-push-clause-fault g c = early_err _ c.from_residual-in_err-push.result c.from_residual-in_err-push.ensures.1 (λ e is. is)
 
 pub loop-sink-preserved : goal.loop-sink-preserved
 loop-sink-preserved g c =
     let was = c.loop-sink.invariant in
-    let made = c.group_worker.ensures in
+    let made = c.group_worker.ensures.group in
     let one = c.in_ok-transmit.ensures in
     let grown = c.in_ok-push.ensures.items in
     let hub = c.args.hub.now in
@@ -79,10 +85,14 @@ loop-sink-preserved g c =
       desk = c.transmitter.ensures.desk ∙ was.desk;
       given = one.given;
       ready = numbered_pushed (λ k w. IsReady hub first k w.transmit × (w.frames ≡ c.args.frames)) c.loop-sink.workers.items c.push.new.self.items c.loop-sink.number c.group_worker.result grown was.count was.ready (ready, made.2);
+      gates = numbered_pushed (λ k w. (w.number ≡ k) × (w.gate.now ≡ c.args.gate.now)) c.loop-sink.workers.items c.push.new.self.items c.loop-sink.number c.group_worker.result grown was.count was.gates c.group_worker.ensures.gate;
     }
 
 pub returns-clause-ready : goal.returns-clause-ready
 returns-clause-ready g c = c.loop-sink.invariant.ready
+
+pub returns-clause-gates : goal.returns-clause-gates
+returns-clause-gates g c = c.loop-sink.invariant.gates
 
 pub returns-clause-fault : goal.returns-clause-fault
 returns-clause-fault g c = tt

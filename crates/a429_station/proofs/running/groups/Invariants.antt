@@ -16,4 +16,5 @@ invariant-loop-sink g l = record {
   desk : l.desk.at ≡ l.fn.desk.at;
   given : AllByRecursion (λ y. y < l.number) l.desk.transmitters;
   ready : AllNumbered (λ k w. IsReady l.fn.hub l.fn.station.planner k w.transmit × (w.frames ≡ l.fn.frames)) l.workers.items;
+  gates : AllNumbered (λ k w. (w.number ≡ k) × (w.gate.now ≡ l.fn.gate)) l.workers.items;
 }

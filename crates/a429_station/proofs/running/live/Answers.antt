@@ -1,4 +1,4 @@
-use Rattle.std.proofs.Common.{◌∙◌, List, [], ◌∷◌, ap, length, map, rules, subst, sym}
+use Rattle.std.proofs.Common.{◌≡◌, ◌∙◌, List, [], ◌∷◌, ap, length, map, refl, rules, subst, sym}
 use Rattle.std.proofs.lemmas.Result.{IfOk-weaker}
 use Rattle.std.specs.Prelude.{IfErr, IfOk}
 use Rattle.a429_workers.specs.Receives.{Gives}
@@ -25,7 +25,7 @@ returns-in_err-plan-clause-told g c = early_ok _ _ c.from_residual.result c.from
 pub returns-in_err-plan-clause-fault : goal.returns-in_err-plan-clause-fault
 returns-in_err-plan-clause-fault g c =
     early_err _ c.from_residual.result c.from_residual.ensures.1
-    (λ e is. subst (IsLiveFault (Gives g.L.LineSource.given g.L.LineSource.left) g.L.LineSource.ended g.L.LineSource.failed g.B.BusSink.failed c.args.equipment.now c.args.frames c.args.sources.items c.args.sinks.items) (sym is) c.in_err-plan.ensures.fault)
+    (λ e is. subst (IsLiveFault (c.args.control.now ≡ c.args.control.now) (Gives g.L.LineSource.given g.L.LineSource.left) g.L.LineSource.ended g.L.LineSource.failed g.B.BusSink.failed (g.G.Gate.passes c.args.gate.now) (g.G.Gate.shuts c.args.gate.now) c.args.equipment.now c.args.frames c.args.sources.items c.args.sinks.items) (sym is) c.in_err-plan.ensures.fault)
 
 pub returns-in_err-hub-clause-ran : goal.returns-in_err-hub-clause-ran
 returns-in_err-hub-clause-ran g c = early_ok _ _ c.from_residual-in_err-hub.result c.from_residual-in_err-hub.ensures.1
@@ -36,8 +36,8 @@ returns-in_err-hub-clause-told g c = early_ok _ _ c.from_residual-in_err-hub.res
 pub returns-in_err-hub-clause-fault : goal.returns-in_err-hub-clause-fault
 returns-in_err-hub-clause-fault g c =
     early_err _ c.from_residual-in_err-hub.result c.from_residual-in_err-hub.ensures.1
-    (λ e is. no_memory (Gives g.L.LineSource.given g.L.LineSource.left) g.L.LineSource.ended g.L.LineSource.failed g.B.BusSink.failed c.args.equipment.now c.args.frames c.args.sources.items c.args.sinks.items
-    (record { plan = c.in_ok-plan.plan; planned = c.in_ok-plan.ensures.planned; few = search rules }) e is)
+    (λ e is. no_memory (c.args.control.now ≡ c.args.control.now) (Gives g.L.LineSource.given g.L.LineSource.left) g.L.LineSource.ended g.L.LineSource.failed g.B.BusSink.failed (g.G.Gate.passes c.args.gate.now) (g.G.Gate.shuts c.args.gate.now) c.args.equipment.now c.args.frames c.args.sources.items c.args.sinks.items
+    (record { plan = c.in_ok-plan.plan; planned = c.in_ok-plan.ensures.planned; few = search rules }) refl e is)
 
 pub receivers-requires-clause-hub : goal.receivers-requires-clause-hub
 receivers-requires-clause-hub g c = ap (λ (d : ends.Dealing). d.at) c.in_ok-hub.ensures.desk
@@ -57,8 +57,8 @@ returns-in_err-receiving-clause-told g c = early_ok _ _ c.from_residual-in_err-r
 pub returns-in_err-receiving-clause-fault : goal.returns-in_err-receiving-clause-fault
 returns-in_err-receiving-clause-fault g c =
     early_err _ c.from_residual-in_err-receiving.result c.from_residual-in_err-receiving.ensures.1
-    (λ e is. no_memory (Gives g.L.LineSource.given g.L.LineSource.left) g.L.LineSource.ended g.L.LineSource.failed g.B.BusSink.failed c.args.equipment.now c.args.frames c.args.sources.items c.args.sinks.items
-    (record { plan = c.in_ok-plan.plan; planned = c.in_ok-plan.ensures.planned; few = search rules }) e (is ∙ c.in_err-receiving.ensures.fault))
+    (λ e is. no_memory (c.args.control.now ≡ c.args.control.now) (Gives g.L.LineSource.given g.L.LineSource.left) g.L.LineSource.ended g.L.LineSource.failed g.B.BusSink.failed (g.G.Gate.passes c.args.gate.now) (g.G.Gate.shuts c.args.gate.now) c.args.equipment.now c.args.frames c.args.sources.items c.args.sinks.items
+    (record { plan = c.in_ok-plan.plan; planned = c.in_ok-plan.ensures.planned; few = search rules }) refl e (is ∙ c.in_err-receiving.ensures.fault))
 
 pub returns-in_err-planner-clause-ran : goal.returns-in_err-planner-clause-ran
 returns-in_err-planner-clause-ran g c = early_ok _ _ c.from_residual-in_err-planner.result c.from_residual-in_err-planner.ensures.1
@@ -69,8 +69,8 @@ returns-in_err-planner-clause-told g c = early_ok _ _ c.from_residual-in_err-pla
 pub returns-in_err-planner-clause-fault : goal.returns-in_err-planner-clause-fault
 returns-in_err-planner-clause-fault g c =
     early_err _ c.from_residual-in_err-planner.result c.from_residual-in_err-planner.ensures.1
-    (λ e is. no_memory (Gives g.L.LineSource.given g.L.LineSource.left) g.L.LineSource.ended g.L.LineSource.failed g.B.BusSink.failed c.args.equipment.now c.args.frames c.args.sources.items c.args.sinks.items
-    (record { plan = c.in_ok-plan.plan; planned = c.in_ok-plan.ensures.planned; few = search rules }) e is)
+    (λ e is. no_memory (c.args.control.now ≡ c.args.control.now) (Gives g.L.LineSource.given g.L.LineSource.left) g.L.LineSource.ended g.L.LineSource.failed g.B.BusSink.failed (g.G.Gate.passes c.args.gate.now) (g.G.Gate.shuts c.args.gate.now) c.args.equipment.now c.args.frames c.args.sources.items c.args.sinks.items
+    (record { plan = c.in_ok-plan.plan; planned = c.in_ok-plan.ensures.planned; few = search rules }) refl e is)
 
 pub begun-station-requires-clause-planned : goal.begun-station-requires-clause-planned
 begun-station-requires-clause-planned g c = subst (IsPlanOf c.args.equipment.now) (sym c.in_ok-planner.ensures.planner.1) c.in_ok-plan.ensures.planned
@@ -80,6 +80,9 @@ begun-station-requires-clause-first g c = c.in_ok-planner.ensures.planner.0 ∙ 
 
 pub run-answer-requires-clause-receivers : goal.run-answer-requires-clause-receivers
 run-answer-requires-clause-receivers g c κs lives = c.in_ok-receiving.ensures.fresh
+
+pub run-answer-requires-clause-gates : goal.run-answer-requires-clause-gates
+run-answer-requires-clause-gates g c κs lives = c.in_ok-receiving.ensures.gates
 
 pub run-answer-requires-clause-desk : goal.run-answer-requires-clause-desk
 run-answer-requires-clause-desk g c κs lives =
@@ -120,9 +123,12 @@ returns-clause-fault g c =
     let ended = g.L.LineSource.ended in
     let failed = g.L.LineSource.failed in
     let failed_sink = g.B.BusSink.failed in
+    let passes = g.G.Gate.passes c.args.gate.now in
+    let shuts = g.G.Gate.shuts c.args.gate.now in
+    let idle = c.run-answer.new.control ≡ c.args.control.now in
     let t = c.args.equipment.now in
     let sources = c.args.sources.items in
     let sinks = c.args.sinks.items in
-    weaker (IsRunFault gives ended failed failed_sink sources sinks) (IsLiveFault gives ended failed failed_sink t c.args.frames sources sinks) c.run-answer.result
-    (live_fault gives ended failed failed_sink t c.args.frames sources sinks (record { plan = c.in_ok-plan.plan; planned = c.in_ok-plan.ensures.planned; few = search rules }))
-    (subst (λ (l : List g.row.L.Denot). IfErr c.run-answer.result (IsRunFault gives ended failed failed_sink l sinks)) c.in_ok-receiving.ensures.lines c.run-answer.ensures.fault)
+    weaker (IsRunFault idle gives ended failed failed_sink passes shuts sources sinks) (IsLiveFault idle gives ended failed failed_sink passes shuts t c.args.frames sources sinks) c.run-answer.result
+    (live_fault idle gives ended failed failed_sink passes shuts t c.args.frames sources sinks (record { plan = c.in_ok-plan.plan; planned = c.in_ok-plan.ensures.planned; few = search rules }))
+    (subst (λ (l : List g.row.L.Denot). IfErr c.run-answer.result (IsRunFault idle gives ended failed failed_sink passes shuts l sinks)) c.in_ok-receiving.ensures.lines c.run-answer.ensures.fault)

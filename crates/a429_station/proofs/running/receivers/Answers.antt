@@ -24,6 +24,9 @@ returns-in-Err-NoMemory-clause-lines g c = tt
 pub returns-in-Err-NoMemory-clause-fresh : goal.returns-in-Err-NoMemory-clause-fresh
 returns-in-Err-NoMemory-clause-fresh g c = tt
 
+pub returns-in-Err-NoMemory-clause-gates : goal.returns-in-Err-NoMemory-clause-gates
+returns-in-Err-NoMemory-clause-gates g c = tt
+
 pub returns-in-Err-NoMemory-clause-fault : goal.returns-in-Err-NoMemory-clause-fault
 returns-in-Err-NoMemory-clause-fault g c = refl
 
@@ -32,6 +35,9 @@ returns-in_err-push-clause-lines g c = early_ok _ _ c.from_residual.result c.fro
 
 pub returns-in_err-push-clause-fresh : goal.returns-in_err-push-clause-fresh
 returns-in_err-push-clause-fresh g c = early_ok _ _ c.from_residual.result c.from_residual.ensures.1
+
+pub returns-in_err-push-clause-gates : goal.returns-in_err-push-clause-gates
+returns-in_err-push-clause-gates g c = early_ok _ _ c.from_residual.result c.from_residual.ensures.1
 
 pub returns-in_err-push-clause-desk : goal.returns-in_err-push-clause-desk
 returns-in_err-push-clause-desk g c = ap (λ (d : ends.Dealing). d.at) c.in-Ok.ensures.given ∙ c.loop-line.invariant.desk
@@ -56,10 +62,14 @@ loop-line-preserved g c =
       transmitters = ap (λ (d : ends.Dealing). d.transmitters) given ∙ was.transmitters;
       given = subst (AllByRecursion (λ y. y < number + 1)) (sym (ap (λ (d : ends.Dealing). d.receivers) given)) (given_more number c.loop-line.desk.receivers was.given);
       fresh = numbered_pushed (λ r w. w.receiver ≡ fresh c.args.hub.now r) c.loop-line.workers.items c.push.new.self.items number _ grown was.count was.fresh c.in-Ok.ensures.receiver;
+      gates = numbered_pushed (λ r w. (w.number ≡ r) × (w.gate.now ≡ c.args.gate.now)) c.loop-line.workers.items c.push.new.self.items number _ grown was.count was.gates (refl, refl);
     }
 
 pub returns-clause-fresh : goal.returns-clause-fresh
 returns-clause-fresh g c = c.loop-line.invariant.fresh
+
+pub returns-clause-gates : goal.returns-clause-gates
+returns-clause-gates g c = c.loop-line.invariant.gates
 
 pub returns-clause-desk : goal.returns-clause-desk
 returns-clause-desk g c = c.loop-line.invariant.desk

@@ -14,4 +14,5 @@ invariant-loop-line g l = record {
   transmitters : l.desk.transmitters ≡ l.fn.desk.transmitters;
   given : AllByRecursion (λ y. y < l.number) l.desk.receivers;
   fresh : AllNumbered (λ r w. w.receiver ≡ fresh l.fn.hub r) l.workers.items;
+  gates : AllNumbered (λ r w. (w.number ≡ r) × (w.gate.now ≡ l.fn.gate)) l.workers.items;
 }

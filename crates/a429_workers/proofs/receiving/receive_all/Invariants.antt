@@ -1,4 +1,5 @@
 use Rattle.std.proofs.Common.{◌≡◌}
+use Rattle.a429_workers.specs.Gates.{HaveWordsPassed}
 use Rattle.a429_workers.specs.Receives.{Gives, IsSameReceiver}
 use Rattle.a429_workers.proofs.Hearing.{SoFar}
 use Rattle.a429_workers.proofs.receiving.receive_all.Given as goal
@@ -6,4 +7,4 @@ use Rattle.a429_workers.proofs.receiving.receive_all.Given as goal
 abbrev pub invariant-loop-place : goal.invariant-loop-place
 invariant-loop-place g l =
     SoFar (λ words. Gives g.L.LineSource.given g.L.LineSource.left l.fn.line words l.line) l.fn.receiver l.receiver l.totals l.place × (g.L.LineSource.failed l.line ≡ g.L.LineSource.failed l.fn.line)
-    × IsSameReceiver l.fn.receiver l.receiver
+    × IsSameReceiver l.fn.receiver l.receiver × HaveWordsPassed (g.G.Gate.passes l.fn.gate) l.fn.number l.place

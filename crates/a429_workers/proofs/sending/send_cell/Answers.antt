@@ -4,6 +4,10 @@ use Rattle.std.specs.Prelude.{Bool, true, false, is_some, if◌then◌else◌, s
 use Rattle.a429_workers.specs.Transmitting.{loads_since}
 use Rattle.a429_workers.proofs.sending.send_cell.Goals as goal
 
+byte : (b : Bool) → bool_byte b ≡ 0 + (if b then 1 else 0)
+byte true = refl
+byte false = refl
+
 pub returns-in-Err-put-clause-done : goal.returns-in-Err-put-clause-done
 returns-in-Err-put-clause-done g c =
     let sent = c.in-Ok.sent in
@@ -11,6 +15,7 @@ returns-in-Err-put-clause-done g c =
       record { bus = sent.bus; slot = sent.slot; load = load; word = sent.word },
       record { stands = c.in-Ok.ensures.stands; same = c.cell.ensures.same; frame = c.cell.ensures.frame; number = c.cell.ensures.number },
       c.in-Err-put.ensures.taken,
+      refl,
     )
 
 pub returns-in-Err-pass-clause-done : goal.returns-in-Err-pass-clause-done
@@ -21,11 +26,8 @@ returns-in-Err-pass-clause-done g c =
       record { bus = sent.bus; slot = sent.slot; load = load; word = sent.word },
       record { stands = c.in-Ok.ensures.stands; same = c.cell.ensures.same; frame = c.cell.ensures.frame; number = c.cell.ensures.number },
       c.in_default-put.ensures.taken,
+      record { cells = omega arith; words = ap (λ n. c.args.totals.now.words + n) (c.from.ensures ∙ (ap (λ b. bool_byte b) c.is_some.ensures ∙ byte (is_some sent.word))) },
     )
-
-byte : (b : Bool) → bool_byte b ≡ 0 + (if b then 1 else 0)
-byte true = refl
-byte false = refl
 
 pub returns-clause-done : goal.returns-clause-done
 returns-clause-done g c =

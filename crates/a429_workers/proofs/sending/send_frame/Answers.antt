@@ -8,7 +8,7 @@ use Rattle.a429_workers.proofs.Stretching.{frame_begins, frame_goes_on, frame_ov
 use Rattle.a429_workers.proofs.sending.send_frame.Goals as goal
 
 pub loop-init : goal.loop-init
-loop-init g c = (frame_begins _ _ _ c.requires.begins c.requires.room.0, refl, same_self _)
+loop-init g c = (frame_begins _ _ _ c.requires.begins c.requires.room.0, refl, same_self _, c.requires.passed)
 
 pub send_cell-requires-clause-due : goal.send_cell-requires-clause-due
 send_cell-requires-clause-due g c =
@@ -33,7 +33,7 @@ pub loop-preserved : goal.loop-preserved
 loop-preserved g c =
     let F = c.loop.invariant.0 in
     let left : c.loop.transmit.frame.sent < cells_of c.loop.transmit.frame.table = omega (arith, F.sent, ap (λ t. cells_of t) F.table, c.cells-end.ensures.value) in
-    (frame_goes_on _ _ _ _ _ _ _ _ _ _ F left c.in_ok-send_cell.ensures.done c.in_ok-send_cell.ensures.few, c.in_ok-send_cell.ensures.failed ∙ c.loop.invariant.1, same_trans _ _ _ c.loop.invariant.2 c.send_cell.ensures.same)
+    (frame_goes_on _ _ _ _ _ _ _ _ _ _ F left c.in_ok-send_cell.ensures.done c.in_ok-send_cell.ensures.few, c.in_ok-send_cell.ensures.failed ∙ c.loop.invariant.1, same_trans _ _ _ c.loop.invariant.2 c.send_cell.ensures.same, c.in_ok-send_cell.ensures.gate)
 
 pub returns-clause-done : goal.returns-clause-done
 returns-clause-done g c = frame_over _ _ _ _ _ _ c.loop.counter c.loop.invariant.0 (omega (arith, c.cells-end.ensures.value))

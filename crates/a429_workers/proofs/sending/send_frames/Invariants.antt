@@ -1,4 +1,5 @@
 use Rattle.std.proofs.Common.{◌≡◌}
+use Rattle.a429_workers.specs.Gates.{HaveCellsPassed}
 use Rattle.a429_workers.specs.Transmitting.{IsSameGroup}
 use Rattle.a429_workers.proofs.Stretching.{AreInFrames}
 use Rattle.a429_workers.proofs.sending.send_frames.Given as goal
@@ -7,4 +8,4 @@ abbrev pub invariant-loop : goal.invariant-loop
 invariant-loop g l =
     AreInFrames l.fn.transmit l.transmit (g.B.BusSink.taken l.fn.sink) (g.B.BusSink.taken l.sink) (record { cells = 0; words = 0; plan = l.fn.transmit.number }) l.totals l.counter
     × (g.B.BusSink.failed l.sink ≡ g.B.BusSink.failed l.fn.sink)
-    × IsSameGroup l.fn.transmit l.transmit
+    × IsSameGroup l.fn.transmit l.transmit × HaveCellsPassed (g.G.Gate.passes l.fn.gate) l.fn.group l.totals.cells

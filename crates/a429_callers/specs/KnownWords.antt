@@ -1,0 +1,68 @@
+-- How late a word goes out that a group's transmitter knows of, by the transmitter's calls.
+use Rattle.std.specs.Prelude.{◌≡◌, ◌+◌, ◌<◌, ◌≤◌, ℕ, List, Some, length, slice_get, take}
+use Rattle.std.specs.List.{AllByRecursion}
+use Rattle.a429_equipment.specs.Arrivals.{AreApart}
+use Rattle.a429_equipment.specs.declared.loads.Load.{Load}
+use Rattle.a429_slots.specs.declared.group_plan.SlotPlace.{SlotPlace}
+use Rattle.a429_slots.specs.Tables.{Placed, GroupTable, outputs_of}
+use Rattle.a429_slots.specs.Sending.{Sending}
+use Rattle.a429_slots.specs.Proposed.{Proposed}
+use Rattle.a429_slots.specs.History.{Opening}
+use Rattle.a429_slots.specs.Spacing.{IsOwnPlan}
+use Rattle.a429_core.specs.Latency.{HasOutput, MaySend, next_on, period_of}
+use Rattle.a429_workers.specs.Calls.{Call, Carried, Asks, loads_of}
+use Rattle.a429_workers.specs.Runs.{IsWorking, led_to}
+
+-- the frame that the group is in after n calls, and the slot that is next on a bus then
+abbrev pub frame_after : Opening → ℕ → GroupTable → List Call → ℕ → Sending
+frame_after o g p calls n = (led_to o g p (take n calls)).frame
+
+abbrev pub next_after : Opening → ℕ → GroupTable → List Call → ℕ → ℕ → ℕ
+next_after o g p calls n bus = next_on (frame_after o g p calls n) bus
+
+-- the slot table has an output of the source at this place, and each output of it may send, with a least spacing of q slots at most
+pub record HasSender (t : GroupTable) (source : ℕ) (at : SlotPlace) (q : ℕ) : Type 0 where
+  pub output : HasOutput t source at
+  pub may : (n : ℕ) (x : Placed) → slice_get (outputs_of t) n ≡ Some x → x.source ≡ source → MaySend q x
+
+-- the output stays: from h calls on and up to k calls, the table in force has it
+abbrev pub StaysInCalls : Opening → ℕ → GroupTable → List Call → ℕ → ℕ → ℕ → SlotPlace → ℕ → Type 0
+StaysInCalls o g p calls h k source at q = (n : ℕ) → h ≤ n → n ≤ k → HasSender (frame_after o g p calls n).table source at q
+
+-- in the first n calls, by a cell or by meeting a receiver, the source was loaded when it had accepted `count` words or more
+pub record IsKnown (calls : List Call) (n source count : ℕ) : Type 0 where
+  pub number : ℕ
+  pub load : Load
+  pub there : slice_get (loads_of (take n calls)) number ≡ Some load
+  pub same : load.source ≡ source
+  pub enough : count ≤ load.count
+
+-- one of the first k calls is a cell in a slot before `end`, in which a word of the source goes out: its word number `count`, or a later one
+pub record SendsKnown (calls : List Call) (k source count end : ℕ) : Type 0 where
+  pub number : ℕ
+  pub before : number < k
+  pub cell : Carried
+  pub asked : slice_get calls number ≡ Some (Asks (Some cell))
+  pub high : cell.slot < end
+  pub load : Load
+  pub loaded : cell.load ≡ Some load
+  pub same : load.source ≡ source
+  pub enough : count ≤ load.count
+  pub word : ℕ
+  pub sent : cell.word ≡ Some word
+
+-- Where an output had stayed for a period before call i, a word that the transmitter knew of by then has gone out, or a later one of its source,
+-- before one period of slots has passed from there on.
+abbrev pub GoOutInTime : Opening → ℕ → GroupTable → List Call → Type 0
+GoOutInTime o g p calls =
+    (h i k source : ℕ) (at : SlotPlace) (q count : ℕ) → h ≤ i → i ≤ k → k ≤ length calls → StaysInCalls o g p calls h k source at q
+    → IsKnown calls i source count → 1 ≤ count → next_after o g p calls h at.bus + period_of at ≤ next_after o g p calls i at.bus
+    → next_after o g p calls i at.bus + period_of at ≤ next_after o g p calls k at.bus
+    → SendsKnown calls k source count (next_after o g p calls i at.bus + period_of at)
+
+-- So it is in the calls of a working transmitter, where each plan is that of its own table.
+abbrev pub KnownWordsGoOutInTime : Type 0
+KnownWordsGoOutInTime =
+    (C : ℕ) (o : Opening) (g : ℕ) (p : GroupTable) (later : List Proposed) (calls : List Call) (heard : ℕ → List (ℕ × ℕ))
+    → IsWorking C o g p later calls heard → AreApart o.proposal.station.sources → IsOwnPlan o.proposal → AllByRecursion IsOwnPlan later
+    → GoOutInTime o g p calls
