@@ -1,93 +1,142 @@
 //! The program `a429`: an ARINC 429 data concentrator.
 #![tactic(auto)]
 
-ghost use Rattle.std.specs.Prelude.{◌≡◌, ◌≢◌, ◌≤◌, IsTrue};
+ghost use Rattle.std.specs.Prelude.{◌≡◌, map, string_bytes, IfOk};
+ghost use Rattle.a429_console.specs.Ends.{IsMemoryRefused, writing};
+ghost use Rattle.a429_console.specs.Files.{texts_of};
+ghost use Rattle.a429_console.specs.Readings.{HasReadFrom};
+ghost use Rattle.a429.specs.ProgramRuns.{HasRun, IsCommandDone, IsDoneOrRefused, IsLiveDone, is_live};
 
-use a429_cli::{CountedWriter, DiskFiles, Output, command, given_words};
+use a429_cli::{CountedWriter, DiskFiles, FileReader, Output, command};
+use a429_console::arguments::given::{Arguments, WordsFault, given_words};
+use a429_console::arguments::replies::warn;
+use a429_console::output::endings::{refuse_memory, tell_fault};
 use a429_hints::HintLines;
 use a429_live::{NoProgress, Progress, ProgressLine, command_live};
 use std::alloc::{AllocError, Global};
-use std::env::Env;
-use std::io;
-use std::io::{ErrorKind, IsTerminal, Write};
+use std::io::IsTerminal;
 use std::process::ExitCode;
-use std::rt::Files;
 use std::sync::Wait;
 use std::thread::Threads;
 
-fn texts(alloc: Global, words: &[String]) -> Result<Vec<&str>, AllocError> {
-    words.iter().map(|word| word.as_str()).collect(alloc)
+/// What is told of words that are not all UTF-8.
+const NOT_TEXT: &[u8] = b"error: the words of the command line are not all UTF-8\n";
+
+fn texts(alloc: Global, words: &[String]) -> Result<Vec<&str>, AllocError>
+    ensures { IfOk result (λ texts. texts_of texts.items ≡ map string_bytes words.entry.now) }
+{
+    let mut texts = Vec::new(alloc);
+    for word in words {
+        texts.push(word.as_str())?;
+    }
+    Ok(texts)
 }
 
-/// Tells why the words cannot be read, and gives the status: 1 where memory was refused, and 2 where a word
-/// is no UTF-8, which is a usage fault.
-fn without_words<O: Output, V: Write>(out: &mut O, err: &mut V, error: &io::Error) -> u8
-    ensures status { result ≤ 2 }
-    ensures undone { result ≢ 0 }
-    ensures silent { result ≡ 2 → O.contents out.new ≡ O.contents out.old }
+/// Whether the first word is `live`.
+fn is_live(words: &[&str]) -> bool
+    ensures { result ≡ is_live (texts_of words.now) }
 {
-    match error.kind() {
-        ErrorKind::OutOfMemory => {
-            let _ = out.put(b"refused memory\n");
-            let _ = out.flush();
+    match words.first() {
+        Some(first) => *first == "live",
+        None => false,
+    }
+}
+
+/// Puts the line that says that memory was refused. The status is 1.
+fn without_memory<O: Output, V: Output>(out: &mut O, err: &mut V) -> u8
+    ensures { IsMemoryRefused (writing O.contents O.failures O.is_flushed out.old out.new)
+        (writing V.contents V.failures V.is_flushed err.old err.new) result }
+{
+    match refuse_memory(out) {
+        Ok(status) => status,
+        Err(fault) => {
+            tell_fault(fault, err);
             1
-        }
-        _ => {
-            let _ = err.write_all(b"error: the words of the command line are not all UTF-8\n");
-            2
         }
     }
 }
 
-/// Does the command of the words that the program was given. The status is the one that `command` answers, or
-/// `command_live` where the first word is `live`, or where the words cannot be read that of a refusal or of a usage
-/// fault. While a station runs, `progress` is told how far it is.
-fn run<R: Env + Files + AllocGlobal + Threads + Wait, O: Output, V: Write, P: Progress + Sync>(
-    rt: &R,
+/// Does the command `live`.
+fn answer_live<
+    'a,
+    R: AllocGlobal + Threads + Wait,
+    F: FileReader,
+    O: Output,
+    V: Output,
+    P: Progress + Sync,
+>(rt: &R, words: &'a [&'a str], files: &mut F, out: &mut O, err: &mut V, progress: &P) -> u8
+    ensures { IsLiveDone (texts_of words.entry.now) (record { tells = F.tells files.old; file = F.file files.old })
+        (writing O.contents O.failures O.is_flushed out.old out.new) (writing V.contents V.failures V.is_flushed err.old err.new) result }
+{
+    command_live(rt, rt.alloc(), words, &HintLines, files, out, err, progress)
+}
+
+/// Does one of the other commands.
+fn answer<'a, F: FileReader, O: Output, V: Output>(
+    alloc: Global,
+    words: &'a [&'a str],
+    files: &mut F,
     out: &mut O,
     err: &mut V,
-    progress: &P,
 ) -> u8
-    ensures status { result ≤ 2 }
-    ensures quiet { result ≡ 0 → V.contents err.new ≡ V.contents err.old }
-    ensures silent { result ≡ 2 → O.contents out.new ≡ O.contents out.old }
-    ensures flushed { result ≡ 0 → IsTrue (O.is_flushed out.new) }
+    ensures { IsCommandDone (texts_of words.entry.now) (record { tells = F.tells files.old; file = F.file files.old }) (λ Says. HasReadFrom F.answers Says files.old)
+        (writing O.contents O.failures O.is_flushed out.old out.new) (writing V.contents V.failures V.is_flushed err.old err.new) result }
 {
-    let words = match given_words(rt) {
-        Ok(words) => words,
-        Err(error) => return without_words(out, err, &error),
+    command(alloc, words, &HintLines, files, out, err)
+}
+
+/// Does what the words ask for. The status is the one that `command` answers, or `command_live` where the first word is
+/// `live`.
+fn run_words<
+    R: AllocGlobal + Threads + Wait,
+    F: FileReader,
+    O: Output,
+    V: Output,
+    P: Progress + Sync,
+>(rt: &R, words: &[String], files: &mut F, out: &mut O, err: &mut V, progress: &P) -> u8
+    ensures { IsDoneOrRefused (map string_bytes words.entry.now) (record { tells = F.tells files.old; file = F.file files.old }) (λ Says. HasReadFrom F.answers Says files.old)
+        (writing O.contents O.failures O.is_flushed out.old out.new) (writing V.contents V.failures V.is_flushed err.old err.new) result }
+{
+    let Ok(words) = texts(rt.alloc(), words) else {
+        return without_memory(out, err);
     };
-    let words = match texts(rt.alloc(), &words) {
-        Ok(words) => words,
-        Err(error) => return without_words(out, err, &io::Error::from(error)),
-    };
-    let mut files = DiskFiles::new(rt);
-    match words.first() {
-        Some(first) if *first == "live" => {
-            command_live(
-                rt,
-                rt.alloc(),
-                &words,
-                &HintLines,
-                &mut files,
-                out,
-                err,
-                progress,
-            )
-        }
-        _ => command(rt.alloc(), &words, &HintLines, &mut files, out, err),
+    if is_live(&words) {
+        answer_live(rt, &words, files, out, err, progress)
+    } else {
+        answer(rt.alloc(), &words, files, out, err)
+    }
+}
+
+/// Does the command of the words that the program was given. Words that are not all UTF-8 are a mistake. While a station
+/// runs, `progress` is told how far it is.
+fn run<
+    R: Arguments + AllocGlobal + Threads + Wait,
+    F: FileReader,
+    O: Output,
+    V: Output,
+    P: Progress + Sync,
+>(rt: &R, files: &mut F, out: &mut O, err: &mut V, progress: &P) -> u8
+    ensures { HasRun (R.gives rt.now) (R.ends rt.now) (record { tells = F.tells files.old; file = F.file files.old }) (λ Says. HasReadFrom F.answers Says files.old)
+        (writing O.contents O.failures O.is_flushed out.old out.new) (writing V.contents V.failures V.is_flushed err.old err.new) result }
+{
+    match given_words(rt) {
+        Ok(words) => run_words(rt, &words, files, out, err, progress),
+        Err(WordsFault::NotText) => warn(NOT_TEXT, err),
+        Err(WordsFault::NoMemory) => without_memory(out, err),
     }
 }
 
 fn main(rt: HostRuntime) -> ExitCode {
+    let mut files = DiskFiles::new(&rt);
     let mut out = CountedWriter::new(rt.stdout());
-    let mut err = rt.stderr();
     // on a terminal a run shows how far it is
-    let status = if err.is_terminal() {
+    let is_terminal = rt.stderr().is_terminal();
+    let mut err = CountedWriter::new(rt.stderr());
+    let status = if is_terminal {
         let line = ProgressLine::new(rt.alloc(), rt.stderr());
-        run(&rt, &mut out, &mut err, &line)
+        run(&rt, &mut files, &mut out, &mut err, &line)
     } else {
-        run(&rt, &mut out, &mut err, &NoProgress)
+        run(&rt, &mut files, &mut out, &mut err, &NoProgress)
     };
     ExitCode::from(status)
 }

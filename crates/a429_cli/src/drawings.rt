@@ -1,5 +1,6 @@
 //! The command that draws the plan of a table.
 ghost use Rattle.std.specs.Prelude.{◌≡◌, ◌≤◌, ◌<◌, IfOk, IfSome, IsTrue, MatchResult, OnOk, Some, length, option_map};
+ghost use Rattle.a429_console.specs.Readings.{HasRead};
 ghost use Rattle.a429_console.specs.Outputs.{CountsFault, IsPut};
 ghost use Rattle.a429_inputs.specs.RefusalText.{OrMemory};
 ghost use Rattle.a429_cli.specs.Drawings.{IsDrawReply, IsDrawing, IsImage, IsNoGroup, group_asked, group_numbered};
@@ -66,7 +67,7 @@ fn drawn<F: FileReader>(
     group: Option<&str>,
     slots: Option<u32>,
 ) -> Result<Vec<u8>, CommandRefusal>
-    ensures { IsTrue (F.tells files.old) → IsDrawing (F.file files.old) name.now (option_map (λ name. name.now) group.entry) slots result }
+    ensures { HasRead F.answers (λ file. IsDrawing file name.now (option_map (λ name. name.now) group.entry) slots result) files.old files.new }
 {
     let table = read_file(alloc, files, name)?;
     let proposal = propose(alloc, &table)?;
@@ -84,8 +85,8 @@ pub fn print_drawing<F: FileReader, O: Output>(
     slots: Option<u32>,
     out: &mut O,
 ) -> Result<u8, OutputFault>
-    ensures drawn { IsTrue (F.tells files.old) → IfOk result
-        (IsPut (IsDrawReply (F.file files.old) name.now (option_map (λ name. name.now) group.entry) slots) (O.contents out.old) (O.contents out.new)) }
+    ensures drawn { HasRead F.answers (λ file. IfOk result
+        (IsPut (IsDrawReply file name.now (option_map (λ name. name.now) group.entry) slots) (O.contents out.old) (O.contents out.new))) files.old files.new }
     ensures status { IfOk result (λ status. status ≤ 1) }
     ensures flushed { OnOk result (IsTrue (O.is_flushed out.new)) }
     ensures faults { CountsFault result (O.failures out.old) (O.failures out.new) }

@@ -6,6 +6,7 @@ ghost use Rattle.a429_table.specs.Stated.{filter_of};
 ghost use Rattle.a429_table.specs.FilterTexts.{filter_read};
 ghost use Rattle.a429_console.specs.Files.{texts_of};
 ghost use Rattle.a429_cli.specs.LineReplies.{AreFiltersOf, IsFilterRefusal, IsLinePrinted, IsLineReading, IsLineTold, IsLinesReply};
+ghost use Rattle.a429_console.specs.Readings.{HasRead};
 ghost use Rattle.a429_console.specs.Outputs.{CountsFault, IsPut};
 
 pub mod line_bytes;
@@ -62,7 +63,7 @@ fn read_line<F: FileReader>(
     name: &str,
     filters: &[&str],
 ) -> Result<Line, CommandRefusal>
-    ensures { IsTrue (F.tells files.old) → IsLineReading (F.file files.old) name.now (texts_of filters.now) result }
+    ensures { HasRead F.answers (λ file. IsLineReading file name.now (texts_of filters.now) result) files.old files.new }
 {
     let bytes = read_file(alloc, files, name)?;
     let filters = read_filters(filters)?;
@@ -118,8 +119,8 @@ pub fn tell_lines<F: FileReader, O: Output>(
     filters: &[&str],
     out: &mut O,
 ) -> Result<u8, OutputFault>
-    ensures told { IsTrue (F.tells files.old) → IfOk result
-        (IsPut (IsLinesReply (F.file files.old) name.now (texts_of filters.now)) (O.contents out.old) (O.contents out.new)) }
+    ensures told { HasRead F.answers (λ file. IfOk result
+        (IsPut (IsLinesReply file name.now (texts_of filters.now)) (O.contents out.old) (O.contents out.new))) files.old files.new }
     ensures status { IfOk result (λ status. status ≤ 1) }
     ensures flushed { OnOk result (IsTrue (O.is_flushed out.new)) }
     ensures faults { CountsFault result (O.failures out.old) (O.failures out.new) }

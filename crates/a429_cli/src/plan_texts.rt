@@ -1,7 +1,8 @@
 //! The commands that tell of the plan of a table, and `check`.
-ghost use Rattle.std.specs.Prelude.{◌≡◌, ◌≤◌, ◌++◌, ◌∷◌, [], IfOk, IsTrue, MatchResult, OnOk};
+ghost use Rattle.std.specs.Prelude.{◌≡◌, ◌≤◌, ◌++◌, ◌∷◌, [], IfOk, IsTrue, MatchResult, OnOk, if◌then◌else◌};
 ghost use Rattle.std.specs.Io.KnownBytes.{Appends};
 ghost use Rattle.a429_cert.specs.Printed.{verdict_text};
+ghost use Rattle.a429_console.specs.Readings.{HasRead};
 ghost use Rattle.a429_console.specs.Outputs.{CountsFault, IsPut, OrNoMemory};
 ghost use Rattle.a429_cli.specs.PlanReplies.{IsCheckReply, IsJudged, IsJudging, IsPlanReply, IsPlanning, IsTextOf, IsUnjudged, IsVerdictReply, verdict_status};
 ghost use Rattle.a429_inputs.specs.RefusalText.{OrMemory};
@@ -32,6 +33,17 @@ pub enum PlanText {
     Margin,
 }
 
+/// What is told of a plan by `icd`.
+pub fn document_kind(csv: bool) -> PlanText
+    ensures { result ≡ (if csv then PlanText.Sheet else PlanText.Document) }
+{
+    if csv {
+        PlanText::Sheet
+    } else {
+        PlanText::Document
+    }
+}
+
 /// The text that tells this of a proposal's plan. The error is that memory was refused.
 fn text_of(
     alloc: Global,
@@ -55,7 +67,7 @@ fn planned<F: FileReader>(
     name: &str,
     kind: PlanText,
 ) -> Result<Vec<u8>, CommandRefusal>
-    ensures { IsTrue (F.tells files.old) → IsPlanning (F.file files.old) kind name.now result }
+    ensures { HasRead F.answers (λ file. IsPlanning file kind name.now result) files.old files.new }
 {
     let table = read_file(alloc, files, name)?;
     let proposal = propose(alloc, &table)?;
@@ -71,8 +83,8 @@ pub fn print_plan<F: FileReader, O: Output>(
     kind: PlanText,
     out: &mut O,
 ) -> Result<u8, OutputFault>
-    ensures planned { IsTrue (F.tells files.old) → IfOk result
-        (IsPut (IsPlanReply (F.file files.old) kind name.now) (O.contents out.old) (O.contents out.new)) }
+    ensures planned { HasRead F.answers (λ file. IfOk result
+        (IsPut (IsPlanReply file kind name.now) (O.contents out.old) (O.contents out.new))) files.old files.new }
     ensures status { IfOk result (λ status. status ≤ 1) }
     ensures flushed { OnOk result (IsTrue (O.is_flushed out.new)) }
     ensures faults { CountsFault result (O.failures out.old) (O.failures out.new) }
@@ -104,7 +116,7 @@ fn judged_files<F: FileReader>(
     table: &str,
     plan: &str,
 ) -> Result<Verdict, CommandRefusal>
-    ensures { IsTrue (F.tells files.old) → IsJudging (F.file files.old) table.now plan.now result }
+    ensures { HasRead F.answers (λ file. IsJudging file table.now plan.now result) files.old files.new }
 {
     let table = read_file(alloc, files, table)?;
     let text = read_file(alloc, files, plan)?;
@@ -153,8 +165,8 @@ pub fn print_verdict<F: FileReader, O: Output>(
     plan: &str,
     out: &mut O,
 ) -> Result<u8, OutputFault>
-    ensures judged { IsTrue (F.tells files.old) → IfOk result
-        (IsPut (IsCheckReply (F.file files.old) table.now plan.now) (O.contents out.old) (O.contents out.new)) }
+    ensures judged { HasRead F.answers (λ file. IfOk result
+        (IsPut (IsCheckReply file table.now plan.now) (O.contents out.old) (O.contents out.new))) files.old files.new }
     ensures status { IfOk result (λ status. status ≤ 1) }
     ensures flushed { OnOk result (IsTrue (O.is_flushed out.new)) }
     ensures faults { CountsFault result (O.failures out.old) (O.failures out.new) }

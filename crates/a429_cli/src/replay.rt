@@ -1,6 +1,7 @@
 //! The command `replay`.
 ghost use Rattle.std.specs.Prelude.{◌≤◌, IfOk, IsTrue, MatchResult, OnOk};
 ghost use Rattle.a429_console.specs.Files.{texts_of};
+ghost use Rattle.a429_console.specs.Readings.{HasRead};
 ghost use Rattle.a429_console.specs.Outputs.{CountsFault, IsPut};
 ghost use Rattle.a429_inputs.specs.RefusalText.{OrMemory};
 ghost use Rattle.a429_cli.specs.Replaying.{IsNoStart, IsReplay};
@@ -38,7 +39,7 @@ fn read_further<F: FileReader>(
     files: &mut F,
     names: &[&str],
 ) -> Result<Vec<FurtherTable>, CommandRefusal>
-    ensures { IsTrue (F.tells files.old) → AreTablesRead (F.file files.old) (texts_of names.now) result }
+    ensures { HasRead F.answers (λ file. AreTablesRead file (texts_of names.now) result) files.old files.new }
 {
     let tables = read_files(alloc, files, names)?;
     Ok(plan_tables(alloc, tables)?)
@@ -52,7 +53,7 @@ fn read_input<F: FileReader>(
     script: &str,
     further: &[&str],
 ) -> Result<Input, CommandRefusal>
-    ensures { IsTrue (F.tells files.old) → IsInputReading (F.file files.old) table.now script.now (texts_of further.now) result }
+    ensures { HasRead F.answers (λ file. IsInputReading file table.now script.now (texts_of further.now) result) files.old files.new }
 {
     let table = read_file(alloc, files, table)?;
     let script = read_file(alloc, files, script)?;
@@ -103,8 +104,8 @@ pub fn replay<F: FileReader, O: Output>(
     further: &[&str],
     out: &mut O,
 ) -> Result<u8, OutputFault>
-    ensures replayed { IsTrue (F.tells files.old) → IfOk result
-        (IsPut (IsReplay (F.file files.old) table.now script.now (texts_of further.now)) (O.contents out.old) (O.contents out.new)) }
+    ensures replayed { HasRead F.answers (λ file. IfOk result
+        (IsPut (IsReplay file table.now script.now (texts_of further.now)) (O.contents out.old) (O.contents out.new))) files.old files.new }
     ensures status { IfOk result (λ status. status ≤ 1) }
     ensures flushed { OnOk result (IsTrue (O.is_flushed out.new)) }
     ensures faults { CountsFault result (O.failures out.old) (O.failures out.new) }

@@ -18,11 +18,16 @@ struct Refusing {
 }
 
 impl FileReader for Refusing {
-    ghost use Rattle.std.specs.Prelude.{false, None};
+    ghost use Rattle.std.specs.Prelude.{false, None, ⊤};
+    ghost use Rattle.a429_console.specs.Readings.{not_told};
 
     ghost tells = { λ _. false };
 
     ghost file = { λ _ _. None };
+
+    ghost answers = { λ _ _ _ _. ⊤ };
+
+    ghost known = { λ _ _ _ _ told _. not_told told };
 
     fn read(&mut self, _name: &str) -> Result<Vec<u8>, FileFault> {
         self.reads = self.reads.saturating_add(1);
@@ -49,7 +54,7 @@ fn a_reader_may_refuse_any_file(rt: HostRuntime) {
                 reads: 0,
             };
             let mut out = CountedWriter::new(Vec::new(rt.alloc()));
-            let mut err = Vec::new(rt.alloc());
+            let mut err = CountedWriter::new(Vec::new(rt.alloc()));
             let words = ["replay", "t", "s", "u", "v"];
             let status = command(
                 rt.alloc(),
@@ -59,7 +64,7 @@ fn a_reader_may_refuse_any_file(rt: HostRuntime) {
                 &mut out,
                 &mut err,
             );
-            assert!(rt; status == 1 && err.is_empty(), "after {given} files");
+            assert!(rt; status == 1 && err.writer.is_empty(), "after {given} files");
             assert!(rt;
                 out.writer.as_slice() == line.as_bytes(),
                 "after {given} files"
@@ -71,12 +76,13 @@ fn a_reader_may_refuse_any_file(rt: HostRuntime) {
 
 #[test]
 fn each_file_is_read_once(rt: HostRuntime) {
-    let commands: [(&[&str], usize); 7] = [
+    let commands: [(&[&str], usize); 8] = [
         (&["word", "600000c1"], 0),
         (&["lines", "t"], 1),
         (&["plan", "t"], 1),
         (&["check", "t", "u"], 2),
         (&["icd", "t"], 1),
+        (&["draw", "t"], 1),
         (&["margin", "t"], 1),
         (&["replay", "t", "s", "u", "u"], 4),
     ];
@@ -88,7 +94,7 @@ fn each_file_is_read_once(rt: HostRuntime) {
             reads: 0,
         };
         let mut out = CountedWriter::new(Vec::new(rt.alloc()));
-        let mut err = Vec::new(rt.alloc());
+        let mut err = CountedWriter::new(Vec::new(rt.alloc()));
         let status = command(
             rt.alloc(),
             words,
@@ -102,12 +108,14 @@ fn each_file_is_read_once(rt: HostRuntime) {
     }
 }
 
-/// Takes so many bytes in one call, and fails at the call, a flush too, that comes after so many.
+/// Takes so many bytes in one call, and fails with an error of this kind at the call, a flush too, that comes after so
+/// many.
 #[derive(Drop)]
 struct Failing {
     taken: Vec<u8>,
     piece: usize,
     good_calls: usize,
+    kind: ErrorKind,
     calls: usize,
 }
 
@@ -117,6 +125,7 @@ impl Failing {
             taken: Vec::new(alloc),
             piece,
             good_calls,
+            kind: ErrorKind::WriteZero,
             calls: 0,
         }
     }
@@ -124,7 +133,7 @@ impl Failing {
     fn call(&mut self) -> io::Result<()> {
         self.calls = self.calls.saturating_add(1);
         if self.calls > self.good_calls {
-            return Err(io::Error::from(ErrorKind::WriteZero));
+            return Err(io::Error::from(self.kind));
         }
         Ok(())
     }
@@ -143,13 +152,36 @@ impl Write for Failing {
     }
 }
 
-/// The status of a command, how many calls of the output failed, and the two writers.
+/// The status of a command, how many calls of the output and of the other failed, and the two writers.
 #[derive(Drop)]
 struct CutShort {
     status: u8,
     failures: u64,
+    untold: u64,
     out: Failing,
     err: Failing,
+}
+
+/// Does a command with these two writers.
+fn cut_short_by(
+    rt: &impl Abort,
+    alloc: Global,
+    words: &[&str],
+    script: &str,
+    out: Failing,
+    err: Failing,
+) -> CutShort {
+    let mut files = memory_files(rt, alloc, ONE, script);
+    let mut out = CountedWriter::new(out);
+    let mut err = CountedWriter::new(err);
+    let status = command(alloc, words, &HintLines, &mut files, &mut out, &mut err);
+    CutShort {
+        status,
+        failures: out.failures,
+        untold: err.failures,
+        out: out.writer,
+        err: err.writer,
+    }
 }
 
 /// Does a command whose two writers each fail after so many calls.
@@ -161,21 +193,9 @@ fn cut_short(
     piece: usize,
     good_calls: usize,
 ) -> CutShort {
-    let mut files = memory_files(rt, alloc, ONE, script);
-    let mut out = CountedWriter::new(Failing::new(alloc, piece, good_calls));
-    let mut err = Failing::new(alloc, piece, good_calls);
-    let status = command(alloc, words, &HintLines, &mut files, &mut out, &mut err);
-    let CountedWriter {
-        writer: out,
-        failures,
-        ..
-    } = out;
-    CutShort {
-        status,
-        failures,
-        out,
-        err,
-    }
+    let out = Failing::new(alloc, piece, good_calls);
+    let err = Failing::new(alloc, piece, good_calls);
+    cut_short_by(rt, alloc, words, script, out, err)
 }
 
 /// What is told on standard error of an output that failed.
@@ -242,13 +262,47 @@ fn help_ends_where_the_output_fails(rt: HostRuntime) {
 }
 
 #[test]
-fn a_mistake_is_one_where_nobody_can_be_told(rt: HostRuntime) {
+fn a_mistake_that_cannot_be_told_has_status_1(rt: HostRuntime) {
     let whole = cut_short(&rt, rt.alloc(), &["odd"], "", 64, usize::MAX);
     assert!(rt; whole.status == 2 && whole.out.calls == 0);
     for good_calls in 0..whole.err.calls {
         let cut = cut_short(&rt, rt.alloc(), &["odd"], "", 64, good_calls);
-        assert!(rt; cut.status == 2 && cut.out.calls == 0, "{good_calls}");
-        assert!(rt; cut.err.calls == good_calls + 1, "{good_calls}");
+        assert!(rt; cut.status == 1 && cut.out.calls == 0, "{good_calls}");
+        assert!(rt;
+            cut.err.calls == good_calls + 1 && cut.untold == 1,
+            "{good_calls}"
+        );
+    }
+}
+
+#[test]
+fn a_refusal_stays_where_its_hint_cannot_be_told(rt: HostRuntime) {
+    let out = Failing::new(rt.alloc(), 64, usize::MAX);
+    let err = Failing::new(rt.alloc(), 64, 0);
+    let cut = cut_short_by(&rt, rt.alloc(), &["plan", "u"], "", out, err);
+    assert!(rt; cut.status == 1 && cut.failures == 0);
+    assert!(rt; cut.out.taken.as_slice() == "refused file u\n".as_bytes());
+    assert!(rt; cut.err.calls == 1 && cut.untold == 1);
+}
+
+#[test]
+fn nobody_is_told_of_an_output_that_its_reader_closed(rt: HostRuntime) {
+    for (words, script, piece, _) in WRITTEN {
+        let whole = cut_short(&rt, rt.alloc(), words, script, *piece, usize::MAX);
+        for good_calls in 0..whole.out.calls {
+            let mut out = Failing::new(rt.alloc(), *piece, good_calls);
+            out.kind = ErrorKind::BrokenPipe;
+            let err = Failing::new(rt.alloc(), 64, usize::MAX);
+            let cut = cut_short_by(&rt, rt.alloc(), words, script, out, err);
+            assert!(rt;
+                cut.status == 1 && cut.failures == 1,
+                "for {words:?}, {good_calls}"
+            );
+            assert!(rt;
+                cut.out.calls == good_calls + 1 && cut.err.calls == 0,
+                "for {words:?}, {good_calls}"
+            );
+        }
     }
 }
 
@@ -257,6 +311,9 @@ fn an_output_that_failed_is_told(rt: HostRuntime) {
     let cut = cut_short(&rt, rt.alloc(), &["word", "600000c1"], "", usize::MAX, 1);
     assert!(rt; cut.status == 1 && cut.failures == 1);
     assert!(rt; cut.err.taken.as_slice() == OUTPUT_FAILED);
+    // a flush that fails is an output that failed
+    let cut = cut_short(&rt, rt.alloc(), &["--version"], "", usize::MAX, 1);
+    assert!(rt; cut.status == 1 && cut.failures == 1 && cut.out.calls == 2);
 }
 
 #[test]

@@ -41,7 +41,7 @@ fn a_run_tells_cells_and_accepted_words_by_4096(rt: HostRuntime) {
     let text = repeated(&rt, rt.alloc(), "r 600000c1\nr e00000c1\n", 9000);
     let mut files = memory_files(&rt, rt.alloc(), ONE, &text);
     let mut out = CountedWriter::new(Vec::new(rt.alloc()));
-    let mut err = Vec::new(rt.alloc());
+    let mut err = CountedWriter::new(Vec::new(rt.alloc()));
     let sums = Sums {
         all: AtomicU64::new(0),
         cells: AtomicU64::new(0),

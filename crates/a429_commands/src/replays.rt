@@ -27,7 +27,7 @@ pub fn replay_in_memory(
     plain_words_ask();
     let words = ["replay", table, script];
     let mut out = CountedWriter::new(Vec::new(alloc));
-    let mut err = Vec::new(alloc);
+    let mut err = CountedWriter::new(Vec::new(alloc));
     let status = command(alloc, &words, &HintLines, files, &mut out, &mut err);
     if out.failures > 0 {
         return None;

@@ -17,3 +17,5 @@ pub mod HexText
 pub mod CutLines
 pub mod Endings
 pub mod KindReplies
+pub mod PushedWords
+pub mod ReadingParts

@@ -8,3 +8,6 @@ pub mod Requests
 pub mod LiveWords
 pub mod RequestRows
 pub mod CutText
+pub mod GivenWords
+pub mod Ends
+pub mod Readings

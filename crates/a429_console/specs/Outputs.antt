@@ -1,14 +1,45 @@
 -- What is put out by a command, and how it ends (profile: output).
 use Rattle.std.specs.Prelude.{◌≡◌, ◌<◌, ◌+◌, ◌-◌, ◌^◌, ◌++◌, ◌∷◌, [], ◌⊎◌, ℕ, List, Bool, true, false, Option, Result, MatchResult, codes, min}
+use Rattle.a429_console.specs.declared.output.OutputFault.{OutputFault}
+use Rattle.a429_console.specs.declared.output.OutputFault.TheVariants as fault
 use Rattle.std.specs.Io.KnownBytes.{Appends, append_known}
 
--- a call that fails is counted, and no other; at the last value of 64 bits the count stays
-abbrev pub CountsFault : {X E : Type 0} → Result X E → ℕ → ℕ → Type 0
-CountsFault result old new = MatchResult result (λ _. new ≡ old) (λ _. new ≡ min (old + 1) (2 ^ 64 - 1))
+-- what is known of the calls of an output that failed: how many, as far as 64 bits count, and whether the last found that the reader has closed it
+pub record FailedCalls : Type 0 where
+  pub count : ℕ
+  pub is_closed : Bool
+
+abbrev pub calls_of : ℕ → Bool → FailedCalls
+calls_of count is_closed = record { count = count; is_closed = is_closed }
+
+-- whether a fault is that the reader has closed the output
+abbrev pub is_closing : OutputFault → Bool
+is_closing fault.Closed = true
+is_closing fault.Failed = false
+
+-- a call failed so, and is counted; at the last value of 64 bits the count stays
+abbrev pub IsCounted : OutputFault → FailedCalls → FailedCalls → Type 0
+IsCounted fault old new = (new.count ≡ min (old.count + 1) (2 ^ 64 - 1)) × (new.is_closed ≡ is_closing fault)
+
+-- a call that fails is counted, and no other
+abbrev pub CountsFault : {X : Type 0} → Result X OutputFault → FailedCalls → FailedCalls → Type 0
+CountsFault result old new = MatchResult result (λ _. new ≡ old) (λ fault. IsCounted fault old new)
 
 -- no call failed, where the count could still tell it
-abbrev pub NoneFailed : ℕ → ℕ → Type 0
-NoneFailed old new = (old < 2 ^ 64 - 1) × (new ≡ old)
+abbrev pub NoneFailed : FailedCalls → FailedCalls → Type 0
+NoneFailed old new = (old.count < 2 ^ 64 - 1) × (new.count ≡ old.count)
+
+-- a call failed
+abbrev pub HasFailed : FailedCalls → FailedCalls → Type 0
+HasFailed old new = (fault : OutputFault) × IsCounted fault old new
+
+-- a call failed, which found that the reader has closed the output, or another cause
+abbrev pub HasFailedBy : Bool → FailedCalls → FailedCalls → Type 0
+HasFailedBy closed old new = (old.count < new.count) × (new.is_closed ≡ closed)
+
+-- what the other output is told where an output failed
+abbrev pub failed_line : List ℕ
+failed_line = codes "a429: standard output failed" ++ 10 ∷ []
 
 -- bytes were put that Says tells of an x, from what an output had to what it has
 abbrev pub IsPut : {X : Type 0} → (X → List ℕ → Type 0) → Option (List ℕ) → Option (List ℕ) → X → Type 0

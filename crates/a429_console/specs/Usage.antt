@@ -1,5 +1,5 @@
 -- Words that ask for no command: calls for help or for the version, and mistakes (profile: status 0, 1 and 2).
-use Rattle.std.specs.Prelude.{◌≡◌, ◌≢◌, ◌∷◌, [], ℕ, Bool, true, false, not, List, Option, Some, None, codes}
+use Rattle.std.specs.Prelude.{◌≡◌, ◌≢◌, ◌∷◌, [], ◌⊎◌, ℕ, Bool, true, false, not, List, Option, Some, None, codes}
 use Rattle.std.specs.List.{list_all, list_any}
 use Rattle.std.specs.Str.{bytes_eq}
 use Rattle.clap.specs.Kinds.{or_else}
@@ -7,7 +7,7 @@ use Rattle.clap.specs.Words.{Kinds, Row, Text, fault_of, subcommand_of}
 use Rattle.clap.specs.declared.error.kind.ErrorKind.{ErrorKind}
 use Rattle.clap.specs.declared.error.kind.ErrorKind.TheVariants.{DisplayHelp, DisplayVersion, InvalidSubcommand, OutOfMemory}
 use Rattle.a429_console.specs.CommandLine.{command_line}
-use Rattle.a429_console.specs.Outputs.{IsMemoryReply, OrNoMemory}
+use Rattle.a429_console.specs.Outputs.{FailedCalls, HasFailed, IsMemoryReply, OrNoMemory}
 
 -- the command that was found is `live`
 abbrev pub is_live : Option (Text × List Row) → Bool
@@ -58,13 +58,13 @@ IsUsageFault words = AreMistakes (kinds_of_words words)
 abbrev pub IsHelpReply : ℕ → List ℕ → Type 0
 IsHelpReply status bytes = status ≡ 0
 
--- nothing was put
-abbrev pub IsUsageReply : ℕ → List ℕ → Type 0
-IsUsageReply status bytes = (status ≡ 2) × (bytes ≡ [])
+-- Nothing was put. The other output took what was written to it, with status 2; or a call of it failed, with status 1.
+abbrev pub IsUsageReply : FailedCalls → FailedCalls → ℕ → List ℕ → Type 0
+IsUsageReply old new status bytes = (bytes ≡ []) × (((status ≡ 2) × (new ≡ old)) ⊎ ((status ≡ 1) × HasFailed old new))
 
--- what is put in place of an answer, by what the words are
-abbrev pub IsReplyOfKind : ErrorKind → ℕ → List ℕ → Type 0
-IsReplyOfKind OutOfMemory = IsMemoryReply
-IsReplyOfKind DisplayHelp = OrNoMemory IsHelpReply
-IsReplyOfKind DisplayVersion = OrNoMemory IsHelpReply
-IsReplyOfKind _ = IsUsageReply
+-- what is put in place of an answer, by what the words are, and by the calls of the other output that failed before and after it
+abbrev pub IsReplyOfKind : FailedCalls → FailedCalls → ErrorKind → ℕ → List ℕ → Type 0
+IsReplyOfKind old new OutOfMemory = IsMemoryReply
+IsReplyOfKind old new DisplayHelp = OrNoMemory IsHelpReply
+IsReplyOfKind old new DisplayVersion = OrNoMemory IsHelpReply
+IsReplyOfKind old new _ = OrNoMemory (IsUsageReply old new)

@@ -1,5 +1,7 @@
 //! Files by name.
-ghost use Rattle.std.specs.Prelude.{◌≡◌, Bool, List, ℕ, Option, Some, None, IsTrue, IfOk, Err};
+ghost use Rattle.std.specs.Prelude.{◌≡◌, Bool, List, ℕ, Option, Some, None, Result, IsTrue, IfOk, Err};
+ghost use Rattle.a429_console.specs.Readings.{IsAnswerOf, answer_of};
+ghost use Rattle.a429_console.specs.declared.files.FileFault.{FileFault};
 
 pub mod disk;
 pub mod memory;
@@ -43,8 +45,12 @@ pub trait FileReader {
     /// The bytes that it has under a name.
     ghost file: { Self → List ℕ → Option (List ℕ) };
 
+    /// One call of `read`: what it was, the name, the answer, and what it is.
+    ghost answers: { Self → List ℕ → Result (List ℕ) FileFault → Self → Type 0 };
+
     /// All bytes of a file. Where it tells what it has, `Refused` stands just where there are none.
     fn read(&mut self, name: &str) -> Result<Vec<u8>, FileFault>
+        ensures answered { answers self.old name.now (answer_of result) self.new }
         ensures bytes { IsTrue (tells self.old) → IfOk result (λ bytes. file self.old name.now ≡ Some bytes.items) }
         ensures refused { IsTrue (tells self.old) → result ≡ Err FileFault.Refused → file self.old name.now ≡ None }
         ensures tells { tells self.new ≡ tells self.old }
@@ -54,4 +60,8 @@ pub trait FileReader {
     fn look(&mut self, _name: &str) -> Result<Vec<u8>, FileTrouble> {
         Err(FileTrouble::Unknown)
     }
+
+    /// Where it tells what it has, each answer is of that, and it has the same after it.
+    ghost known: { (old new : Self) (name : List ℕ) (answer : Result (List ℕ) FileFault) → IsTrue (tells old) → answers old name answer new
+        → IsAnswerOf (file old) name answer × ((other : List ℕ) → file new other ≡ file old other) × IsTrue (tells new) };
 }

@@ -7,7 +7,7 @@ use std::io;
 use std::io::Write;
 
 /// Tells a person, behind a refusal that was put, what can be done about it. No contract rests on what is told, and a
-/// hint that cannot be told changes nothing.
+/// hint that cannot be told changes nothing. It is told to a text in memory, which is then written to `err`.
 pub trait Hints {
     /// Tells of a request that was refused, where there is something to tell. The error is the writer's, or a want of
     /// memory.

@@ -1,26 +1,33 @@
 //! Where the lines of a command go.
-ghost use Rattle.std.specs.Prelude.{◌≡◌, ◌<◌, ◌+◌, ◌-◌, ◌^◌, min, List, ℕ, Bool, Option, OnOk, IsErr, IsTrue};
+ghost use Rattle.std.specs.Prelude.{◌≡◌, ◌<◌, List, ℕ, Bool, Option, Err, OnOk, IsErr, IsTrue};
 ghost use Rattle.std.specs.Io.KnownBytes.{Appends, Keeps};
-ghost use Rattle.a429_console.specs.Outputs.{CountsFault};
+ghost use Rattle.a429_console.specs.Outputs.{CountsFault, FailedCalls, IsCounted, calls_of};
 
 pub mod endings;
 pub mod from_end;
 
-use std::io::Write;
+use std::io;
+use std::io::{ErrorKind, Write};
 use thiserror::Error;
 
-/// An output failed. Which of the bytes of this call it took is not known.
+/// Why an output failed. Which of the bytes of this call it took is not known.
 #[derive(Clone, Copy, Debug, PartialEq, Eq, Error)]
-#[error("the output failed")]
-pub struct OutputFault;
+pub enum OutputFault {
+    /// Its reader has closed it.
+    #[error("the reader of the output closed it")]
+    Closed,
+    /// Another cause.
+    #[error("the output failed")]
+    Failed,
+}
 
 /// What takes the lines of a command. Where a call failed, it takes nothing more: each later call fails too.
 pub trait Output {
     /// The bytes that it took, where they are known.
     ghost contents: { Self → Option (List ℕ) };
 
-    /// How many of its calls failed, as far as 64 bits count.
-    ghost failures: { Self → ℕ };
+    /// What is known of its calls that failed.
+    ghost failures: { Self → FailedCalls };
 
     /// Whether it passed on all that it took.
     ghost is_flushed: { Self → Bool };
@@ -29,14 +36,35 @@ pub trait Output {
     fn put(&mut self, bytes: &[u8]) -> Result<(), OutputFault>
         ensures taken { OnOk result (Appends (contents self.old) (contents self.new) bytes.now) }
         ensures faults { CountsFault result (failures self.old) (failures self.new) }
-        ensures ended { 0 < failures self.old → IsErr result };
+        ensures ended { 0 < (failures self.old).count → IsErr result };
 
     /// Passes on what it took, or fails.
     fn flush(&mut self) -> Result<(), OutputFault>
         ensures taken { OnOk result (Keeps (contents self.old) (contents self.new)) }
         ensures flushed { OnOk result (IsTrue (is_flushed self.new)) }
         ensures faults { CountsFault result (failures self.old) (failures self.new) }
-        ensures ended { 0 < failures self.old → IsErr result };
+        ensures ended { 0 < (failures self.old).count → IsErr result };
+}
+
+/// A writer that passes on what it took where it is asked to.
+pub trait Flushing: Write {
+    /// Whether it answered that all that it took was passed on, and took nothing since.
+    ghost has_passed_on: { Self → Bool };
+
+    /// Passes on what it took. The error is the writer's.
+    fn pass_on(&mut self) -> io::Result<()>
+        ensures bytes { Keeps (Self.contents self.old) (Self.contents self.new) }
+        ensures passed_on { OnOk result (IsTrue (has_passed_on self.new)) };
+}
+
+impl<W: Write> Flushing for W {
+    ghost use Rattle.std.specs.Prelude.{true};
+
+    ghost has_passed_on = { λ _. true };
+
+    fn pass_on(&mut self) -> io::Result<()> {
+        self.flush()
+    }
 }
 
 /// A writer as an output. After a call that failed the writer is left alone.
@@ -45,11 +73,11 @@ pub struct CountedWriter<W> {
     pub writer: W,
     /// How many calls failed. At the last value of 64 bits it counts no more.
     pub failures: u64,
-    /// Whether the last call was a flush that succeeded.
-    pub is_flushed: bool,
+    /// Whether the first of them found that the reader has closed it.
+    pub is_closed: bool,
 }
 
-impl<W: Write> CountedWriter<W> {
+impl<W: Flushing> CountedWriter<W> {
     /// A writer of which no call failed.
     pub fn new(writer: W) -> Self
         ensures writer { result.writer ≡ writer }
@@ -58,49 +86,71 @@ impl<W: Write> CountedWriter<W> {
         CountedWriter {
             writer,
             failures: 0,
-            is_flushed: false,
+            is_closed: false,
         }
     }
 
     /// Counts a call that failed.
-    fn fail(&mut self) -> Result<(), OutputFault>
-        ensures fault { IsErr result }
-        ensures failures { self.new.failures ≡ min (self.old.failures + 1) (2 ^ 64 - 1) }
+    fn fail(&mut self, fault: OutputFault) -> Result<(), OutputFault>
+        ensures fault { result ≡ Err fault }
+        ensures counted { IsCounted fault (calls_of self.old.failures self.old.is_closed) (calls_of self.new.failures self.new.is_closed) }
+        ensures writer { self.new.writer ≡ self.old.writer }
     {
         self.failures = self.failures.saturating_add(1);
-        Err(OutputFault)
+        self.is_closed = matches!(fault, OutputFault::Closed);
+        Err(fault)
+    }
+
+    /// Fails as the first call that failed did.
+    fn fail_again(&mut self) -> Result<(), OutputFault>
+        ensures fault { IsErr result }
+        ensures faults { CountsFault result (calls_of self.old.failures self.old.is_closed) (calls_of self.new.failures self.new.is_closed) }
+    {
+        if self.is_closed {
+            self.fail(OutputFault::Closed)
+        } else {
+            self.fail(OutputFault::Failed)
+        }
+    }
+
+    /// Counts what a call of the writer answered, where it failed.
+    fn answer(&mut self, answer: io::Result<()>) -> Result<(), OutputFault>
+        ensures writer { self.new.writer ≡ self.old.writer }
+        ensures failed { IsErr answer → IsErr result }
+        ensures faults { CountsFault result (calls_of self.old.failures self.old.is_closed) (calls_of self.new.failures self.new.is_closed) }
+    {
+        match answer {
+            Ok(()) => Ok(()),
+            Err(error) => match error.kind() {
+                ErrorKind::BrokenPipe => self.fail(OutputFault::Closed),
+                _ => self.fail(OutputFault::Failed),
+            },
+        }
     }
 }
 
-impl<W: Write> Output for CountedWriter<W> {
+impl<W: Flushing> Output for CountedWriter<W> {
+    ghost use Rattle.a429_console.specs.Outputs.{calls_of};
+
     ghost contents = { λ counted. W.contents counted.writer };
 
-    ghost failures = { λ counted. counted.failures };
+    ghost failures = { λ counted. calls_of counted.failures counted.is_closed };
 
-    ghost is_flushed = { λ counted. counted.is_flushed };
+    ghost is_flushed = { λ counted. W.has_passed_on counted.writer };
 
     fn put(&mut self, bytes: &[u8]) -> Result<(), OutputFault> {
-        self.is_flushed = false;
         if self.failures > 0 {
-            return self.fail();
+            return self.fail_again();
         }
-        match self.writer.write_all(bytes) {
-            Ok(()) => Ok(()),
-            Err(_) => self.fail(),
-        }
+        let answer = self.writer.write_all(bytes);
+        self.answer(answer)
     }
 
     fn flush(&mut self) -> Result<(), OutputFault> {
-        self.is_flushed = false;
         if self.failures > 0 {
-            return self.fail();
+            return self.fail_again();
         }
-        match self.writer.flush() {
-            Ok(()) => {
-                self.is_flushed = true;
-                Ok(())
-            }
-            Err(_) => self.fail(),
-        }
+        let answer = self.writer.pass_on();
+        self.answer(answer)
     }
 }

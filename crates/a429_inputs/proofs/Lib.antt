@@ -1,3 +1,4 @@
 pub mod Refused
 pub mod Numbered
 pub mod Endings
+pub mod SoFar

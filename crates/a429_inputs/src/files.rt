@@ -1,6 +1,7 @@
 //! Files as the commands read them.
-ghost use Rattle.std.specs.Prelude.{◌≡◌, List, ℕ, IfOk, IsTrue, string_bytes};
+ghost use Rattle.std.specs.Prelude.{◌≡◌, List, ℕ, Option, IfOk, IsTrue, string_bytes};
 ghost use Rattle.a429_console.specs.Files.{texts_of};
+ghost use Rattle.a429_console.specs.Readings.{HasRead, IsAnswerOf, answer_of};
 ghost use Rattle.a429_inputs.specs.FileReadings.{AreReadings, IsReading, shown_char, shown_name};
 
 use crate::refusals::CommandRefusal;
@@ -22,17 +23,15 @@ pub fn shown_name(alloc: Global, name: &str) -> Result<String, AllocError>
     name.chars().map(|c| shown_char(c)).collect(alloc)
 }
 
-/// The bytes of a file, at most 16 MiB.
-pub fn read_file<F: FileReader>(
+/// What a command takes of the answer to a file's name: at most 16 MiB.
+fn taken(
     alloc: Global,
-    files: &mut F,
     name: &str,
+    answer: Result<Vec<u8>, FileFault>,
 ) -> Result<Vec<u8>, CommandRefusal>
-    ensures read { IsTrue (F.tells files.old) → IsReading (F.file files.old) name.now result }
-    ensures tells { F.tells files.new ≡ F.tells files.old }
-    ensures keeps { (other : List ℕ) → F.file files.new other ≡ F.file files.old other }
+    ensures { (file : List ℕ → Option (List ℕ)) → IsAnswerOf file name.now (answer_of answer) → IsReading file name.now result }
 {
-    match files.read(name) {
+    match answer {
         Ok(bytes) if bytes.len() <= LARGEST_FILE => Ok(bytes),
         Ok(_) | Err(FileFault::Refused) => match shown_name(alloc, name) {
             Ok(name) => Err(CommandRefusal::File(name)),
@@ -42,12 +41,28 @@ pub fn read_file<F: FileReader>(
     }
 }
 
+/// The bytes of a file, at most 16 MiB.
+pub fn read_file<F: FileReader>(
+    alloc: Global,
+    files: &mut F,
+    name: &str,
+) -> Result<Vec<u8>, CommandRefusal>
+    ensures answered { HasRead F.answers (λ file. IsReading file name.now result) files.old files.new }
+    ensures read { IsTrue (F.tells files.old) → IsReading (F.file files.old) name.now result }
+    ensures tells { F.tells files.new ≡ F.tells files.old }
+    ensures keeps { (other : List ℕ) → F.file files.new other ≡ F.file files.old other }
+{
+    let answer = files.read(name);
+    taken(alloc, name, answer)
+}
+
 /// The bytes of several files.
 pub fn read_files<F: FileReader>(
     alloc: Global,
     files: &mut F,
     names: &[&str],
 ) -> Result<Vec<Vec<u8>>, CommandRefusal>
+    ensures answered { HasRead F.answers (λ file. AreReadings file (texts_of names.now) result) files.old files.new }
     ensures read { IsTrue (F.tells files.old) → AreReadings (F.file files.old) (texts_of names.now) result }
 {
     let mut all = Vec::new(alloc);

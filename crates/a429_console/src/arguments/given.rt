@@ -1,33 +1,113 @@
 //! The words that the program was given.
+ghost use Rattle.std.specs.Prelude.{◌≡◌, ◌≤◌, ℕ, List, IfOk, Err, Some, None, take, OnOk, IfErr, ◌++◌, ◌∷◌, [], map, string_bytes, IfSome};
+ghost use Rattle.std.specs.Io.{WritesAtMost};
+ghost use Rattle.std.specs.Str.{IsUtf8};
+ghost use Rattle.a429_console.specs.GivenWords.{AreGiven, HasNoText};
 
+use std::alloc::{AllocError, Global};
 use std::env::{Env, FillError};
-use std::{env, io};
+use thiserror::Error;
 
-/// The environment of a runtime, with the arguments that follow the first: that is the path of the program, and
-/// may be any bytes.
-#[derive(Drop)]
-struct BehindName<'a, R> {
-    rt: &'a R,
+/// Why the words of the command line are not given.
+#[derive(Clone, Copy, Debug, PartialEq, Eq, Error)]
+pub enum WordsFault {
+    /// Memory was refused.
+    #[error("out of memory")]
+    NoMemory,
+    /// A word is no UTF-8.
+    #[error("a word is no UTF-8")]
+    NotText,
 }
 
-impl<R: Env> Env for BehindName<'_, R> {
-    fn arg(&self, i: usize, buf: &mut [u8]) -> Result<usize, FillError> {
-        match i.checked_add(1) {
-            Some(next) => self.rt.arg(next, buf),
-            None => Err(FillError::NotPresent),
+/// What has the arguments of the program, by their places. The first, at 0, is the path of the program.
+pub trait Arguments {
+    /// It answered that the argument at this place has these bytes.
+    ghost gives: { Self → ℕ → List ℕ → Type 0 };
+
+    /// It answered that there is no argument at this place.
+    ghost ends: { Self → ℕ → Type 0 };
+
+    /// Copies the argument at a place to the front of the room, and gives its length.
+    fn argument(&self, place: usize, room: &mut [u8]) -> Result<usize, FillError>
+        ensures bound { WritesAtMost result room.new }
+        ensures given { IfOk result (λ n. gives self.now place (take n room.new)) }
+        ensures ended { result ≡ Err FillError.NotPresent → ends self.now place };
+}
+
+impl<R: Env> Arguments for R {
+    ghost use Rattle.std.specs.Prelude.{⊤};
+
+    ghost gives = { λ _ _ _. ⊤ };
+
+    ghost ends = { λ _ _. ⊤ };
+
+    fn argument(&self, place: usize, room: &mut [u8]) -> Result<usize, FillError> {
+        self.arg(place, room)
+    }
+}
+
+/// The bytes of the argument at a place, or none where there is no argument.
+fn argument_bytes<R: Arguments>(
+    rt: &R,
+    alloc: Global,
+    place: usize,
+) -> Result<Option<Vec<u8>>, AllocError>
+    ensures given { IfOk result (λ found. IfSome found (λ bytes. R.gives rt.now place bytes.items)) }
+    ensures ended { IfOk result (λ found. found ≡ None → R.ends rt.now place) }
+{
+    let mut size = 256usize;
+    let mut room = Vec::new(alloc);
+    for _ in 0..usize::BITS {
+        room.resize(size, 0u8)?;
+        match rt.argument(place, &mut room) {
+            Ok(n) => {
+                room.truncate(n);
+                return Ok(Some(room));
+            }
+            Err(FillError::NotPresent) => return Ok(None),
+            Err(FillError::TooLong) => size = size.saturating_mul(2),
         }
     }
+    Err(AllocError)
+}
 
-    fn var(&self, name: &str, buf: &mut [u8]) -> Result<usize, FillError> {
-        self.rt.var(name, buf)
+/// The words of the command line, without the program's path.
+pub fn given_words<R: Arguments + AllocGlobal>(rt: &R) -> Result<Vec<String>, WordsFault>
+    ensures words { IfOk result (λ words. AreGiven (R.gives rt.now) (R.ends rt.now) (map string_bytes words.items)) }
+    ensures not_text { result ≡ Err WordsFault.NotText → HasNoText (R.gives rt.now) }
+{
+    let mut words = Vec::new(rt.alloc());
+    for place in 1..usize::MAX {
+        match word_at(rt, rt.alloc(), place)? {
+            Some(word) => push_word(&mut words, word)?,
+            None => return Ok(words),
+        }
     }
+    Err(WordsFault::NoMemory)
+}
 
-    fn var_at(&self, i: usize, buf: &mut [u8]) -> Result<usize, FillError> {
-        self.rt.var_at(i, buf)
+fn push_word(words: &mut Vec<String>, word: String) -> Result<(), WordsFault>
+    ensures pushed { OnOk result (words.new.items ≡ words.old.items ++ word ∷ []) }
+    ensures memory { IfErr result (λ fault. fault ≡ WordsFault.NoMemory) }
+{
+    match words.push(word) {
+        Ok(()) => Ok(()),
+        Err(_) => Err(WordsFault::NoMemory),
     }
 }
 
-/// The words of the command line, without the program's name.
-pub fn given_words<R: Env + AllocGlobal>(rt: &R) -> io::Result<Vec<String>> {
-    Ok(env::args(&(BehindName { rt }, rt.alloc()))?.collect(rt.alloc())?)
+/// The word at a place, or none behind the last.
+fn word_at<R: Arguments>(rt: &R, alloc: Global, place: usize) -> Result<Option<String>, WordsFault>
+    ensures given { IfOk result (λ found. IfSome found (λ word. R.gives rt.now place (string_bytes word))) }
+    ensures ended { IfOk result (λ found. found ≡ None → R.ends rt.now place) }
+    ensures not_text { result ≡ Err WordsFault.NotText → (bytes : List ℕ) × R.gives rt.now place bytes × (¬ (IsUtf8 bytes)) }
+{
+    match argument_bytes(rt, alloc, place) {
+        Ok(Some(bytes)) => match String::from_utf8(bytes) {
+            Ok(word) => Ok(Some(word)),
+            Err(_) => Err(WordsFault::NotText),
+        },
+        Ok(None) => Ok(None),
+        Err(AllocError) => Err(WordsFault::NoMemory),
+    }
 }

@@ -1,39 +1,80 @@
 //! What is answered in place of a command: help, and the text of a mistake.
-ghost use Rattle.std.specs.Prelude.{◌≡◌, ◌≤◌, IfOk, IsTrue, OnOk};
+ghost use Rattle.std.specs.Prelude.{◌≡◌, ◌≢◌, ◌≤◌, ◌+◌, ◌⊎◌, IfOk, IsTrue, OnErr, OnOk};
 ghost use Rattle.clap.specs.Words.{kind_of};
-ghost use Rattle.a429_console.specs.Outputs.{CountsFault, IsPut, OrNoMemory};
-ghost use Rattle.a429_console.specs.Usage.{IsHelpReply, IsReplyOfKind};
+ghost use Rattle.a429_console.specs.Outputs.{CountsFault, HasFailed, IsPut, OrNoMemory};
+ghost use Rattle.a429_console.specs.Usage.{IsHelpReply, IsReplyOfKind, IsUsageReply};
 
-use crate::output::endings::{finish, refuse_memory};
+use crate::output::endings::{finish, put_whole, refuse_memory};
 use crate::output::{Output, OutputFault};
 use clap::Error;
 use clap::error::ErrorKind;
 use std::alloc::Global;
-use std::io;
 use std::io::Write;
 
 /// Answers words that are no request, by the error that their parser gave. Help that was asked for is put, with
-/// status 0; the text of a mistake is written to `err`, as far as it takes it, with status 2.
-pub fn explain<O: Output, V: Write>(
+/// status 0; the text of a mistake is written to `err`, with status 2, or 1 where `err` fails.
+pub fn explain<O: Output, V: Output>(
     alloc: Global,
     error: &Error,
     out: &mut O,
     err: &mut V,
 ) -> Result<u8, OutputFault>
-    ensures replied { IfOk result (IsPut (IsReplyOfKind (kind_of error.now)) (O.contents out.old) (O.contents out.new)) }
-    ensures flushed { IfOk result (λ status. status ≤ 1 → IsTrue (O.is_flushed out.new)) }
+    ensures replied { IfOk result (IsPut (IsReplyOfKind (V.failures err.old) (V.failures err.new) (kind_of error.now)) (O.contents out.old) (O.contents out.new)) }
     ensures faults { CountsFault result (O.failures out.old) (O.failures out.new) }
-    ensures quiet { IfOk result (λ status. status ≤ 1 → V.contents err.new ≡ V.contents err.old) }
-    ensures silent { IfOk result (λ status. status ≡ 2 → O.contents out.new ≡ O.contents out.old) }
+    ensures status { IfOk result (λ status. status ≤ 2) }
+    // Where the status is 0, all was passed on; so it is with status 1, unless a call of `err` failed.
+    ensures flushed { IfOk result (λ status. status ≡ 0 → IsTrue (O.is_flushed out.new)) }
+    ensures told { IfOk result (λ status. status ≡ 1
+        → IsTrue (O.is_flushed out.new) ⊎ ((kind_of error.now ≢ ErrorKind.OutOfMemory) × HasFailed (V.failures err.old) (V.failures err.new))) }
+    ensures warned { IfOk result (λ status. status ≡ 2 → IsTrue (V.is_flushed err.new)) }
+    // Nothing is asked of `err` but where it is told of a mistake, nor of `out` there.
+    ensures quiet { IfOk result (λ status. status ≡ 0 → err.new ≡ err.old) }
+    ensures left { OnErr result (err.new ≡ err.old) }
+    ensures silent { IfOk result (λ status. status ≡ 2 → out.new ≡ out.old) }
+    // Where a call of `err` failed, the status is 1, and there is no further one.
+    ensures failed { IfOk result (λ status. (status ≡ 1) ⊎ (V.failures err.new ≡ V.failures err.old)) }
+    ensures once { (V.failures err.new).count ≤ (V.failures err.old).count + 1 }
 {
     match error.kind() {
         ErrorKind::OutOfMemory => refuse_memory(out),
         ErrorKind::DisplayHelp | ErrorKind::DisplayVersion => put_help(alloc, error, out),
-        _ => {
-            // the status says what the words are, also where nobody can be told
-            let _ = write_text(error, err);
-            Ok(2)
-        }
+        _ => tell_mistake(alloc, error, out, err),
+    }
+}
+
+/// Writes the text of a mistake to `err`. The status is 2, or 1 where `err` fails or memory for the text is refused.
+fn tell_mistake<O: Output, V: Output>(
+    alloc: Global,
+    mistake: &Error,
+    out: &mut O,
+    err: &mut V,
+) -> Result<u8, OutputFault>
+    ensures replied { IfOk result (IsPut (OrNoMemory (IsUsageReply (V.failures err.old) (V.failures err.new))) (O.contents out.old) (O.contents out.new)) }
+    ensures faults { CountsFault result (O.failures out.old) (O.failures out.new) }
+    ensures status { IfOk result (λ status. (1 ≤ status) × (status ≤ 2)) }
+    ensures told { IfOk result (λ status. status ≡ 1 → IsTrue (O.is_flushed out.new) ⊎ HasFailed (V.failures err.old) (V.failures err.new)) }
+    ensures warned { IfOk result (λ status. status ≡ 2 → IsTrue (V.is_flushed err.new)) }
+    ensures left { OnErr result (err.new ≡ err.old) }
+    ensures silent { IfOk result (λ status. status ≡ 2 → out.new ≡ out.old) }
+    ensures failed { IfOk result (λ status. (status ≡ 1) ⊎ (V.failures err.new ≡ V.failures err.old)) }
+    ensures once { (V.failures err.new).count ≤ (V.failures err.old).count + 1 }
+{
+    let mut text = Vec::new(alloc);
+    match write!(text, "{mistake}") {
+        Ok(()) => Ok(warn(&text, err)),
+        Err(_) => refuse_memory(out),
+    }
+}
+
+/// Writes a text about words that are a mistake. The status is 2, or 1 where the output fails.
+pub fn warn<V: Output>(text: &[u8], err: &mut V) -> u8
+    ensures status { ((result ≡ 2) × (V.failures err.new ≡ V.failures err.old)) ⊎ ((result ≡ 1) × HasFailed (V.failures err.old) (V.failures err.new)) }
+    ensures warned { result ≡ 2 → IsTrue (V.is_flushed err.new) }
+    ensures once { (V.failures err.new).count ≤ (V.failures err.old).count + 1 }
+{
+    match put_whole(text, err) {
+        Ok(()) => 2,
+        Err(_) => 1,
     }
 }
 
@@ -49,9 +90,4 @@ fn put_help<O: Output>(alloc: Global, help: &Error, out: &mut O) -> Result<u8, O
         Ok(()) => finish(&text, true, out),
         Err(_) => refuse_memory(out),
     }
-}
-
-fn write_text<V: Write>(error: &Error, err: &mut V) -> io::Result<()> {
-    write!(err, "{error}")?;
-    err.flush()
 }

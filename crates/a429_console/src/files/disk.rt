@@ -21,11 +21,16 @@ impl<'a, R: Files + AllocGlobal> DiskFiles<'a, R> {
 }
 
 impl<R: Files + AllocGlobal> FileReader for DiskFiles<'_, R> {
-    ghost use Rattle.std.specs.Prelude.{false, None};
+    ghost use Rattle.std.specs.Prelude.{false, None, ⊤};
+    ghost use Rattle.a429_console.specs.Readings.{not_told};
 
     ghost tells = { λ _. false };
 
     ghost file = { λ _ _. None };
+
+    ghost answers = { λ _ _ _ _. ⊤ };
+
+    ghost known = { λ _ _ _ _ told _. not_told told };
 
     fn read(&mut self, name: &str) -> Result<Vec<u8>, FileFault> {
         match first_bytes(self.rt, name) {

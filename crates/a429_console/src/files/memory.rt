@@ -11,12 +11,18 @@ pub struct MemoryFiles {
 }
 
 impl FileReader for MemoryFiles {
-    ghost use Rattle.std.specs.Prelude.{true};
+    ghost use Rattle.std.specs.Prelude.{true, ◌≡◌, refl};
+    ghost use Rattle.std.proofs.Common.{ap};
+    ghost use Rattle.a429_console.specs.Readings.{IsAnswerOf};
     ghost use Rattle.a429_console.specs.MemoryFile.{file_of};
 
     ghost tells = { λ _. true };
 
     ghost file = { λ m name. file_of m.files.items name };
+
+    ghost answers = { λ m name answer n. (n ≡ m) × IsAnswerOf (file_of m.files.items) name answer };
+
+    ghost known = { λ m n name answer _ is. (is.1, (λ other. ap (λ k. file_of k.files.items other) is.0), refl) };
 
     fn read(&mut self, name: &str) -> Result<Vec<u8>, FileFault> {
         match found(&self.files, name) {

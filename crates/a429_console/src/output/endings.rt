@@ -1,14 +1,25 @@
 //! How commands end.
-ghost use Rattle.std.specs.Prelude.{◌≡◌, ◌++◌, ◌∷◌, [], codes, IfOk, OnOk, IsTrue};
+ghost use Rattle.std.specs.Prelude.{◌≡◌, ◌≤◌, ◌+◌, ◌++◌, ◌∷◌, [], codes, true, false, IfOk, OnOk, IsTrue};
 ghost use Rattle.std.specs.Io.KnownBytes.{Appends};
-ghost use Rattle.a429_console.specs.Outputs.{CountsFault, ending, status_of};
+ghost use Rattle.a429_console.specs.Outputs.{CountsFault, NoneFailed, ending, failed_line, is_closing, status_of};
 
 use crate::output::{Output, OutputFault};
-use std::io;
-use std::io::Write;
 
 /// The line that says that memory was refused: putting it takes none.
 const MEMORY_REFUSED: &[u8] = b"refused memory\n";
+
+/// What a person is told where the output failed.
+const OUTPUT_FAILED: &[u8] = b"a429: standard output failed\n";
+
+/// Puts a text whole and passes it on.
+pub fn put_whole<O: Output>(text: &[u8], out: &mut O) -> Result<(), OutputFault>
+    ensures text { OnOk result (Appends (O.contents out.old) (O.contents out.new) text.now) }
+    ensures flushed { OnOk result (IsTrue (O.is_flushed out.new)) }
+    ensures faults { CountsFault result (O.failures out.old) (O.failures out.new) }
+{
+    out.put(text)?;
+    out.flush()
+}
 
 /// Puts the line of a refusal, which has its line feed. The status is 1.
 pub fn put_refused<O: Output>(line: &[u8], out: &mut O) -> Result<u8, OutputFault>
@@ -17,8 +28,7 @@ pub fn put_refused<O: Output>(line: &[u8], out: &mut O) -> Result<u8, OutputFaul
     ensures flushed { OnOk result (IsTrue (O.is_flushed out.new)) }
     ensures faults { CountsFault result (O.failures out.old) (O.failures out.new) }
 {
-    out.put(line)?;
-    out.flush()?;
+    put_whole(line, out)?;
     Ok(1)
 }
 
@@ -48,8 +58,19 @@ pub fn finish<O: Output>(left: &[u8], sufficed: bool, out: &mut O) -> Result<u8,
     Ok(0)
 }
 
-/// Tells a person that the output failed. The error is the writer's.
-pub fn tell_failed_output<V: Write>(err: &mut V) -> io::Result<()> {
-    writeln!(err, "a429: standard output failed")?;
-    err.flush()
+/// Tells a person, on another output, that an output failed. Where its reader has closed it nobody waits for more, and
+/// nothing is told.
+pub fn tell_fault<V: Output>(fault: OutputFault, err: &mut V)
+    ensures announced { is_closing fault ≡ false → NoneFailed (V.failures err.old) (V.failures err.new)
+        → Appends (V.contents err.old) (V.contents err.new) failed_line }
+    ensures hushed { is_closing fault ≡ true → err.new ≡ err.old }
+    ensures once { (V.failures err.new).count ≤ (V.failures err.old).count + 1 }
+{
+    match fault {
+        OutputFault::Closed => {}
+        OutputFault::Failed => {
+            // where it cannot be told either, the status says so
+            let _ = put_whole(OUTPUT_FAILED, err);
+        }
+    }
 }

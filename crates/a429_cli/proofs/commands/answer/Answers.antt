@@ -1,3 +1,4 @@
+use Rattle.a429_console.proofs.ReadingParts.{read_weaker}
 use Rattle.std.proofs.Common.{inl}
 use Rattle.std.proofs.lemmas.Result.{IfOk-weaker}
 use Rattle.a429_console.specs.Files.{texts_of}
@@ -5,24 +6,38 @@ use Rattle.a429_cli.specs.LineReplies.{IsLinesReply}
 use Rattle.a429_cli.specs.Replaying.{IsReplay}
 use Rattle.a429_cli.proofs.commands.answer.Goals as goal
 
-pub returns-in-Lines-clause-replied : goal.returns-in-Lines-clause-replied
-returns-in-Lines-clause-replied g c = λ tells.
-    let file = g.F.FileReader.file c.args.files.now in
+pub returns-in-Lines-clause-read : goal.returns-in-Lines-clause-read
+returns-in-Lines-clause-read g c =
     rw c.in-Lines.is
-    (IfOk-weaker c.tell_lines.result _ _ (λ status told.
+    (read_weaker c.tell_lines.ensures.told (λ file is. IfOk-weaker c.tell_lines.result _ _ (λ status told.
     let reply : IsLinesReply file c.in-Lines.file.now (texts_of c.in-Lines.filters.items) status told.0 = rw c.deref.ensures.value at told.1 in
     (told.0, inl reply, told.2))
-    (c.tell_lines.ensures.told tells))
+    is))
 
-pub returns-in-Check-clause-replied : goal.returns-in-Check-clause-replied
-returns-in-Check-clause-replied g c = λ tells.
-    rw c.in-Check.is (IfOk-weaker c.print_verdict.result _ _ (λ status told. (told.0, inl told.1, told.2)) (c.print_verdict.ensures.judged tells))
+pub returns-in-Check-clause-read : goal.returns-in-Check-clause-read
+returns-in-Check-clause-read g c =
+    rw c.in-Check.is (read_weaker c.print_verdict.ensures.judged (λ file is. IfOk-weaker c.print_verdict.result _ _ (λ status told. (told.0, inl told.1, told.2)) is))
 
-pub returns-in-Replay-clause-replied : goal.returns-in-Replay-clause-replied
-returns-in-Replay-clause-replied g c = λ tells.
-    let file = g.F.FileReader.file c.args.files.now in
+pub returns-in-Replay-clause-read : goal.returns-in-Replay-clause-read
+returns-in-Replay-clause-read g c =
     rw c.in-Replay.is
-    (IfOk-weaker c.replay.result _ _ (λ status told.
+    (read_weaker c.replay.ensures.replayed (λ file is. IfOk-weaker c.replay.result _ _ (λ status told.
     let reply : IsReplay file c.in-Replay.table.now c.in-Replay.script.now (texts_of c.in-Replay.further.items) status told.0 = rw c.deref-in-Replay.ensures.value at told.1 in
     (told.0, inl reply, told.2))
-    (c.replay.ensures.replayed tells))
+    is))
+
+pub returns-in-Plan-clause-read : goal.returns-in-Plan-clause-read
+returns-in-Plan-clause-read g c =
+    rw c.in-Plan.is (read_weaker c.print_plan.ensures.planned (λ file is. IfOk-weaker c.print_plan.result _ _ (λ status told. (told.0, inl told.1, told.2)) is))
+
+pub returns-in-Icd-clause-read : goal.returns-in-Icd-clause-read
+returns-in-Icd-clause-read g c =
+    rw c.in-Icd.is (read_weaker c.print_plan-in-Icd.ensures.planned (λ file is. IfOk-weaker c.print_plan-in-Icd.result _ _ (λ status told. (told.0, inl (rw c.document_kind.ensures at told.1), told.2)) is))
+
+pub returns-in-Margin-clause-read : goal.returns-in-Margin-clause-read
+returns-in-Margin-clause-read g c =
+    rw c.in-Margin.is (read_weaker c.print_plan-in-Margin.ensures.planned (λ file is. IfOk-weaker c.print_plan-in-Margin.result _ _ (λ status told. (told.0, inl told.1, told.2)) is))
+
+pub returns-in-Draw-clause-read : goal.returns-in-Draw-clause-read
+returns-in-Draw-clause-read g c =
+    rw c.in-Draw.is (read_weaker c.print_drawing.ensures.drawn (λ file is. IfOk-weaker c.print_drawing.result _ _ (λ status told. (told.0, inl told.1, told.2)) is))

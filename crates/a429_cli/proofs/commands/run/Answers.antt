@@ -1,20 +1,35 @@
+use Rattle.std.proofs.Common.{inr, refl}
 use Rattle.std.proofs.lemmas.Result.{IfOk-weaker}
+use Rattle.a429_console.proofs.ReadingParts.{read_none}
 use Rattle.a429_console.specs.Files.{texts_of}
 use Rattle.a429_console.specs.Usage.{kinds_of_words}
-use Rattle.a429_console.proofs.KindReplies.{help_replied, mistake_is_told, mistake_replied}
+use Rattle.a429_console.proofs.KindReplies.{help_replied, mistake_is_told, mistake_replied, no_request_or}
 use Rattle.a429_cli.proofs.commands.run.Goals as goal
 
 pub returns-in-Err-clause-helped : goal.returns-in-Err-clause-helped
 returns-in-Err-clause-helped g c = λ asks.
     let kinds = kinds_of_words (texts_of c.args.words.now) in
-    IfOk-weaker c.explain.result _ _ (λ status put. (put.0, help_replied kinds c.in-Err.error c.in-Err.ensures.kinds asks.1 status put.0 put.1, put.2)) c.explain.ensures.replied
+    IfOk-weaker c.explain.result _ _ (λ status put. (put.0, help_replied kinds c.in-Err.error _ _ c.in-Err.ensures.kinds asks.1 status put.0 put.1, put.2)) c.explain.ensures.replied
 
 pub returns-in-Err-clause-mistaken : goal.returns-in-Err-clause-mistaken
 returns-in-Err-clause-mistaken g c = λ fault.
     let kinds = kinds_of_words (texts_of c.args.words.now) in
-    IfOk-weaker c.explain.result _ _ (λ status put. (put.0, mistake_replied kinds c.in-Err.error c.in-Err.ensures.kinds fault.1 status put.0 put.1, put.2)) c.explain.ensures.replied
+    IfOk-weaker c.explain.result _ _ (λ status put. (put.0, mistake_replied kinds c.in-Err.error _ _ c.in-Err.ensures.kinds fault.1 status put.0 put.1, put.2)) c.explain.ensures.replied
 
 pub returns-in-Err-clause-usage : goal.returns-in-Err-clause-usage
 returns-in-Err-clause-usage g c = λ fault.
     let kinds = kinds_of_words (texts_of c.args.words.now) in
-    IfOk-weaker c.explain.result _ _ (λ status put. mistake_is_told status put.0 (mistake_replied kinds c.in-Err.error c.in-Err.ensures.kinds fault.1 status put.0 put.1)) c.explain.ensures.replied
+    IfOk-weaker c.explain.result _ _ (λ status put. mistake_is_told _ _ status put.0 (mistake_replied kinds c.in-Err.error _ _ c.in-Err.ensures.kinds fault.1 status put.0 put.1)) c.explain.ensures.replied
+
+pub returns-in-Err-clause-told : goal.returns-in-Err-clause-told
+returns-in-Err-clause-told g c =
+    let kinds = kinds_of_words (texts_of c.args.words.now) in
+    IfOk-weaker c.explain.result _ _ (λ status told one. no_request_or kinds c.in-Err.error c.in-Err.ensures.kinds (told one)) c.explain.ensures.told
+
+pub returns-in-Err-clause-read : goal.returns-in-Err-clause-read
+returns-in-Err-clause-read g c = λ r asks.
+    let spent = c.in-Err.ensures.asked r asks in (
+      c.args.files.now,
+      read_none refl (λ file. IfOk-weaker c.explain.result _ _ (λ status put.
+          (put.0, inr (rw spent at put.1), put.2)) c.explain.ensures.replied),
+    )

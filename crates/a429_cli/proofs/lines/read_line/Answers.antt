@@ -1,3 +1,4 @@
+use Rattle.a429_console.proofs.ReadingParts.{read_weaker}
 use Rattle.std.proofs.Common.{◌∙◌, ap, inl, map}
 use Rattle.std.specs.Prelude.{Err}
 use Rattle.std.proofs.lemmas.Result.{err_from_is_err_and}
@@ -8,10 +9,10 @@ use Rattle.a429_cli.specs.LineReplies.{IsLinesRefusal}
 use Rattle.a429_cli.proofs.lines.read_line.Goals as goal
 
 pub returns-in_err-bytes : goal.returns-in_err-bytes
-returns-in_err-bytes g c = λ tells.
-    let file = g.F.FileReader.file c.args.files.now in
-    let none = IsLinesRefusal file c.args.name.now (map (λ f. f.now) c.args.filters.now) in
+returns-in_err-bytes g c =
     let e = c.in_err-bytes.field-0.0 in
     let p = err_from_is_err_and c.from_residual.result c.from_residual.ensures.1 in
+    read_weaker c.in_err-bytes.ensures.answered (λ file bad.
+    let none = IsLinesRefusal file c.args.name.now (map (λ f. f.now) c.args.filters.now) in
     failed c.from_residual.result _ (OrMemory none) e (p.1 ∙ ap Err p.2)
-    (or_memory_weaker (IsFileRefusal file c.args.name.now) none e (λ one. inl one) (c.in_err-bytes.ensures.read tells))
+    (or_memory_weaker (IsFileRefusal file c.args.name.now) none e (λ one. inl one) bad))

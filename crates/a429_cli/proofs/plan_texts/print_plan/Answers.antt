@@ -1,3 +1,4 @@
+use Rattle.a429_console.proofs.ReadingParts.{read_weaker}
 use Rattle.std.proofs.Common.{inl, inr, refl}
 use Rattle.a429_cli.specs.PlanReplies.{IsNoPlan, IsPlanReply}
 use Rattle.a429_console.proofs.Endings.{done_is_few, refused_is_few, text_put}
@@ -5,20 +6,18 @@ use Rattle.a429_inputs.proofs.Endings.{refusal_put}
 use Rattle.a429_cli.proofs.plan_texts.print_plan.Goals as goal
 
 pub returns-in-Ok-clause-planned : goal.returns-in-Ok-clause-planned
-returns-in-Ok-clause-planned g c = λ tells.
-    let says = IsPlanReply (g.F.FileReader.file c.args.files.now) c.args.kind c.args.name.now in
-    text_put c.finish.result says (g.O.Output.contents c.args.out.now) (g.O.Output.contents c.finish.new.out) c.deref.result.now c.in-Ok.text.items
-    c.deref.ensures.value (inr (c.in-Ok.ensures tells, refl)) c.finish.ensures.status c.finish.ensures.put
+returns-in-Ok-clause-planned g c = read_weaker c.in-Ok.ensures (λ file is.
+    text_put c.finish.result (IsPlanReply file c.args.kind c.args.name.now) (g.O.Output.contents c.args.out.now) (g.O.Output.contents c.finish.new.out) c.deref.result.now c.in-Ok.text.items
+    c.deref.ensures.value (inr (is, refl)) c.finish.ensures.status c.finish.ensures.put)
 
 pub returns-in-Ok-clause-status : goal.returns-in-Ok-clause-status
 returns-in-Ok-clause-status g c = done_is_few c.finish.result c.finish.ensures.status
 
 pub returns-in-Err-clause-planned : goal.returns-in-Err-clause-planned
-returns-in-Err-clause-planned g c = λ tells.
-    let file = g.F.FileReader.file c.args.files.now in
+returns-in-Err-clause-planned g c =
     let name = c.args.name.now in
-    refusal_put c.refuse.result (IsNoPlan file name) (IsPlanReply file c.args.kind name) c.in-Err.refusal (g.O.Output.contents c.args.out.now) (g.O.Output.contents c.refuse.new.out)
-    (λ told why. inl (told, why, refl, refl)) (c.in-Err.ensures tells) c.refuse.ensures.status c.refuse.ensures.line
+    read_weaker c.in-Err.ensures (λ file why. refusal_put c.refuse.result (IsNoPlan file name) (IsPlanReply file c.args.kind name) c.in-Err.refusal (g.O.Output.contents c.args.out.now) (g.O.Output.contents c.refuse.new.out)
+    (λ told is. inl (told, is, refl, refl)) why c.refuse.ensures.status c.refuse.ensures.line)
 
 pub returns-in-Err-clause-status : goal.returns-in-Err-clause-status
 returns-in-Err-clause-status g c = refused_is_few c.refuse.result c.refuse.ensures.status

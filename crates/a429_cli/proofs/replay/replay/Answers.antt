@@ -1,3 +1,4 @@
+use Rattle.a429_console.proofs.ReadingParts.{read_weaker}
 use Rattle.std.proofs.Common.{◌⊎◌, ◌++◌, ◌∷◌, [], map, refl, inl, inr}
 use Rattle.std.proofs.lemmas.Result.{IfOk-weaker}
 use Rattle.a429_inputs.specs.FileReadings.{IsFirstUnread}
@@ -9,28 +10,26 @@ use Rattle.a429_inputs.proofs.Refused.{both_ok, or_memory_weaker, told_or_memory
 use Rattle.a429_cli.proofs.replay.replay.Goals as goal
 
 pub returns-in-Err-clause-replayed : goal.returns-in-Err-clause-replayed
-returns-in-Err-clause-replayed g c = λ tells.
-    let file = g.F.FileReader.file c.args.files.now in
+returns-in-Err-clause-replayed g c = read_weaker c.in-Err.ensures (λ file bad.
     let names = map (λ n. n.now) c.args.further.now in
     let begun = IsReplayRefusal file c.args.table.now c.args.script.now names in
     let why = or_memory_weaker (IsFirstUnread file (c.args.table.now ∷ c.args.script.now ∷ names)) begun c.in-Err.refusal
-    (λ unread. inl unread) (c.in-Err.ensures tells) in
-    both_ok c.refuse.result _ _ (λ status is line. (refusal_line line.0 ++ 10 ∷ [], inl (line.0, told_or_memory begun c.in-Err.refusal line.0 line.1 why, is, refl), line.2)) c.refuse.ensures.status c.refuse.ensures.line
+    (λ unread. inl unread) bad in
+    both_ok c.refuse.result _ _ (λ status is line. (refusal_line line.0 ++ 10 ∷ [], inl (line.0, told_or_memory begun c.in-Err.refusal line.0 line.1 why, is, refl), line.2)) c.refuse.ensures.status c.refuse.ensures.line)
 
 pub returns-in-Ok-prepare-clause-replayed : goal.returns-in-Ok-prepare-clause-replayed
-returns-in-Ok-prepare-clause-replayed g c = λ tells.
+returns-in-Ok-prepare-clause-replayed g c =
     let p = c.in-Ok-prepare.ensures in
-    IfOk-weaker c.play_prepared.result _ _ (λ status played.
+    read_weaker c.in-Ok.ensures (λ file read. IfOk-weaker c.play_prepared.result _ _ (λ status played.
     let was = played p.0 p.1 p.2 p.3 in
-    (was.0, inr (input_of c.in-Ok.input, p.0, p.1, c.in-Ok.ensures tells, p.2, was.1), was.2))
-    c.play_prepared.ensures.played
+    (was.0, inr (input_of c.in-Ok.input, p.0, p.1, read, p.2, was.1), was.2))
+    c.play_prepared.ensures.played)
 
 pub returns-clause-replayed : goal.returns-clause-replayed
-returns-clause-replayed g c = λ tells.
-    let file = g.F.FileReader.file c.args.files.now in
+returns-clause-replayed g c = read_weaker c.in-Ok.ensures (λ file read.
     let names = map (λ n. n.now) c.args.further.now in
     let i = input_of c.in-Ok.input in
     let begun = IsReplayRefusal file c.args.table.now c.args.script.now names in
     let why = or_memory_weaker (λ r. IsTableRefusal i.table r ⊎ IsScriptRefusal i r) begun c.in-Err-prepare.refusal
-    (λ cause. inr (i, c.in-Ok.ensures tells, cause)) c.in-Err-prepare.ensures in
-    both_ok c.refuse-in-Err-prepare.result _ _ (λ status is line. (refusal_line line.0 ++ 10 ∷ [], inl (line.0, told_or_memory begun c.in-Err-prepare.refusal line.0 line.1 why, is, refl), line.2)) c.refuse-in-Err-prepare.ensures.status c.refuse-in-Err-prepare.ensures.line
+    (λ cause. inr (i, read, cause)) c.in-Err-prepare.ensures in
+    both_ok c.refuse-in-Err-prepare.result _ _ (λ status is line. (refusal_line line.0 ++ 10 ∷ [], inl (line.0, told_or_memory begun c.in-Err-prepare.refusal line.0 line.1 why, is, refl), line.2)) c.refuse-in-Err-prepare.ensures.status c.refuse-in-Err-prepare.ensures.line)
