@@ -142,7 +142,8 @@ fn answer_with_hint<H: Hints, F: FileReader, O: Output, V: Output>(
     result
 }
 
-/// Tells on `err` what can be done about a request that was refused. A hint that cannot be told changes nothing.
+/// Tells on `err` what can be done about a request that was refused. A hint that memory does not suffice for is not
+/// told, and one that cannot be told changes nothing.
 fn hint<H: Hints, F: FileReader, V: Output>(
     alloc: Global,
     request: &Request,
@@ -153,8 +154,10 @@ fn hint<H: Hints, F: FileReader, V: Output>(
     ensures once { (V.failures err.new).count ≤ (V.failures err.old).count + 1 }
 {
     let mut text = Vec::new(alloc);
-    let _ = hints.tell(alloc, request, files, &mut text);
-    let _ = put_whole(&text, err);
+    // a part of a hint would end in a broken line
+    if hints.tell(alloc, request, files, &mut text).is_ok() {
+        let _ = put_whole(&text, err);
+    }
 }
 
 /// Answers a request. The status is 0 where it was done, and 1 where it was refused.

@@ -174,6 +174,8 @@ fn hint<H: Hints, F: FileReader, V: Output>(
     ensures once { (V.failures err.new).count ≤ (V.failures err.old).count + 1 }
 {
     let mut text = Vec::new(alloc);
-    let _ = hints.tell_live(alloc, request, files, &mut text);
-    let _ = put_whole(&text, err);
+    // a part of a hint would end in a broken line
+    if hints.tell_live(alloc, request, files, &mut text).is_ok() {
+        let _ = put_whole(&text, err);
+    }
 }
