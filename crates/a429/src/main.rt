@@ -1,130 +1,10 @@
 //! The program `a429`: an ARINC 429 data concentrator.
 #![tactic(auto)]
 
-ghost use Rattle.std.specs.Prelude.{◌≡◌, map, string_bytes, IfOk};
-ghost use Rattle.a429_console.specs.Ends.{IsMemoryRefused, writing};
-ghost use Rattle.a429_console.specs.Files.{texts_of};
-ghost use Rattle.a429_console.specs.Readings.{HasReadFrom};
-ghost use Rattle.a429.specs.ProgramRuns.{HasRun, IsCommandDone, IsDoneOrRefused, IsLiveDone, is_live};
-
-use a429_cli::{CountedWriter, DiskFiles, FileReader, Output, command};
-use a429_console::arguments::given::{Arguments, WordsFault, given_words};
-use a429_console::arguments::replies::warn;
-use a429_console::output::endings::{refuse_memory, tell_fault};
+use a429_cli::{CountedWriter, DiskFiles, NoProgress, ProgressLine, run_program};
 use a429_hints::HintLines;
-use a429_live::{NoProgress, Progress, ProgressLine, command_live};
-use std::alloc::{AllocError, Global};
 use std::io::IsTerminal;
 use std::process::ExitCode;
-use std::sync::Wait;
-use std::thread::Threads;
-
-/// What is told of words that are not all UTF-8.
-const NOT_TEXT: &[u8] = b"error: the words of the command line are not all UTF-8\n";
-
-fn texts(alloc: Global, words: &[String]) -> Result<Vec<&str>, AllocError>
-    ensures { IfOk result (λ texts. texts_of texts.items ≡ map string_bytes words.entry.now) }
-{
-    let mut texts = Vec::new(alloc);
-    for word in words {
-        texts.push(word.as_str())?;
-    }
-    Ok(texts)
-}
-
-/// Whether the first word is `live`.
-fn is_live(words: &[&str]) -> bool
-    ensures { result ≡ is_live (texts_of words.now) }
-{
-    match words.first() {
-        Some(first) => *first == "live",
-        None => false,
-    }
-}
-
-/// Puts the line that says that memory was refused. The status is 1.
-fn without_memory<O: Output, V: Output>(out: &mut O, err: &mut V) -> u8
-    ensures { IsMemoryRefused (writing O.contents O.failures O.is_flushed out.old out.new)
-        (writing V.contents V.failures V.is_flushed err.old err.new) result }
-{
-    match refuse_memory(out) {
-        Ok(status) => status,
-        Err(fault) => {
-            tell_fault(fault, err);
-            1
-        }
-    }
-}
-
-/// Does the command `live`.
-fn answer_live<
-    'a,
-    R: AllocGlobal + Threads + Wait,
-    F: FileReader,
-    O: Output,
-    V: Output,
-    P: Progress + Sync,
->(rt: &R, words: &'a [&'a str], files: &mut F, out: &mut O, err: &mut V, progress: &P) -> u8
-    ensures { IsLiveDone (texts_of words.entry.now) (record { tells = F.tells files.old; file = F.file files.old })
-        (writing O.contents O.failures O.is_flushed out.old out.new) (writing V.contents V.failures V.is_flushed err.old err.new) result }
-{
-    command_live(rt, rt.alloc(), words, &HintLines, files, out, err, progress)
-}
-
-/// Does one of the other commands.
-fn answer<'a, F: FileReader, O: Output, V: Output>(
-    alloc: Global,
-    words: &'a [&'a str],
-    files: &mut F,
-    out: &mut O,
-    err: &mut V,
-) -> u8
-    ensures { IsCommandDone (texts_of words.entry.now) (record { tells = F.tells files.old; file = F.file files.old }) (λ Says. HasReadFrom F.answers Says files.old)
-        (writing O.contents O.failures O.is_flushed out.old out.new) (writing V.contents V.failures V.is_flushed err.old err.new) result }
-{
-    command(alloc, words, &HintLines, files, out, err)
-}
-
-/// Does what the words ask for. The status is the one that `command` answers, or `command_live` where the first word is
-/// `live`.
-fn run_words<
-    R: AllocGlobal + Threads + Wait,
-    F: FileReader,
-    O: Output,
-    V: Output,
-    P: Progress + Sync,
->(rt: &R, words: &[String], files: &mut F, out: &mut O, err: &mut V, progress: &P) -> u8
-    ensures { IsDoneOrRefused (map string_bytes words.entry.now) (record { tells = F.tells files.old; file = F.file files.old }) (λ Says. HasReadFrom F.answers Says files.old)
-        (writing O.contents O.failures O.is_flushed out.old out.new) (writing V.contents V.failures V.is_flushed err.old err.new) result }
-{
-    let Ok(words) = texts(rt.alloc(), words) else {
-        return without_memory(out, err);
-    };
-    if is_live(&words) {
-        answer_live(rt, &words, files, out, err, progress)
-    } else {
-        answer(rt.alloc(), &words, files, out, err)
-    }
-}
-
-/// Does the command of the words that the program was given. Words that are not all UTF-8 are a mistake. While a station
-/// runs, `progress` is told how far it is.
-fn run<
-    R: Arguments + AllocGlobal + Threads + Wait,
-    F: FileReader,
-    O: Output,
-    V: Output,
-    P: Progress + Sync,
->(rt: &R, files: &mut F, out: &mut O, err: &mut V, progress: &P) -> u8
-    ensures { HasRun (R.gives rt.now) (R.ends rt.now) (record { tells = F.tells files.old; file = F.file files.old }) (λ Says. HasReadFrom F.answers Says files.old)
-        (writing O.contents O.failures O.is_flushed out.old out.new) (writing V.contents V.failures V.is_flushed err.old err.new) result }
-{
-    match given_words(rt) {
-        Ok(words) => run_words(rt, &words, files, out, err, progress),
-        Err(WordsFault::NotText) => warn(NOT_TEXT, err),
-        Err(WordsFault::NoMemory) => without_memory(out, err),
-    }
-}
 
 fn main(rt: HostRuntime) -> ExitCode {
     let mut files = DiskFiles::new(&rt);
@@ -134,9 +14,9 @@ fn main(rt: HostRuntime) -> ExitCode {
     let mut err = CountedWriter::new(rt.stderr());
     let status = if is_terminal {
         let line = ProgressLine::new(rt.alloc(), rt.stderr());
-        run(&rt, &mut files, &mut out, &mut err, &line)
+        run_program(&rt, &HintLines, &mut files, &mut out, &mut err, &line)
     } else {
-        run(&rt, &mut files, &mut out, &mut err, &NoProgress)
+        run_program(&rt, &HintLines, &mut files, &mut out, &mut err, &NoProgress)
     };
     ExitCode::from(status)
 }

@@ -7,7 +7,7 @@ use crate::spelling::cut_around;
 use crate::words::words_of;
 use a429_cli::{CountedWriter, MemoryFiles, command};
 use a429_hints::HintLines;
-use a429_live::{NoProgress, command_live};
+use a429_cli::{NoProgress, command_live};
 use std::alloc::Global;
 use std::sync::Wait;
 use std::thread::Threads;

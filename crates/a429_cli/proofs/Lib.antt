@@ -4,3 +4,12 @@ pub mod ScriptLines
 pub mod PlayedLines
 pub mod ReportLines
 pub mod FirstFrames
+pub mod Numbered
+pub mod WordsLines
+pub mod LiveRuns
+pub mod LiveRefusals
+pub mod ReportParts
+pub mod Resubmits
+pub mod WholeFrames
+pub mod Left
+pub mod Ran

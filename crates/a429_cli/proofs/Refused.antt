@@ -6,15 +6,15 @@ use Rattle.a429_table.specs.Reading.{reading}
 use Rattle.a429_cert.specs.Due.{IsFirstUnfitOf}
 use Rattle.a429_cert.specs.declared.verdicts.Verdict.{Verdict}
 use Rattle.a429_slots.specs.Proposed.{Proposed}
-use Rattle.a429_inputs.specs.Names.{naming_of}
+use Rattle.a429_console.specs.Names.{naming_of}
 use Rattle.a429_cli.specs.Script.{IsScriptFault}
 use Rattle.a429_cli.specs.Replaying.{IsNoStart, ReplayInput}
 use Rattle.a429_console.specs.Outputs.{IsMemoryReply}
 use Rattle.a429_cli.specs.PlanReplies.{IsUnjudged, IsVerdictOf, IsVerdictReply, IsCheckReply}
-use Rattle.a429_inputs.specs.Tables.{IsProposedBy, IsTableFault, IsUnfitNamed}
-use Rattle.a429_inputs.specs.RefusalText.{OrMemory}
-use Rattle.a429_inputs.specs.declared.refusals.CommandRefusal.{CommandRefusal}
-use Rattle.a429_inputs.specs.declared.refusals.CommandRefusal.TheVariants as refused
+use Rattle.a429_console.specs.Tables.{IsProposedBy, IsTableFault, IsUnfitNamed}
+use Rattle.a429_console.specs.RefusalText.{OrMemory}
+use Rattle.a429_console.specs.declared.refusals.CommandRefusal.{CommandRefusal}
+use Rattle.a429_console.specs.declared.refusals.CommandRefusal.TheVariants as refused
 
 pub table_fault_unjudged : (table : List ℕ) (r : CommandRefusal) → IsTableFault table r → IsUnjudged table r
 table_fault_unjudged table (refused.File name) f = absurd f

@@ -7,7 +7,7 @@ use Rattle.a429_word.proofs.Lists.{same_Ok}
 use Rattle.a429_console.specs.CutText.{cut}
 use Rattle.a429_console.proofs.CutLines.{lines_by, lines-cut}
 use Rattle.a429_cli.specs.Script.{events_before, event_then, events_from, events_after, first_event, line_event}
-use Rattle.a429_inputs.specs.Names.{Naming}
+use Rattle.a429_console.specs.Names.{Naming}
 use Rattle.a429_cli.specs.declared.replay.script.ScriptEvent.{ScriptEvent}
 
 -- what the first event of a text tells of all

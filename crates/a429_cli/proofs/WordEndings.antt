@@ -3,8 +3,8 @@ use Rattle.std.proofs.Common.{◌≡◌, ap, inl, inr, ◌∙◌, ◌++◌, ◌�
 use Rattle.std.specs.Prelude.{Option, Result, Ok, Err, IfOk, OnOk}
 use Rattle.std.specs.Io.KnownBytes.{Appends}
 use Rattle.a429_console.specs.Outputs.{IsPut, OrNoMemory}
-use Rattle.a429_inputs.specs.RefusalText.{IsRefusalPut, refusal_line}
-use Rattle.a429_inputs.specs.declared.refusals.CommandRefusal.{CommandRefusal}
+use Rattle.a429_console.specs.RefusalText.{IsRefusalPut, refusal_line}
+use Rattle.a429_console.specs.declared.refusals.CommandRefusal.{CommandRefusal}
 use Rattle.a429_console.proofs.Endings.{text_put}
 use Rattle.a429_cli.specs.WordLines.{IsWordReply, word_lines, word_reply}
 

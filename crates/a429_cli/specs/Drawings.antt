@@ -6,10 +6,10 @@ use Rattle.std.specs.declared.alloc.Global.{Global}
 use Rattle.a429_equipment.specs.declared.rows.GroupRow.{GroupRow}
 use Rattle.a429_slots.specs.Proposed.{Proposed}
 use Rattle.a429_documents.specs.Drawing.{drawing_of}
-use Rattle.a429_inputs.specs.FileReadings.{readable}
-use Rattle.a429_inputs.specs.Tables.{IsGroupRefusal, IsProposedBy}
-use Rattle.a429_inputs.specs.RefusalText.{OrMemory, refusal_line}
-use Rattle.a429_inputs.specs.declared.refusals.CommandRefusal.{CommandRefusal}
+use Rattle.a429_console.specs.FileReadings.{readable}
+use Rattle.a429_console.specs.Tables.{IsGroupRefusal, IsProposedBy}
+use Rattle.a429_console.specs.RefusalText.{OrMemory, refusal_line}
+use Rattle.a429_console.specs.declared.refusals.CommandRefusal.{CommandRefusal}
 use Rattle.a429_cli.specs.PlanReplies.{IsNoPlan}
 
 -- the number of the first group of this name

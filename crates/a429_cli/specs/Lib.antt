@@ -10,3 +10,9 @@ pub mod LineReplies
 pub mod PlanReplies
 pub mod Drawings
 pub mod Replies
+pub mod AnswerLines
+pub mod WordsFile
+pub mod LiveReplies
+pub mod Resubmitted
+pub mod ProgressLines
+pub mod ProgramRuns

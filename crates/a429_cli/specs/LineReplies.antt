@@ -5,14 +5,14 @@ use Rattle.a429_line.specs.Reports.{reports, rest}
 use Rattle.a429_filter.specs.declared.filters.Filter.{Filter}
 use Rattle.a429_table.specs.Stated.{filter_of}
 use Rattle.a429_table.specs.FilterTexts.{filter_read}
-use Rattle.a429_inputs.specs.FileReadings.{readable, IsFileRefusal}
+use Rattle.a429_console.specs.FileReadings.{readable, IsFileRefusal}
 use Rattle.a429_line.specs.LineBytes.{symbols_of}
 use Rattle.a429_cli.specs.LineFiles.{first_bad_byte}
 use Rattle.a429_cli.specs.LineReports.{printed, rest_line}
-use Rattle.a429_inputs.specs.RefusalText.{OrMemory, refusal_line}
+use Rattle.a429_console.specs.RefusalText.{OrMemory, refusal_line}
 use Rattle.a429_cli.specs.declared.lines.Line.{Line}
-use Rattle.a429_inputs.specs.declared.refusals.CommandRefusal.{CommandRefusal}
-use Rattle.a429_inputs.specs.declared.refusals.CommandRefusal.TheVariants as refused
+use Rattle.a429_console.specs.declared.refusals.CommandRefusal.{CommandRefusal}
+use Rattle.a429_console.specs.declared.refusals.CommandRefusal.TheVariants as refused
 
 -- the number from 1 of the first filter that is refused, behind n that are not: it is not of its form, or 32 stand before it
 abbrev pub first_bad_filter : ℕ → List (List ℕ) → Option ℕ

@@ -4,13 +4,13 @@ use Rattle.std.specs.declared.vec.Vec.{Vec}
 use Rattle.std.specs.declared.alloc.Global.{Global}
 use Rattle.a429_slots.specs.Proposed.{Proposed}
 use Rattle.a429_core.specs.Standing.{StandsFor}
-use Rattle.a429_inputs.specs.FileReadings.{AreRead, IsFirstUnread}
-use Rattle.a429_inputs.specs.Names.{naming_of}
+use Rattle.a429_console.specs.FileReadings.{AreRead, IsFirstUnread}
+use Rattle.a429_console.specs.Names.{naming_of}
 use Rattle.a429_console.specs.Outputs.{IsPut}
-use Rattle.a429_inputs.specs.RefusalText.{OrMemory}
+use Rattle.a429_console.specs.RefusalText.{OrMemory}
 use Rattle.a429_cli.specs.Replaying.{IsInput, IsOutcome, IsStart, ReplayInput}
-use Rattle.a429_inputs.specs.Tables.{IsProposedBy}
-use Rattle.a429_inputs.specs.declared.refusals.CommandRefusal.{CommandRefusal}
+use Rattle.a429_console.specs.Tables.{IsProposedBy}
+use Rattle.a429_console.specs.declared.refusals.CommandRefusal.{CommandRefusal}
 use Rattle.a429_cli.specs.declared.replay.Input.{Input}
 use Rattle.a429_cli.specs.declared.replay.script.ScriptEvent.{ScriptEvent}
 use Rattle.a429_cli.specs.declared.replay.station.Station.{Station}

@@ -18,12 +18,12 @@ use Rattle.a429_cert.specs.Printed.{verdict_text}
 use Rattle.a429_cert.specs.declared.due.DueTable.{DueTable}
 use Rattle.a429_cert.specs.declared.verdicts.Verdict.{Verdict}
 use Rattle.a429_cert.specs.declared.verdicts.Verdict.TheVariants as verdicts
-use Rattle.a429_inputs.specs.FileReadings.{AreRead, IsFirstUnread, IsFileRefusal, readable}
-use Rattle.a429_inputs.specs.Names.{group_name, output_name}
-use Rattle.a429_inputs.specs.Tables.{IsProposedBy, IsTableRefusal}
-use Rattle.a429_inputs.specs.RefusalText.{OrMemory, refusal_line}
-use Rattle.a429_inputs.specs.declared.refusals.CommandRefusal.{CommandRefusal}
-use Rattle.a429_inputs.specs.declared.refusals.CommandRefusal.TheVariants as refused
+use Rattle.a429_console.specs.FileReadings.{AreRead, IsFirstUnread, IsFileRefusal, readable}
+use Rattle.a429_console.specs.Names.{group_name, output_name}
+use Rattle.a429_console.specs.Tables.{IsProposedBy, IsTableRefusal}
+use Rattle.a429_console.specs.RefusalText.{OrMemory, refusal_line}
+use Rattle.a429_console.specs.declared.refusals.CommandRefusal.{CommandRefusal}
+use Rattle.a429_console.specs.declared.refusals.CommandRefusal.TheVariants as refused
 
 -- ---- plan, icd and margin
 

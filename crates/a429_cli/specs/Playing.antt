@@ -6,12 +6,12 @@ use Rattle.a429_slots.specs.Proposed.{Proposed}
 use Rattle.a429_slots.specs.History.{Opening}
 use Rattle.a429_slots.specs.Answers.{answer}
 use Rattle.a429_core.specs.Standing.{Standing, StandsFor}
-use Rattle.a429_inputs.specs.AnswerLines.{answer_line}
-use Rattle.a429_inputs.specs.Names.{Naming}
-use Rattle.a429_inputs.specs.RefusalText.{refusal_line}
+use Rattle.a429_cli.specs.AnswerLines.{answer_line}
+use Rattle.a429_console.specs.Names.{Naming}
+use Rattle.a429_console.specs.RefusalText.{refusal_line}
 use Rattle.a429_cli.specs.Script.{script_events}
-use Rattle.a429_inputs.specs.Tables.{IsProposedBy, IsTableRefusal}
-use Rattle.a429_inputs.specs.declared.refusals.CommandRefusal.{CommandRefusal}
+use Rattle.a429_console.specs.Tables.{IsProposedBy, IsTableRefusal}
+use Rattle.a429_console.specs.declared.refusals.CommandRefusal.{CommandRefusal}
 use Rattle.a429_cli.specs.declared.replay.script.ScriptEvent.{ScriptEvent}
 use Rattle.a429_cli.specs.declared.replay.script.ScriptEvent.TheVariants.{Arrive, Cell, Frame, Publish}
 

@@ -2,13 +2,13 @@
 use Rattle.std.specs.Prelude.{◌≡◌, ◌∷◌, [], ◌++◌, ◌⊎◌, ℕ, List, Option, Ok, codes, take, length}
 use Rattle.a429_slots.specs.Events.{Event}
 use Rattle.a429_slots.specs.Proposed.{Proposed}
-use Rattle.a429_inputs.specs.Names.{naming_of}
-use Rattle.a429_inputs.specs.FileReadings.{AreRead, IsFirstUnread}
-use Rattle.a429_inputs.specs.Tables.{IsProposedBy, IsTableRefusal}
+use Rattle.a429_console.specs.Names.{naming_of}
+use Rattle.a429_console.specs.FileReadings.{AreRead, IsFirstUnread}
+use Rattle.a429_console.specs.Tables.{IsProposedBy, IsTableRefusal}
 use Rattle.a429_cli.specs.Script.{script_events, IsScriptFault}
 use Rattle.a429_cli.specs.Playing.{Played}
-use Rattle.a429_inputs.specs.RefusalText.{OrMemory, refusal_line}
-use Rattle.a429_inputs.specs.declared.refusals.CommandRefusal.{CommandRefusal}
+use Rattle.a429_console.specs.RefusalText.{OrMemory, refusal_line}
+use Rattle.a429_console.specs.declared.refusals.CommandRefusal.{CommandRefusal}
 use Rattle.a429_cli.specs.declared.replay.script.ScriptEvent.{ScriptEvent}
 
 -- the bytes of the files that a replay reads

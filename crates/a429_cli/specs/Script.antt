@@ -4,9 +4,9 @@ use Rattle.std.specs.Str.{bytes_eq}
 use Rattle.a429_word.specs.Hexadecimal.{raw_word}
 use Rattle.a429_console.specs.CutText.{cut, lines_of}
 use Rattle.a429_cli.specs.ScriptText.{decimal_number}
-use Rattle.a429_inputs.specs.Names.{Naming, number_named}
-use Rattle.a429_inputs.specs.declared.refusals.CommandRefusal.{CommandRefusal}
-use Rattle.a429_inputs.specs.declared.refusals.CommandRefusal.TheVariants as refused
+use Rattle.a429_console.specs.Names.{Naming, number_named}
+use Rattle.a429_console.specs.declared.refusals.CommandRefusal.{CommandRefusal}
+use Rattle.a429_console.specs.declared.refusals.CommandRefusal.TheVariants as refused
 use Rattle.a429_cli.specs.declared.replay.script.ScriptEvent.{ScriptEvent}
 use Rattle.a429_cli.specs.declared.replay.script.ScriptEvent.TheVariants.{Arrive, Cell, Frame, Publish}
 

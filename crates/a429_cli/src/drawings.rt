@@ -2,7 +2,7 @@
 ghost use Rattle.std.specs.Prelude.{◌≡◌, ◌≤◌, ◌<◌, IfOk, IfSome, IsTrue, MatchResult, OnOk, Some, length, option_map};
 ghost use Rattle.a429_console.specs.Readings.{HasRead};
 ghost use Rattle.a429_console.specs.Outputs.{CountsFault, IsPut};
-ghost use Rattle.a429_inputs.specs.RefusalText.{OrMemory};
+ghost use Rattle.a429_console.specs.RefusalText.{OrMemory};
 ghost use Rattle.a429_cli.specs.Drawings.{IsDrawReply, IsDrawing, IsImage, IsNoGroup, group_asked, group_numbered};
 
 use a429_console::files::FileReader;
@@ -10,9 +10,9 @@ use a429_console::output::endings::finish;
 use a429_console::output::{Output, OutputFault};
 use a429_documents::draw_text;
 use a429_equipment::GroupRow;
-use a429_inputs::files::read_file;
-use a429_inputs::refusals::{CommandRefusal, refuse};
-use a429_inputs::tables::{no_group, propose};
+use a429_console::files::reading::read_file;
+use a429_console::refusals::{CommandRefusal, refuse};
+use a429_console::refusals::tables::{no_group, propose};
 use a429_slots::{OUTPUTS, Proposal};
 use std::alloc::Global;
 

@@ -2,17 +2,17 @@
 ghost use Rattle.std.specs.Prelude.{◌≡◌, ◌<◌, ◌++◌, ◌∷◌, [], codes, length, OnOk, OnErr};
 ghost use Rattle.std.specs.Fmt.{decimal};
 ghost use Rattle.a429_cli.specs.LineReports.{found_line};
-ghost use Rattle.a429_inputs.specs.AnswerLines.{answer_line};
+ghost use Rattle.a429_cli.specs.AnswerLines.{answer_line};
 ghost use Rattle.a429_console.specs.Outputs.{AppendsPending, CountsFault};
-ghost use Rattle.a429_inputs.specs.RefusalText.{refusal_line};
+ghost use Rattle.a429_console.specs.RefusalText.{refusal_line};
 
 use crate::lines::reports::push_found;
 use crate::replay::answers::push_answer;
 use a429_console::output::from_end::push_number;
 use a429_console::output::{Output, OutputFault};
 use a429_core::Answer;
-use a429_inputs::names::Names;
-use a429_inputs::refusals::CommandRefusal;
+use crate::names::Names;
+use a429_console::refusals::CommandRefusal;
 use a429_line::Found;
 use std::alloc::{AllocError, Global};
 use std::io::Write;

@@ -3,7 +3,7 @@ ghost use Rattle.std.specs.Prelude.{◌≤◌, IfOk, IsTrue, MatchResult, OnOk};
 ghost use Rattle.a429_console.specs.Files.{texts_of};
 ghost use Rattle.a429_console.specs.Readings.{HasRead};
 ghost use Rattle.a429_console.specs.Outputs.{CountsFault, IsPut};
-ghost use Rattle.a429_inputs.specs.RefusalText.{OrMemory};
+ghost use Rattle.a429_console.specs.RefusalText.{OrMemory};
 ghost use Rattle.a429_cli.specs.Replaying.{IsNoStart, IsReplay};
 ghost use Rattle.a429_cli.specs.Opened.{AreTablesRead, IsInputReading, IsOutcomePut, IsPreparedFor, input_of};
 
@@ -21,8 +21,8 @@ use crate::replay::station::Station;
 use a429_console::files::FileReader;
 use a429_console::output::endings::finish;
 use a429_console::output::{Output, OutputFault};
-use a429_inputs::files::{read_file, read_files};
-use a429_inputs::refusals::{CommandRefusal, refuse};
+use a429_console::files::reading::{read_file, read_files};
+use a429_console::refusals::{CommandRefusal, refuse};
 use std::alloc::Global;
 
 /// The bytes of the files that a replay reads; of the further tables also what they come to.

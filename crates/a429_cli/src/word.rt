@@ -9,7 +9,7 @@ ghost use Rattle.a429_cli.specs.WordLines.{IsWordReply, bcd_digits, bcd_line, bn
 
 use a429_console::output::endings::{finish, refuse_memory};
 use a429_console::output::{Output, OutputFault};
-use a429_inputs::refusals::{CommandRefusal, refuse};
+use a429_console::refusals::{CommandRefusal, refuse};
 use a429_word::{Label, Sdi, Ssm, Word, raw_word};
 use std::alloc::Global;
 use std::io;

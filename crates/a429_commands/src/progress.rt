@@ -3,7 +3,7 @@
 use crate::support::{ONE, memory_files, repeated};
 use a429_cli::CountedWriter;
 use a429_hints::HintLines;
-use a429_live::{Progress, ProgressLine, command_live};
+use a429_cli::{Progress, ProgressLine, command_live};
 use std::io;
 use std::io::Write;
 use std::sync::atomic::{AtomicU64, Ordering};

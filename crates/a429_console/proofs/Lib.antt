@@ -19,3 +19,6 @@ pub mod Endings
 pub mod KindReplies
 pub mod PushedWords
 pub mod ReadingParts
+pub mod Refused
+pub mod RefusalEndings
+pub mod SoFar

@@ -11,3 +11,7 @@ pub mod CutText
 pub mod GivenWords
 pub mod Ends
 pub mod Readings
+pub mod Names
+pub mod FileReadings
+pub mod RefusalText
+pub mod Tables

@@ -5,6 +5,7 @@ ghost use Rattle.a429_console.specs.declared.files.FileFault.{FileFault};
 
 pub mod disk;
 pub mod memory;
+pub mod reading;
 
 use thiserror::Error;
 

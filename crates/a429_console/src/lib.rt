@@ -1,5 +1,4 @@
-//! What every command of the program `a429` stands on, without tables: the words of a command line, readers of files,
-//! and the output that it puts.
+//! What commands of the program `a429` share: the words of a command line, files, the output, and refusals.
 #![tactic(auto)]
 
 pub mod arguments;
@@ -7,4 +6,5 @@ pub mod files;
 pub mod hints;
 pub mod laws;
 pub mod output;
+pub mod refusals;
 pub mod texts;

@@ -1,7 +1,7 @@
 //! Hints about files that cannot be read.
 
 use a429_console::files::{FileReader, FileTrouble};
-use a429_inputs::files::shown_name;
+use a429_console::files::reading::shown_name;
 use std::alloc::Global;
 use std::io;
 use std::io::Write;

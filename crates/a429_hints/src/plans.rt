@@ -5,7 +5,7 @@ use crate::periods::{Unfit, tell_unfit};
 use crate::reasons::meaning;
 use a429_cert::{NoVerdict, Verdict, judge};
 use a429_equipment::{Equipment, GroupRow};
-use a429_inputs::names::{group_name, source_name};
+use a429_console::refusals::names::{group_name, source_name};
 use a429_slots::{OUTPUTS, PlanFault, Proposal};
 use a429_table::{TableFault, read_equipment};
 use std::alloc::Global;

@@ -1,11 +1,11 @@
 //! Lines of answers.
 ghost use Rattle.std.specs.Prelude.{◌≡◌, ◌≤◌, ◌+◌, ◌++◌, [], drop, length, OnOk, OnErr};
 ghost use Rattle.a429_slots.specs.declared.answers.Answer.TheVariants.{Sent, Refused};
-ghost use Rattle.a429_inputs.specs.AnswerLines.{answer_line, cell_text};
+ghost use Rattle.a429_cli.specs.AnswerLines.{answer_line, cell_text};
 
 use a429_console::output::from_end::{ROOM, push_number, put_decimal, put_hex, put_text};
 use a429_core::{Answer, Refusal};
-use a429_inputs::names::Names;
+use crate::names::Names;
 use a429_word::Word;
 use std::alloc::AllocError;
 

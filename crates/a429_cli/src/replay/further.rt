@@ -3,12 +3,12 @@ ghost use Rattle.std.specs.Prelude.{◌≡◌, IfOk, IfSome, MatchResult};
 ghost use Rattle.a429_core.specs.Happened.{event_of};
 ghost use Rattle.a429_console.specs.Files.{bytes_of};
 ghost use Rattle.a429_cli.specs.Playing.{IsPublication};
-ghost use Rattle.a429_inputs.specs.RefusalText.{OrMemory};
-ghost use Rattle.a429_inputs.specs.Tables.{IsProposing, IsTableRefusal};
+ghost use Rattle.a429_console.specs.RefusalText.{OrMemory};
+ghost use Rattle.a429_console.specs.Tables.{IsProposing, IsTableRefusal};
 
 use a429_core::Event;
-use a429_inputs::refusals::CommandRefusal;
-use a429_inputs::tables::propose;
+use a429_console::refusals::CommandRefusal;
+use a429_console::refusals::tables::propose;
 use a429_slots::{OUTPUTS, Proposal};
 use std::alloc::{AllocError, Global};
 use std::marker::Model;
@@ -22,7 +22,7 @@ pub struct FurtherTable {
 
 impl Model for FurtherTable {
     ghost use Rattle.std.specs.Prelude.{ℕ, List};
-    ghost use Rattle.a429_inputs.specs.Tables.{IsProposing};
+    ghost use Rattle.a429_console.specs.Tables.{IsProposing};
 
     ghost Value = { List ℕ };
 

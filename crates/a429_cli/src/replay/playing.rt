@@ -3,15 +3,15 @@ ghost use Rattle.std.specs.Prelude.{◌≡◌, ◌<◌, OnOk, OnErr, IfOk, IfSom
 ghost use Rattle.a429_core.specs.Happened.{event_of};
 ghost use Rattle.a429_console.specs.Outputs.{AppendsPending, CountsFault};
 ghost use Rattle.a429_cli.specs.Playing.{HasTable, IsEventOf, IsUnread, PlaysOne, PlaysScript};
-ghost use Rattle.a429_inputs.specs.RefusalText.{OrMemory};
+ghost use Rattle.a429_console.specs.RefusalText.{OrMemory};
 
 use crate::pending::{Pending, put_if_full};
 use crate::replay::further::FurtherTable;
 use crate::replay::script::{ScriptEvent, first_event};
 use a429_console::output::{Output, OutputFault};
 use a429_core::{Event, StationState};
-use a429_inputs::names::Names;
-use a429_inputs::refusals::CommandRefusal;
+use crate::names::Names;
+use a429_console::refusals::CommandRefusal;
 use std::alloc::{AllocError, Global};
 
 /// The event of the machine that a script's event stands for, where these are the further tables. Refused is the

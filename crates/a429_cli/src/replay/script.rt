@@ -5,8 +5,8 @@ ghost use Rattle.a429_cli.specs.Script.{arrive_event, line_event, first_event, p
 ghost use Rattle.a429_cli.specs.Playing.{HasTable};
 
 use a429_console::texts::cut_at;
-use a429_inputs::names::Names;
-use a429_inputs::refusals::CommandRefusal;
+use crate::names::Names;
+use a429_console::refusals::CommandRefusal;
 use a429_word::raw_word;
 
 /// An event of a script. Receivers and groups are numbered from 0 in table order, the further tables of the

@@ -1,13 +1,13 @@
 //! The station of a table, opened for a script.
 ghost use Rattle.std.specs.Prelude.{MatchResult};
 ghost use Rattle.a429_cli.specs.Opened.{IsOpenedFrom};
-ghost use Rattle.a429_inputs.specs.RefusalText.{OrMemory};
-ghost use Rattle.a429_inputs.specs.Tables.{IsTableRefusal};
+ghost use Rattle.a429_console.specs.RefusalText.{OrMemory};
+ghost use Rattle.a429_console.specs.Tables.{IsTableRefusal};
 
 use a429_core::{OpenFault, StationState};
-use a429_inputs::names::Names;
-use a429_inputs::refusals::CommandRefusal;
-use a429_inputs::tables::propose;
+use crate::names::Names;
+use a429_console::refusals::CommandRefusal;
+use a429_console::refusals::tables::propose;
 use std::alloc::Global;
 
 /// A station in operation, with its names.

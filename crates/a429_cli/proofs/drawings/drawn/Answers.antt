@@ -2,10 +2,10 @@ use Rattle.std.proofs.Common.{◌∙◌, ℕ, List, Bor, ap, inl, inr, subst}
 use Rattle.std.specs.Prelude.{Err, option_map}
 use Rattle.std.proofs.lemmas.Result.{err_from_is_err_and}
 use Rattle.a429_console.proofs.ReadingParts.{read_weaker}
-use Rattle.a429_inputs.specs.FileReadings.{IsFileRefusal}
-use Rattle.a429_inputs.specs.RefusalText.{OrMemory}
-use Rattle.a429_inputs.specs.Tables.{IsProposedBy}
-use Rattle.a429_inputs.proofs.Refused.{failed, matched_both, or_memory_weaker}
+use Rattle.a429_console.specs.FileReadings.{IsFileRefusal}
+use Rattle.a429_console.specs.RefusalText.{OrMemory}
+use Rattle.a429_console.specs.Tables.{IsProposedBy}
+use Rattle.a429_console.proofs.Refused.{failed, matched_both, or_memory_weaker}
 use Rattle.a429_cli.specs.Drawings.{IsImage, IsImageOf, IsNoGroup, IsNoImage}
 use Rattle.a429_cli.proofs.drawings.drawn.Goals as goal
 

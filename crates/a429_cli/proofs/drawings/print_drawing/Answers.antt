@@ -2,7 +2,7 @@ use Rattle.std.proofs.Common.{ℕ, List, Bor, inl, inr, refl}
 use Rattle.std.specs.Prelude.{option_map}
 use Rattle.a429_console.proofs.Endings.{text_put}
 use Rattle.a429_console.proofs.ReadingParts.{read_weaker}
-use Rattle.a429_inputs.proofs.Endings.{refusal_put}
+use Rattle.a429_console.proofs.RefusalEndings.{refusal_put}
 use Rattle.a429_cli.specs.Drawings.{IsDrawReply, IsNoImage}
 use Rattle.a429_cli.proofs.drawings.print_drawing.Goals as goal
 

@@ -2,9 +2,9 @@ use Rattle.a429_console.proofs.ReadingParts.{read_weaker}
 use Rattle.std.proofs.Common.{◌∙◌, ap, inl, map}
 use Rattle.std.specs.Prelude.{Err}
 use Rattle.std.proofs.lemmas.Result.{err_from_is_err_and}
-use Rattle.a429_inputs.specs.FileReadings.{IsFileRefusal}
-use Rattle.a429_inputs.specs.RefusalText.{OrMemory}
-use Rattle.a429_inputs.proofs.Refused.{failed, or_memory_weaker}
+use Rattle.a429_console.specs.FileReadings.{IsFileRefusal}
+use Rattle.a429_console.specs.RefusalText.{OrMemory}
+use Rattle.a429_console.proofs.Refused.{failed, or_memory_weaker}
 use Rattle.a429_cli.specs.LineReplies.{IsLinesRefusal}
 use Rattle.a429_cli.proofs.lines.read_line.Goals as goal
 

@@ -3,7 +3,7 @@ use Rattle.a429_line.specs.LineBytes.{symbols_of}
 use Rattle.a429_cli.specs.LineReplies.{IsTold}
 use Rattle.a429_console.specs.Outputs.{ending}
 use Rattle.a429_cli.proofs.PlayedLines.{Appends-ended}
-use Rattle.a429_inputs.proofs.Refused.{both_ok}
+use Rattle.a429_console.proofs.Refused.{both_ok}
 use Rattle.a429_cli.proofs.ReportLines.{told_ended}
 use Rattle.a429_cli.proofs.lines.tell_line.Goals as goal
 

@@ -5,8 +5,8 @@ use Rattle.std.proofs.lemmas.Result.{IfOk-weaker}
 use Rattle.a429_filter.specs.declared.filters.Filter.{Filter}
 use Rattle.a429_line.specs.LineBytes.{symbols_of}
 use Rattle.a429_cli.specs.LineReplies.{IsLinesRefusal, IsTold}
-use Rattle.a429_inputs.specs.RefusalText.{refusal_line}
-use Rattle.a429_inputs.proofs.Refused.{both_ok, told_or_memory}
+use Rattle.a429_console.specs.RefusalText.{refusal_line}
+use Rattle.a429_console.proofs.Refused.{both_ok, told_or_memory}
 use Rattle.a429_cli.proofs.lines.tell_lines.Goals as goal
 
 pub returns-in-Ok-clause-told : goal.returns-in-Ok-clause-told

@@ -2,10 +2,10 @@ use Rattle.a429_console.proofs.ReadingParts.{read_then, read_weaker}
 use Rattle.std.proofs.Common.{◌∙◌, ◌∷◌, [], ap, inl, inr}
 use Rattle.std.specs.Prelude.{Err}
 use Rattle.std.proofs.lemmas.Result.{err_from_is_err_and}
-use Rattle.a429_inputs.specs.FileReadings.{AreRead, IsFileRefusal}
+use Rattle.a429_console.specs.FileReadings.{AreRead, IsFileRefusal}
 use Rattle.a429_cli.specs.PlanReplies.{IsJudged, IsNoVerdict, IsUnjudged, IsVerdictOf}
-use Rattle.a429_inputs.specs.RefusalText.{OrMemory}
-use Rattle.a429_inputs.proofs.Refused.{failed, matched_both, or_memory_weaker}
+use Rattle.a429_console.specs.RefusalText.{OrMemory}
+use Rattle.a429_console.proofs.Refused.{failed, matched_both, or_memory_weaker}
 use Rattle.a429_cli.proofs.plan_texts.judged_files.Goals as goal
 
 pub returns-in_err-table : goal.returns-in_err-table

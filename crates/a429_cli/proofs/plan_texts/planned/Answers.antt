@@ -2,11 +2,11 @@ use Rattle.a429_console.proofs.ReadingParts.{read_weaker}
 use Rattle.std.proofs.Common.{◌∙◌, ap, inl, inr, subst, List, ℕ}
 use Rattle.std.specs.Prelude.{Err}
 use Rattle.std.proofs.lemmas.Result.{err_from_is_err_and}
-use Rattle.a429_inputs.specs.FileReadings.{IsFileRefusal}
-use Rattle.a429_inputs.specs.RefusalText.{OrMemory}
-use Rattle.a429_inputs.specs.Tables.{IsProposedBy, IsTableRefusal}
-use Rattle.a429_inputs.specs.declared.refusals.CommandRefusal.TheVariants as refused
-use Rattle.a429_inputs.proofs.Refused.{failed, or_memory_weaker}
+use Rattle.a429_console.specs.FileReadings.{IsFileRefusal}
+use Rattle.a429_console.specs.RefusalText.{OrMemory}
+use Rattle.a429_console.specs.Tables.{IsProposedBy, IsTableRefusal}
+use Rattle.a429_console.specs.declared.refusals.CommandRefusal.TheVariants as refused
+use Rattle.a429_console.proofs.Refused.{failed, or_memory_weaker}
 use Rattle.a429_cli.specs.PlanReplies.{IsNoPlan}
 use Rattle.a429_cli.proofs.plan_texts.planned.Goals as goal
 

@@ -2,7 +2,7 @@ use Rattle.a429_console.proofs.ReadingParts.{read_weaker}
 use Rattle.std.proofs.Common.{inl, inr, refl}
 use Rattle.a429_cli.specs.PlanReplies.{IsNoPlan, IsPlanReply}
 use Rattle.a429_console.proofs.Endings.{done_is_few, refused_is_few, text_put}
-use Rattle.a429_inputs.proofs.Endings.{refusal_put}
+use Rattle.a429_console.proofs.RefusalEndings.{refusal_put}
 use Rattle.a429_cli.proofs.plan_texts.print_plan.Goals as goal
 
 pub returns-in-Ok-clause-planned : goal.returns-in-Ok-clause-planned

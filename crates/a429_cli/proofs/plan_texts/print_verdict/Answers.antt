@@ -1,7 +1,7 @@
 use Rattle.a429_console.proofs.ReadingParts.{read_weaker}
 use Rattle.std.proofs.lemmas.Result.{IfOk-weaker}
 use Rattle.std.proofs.Common.{inl, refl}
-use Rattle.a429_inputs.proofs.Endings.{refusal_put}
+use Rattle.a429_console.proofs.RefusalEndings.{refusal_put}
 use Rattle.a429_cli.specs.PlanReplies.{IsCheckReply, IsNoVerdict}
 use Rattle.a429_cli.proofs.Refused.{verdict_told}
 use Rattle.a429_cli.proofs.plan_texts.print_verdict.Goals as goal

@@ -3,12 +3,12 @@ use Rattle.std.specs.Prelude.{Ok}
 use Rattle.a429_slots.specs.History.{Opening}
 use Rattle.a429_cli.specs.Playing.{Played}
 use Rattle.a429_cli.specs.Script.{script_events}
-use Rattle.a429_inputs.specs.Names.{Naming, naming_of}
+use Rattle.a429_console.specs.Names.{Naming, naming_of}
 use Rattle.a429_cli.specs.Opened.{input_of}
 use Rattle.a429_console.specs.Outputs.{ending}
 use Rattle.a429_cli.specs.Replaying.{IsOutcome}
 use Rattle.a429_cli.proofs.PlayedLines.{Appends-ended, played_ended}
-use Rattle.a429_inputs.proofs.Refused.{both_ok}
+use Rattle.a429_console.proofs.Refused.{both_ok}
 use Rattle.a429_cli.proofs.replay.play_prepared.Goals as goal
 
 pub returns-clause-played : goal.returns-clause-played

@@ -1,13 +1,13 @@
 use Rattle.std.proofs.Common.{◌∙◌, ℕ, List, subst, ap}
 use Rattle.std.specs.Prelude.{Err}
 use Rattle.std.proofs.lemmas.Result.{err_from_is_err_and}
-use Rattle.a429_inputs.specs.RefusalText.{OrMemory}
-use Rattle.a429_inputs.specs.Names.{Naming, naming_of}
-use Rattle.a429_inputs.specs.Tables.{IsProposedBy}
+use Rattle.a429_console.specs.RefusalText.{OrMemory}
+use Rattle.a429_console.specs.Names.{Naming, naming_of}
+use Rattle.a429_console.specs.Tables.{IsProposedBy}
 use Rattle.a429_cli.specs.Script.{IsScript, IsScriptFault}
 use Rattle.a429_cli.specs.Replaying.{IsNoStart}
 use Rattle.a429_cli.specs.Opened.{input_of}
-use Rattle.a429_inputs.proofs.Refused.{failed}
+use Rattle.a429_console.proofs.Refused.{failed}
 use Rattle.a429_cli.proofs.Refused.{script_fault_refuses}
 use Rattle.a429_cli.proofs.replay.prepare.Goals as goal
 

@@ -2,9 +2,9 @@ use Rattle.std.proofs.Common.{◌∙◌, ap, map}
 use Rattle.std.specs.Prelude.{Err}
 use Rattle.std.proofs.lemmas.Result.{err_from_is_err_and}
 use Rattle.a429_console.proofs.ReadingParts.{read_weaker}
-use Rattle.a429_inputs.specs.FileReadings.{IsFirstUnread}
-use Rattle.a429_inputs.specs.RefusalText.{OrMemory}
-use Rattle.a429_inputs.proofs.Refused.{failed}
+use Rattle.a429_console.specs.FileReadings.{IsFirstUnread}
+use Rattle.a429_console.specs.RefusalText.{OrMemory}
+use Rattle.a429_console.proofs.Refused.{failed}
 use Rattle.a429_cli.proofs.replay.read_further.Goals as goal
 
 pub returns-in_err-tables : goal.returns-in_err-tables

@@ -2,9 +2,9 @@ use Rattle.a429_console.proofs.ReadingParts.{read_then, read_weaker}
 use Rattle.std.proofs.Common.{◌≡◌, ◌∙◌, ◌∷◌, ℕ, List, ap, map, inl, inr}
 use Rattle.std.specs.Prelude.{Err, Option, Some}
 use Rattle.std.proofs.lemmas.Result.{err_from_is_err_and}
-use Rattle.a429_inputs.specs.FileReadings.{AreRead, IsFileRefusal, IsFirstUnread, readable}
-use Rattle.a429_inputs.specs.RefusalText.{OrMemory}
-use Rattle.a429_inputs.proofs.Refused.{failed, or_memory_weaker}
+use Rattle.a429_console.specs.FileReadings.{AreRead, IsFileRefusal, IsFirstUnread, readable}
+use Rattle.a429_console.specs.RefusalText.{OrMemory}
+use Rattle.a429_console.proofs.Refused.{failed, or_memory_weaker}
 use Rattle.a429_cli.proofs.replay.read_input.Goals as goal
 
 pub returns-in_err-table : goal.returns-in_err-table

@@ -1,12 +1,12 @@
 use Rattle.a429_console.proofs.ReadingParts.{read_weaker}
 use Rattle.std.proofs.Common.{◌⊎◌, ◌++◌, ◌∷◌, [], map, refl, inl, inr}
 use Rattle.std.proofs.lemmas.Result.{IfOk-weaker}
-use Rattle.a429_inputs.specs.FileReadings.{IsFirstUnread}
-use Rattle.a429_inputs.specs.RefusalText.{refusal_line}
-use Rattle.a429_inputs.specs.Tables.{IsTableRefusal}
+use Rattle.a429_console.specs.FileReadings.{IsFirstUnread}
+use Rattle.a429_console.specs.RefusalText.{refusal_line}
+use Rattle.a429_console.specs.Tables.{IsTableRefusal}
 use Rattle.a429_cli.specs.Replaying.{IsReplayRefusal, IsScriptRefusal}
 use Rattle.a429_cli.specs.Opened.{input_of}
-use Rattle.a429_inputs.proofs.Refused.{both_ok, or_memory_weaker, told_or_memory}
+use Rattle.a429_console.proofs.Refused.{both_ok, or_memory_weaker, told_or_memory}
 use Rattle.a429_cli.proofs.replay.replay.Goals as goal
 
 pub returns-in-Err-clause-replayed : goal.returns-in-Err-clause-replayed

@@ -3,8 +3,8 @@ use Rattle.std.specs.Prelude.{None, Some}
 use Rattle.std.proofs.lemmas.Grind.{common_steps}
 use Rattle.a429_word.specs.Bits.{has_odd_parity}
 use Rattle.a429_word.specs.Hexadecimal.{raw_word}
-use Rattle.a429_inputs.proofs.Refused.{both_ok}
-use Rattle.a429_inputs.specs.declared.refusals.CommandRefusal.TheVariants as refused
+use Rattle.a429_console.proofs.Refused.{both_ok}
+use Rattle.a429_console.specs.declared.refusals.CommandRefusal.TheVariants as refused
 use Rattle.a429_cli.specs.WordLines.{reply_to, word_lines}
 use Rattle.a429_cli.proofs.WordEndings.{word_refused, word_told}
 use Rattle.a429_cli.proofs.word.tell_word.Goals as goal

@@ -3,7 +3,7 @@ use Rattle.std.proofs.lemmas.Result.{on_ok_weaker}
 use Rattle.a429_word.proofs.Lists.{same_Ok}
 use Rattle.a429_slots.specs.Answers.{answer}
 use Rattle.a429_core.specs.Happened.{event_of}
-use Rattle.a429_inputs.specs.AnswerLines.{answer_line}
+use Rattle.a429_cli.specs.AnswerLines.{answer_line}
 use Rattle.a429_cli.proofs.replay.playing.play.Goals as goal
 
 pub returns-in-Ok-step-clause-played : goal.returns-in-Ok-step-clause-played

@@ -1,2 +1,0 @@
-pub mod Left
-pub mod Ran

@@ -1,0 +1,11 @@
+-- What was done with the words that were given.
+use Rattle.std.proofs.Common.{ℕ, List, inl, inr}
+use Rattle.std.specs.Prelude.{Option}
+use Rattle.a429_console.specs.Ends.{Writing}
+use Rattle.a429_console.specs.GivenWords.{AreGiven}
+use Rattle.a429_cli.specs.ProgramRuns.{HasRun, IsDoneOrRefused, Reader}
+
+pub ran_with : (gives : ℕ → List ℕ → Type 0) (ends : ℕ → Type 0) (reader : Reader) (Reads : ((List ℕ → Option (List ℕ)) → Type 0) → Type 0) (out err : Writing) (status : ℕ) (words : List (List ℕ))
+    → AreGiven gives ends words → IsDoneOrRefused words reader Reads out err status → HasRun gives ends reader Reads out err status
+ran_with gives ends reader Reads out err status words given (inl done) = inl (words, given, done)
+ran_with gives ends reader Reads out err status words given (inr refused) = inr (inr refused)

@@ -1,0 +1,56 @@
+use Rattle.std.proofs.Common.{◌≡◌, ◌∙◌, ℕ, List, length, rules, subst, sym}
+use Rattle.std.specs.Prelude.{⊤, Option}
+use Rattle.std.specs.declared.vec.Vec.{Vec}
+use Rattle.std.specs.declared.alloc.Global.{Global}
+use Rattle.a429_filter.specs.Sources.{Memory, all_given}
+use Rattle.a429_workers.specs.declared.gates.Point.{Point}
+use Rattle.a429_station.specs.Course.{IsHeardIn}
+use Rattle.a429_station.specs.Faults.{IsLiveFault}
+use Rattle.a429_station.specs.Numbered.{AllOfThree}
+use Rattle.a429_console.specs.Files.{bytes_of}
+use Rattle.a429_cli.specs.LiveReplies.{AreSentWhole, IsReport, IsRunRefusal, IsRunReport}
+use Rattle.a429_cli.specs.Resubmitted.{AreAnswers}
+use Rattle.a429_console.specs.RefusalText.{OrMemory}
+use Rattle.a429_console.specs.declared.refusals.CommandRefusal.{CommandRefusal}
+use Rattle.a429_cli.proofs.LiveRefusals.{lines_of, refusal_told}
+use Rattle.a429_cli.proofs.LiveRuns.{GivesFrom, as_many, heard_rows}
+use Rattle.a429_cli.proofs.WholeFrames.{all_sent_whole}
+use Rattle.a429_console.proofs.Refused.{matched_both, or_memory_weaker}
+use Rattle.a429_cli.proofs.live.running.run.Goals as goal
+
+pub returns-in-Ok : goal.returns-in-Ok
+returns-in-Ok g c =
+    let t = c.args.equipment.now in
+    let report = c.in-Ok.report in
+    let told = c.in-Ok.ensures.told in
+    let ran = told.0 in
+    let between = told.1 in
+    let many : length c.in_ok-sources.sources.items ≡ length t.receivers = search rules in
+    let few : length c.in_ok-sinks.sinks.items ≡ length t.groups = search rules in
+    let words = c.args.arrivals.now in
+    let further = bytes_of c.args.further.now in
+    let answers = c.deref.result.now in
+    let answered : AreAnswers between.begin further answers between.end =
+    subst (λ (xs : List (Option ℕ)). AreAnswers between.begin further xs between.end) (sym c.deref.ensures.value)
+    (subst (λ (tables : List (Vec ℕ Global)). AreAnswers between.begin (bytes_of tables) c.live.new.control.answers.items between.end) c.new-control.ensures.tables (between.done c.new-control.ensures.none)) in
+    let heard = heard_rows t ran.course words (length t.receivers) report.sources.items report.receivers.items
+    (subst (λ l. AllOfThree (IsHeardIn GivesFrom all_given t ran.course) l report.sources.items report.receivers.items) (search rules) ran.heard) in
+    let receivers = as_many _ c.in_ok-sources.sources.items report.sources.items report.receivers.items ran.heard ∙ many in
+    let groups = as_many _ c.in_ok-sinks.sinks.items report.sinks.items report.groups.items ran.sent ∙ few in
+    let cells : AreSentWhole t c.args.frames further report.groups.items =
+    all_sent_whole _ c.args.frames t ran.course further answers c.in_ok-sinks.sinks.items report.sinks.items report.groups.items _ between ran.planned answered ran.sent in
+    matched_both c.report_text.result (λ text. IsReport t further report.receivers.items report.groups.items text.items) (λ text. IsRunReport t words c.args.frames further text.items)
+    (OrMemory (λ why. ⊥)) (OrMemory (IsRunRefusal t words c.args.frames)) (λ text is. (report.receivers.items, report.groups.items, record { few = ran.few; heard = heard; receivers = receivers; groups = groups; cells = cells }, is))
+    (λ e why. or_memory_weaker (λ why. ⊥) (IsRunRefusal t words c.args.frames) e (λ none. absurd none) why)
+    (c.report_text.ensures between.begin between.end between.station between.begun.planned.number answered)
+
+pub returns : goal.returns
+returns g c =
+    let t = c.args.equipment.now in
+    let words = c.args.arrivals.now in
+    let sinks = c.in_ok-sinks.sinks.items in
+    let fault = c.in-Err.fault in
+    let idle = c.live.new.control ≡ c.new-control.result in
+    let lines : c.in_ok-sources.sources.items ≡ lines_of words (length t.receivers) = search rules in
+    let own = subst (λ (l : List Memory). IsLiveFault idle GivesFrom all_given (λ (line : Memory). 0) (λ (sink : ℕ). 0) (λ (p : Point). ⊤) (λ (p : Point). ⊥) t c.args.frames l sinks fault) lines c.in-Err.ensures.fault in
+    subst (λ (e : CommandRefusal). OrMemory (IsRunRefusal t words c.args.frames) e) (sym c.run_refusal.ensures) (refusal_told idle (λ (p : Point). ⊤) t words sinks c.args.frames fault own)

@@ -1,0 +1,52 @@
+-- What the program does with the words that it is given.
+use Rattle.std.specs.Prelude.{◌≡◌, ◌≤◌, [], ◌∷◌, ◌⊎◌, ℕ, List, Bool, true, false, Option, IsTrue, codes}
+use Rattle.std.specs.Str.{bytes_eq}
+use Rattle.a429_console.specs.Ends.{EndsBy, IsMemoryRefused, IsMistakeTold, IsPutTo, IsWhole, Writing}
+use Rattle.a429_console.specs.GivenWords.{AreGiven, HasNoText}
+use Rattle.a429_console.specs.LiveWords.{AsksForLive, LiveAsk}
+use Rattle.a429_console.specs.Outputs.{OrNoMemory}
+use Rattle.a429_console.specs.RequestRows.{AsksFor}
+use Rattle.a429_console.specs.Requests.{RequestBytes}
+use Rattle.a429_console.specs.Usage.{kinds_of_words, live_kinds_of_words}
+use Rattle.a429_cli.specs.Replies.{IsReplyOrMemory}
+use Rattle.a429_cli.specs.LiveReplies.{IsLiveReply}
+
+-- what files a reader has, and whether it tells them
+pub record Reader : Type 0 where
+  pub tells : Bool
+  pub file : List ℕ → Option (List ℕ)
+
+-- the first word is `live`
+abbrev pub is_live : List (List ℕ) → Bool
+is_live [] = false
+is_live (word ∷ words) = bytes_eq word (codes "live")
+
+-- what a request of the words is answered by
+abbrev pub IsAnswered : {R : Type 0} → (R → Type 0) → (R → ℕ → List ℕ → Type 0) → Reader → Writing → ℕ → Type 0
+IsAnswered {R} Asks Says reader out status = (r : R) → Asks r → (status ≤ 1) × (IsTrue reader.tells → IsWhole out → IsPutTo (Says r) out status)
+
+-- the words went to the command `live`
+pub record IsLiveDone (words : List (List ℕ)) (reader : Reader) (out err : Writing) (status : ℕ) : Type 0 where
+  pub answered : IsAnswered (AsksForLive words) (λ (r : LiveAsk). OrNoMemory (IsLiveReply reader.file r)) reader out status
+  pub ends : EndsBy (live_kinds_of_words words) out err status
+
+-- the words went to the other commands; Reads tells what holds of all files that give what the reader answered meanwhile
+pub record IsCommandDone (words : List (List ℕ)) (reader : Reader) (Reads : ((List ℕ → Option (List ℕ)) → Type 0) → Type 0) (out err : Writing) (status : ℕ) : Type 0 where
+  pub answered : IsAnswered (AsksFor words) (λ (r : RequestBytes). IsReplyOrMemory reader.file r) reader out status
+  pub read : (r : RequestBytes) → AsksFor words r → IsWhole out → Reads (λ file. IsPutTo (IsReplyOrMemory file r) out status)
+  pub ends : EndsBy (kinds_of_words words) out err status
+
+-- the words went to the command that the first of them names
+abbrev pub IsDone : List (List ℕ) → Reader → (((List ℕ → Option (List ℕ)) → Type 0) → Type 0) → Writing → Writing → ℕ → Type 0
+IsDone words reader Reads out err status =
+    ((is_live words ≡ true) × IsLiveDone words reader out err status) ⊎ ((is_live words ≡ false) × IsCommandDone words reader Reads out err status)
+
+-- or memory was refused
+abbrev pub IsDoneOrRefused : List (List ℕ) → Reader → (((List ℕ → Option (List ℕ)) → Type 0) → Type 0) → Writing → Writing → ℕ → Type 0
+IsDoneOrRefused words reader Reads out err status = IsDone words reader Reads out err status ⊎ IsMemoryRefused out err status
+
+-- the words that were given went to their command, or they are not all UTF-8, or memory was refused
+abbrev pub HasRun : (ℕ → List ℕ → Type 0) → (ℕ → Type 0) → Reader → (((List ℕ → Option (List ℕ)) → Type 0) → Type 0) → Writing → Writing → ℕ → Type 0
+HasRun gives ends reader Reads out err status =
+    ((words : List (List ℕ)) × AreGiven gives ends words × IsDone words reader Reads out err status)
+    ⊎ ((HasNoText gives × IsMistakeTold out err status) ⊎ IsMemoryRefused out err status)

@@ -1,0 +1,162 @@
+//! How far a run is, shown while it works.
+ghost use Rattle.std.specs.Prelude.{◌≡◌, ◌++◌, OnOk};
+ghost use Rattle.a429_cli.specs.ProgressLines.{progress_line};
+
+use a429_slots::{OUTPUTS, Plan};
+use a429_values::Accept;
+use a429_workers::{Gate, GateFault, Point, ReceiveTotals};
+use std::alloc::Global;
+use std::io;
+use std::io::Write;
+use std::sync::atomic::{AtomicU64, Ordering};
+
+/// So many cells of a group, or accepted words of a receiver, are told together.
+const STRIDE: u64 = 4096;
+
+/// So many cells of all groups are sent between two lines on a terminal.
+const SHOWN: u64 = 1 << 22;
+
+/// Is told by the threads of a run how far it is. Nothing that it does changes what the run answers.
+pub trait Progress {
+    /// The run begins: so many cells are to be sent, by the plan that it begins with.
+    fn begins(&self, cells: u64);
+
+    /// So many more cells were sent.
+    fn sent(&self, cells: u64);
+
+    /// So many more words were accepted.
+    fn accepted(&self, words: u64);
+
+    /// The run has ended.
+    fn ends(&self);
+}
+
+/// Shows nothing.
+#[derive(Clone, Copy, Debug, PartialEq, Eq)]
+pub struct NoProgress;
+
+impl Progress for NoProgress {
+    fn begins(&self, _cells: u64) {}
+
+    fn sent(&self, _cells: u64) {}
+
+    fn accepted(&self, _words: u64) {}
+
+    fn ends(&self) {}
+}
+
+/// Shows on a terminal how many cells of all were sent, and how many words were accepted: one line, which is written anew
+/// while the run goes on, and is wiped at its end. Where the terminal fails, or memory is refused, nothing is shown.
+#[derive(Drop)]
+pub struct ProgressLine<W> {
+    alloc: Global,
+    terminal: W,
+    all: AtomicU64,
+    cells: AtomicU64,
+    words: AtomicU64,
+}
+
+/// Appends the line's text. The error is a want of memory.
+fn push_line(text: &mut Vec<u8>, cells: u64, all: u64, words: u64) -> io::Result<()>
+    ensures { OnOk result (text.new.items ≡ text.old.items ++ progress_line cells all words) }
+{
+    write!(text, "cells sent {cells} of {all}, words accepted {words}")
+}
+
+impl<W: Write + Copy> ProgressLine<W> {
+    /// Nothing was sent yet.
+    pub fn new(alloc: Global, terminal: W) -> ProgressLine<W> {
+        ProgressLine {
+            alloc,
+            terminal,
+            all: AtomicU64::new(0),
+            cells: AtomicU64::new(0),
+            words: AtomicU64::new(0),
+        }
+    }
+
+    /// Writes the line over the one before, in one piece.
+    fn show(&self, cells: u64) -> io::Result<()> {
+        let (all, words) = (
+            self.all.load(Ordering::Relaxed),
+            self.words.load(Ordering::Relaxed),
+        );
+        let mut text = Vec::new(self.alloc);
+        text.push(b'\r')?;
+        push_line(&mut text, cells, all, words)?;
+        let mut terminal = self.terminal;
+        terminal.write_all(&text)
+    }
+}
+
+impl<W: Write + Copy> Progress for ProgressLine<W> {
+    fn begins(&self, cells: u64) {
+        self.all.store(cells, Ordering::Relaxed);
+        let _ = self.show(0);
+    }
+
+    fn sent(&self, cells: u64) {
+        let before = self.cells.fetch_add(cells, Ordering::Relaxed);
+        let now = before.wrapping_add(cells);
+        if before / SHOWN != now / SHOWN {
+            let _ = self.show(now);
+        }
+    }
+
+    fn accepted(&self, words: u64) {
+        self.words.fetch_add(words, Ordering::Relaxed);
+    }
+
+    fn ends(&self) {
+        let mut terminal = self.terminal;
+        let _ = terminal.write_all(b"\r\x1b[K");
+    }
+}
+
+/// A gate that always lets pass, and tells how far the run is.
+#[derive(Drop)]
+pub struct Followed<'a, P> {
+    progress: &'a P,
+}
+
+impl<'a, P: Progress> Followed<'a, P> {
+    /// The run begins: so many frames are to be sent of each group.
+    pub fn begins(progress: &'a P, plan: &Plan<OUTPUTS>, frames: u32) -> Followed<'a, P> {
+        progress.begins(cells_of_run(plan, frames));
+        Followed { progress }
+    }
+}
+
+/// How many cells are sent in so many frames of each group, as far as 64 bits count.
+fn cells_of_run(plan: &Plan<OUTPUTS>, frames: u32) -> u64 {
+    let mut cells: u64 = 0;
+    for group in 0..plan.groups() {
+        let table = plan.group(group);
+        let frame = u64::from(table.frame()).saturating_mul(u64::from(table.buses()));
+        cells = cells.saturating_add(frame.saturating_mul(u64::from(frames)));
+    }
+    cells
+}
+
+/// Whether a cell, counted from 0, is the last of a stride.
+fn is_last(cell: u64) -> bool {
+    cell % STRIDE == STRIDE - 1
+}
+
+impl<P: Progress> Gate for Followed<'_, P> {
+    ghost shuts = { λ _ _. ⊥ };
+
+    fn pass(&self, point: Point) -> Result<(), GateFault> {
+        match point {
+            Point::AfterCell(_, cell) if is_last(cell) => self.progress.sent(STRIDE),
+            _ => {}
+        }
+        Ok(())
+    }
+
+    fn counted(&self, answer: Accept, totals: &ReceiveTotals) {
+        if matches!(answer, Accept::Accepted(_)) && totals.accepted % STRIDE == 0 {
+            self.progress.accepted(STRIDE);
+        }
+    }
+}

@@ -1,0 +1,100 @@
+//! Files of words, one a line.
+ghost use Rattle.std.specs.Prelude.{◌≡◌, ◌<◌, IfOk, IfSome, length, map, option_map, vec_len};
+ghost use Rattle.std.specs.List.{range_with_len};
+ghost use Rattle.a429_filter.specs.Sources.{at_start};
+ghost use Rattle.a429_cli.specs.WordsFile.{IsWordsReading, first_arrival, line_arrival, raw_for, words_for};
+
+use a429_console::texts::cut_at;
+use a429_filter::MemoryLine;
+use crate::names::Names;
+use a429_console::refusals::CommandRefusal;
+use a429_word::raw_word;
+use std::alloc::{AllocError, Global};
+
+/// A word that comes in at a receiver. Receivers are numbered from 0 in table order.
+#[derive(Clone, Copy, Debug, PartialEq, Eq)]
+pub struct Arrival {
+    pub receiver: u8,
+    pub raw: u32,
+}
+
+/// The word of a line, which is given without its line feed.
+#[tactic(auto, unfolding(crate::specs::WordsFile::line_arrival))]
+fn read_line(names: &Names, line: &[u8]) -> Option<Arrival>
+    ensures { result ≡ line_arrival names.now line.now }
+{
+    let (receiver, raw) = cut_at(line, b' ')?;
+    let receiver = names.receiver(receiver)?;
+    Some(Arrival {
+        receiver,
+        raw: raw_word(raw)?,
+    })
+}
+
+/// The word of a text's first line, and the text after the line.
+fn first_arrival<'a>(names: &Names, text: &'a [u8]) -> Option<(Arrival, &'a [u8])>
+    ensures arrival { option_map (λ p. (p.0, p.1.now)) result ≡ first_arrival names.now text.entry.now }
+    ensures shorter { IfSome result (λ p. length p.1.now < length text.entry.now) }
+{
+    let (line, rest) = cut_at(text, b'\n')?;
+    Some((read_line(names, line)?, rest))
+}
+
+/// Reads a file of words for the receivers of these names. Refused is the number of its first faulty line, from 1: of
+/// one that is not a receiver's name and a word, names no receiver, or does not end with a line feed.
+pub fn read_words(
+    alloc: Global,
+    names: &Names,
+    bytes: &[u8],
+) -> Result<Vec<Arrival>, CommandRefusal>
+    ensures { IsWordsReading names.now bytes.now result }
+{
+    let mut arrivals = Vec::new(alloc);
+    let mut text = bytes;
+    while !text.is_empty() {
+        let Some((arrival, rest)) = first_arrival(names, text) else {
+            return Err(CommandRefusal::Script(arrivals.len() + 1));
+        };
+        arrivals.push(arrival)?;
+        text = rest;
+    }
+    Ok(arrivals)
+}
+
+/// The raw word, where it comes in at this receiver.
+fn raw_for(receiver: usize, arrival: Arrival) -> Option<u32>
+    ensures { result ≡ raw_for receiver arrival }
+{
+    if usize::from(arrival.receiver) == receiver {
+        Some(arrival.raw)
+    } else {
+        None
+    }
+}
+
+/// The words for one receiver, in order.
+fn words_for(alloc: Global, arrivals: &[Arrival], receiver: usize) -> Result<Vec<u32>, AllocError>
+    ensures { IfOk result (λ words. words.items ≡ words_for arrivals.now receiver) }
+{
+    arrivals
+        .iter()
+        .filter_map(|arrival| raw_for(receiver, *arrival))
+        .collect(alloc)
+}
+
+/// The lines of so many receivers: each gives the words for its receiver, in order.
+#[tactic(auto, using(crate::proofs::WordsLines::numbers_left))]
+pub fn line_sources(
+    alloc: Global,
+    arrivals: &[Arrival],
+    receivers: usize,
+) -> Result<Vec<MemoryLine>, AllocError>
+    ensures many { IfOk result (λ lines. vec_len lines ≡ receivers) }
+    ensures words { IfOk result (λ lines. lines.items ≡ map (λ r. at_start (words_for arrivals.now r)) (range_with_len 0 receivers)) }
+{
+    let mut lines = Vec::new(alloc);
+    for receiver in 0..receivers {
+        lines.push(MemoryLine::from_words(words_for(alloc, arrivals, receiver)?))?;
+    }
+    Ok(lines)
+}

@@ -1,0 +1,133 @@
+//! The whole program: from the words that it was given to a status.
+ghost use Rattle.std.specs.Prelude.{◌≡◌, map, string_bytes, IfOk};
+ghost use Rattle.a429_console.specs.Ends.{IsMemoryRefused, writing};
+ghost use Rattle.a429_console.specs.Files.{texts_of};
+ghost use Rattle.a429_console.specs.Readings.{HasReadFrom};
+ghost use Rattle.a429_cli.specs.ProgramRuns.{HasRun, IsCommandDone, IsDoneOrRefused, IsLiveDone, is_live};
+
+use crate::commands::command;
+use crate::live::commands::command_live;
+use crate::live::progress::Progress;
+use a429_console::arguments::given::{Arguments, WordsFault, given_words};
+use a429_console::arguments::replies::warn;
+use a429_console::files::FileReader;
+use a429_console::hints::Hints;
+use a429_console::output::Output;
+use a429_console::output::endings::{refuse_memory, tell_fault};
+use std::alloc::{AllocError, Global};
+use std::sync::Wait;
+use std::thread::Threads;
+
+/// What is told of words that are not all UTF-8.
+const NOT_TEXT: &[u8] = b"error: the words of the command line are not all UTF-8\n";
+
+fn texts(alloc: Global, words: &[String]) -> Result<Vec<&str>, AllocError>
+    ensures { IfOk result (λ texts. texts_of texts.items ≡ map string_bytes words.entry.now) }
+{
+    let mut texts = Vec::new(alloc);
+    for word in words {
+        texts.push(word.as_str())?;
+    }
+    Ok(texts)
+}
+
+/// Whether the first word is `live`.
+fn is_live(words: &[&str]) -> bool
+    ensures { result ≡ is_live (texts_of words.now) }
+{
+    match words.first() {
+        Some(first) => *first == "live",
+        None => false,
+    }
+}
+
+/// Puts the line that says that memory was refused. The status is 1.
+fn without_memory<O: Output, V: Output>(out: &mut O, err: &mut V) -> u8
+    ensures { IsMemoryRefused (writing O.contents O.failures O.is_flushed out.old out.new)
+        (writing V.contents V.failures V.is_flushed err.old err.new) result }
+{
+    match refuse_memory(out) {
+        Ok(status) => status,
+        Err(fault) => {
+            tell_fault(fault, err);
+            1
+        }
+    }
+}
+
+/// Does the command `live`.
+fn answer_live<
+    'a,
+    H: Hints,
+    R: AllocGlobal + Threads + Wait,
+    F: FileReader,
+    O: Output,
+    V: Output,
+    P: Progress + Sync,
+>(rt: &R, words: &'a [&'a str], hints: &H, files: &mut F, out: &mut O, err: &mut V, progress: &P) -> u8
+    ensures { IsLiveDone (texts_of words.entry.now) (record { tells = F.tells files.old; file = F.file files.old })
+        (writing O.contents O.failures O.is_flushed out.old out.new) (writing V.contents V.failures V.is_flushed err.old err.new) result }
+{
+    command_live(rt, rt.alloc(), words, hints, files, out, err, progress)
+}
+
+/// Does one of the other commands.
+fn answer<'a, H: Hints, F: FileReader, O: Output, V: Output>(
+    alloc: Global,
+    words: &'a [&'a str],
+    hints: &H,
+    files: &mut F,
+    out: &mut O,
+    err: &mut V,
+) -> u8
+    ensures { IsCommandDone (texts_of words.entry.now) (record { tells = F.tells files.old; file = F.file files.old })
+        (λ Says. HasReadFrom F.answers Says files.old)
+        (writing O.contents O.failures O.is_flushed out.old out.new) (writing V.contents V.failures V.is_flushed err.old err.new) result }
+{
+    command(alloc, words, hints, files, out, err)
+}
+
+/// Does what the words ask for. The status is the one that `command` answers, or `command_live` where the first word is
+/// `live`.
+fn run_words<
+    H: Hints,
+    R: AllocGlobal + Threads + Wait,
+    F: FileReader,
+    O: Output,
+    V: Output,
+    P: Progress + Sync,
+>(rt: &R, words: &[String], hints: &H, files: &mut F, out: &mut O, err: &mut V, progress: &P) -> u8
+    ensures { IsDoneOrRefused (map string_bytes words.entry.now) (record { tells = F.tells files.old; file = F.file files.old })
+        (λ Says. HasReadFrom F.answers Says files.old)
+        (writing O.contents O.failures O.is_flushed out.old out.new) (writing V.contents V.failures V.is_flushed err.old err.new) result }
+{
+    let Ok(words) = texts(rt.alloc(), words) else {
+        return without_memory(out, err);
+    };
+    if is_live(&words) {
+        answer_live(rt, &words, hints, files, out, err, progress)
+    } else {
+        answer(rt.alloc(), &words, hints, files, out, err)
+    }
+}
+
+/// Does the command of the words that the program was given. Words that are not all UTF-8 are a mistake. While a station
+/// runs, `progress` is told how far it is.
+pub fn run_program<
+    H: Hints,
+    R: Arguments + AllocGlobal + Threads + Wait,
+    F: FileReader,
+    O: Output,
+    V: Output,
+    P: Progress + Sync,
+>(rt: &R, hints: &H, files: &mut F, out: &mut O, err: &mut V, progress: &P) -> u8
+    ensures { HasRun (R.gives rt.now) (R.ends rt.now) (record { tells = F.tells files.old; file = F.file files.old })
+        (λ Says. HasReadFrom F.answers Says files.old)
+        (writing O.contents O.failures O.is_flushed out.old out.new) (writing V.contents V.failures V.is_flushed err.old err.new) result }
+{
+    match given_words(rt) {
+        Ok(words) => run_words(rt, &words, hints, files, out, err, progress),
+        Err(WordsFault::NotText) => warn(NOT_TEXT, err),
+        Err(WordsFault::NoMemory) => without_memory(out, err),
+    }
+}

@@ -1,0 +1,38 @@
+-- The line of a refusal, without its line feed (profile: output).
+use Rattle.std.specs.Prelude.{◌≡◌, ◌⊎◌, ◌++◌, ◌∷◌, [], ℕ, List, Option, ⊤, codes, string_bytes}
+use Rattle.std.specs.Fmt.{decimal}
+use Rattle.std.specs.Io.KnownBytes.{Appends}
+use Rattle.a429_table.specs.Printed.{kind_text, place_text}
+use Rattle.a429_console.specs.declared.refusals.CommandRefusal.{CommandRefusal}
+use Rattle.a429_console.specs.declared.refusals.CommandRefusal.TheVariants as refused
+
+abbrev pub refusal_line : CommandRefusal → List ℕ
+refusal_line (refused.File name) = codes "refused file " ++ string_bytes name
+refusal_line refused.WordText = codes "refused word-text"
+refusal_line refused.Parity = codes "refused parity"
+refusal_line (refused.LineByte place) = codes "refused line byte " ++ decimal place
+refusal_line (refused.Filter number) = codes "refused filter " ++ decimal number
+refusal_line (refused.Table kind place) = codes "refused table " ++ kind_text kind ++ codes " " ++ place_text place
+refusal_line (refused.Unfit group source) = codes "refused unfit " ++ string_bytes group ++ codes " " ++ string_bytes source
+refusal_line (refused.TooManyBuses group needed) = codes "refused too-many-buses " ++ string_bytes group ++ codes " " ++ decimal needed
+refusal_line (refused.Group name) = codes "refused group " ++ string_bytes name
+refusal_line (refused.Script line) = codes "refused script line " ++ decimal line
+refusal_line refused.Join = codes "refused join"
+refusal_line refused.Gate = codes "refused gate"
+refusal_line refused.Source = codes "refused source"
+refusal_line refused.Sink = codes "refused sink"
+refusal_line refused.TooMuch = codes "refused too-much"
+refusal_line refused.Memory = codes "refused memory"
+
+-- a refusal for the cause that Stands, or for want of memory
+abbrev pub OrMemory : (CommandRefusal → Type 0) → CommandRefusal → Type 0
+OrMemory Stands refused.Memory = ⊤
+OrMemory Stands refusal = Stands refusal
+
+-- what is told of a refusal: it, or in its place that memory was refused
+abbrev pub IsToldOf : CommandRefusal → CommandRefusal → Type 0
+IsToldOf refusal told = (told ≡ refusal) ⊎ (told ≡ refused.Memory)
+
+-- the line of this refusal was put, or in its place the one that says that memory was refused
+abbrev pub IsRefusalPut : CommandRefusal → Option (List ℕ) → Option (List ℕ) → Type 0
+IsRefusalPut refusal old new = (told : CommandRefusal) × IsToldOf refusal told × Appends old new (refusal_line told ++ 10 ∷ [])

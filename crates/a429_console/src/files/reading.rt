@@ -1,0 +1,73 @@
+//! Files as the commands read them.
+ghost use Rattle.std.specs.Prelude.{◌≡◌, List, ℕ, Option, IfOk, IsTrue, string_bytes};
+ghost use Rattle.a429_console.specs.Files.{texts_of};
+ghost use Rattle.a429_console.specs.Readings.{HasRead, IsAnswerOf, answer_of};
+ghost use Rattle.a429_console.specs.FileReadings.{AreReadings, IsReading, shown_char, shown_name};
+
+use crate::refusals::CommandRefusal;
+use crate::files::{FileFault, FileReader, LARGEST_FILE};
+use std::alloc::{AllocError, Global};
+
+/// A character as a refusal tells it: a control character, such as a line feed, as `?`.
+fn shown_char(c: char) -> char
+    ensures { result ≡ shown_char c }
+{
+    if c.is_control() { '?' } else { c }
+}
+
+/// A name as a refusal tells it, in one line.
+#[tactic(auto, unfolding(crate::specs::FileReadings::shown_name))]
+pub fn shown_name(alloc: Global, name: &str) -> Result<String, AllocError>
+    ensures { IfOk result (λ shown. string_bytes shown ≡ shown_name name.now) }
+{
+    name.chars().map(|c| shown_char(c)).collect(alloc)
+}
+
+/// What a command takes of the answer to a file's name: at most 16 MiB.
+fn taken(
+    alloc: Global,
+    name: &str,
+    answer: Result<Vec<u8>, FileFault>,
+) -> Result<Vec<u8>, CommandRefusal>
+    ensures { (file : List ℕ → Option (List ℕ)) → IsAnswerOf file name.now (answer_of answer) → IsReading file name.now result }
+{
+    match answer {
+        Ok(bytes) if bytes.len() <= LARGEST_FILE => Ok(bytes),
+        Ok(_) | Err(FileFault::Refused) => match shown_name(alloc, name) {
+            Ok(name) => Err(CommandRefusal::File(name)),
+            Err(_) => Err(CommandRefusal::Memory),
+        },
+        Err(FileFault::NoMemory) => Err(CommandRefusal::Memory),
+    }
+}
+
+/// The bytes of a file, at most 16 MiB.
+pub fn read_file<F: FileReader>(
+    alloc: Global,
+    files: &mut F,
+    name: &str,
+) -> Result<Vec<u8>, CommandRefusal>
+    ensures answered { HasRead F.answers (λ file. IsReading file name.now result) files.old files.new }
+    ensures read { IsTrue (F.tells files.old) → IsReading (F.file files.old) name.now result }
+    ensures tells { F.tells files.new ≡ F.tells files.old }
+    ensures keeps { (other : List ℕ) → F.file files.new other ≡ F.file files.old other }
+{
+    let answer = files.read(name);
+    taken(alloc, name, answer)
+}
+
+/// The bytes of several files.
+pub fn read_files<F: FileReader>(
+    alloc: Global,
+    files: &mut F,
+    names: &[&str],
+) -> Result<Vec<Vec<u8>>, CommandRefusal>
+    ensures answered { HasRead F.answers (λ file. AreReadings file (texts_of names.now) result) files.old files.new }
+    ensures read { IsTrue (F.tells files.old) → AreReadings (F.file files.old) (texts_of names.now) result }
+{
+    let mut all = Vec::new(alloc);
+    for name in names {
+        all.push(read_file(alloc, files, name)?)?;
+    }
+    Ok(all)
+}

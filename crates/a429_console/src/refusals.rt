@@ -1,0 +1,127 @@
+//! Why a command gives no answer, and how that is put.
+ghost use Rattle.std.specs.Prelude.{◌≡◌, IfOk, OnOk, IsTrue};
+ghost use Rattle.a429_console.specs.Outputs.{CountsFault};
+ghost use Rattle.a429_console.specs.RefusalText.{IsRefusalPut};
+
+pub mod names;
+pub mod tables;
+
+use crate::output::endings::{put_refused, refuse_memory};
+use crate::output::{Output, OutputFault};
+use a429_table::{FaultKind, TablePlace};
+use std::alloc::{AllocError, AllocFailed, Global};
+use std::error::Error;
+use std::fmt;
+use std::io::Write;
+
+/// Why a command ends before or instead of its answer. Its text is the line that the program prints.
+#[derive(Debug, Drop)]
+pub enum CommandRefusal {
+    /// The file of this name cannot be read, or has more than 16 MiB.
+    File(String),
+    /// The text of a word is not eight hexadecimal digits.
+    WordText,
+    /// An even number of the word's 32 bits are ones.
+    Parity,
+    /// The byte at this place of a line file, from 0, is the first that stands for nothing.
+    LineByte(usize),
+    /// The filter of this number, from 1, is the first that is none, or the 33rd.
+    Filter(usize),
+    /// The table has this fault at this place.
+    Table(FaultKind, TablePlace),
+    /// The interval of the group's output of this source admits no period of the grid.
+    Unfit { group: String, source: String },
+    /// The group needs so many buses, which are more than 16.
+    TooManyBuses { group: String, needed: usize },
+    /// The table has no group of this name, which was asked for.
+    Group(String),
+    /// The line of this number, from 1, is the first of the script that is no event of the station, or of the
+    /// file of words that is no word for it.
+    Script(usize),
+    /// A thread could not be started or taken in.
+    Join,
+    /// The gate ended a worker.
+    Gate,
+    /// The source of a line failed.
+    Source,
+    /// The sink of a group failed.
+    Sink,
+    /// A receiver was given a word after a million, or more than a million frames were asked for.
+    TooMuch,
+    /// Memory was refused.
+    Memory,
+}
+
+impl fmt::Display for CommandRefusal {
+    ghost use Rattle.std.specs.Prelude.{Some};
+    ghost use Rattle.a429_console.specs.RefusalText.{refusal_line};
+
+    ghost output = { λ refusal. Some (refusal_line refusal) };
+
+    fn fmt<W: fmt::Write>(&self, f: &mut fmt::Formatter<W>) -> fmt::Result {
+        match self {
+            CommandRefusal::File(name) => write!(f, "refused file {name}"),
+            CommandRefusal::WordText => f.write_str("refused word-text"),
+            CommandRefusal::Parity => f.write_str("refused parity"),
+            CommandRefusal::LineByte(place) => write!(f, "refused line byte {place}"),
+            CommandRefusal::Filter(number) => write!(f, "refused filter {number}"),
+            CommandRefusal::Table(kind, place) => write!(f, "refused table {kind} {place}"),
+            CommandRefusal::Unfit { group, source } => {
+                write!(f, "refused unfit {group} {source}")
+            }
+            CommandRefusal::TooManyBuses { group, needed } => {
+                write!(f, "refused too-many-buses {group} {needed}")
+            }
+            CommandRefusal::Group(name) => write!(f, "refused group {name}"),
+            CommandRefusal::Script(line) => write!(f, "refused script line {line}"),
+            CommandRefusal::Join => f.write_str("refused join"),
+            CommandRefusal::Gate => f.write_str("refused gate"),
+            CommandRefusal::Source => f.write_str("refused source"),
+            CommandRefusal::Sink => f.write_str("refused sink"),
+            CommandRefusal::TooMuch => f.write_str("refused too-much"),
+            CommandRefusal::Memory => f.write_str("refused memory"),
+        }
+    }
+}
+
+impl Error for CommandRefusal {}
+
+impl From<AllocError> for CommandRefusal {
+    ghost use Rattle.std.specs.Prelude.{◌≡◌};
+    ghost use Rattle.a429_console.specs.declared.refusals.CommandRefusal.TheVariants.{Memory};
+
+    ghost from_gives = { λ _ e. e ≡ Memory };
+
+    fn from(_error: AllocError) -> CommandRefusal {
+        CommandRefusal::Memory
+    }
+}
+
+impl<T: Drop> From<AllocFailed<T>> for CommandRefusal {
+    ghost use Rattle.std.specs.Prelude.{◌≡◌};
+    ghost use Rattle.a429_console.specs.declared.refusals.CommandRefusal.TheVariants.{Memory};
+
+    ghost from_gives = { λ _ e. e ≡ Memory };
+
+    fn from(_error: AllocFailed<T>) -> CommandRefusal {
+        CommandRefusal::Memory
+    }
+}
+
+/// Puts the line of a refusal, or where memory for it is refused the one that says so. The status is 1.
+pub fn refuse<O: Output>(
+    alloc: Global,
+    refusal: &CommandRefusal,
+    out: &mut O,
+) -> Result<u8, OutputFault>
+    ensures status { IfOk result (λ status. status ≡ 1) }
+    ensures line { OnOk result (IsRefusalPut refusal.now (O.contents out.old) (O.contents out.new)) }
+    ensures flushed { OnOk result (IsTrue (O.is_flushed out.new)) }
+    ensures faults { CountsFault result (O.failures out.old) (O.failures out.new) }
+{
+    let mut line = Vec::new(alloc);
+    match writeln!(line, "{refusal}") {
+        Ok(()) => put_refused(&line, out),
+        Err(_) => refuse_memory(out),
+    }
+}

@@ -1,0 +1,88 @@
+//! Tables: their equipment, their proposals, and why there is none.
+ghost use Rattle.std.specs.Prelude.{◌≡◌, Ok, MatchResult};
+ghost use Rattle.a429_table.specs.Reading.{reading};
+ghost use Rattle.a429_slots.specs.Faults.{IsFaultOf};
+ghost use Rattle.a429_slots.specs.declared.planner.PlanFault.TheVariants.{Unfit, TooManyBuses};
+ghost use Rattle.a429_console.specs.RefusalText.{OrMemory};
+ghost use Rattle.a429_console.specs.Tables.{IsGroupRefusal, IsProposedBy, IsTableFault, IsTableRefusal, IsPlanRefusal, IsUnfitNamed};
+
+use crate::files::reading::shown_name;
+use crate::refusals::names::{group_name, source_name};
+use crate::refusals::CommandRefusal;
+use a429_equipment::Equipment;
+use a429_slots::{NoProposal, OUTPUTS, PlanFault, Proposal};
+use a429_table::{TableFault, read_equipment};
+use std::alloc::Global;
+
+/// The proposal of a table's bytes. Refused is the table's fault, or else the first fault of its plan.
+pub fn propose(alloc: Global, table: &[u8]) -> Result<Proposal<OUTPUTS>, CommandRefusal>
+    ensures { MatchResult result (IsProposedBy table.now) (OrMemory (IsTableRefusal table.now)) }
+{
+    let equipment = read_table(alloc, table)?;
+    match Proposal::of(alloc, equipment) {
+        Ok(proposal) => Ok(proposal),
+        Err(none) => Err(plan_refusal(alloc, &none)),
+    }
+}
+
+/// The equipment of a table's bytes. Refused is the table's fault.
+pub fn read_table(alloc: Global, table: &[u8]) -> Result<Equipment, CommandRefusal>
+    ensures { MatchResult result (λ t. reading table.now ≡ Ok t) (OrMemory (IsTableFault table.now)) }
+{
+    match read_equipment(alloc, table) {
+        Ok(equipment) => Ok(equipment),
+        Err(TableFault::NoMemory) => Err(CommandRefusal::Memory),
+        Err(TableFault::At(kind, place)) => Err(CommandRefusal::Table(kind, place)),
+    }
+}
+
+/// The refusal of an equipment that has no plan.
+fn plan_refusal(alloc: Global, none: &NoProposal) -> CommandRefusal
+    ensures { IsFaultOf none.now.equipment none.now.fault → OrMemory (IsPlanRefusal none.now.equipment) result }
+{
+    match none.fault {
+        PlanFault::Unfit { group, output } => unfit(alloc, &none.equipment, group, output),
+        PlanFault::TooManyBuses { group, needed } => {
+            too_many_buses(alloc, &none.equipment, group, needed)
+        }
+        PlanFault::NoMemory => CommandRefusal::Memory,
+    }
+}
+
+/// The refusal of an unfit output, by the names of its group and its source.
+pub fn unfit(alloc: Global, equipment: &Equipment, group: usize, output: usize) -> CommandRefusal
+    ensures named { OrMemory (IsUnfitNamed equipment.now group output) result }
+    ensures first { IsFaultOf equipment.now (Unfit group output) → OrMemory (IsPlanRefusal equipment.now) result }
+{
+    let source = String::from_str(alloc, source_name(equipment, group, output));
+    let group = String::from_str(alloc, group_name(equipment, group));
+    match (group, source) {
+        (Ok(group), Ok(source)) => CommandRefusal::Unfit { group, source },
+        _ => CommandRefusal::Memory,
+    }
+}
+
+fn too_many_buses(
+    alloc: Global,
+    equipment: &Equipment,
+    group: usize,
+    needed: usize,
+) -> CommandRefusal
+    ensures { IsFaultOf equipment.now (TooManyBuses group needed) → OrMemory (IsPlanRefusal equipment.now) result }
+{
+    match String::from_str(alloc, group_name(equipment, group)) {
+        Ok(group) => CommandRefusal::TooManyBuses { group, needed },
+        Err(_) => CommandRefusal::Memory,
+    }
+}
+
+/// The refusal of a group that a table does not have. It tells the name that was asked for, in one line; where memory
+/// for that is refused, it says so instead.
+pub fn no_group(alloc: Global, name: &str) -> CommandRefusal
+    ensures { OrMemory (IsGroupRefusal name.now) result }
+{
+    match shown_name(alloc, name) {
+        Ok(name) => CommandRefusal::Group(name),
+        Err(_) => CommandRefusal::Memory,
+    }
+}

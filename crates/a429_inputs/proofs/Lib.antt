@@ -1,4 +1,0 @@
-pub mod Refused
-pub mod Numbered
-pub mod Endings
-pub mod SoFar

@@ -1,5 +1,0 @@
-pub mod FileReadings
-pub mod Names
-pub mod AnswerLines
-pub mod RefusalText
-pub mod Tables

@@ -1,6 +1,0 @@
-pub mod WordsLines
-pub mod LiveRuns
-pub mod LiveRefusals
-pub mod ReportParts
-pub mod Resubmits
-pub mod WholeFrames

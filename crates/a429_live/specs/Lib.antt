@@ -1,4 +1,0 @@
-pub mod WordsFile
-pub mod LiveReplies
-pub mod Resubmitted
-pub mod ProgressLines
