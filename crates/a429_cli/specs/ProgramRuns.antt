@@ -25,12 +25,13 @@ is_live (word ∷ words) = bytes_eq word (codes "live")
 abbrev pub IsAnswered : {R : Type 0} → (R → Type 0) → (R → ℕ → List ℕ → Type 0) → Reader → Writing → ℕ → Type 0
 IsAnswered {R} Asks Says reader out status = (r : R) → Asks r → (status ≤ 1) × (IsTrue reader.tells → IsWhole out → IsPutTo (Says r) out status)
 
--- the words went to the command `live`
-pub record IsLiveDone (words : List (List ℕ)) (reader : Reader) (out err : Writing) (status : ℕ) : Type 0 where
+-- the words went to the command `live`; Reads tells what holds of all files that give what the reader answered meanwhile
+pub record IsLiveDone (words : List (List ℕ)) (reader : Reader) (Reads : ((List ℕ → Option (List ℕ)) → Type 0) → Type 0) (out err : Writing) (status : ℕ) : Type 0 where
   pub answered : IsAnswered (AsksForLive words) (λ (r : LiveAsk). OrNoMemory (IsLiveReply reader.file r)) reader out status
+  pub read : (r : LiveAsk) → AsksForLive words r → IsWhole out → Reads (λ file. IsPutTo (OrNoMemory (IsLiveReply file r)) out status)
   pub ends : EndsBy (live_kinds_of_words words) out err status
 
--- the words went to the other commands; Reads tells what holds of all files that give what the reader answered meanwhile
+-- the words went to the other commands
 pub record IsCommandDone (words : List (List ℕ)) (reader : Reader) (Reads : ((List ℕ → Option (List ℕ)) → Type 0) → Type 0) (out err : Writing) (status : ℕ) : Type 0 where
   pub answered : IsAnswered (AsksFor words) (λ (r : RequestBytes). IsReplyOrMemory reader.file r) reader out status
   pub read : (r : RequestBytes) → AsksFor words r → IsWhole out → Reads (λ file. IsPutTo (IsReplyOrMemory file r) out status)
@@ -39,7 +40,7 @@ pub record IsCommandDone (words : List (List ℕ)) (reader : Reader) (Reads : ((
 -- the words went to the command that the first of them names
 abbrev pub IsDone : List (List ℕ) → Reader → (((List ℕ → Option (List ℕ)) → Type 0) → Type 0) → Writing → Writing → ℕ → Type 0
 IsDone words reader Reads out err status =
-    ((is_live words ≡ true) × IsLiveDone words reader out err status) ⊎ ((is_live words ≡ false) × IsCommandDone words reader Reads out err status)
+    ((is_live words ≡ true) × IsLiveDone words reader Reads out err status) ⊎ ((is_live words ≡ false) × IsCommandDone words reader Reads out err status)
 
 -- or memory was refused
 abbrev pub IsDoneOrRefused : List (List ℕ) → Reader → (((List ℕ → Option (List ℕ)) → Type 0) → Type 0) → Writing → Writing → ℕ → Type 0

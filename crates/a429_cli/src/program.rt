@@ -66,6 +66,7 @@ fn answer_live<
     P: Progress + Sync,
 >(rt: &R, words: &'a [&'a str], hints: &H, files: &mut F, out: &mut O, err: &mut V, progress: &P) -> u8
     ensures { IsLiveDone (texts_of words.entry.now) (record { tells = F.tells files.old; file = F.file files.old })
+        (λ Says. HasReadFrom F.answers Says files.old)
         (writing O.contents O.failures O.is_flushed out.old out.new) (writing V.contents V.failures V.is_flushed err.old err.new) result }
 {
     command_live(rt, rt.alloc(), words, hints, files, out, err, progress)

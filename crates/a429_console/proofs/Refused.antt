@@ -30,31 +30,8 @@ pub told_or_memory : (P : CommandRefusal → Type 0) (r told : CommandRefusal) �
 told_or_memory P r told (inl is) why = subst (OrMemory P) (sym is) why
 told_or_memory P r told (inr is) why = subst (OrMemory P) (sym is) tt
 
-pub file_refusal_by : (f g : List ℕ → Option (List ℕ)) (name : List ℕ) (r : CommandRefusal) → f name ≡ g name → IsFileRefusal f name r → IsFileRefusal g name r
-file_refusal_by f g name (refused.File told) same (is, none) = (is, rw same at none)
-file_refusal_by f g name refused.WordText same bad = bad
-file_refusal_by f g name refused.Parity same bad = bad
-file_refusal_by f g name (refused.LineByte place) same bad = bad
-file_refusal_by f g name (refused.Filter number) same bad = bad
-file_refusal_by f g name (refused.Table kind place) same bad = bad
-file_refusal_by f g name (refused.Unfit group source) same bad = bad
-file_refusal_by f g name (refused.TooManyBuses group needed) same bad = bad
-file_refusal_by f g name (refused.Group group) same bad = bad
-file_refusal_by f g name (refused.Script line) same bad = bad
-file_refusal_by f g name refused.Join same bad = bad
-file_refusal_by f g name refused.Gate same bad = bad
-file_refusal_by f g name refused.Source same bad = bad
-file_refusal_by f g name refused.Sink same bad = bad
-file_refusal_by f g name refused.TooMuch same bad = bad
-file_refusal_by f g name refused.Memory same bad = bad
-
 pub failed : {X : Type 0} (result : Result X CommandRefusal) (P : X → Type 0) (F : CommandRefusal → Type 0) (e : CommandRefusal) → result ≡ Err e → F e → MatchResult result P F
 failed {X = X} result P F e is f = subst (λ (r : Result X CommandRefusal). MatchResult r P F) (sym is) f
-
-pub unread_by : (f g : List ℕ → Option (List ℕ)) → ((name : List ℕ) → f name ≡ g name) → (names : List (List ℕ)) (r : CommandRefusal) → IsFirstUnread f names r → IsFirstUnread g names r
-unread_by f g same [] r u = u
-unread_by f g same (name ∷ names) r (inl bad) = inl (file_refusal_by f g name r (same name) bad)
-unread_by f g same (name ∷ names) r (inr (bytes, is, u)) = inr (bytes, rw (same name) at is, unread_by f g same names r u)
 
 pub both_ok : {X E Q : Type 0} (result : Result X E) (P R : X → Type 0) → ((x : X) → P x → Q → R x) → IfOk result P → OnOk result Q → IfOk result R
 both_ok (Ok x) P R more p q = more x p q
@@ -81,10 +58,3 @@ table_fault_refuses table refused.Memory f = absurd f
 pub matched_both : {X : Type 0} (result : Result X CommandRefusal) (P Q : X → Type 0) (F G : CommandRefusal → Type 0) → ((x : X) → P x → Q x) → ((e : CommandRefusal) → F e → G e) → MatchResult result P F → MatchResult result Q G
 matched_both (Ok x) P Q F G more other p = more x p
 matched_both (Err e) P Q F G more other p = other e p
-
--- what was read of files that stayed as they are
-pub read_by : (f g : List ℕ → Option (List ℕ)) → ((name : List ℕ) → f name ≡ g name) → (names contents : List (List ℕ)) → AreRead f names contents → AreRead g names contents
-read_by f g same [] [] read = tt
-read_by f g same [] (bytes ∷ contents) read = absurd read
-read_by f g same (name ∷ names) [] read = absurd read
-read_by f g same (name ∷ names) (bytes ∷ contents) (is, read) = (rw (same name) at is, read_by f g same names contents read)

@@ -5,6 +5,7 @@ ghost use Rattle.a429_console.specs.Files.{texts_of};
 ghost use Rattle.a429_cli.specs.LiveReplies.{IsLiveReply};
 ghost use Rattle.a429_console.specs.LiveWords.{AsksForLive, AsksForLiveHelp, IsLiveMistake, IsNoLive, LiveAsk, live_of};
 ghost use Rattle.a429_console.specs.Outputs.{CountsFault, HasFailed, HasFailedBy, IsPut, NoneFailed, OrNoMemory, failed_line};
+ghost use Rattle.a429_console.specs.Readings.{HasReadFrom};
 ghost use Rattle.a429_console.specs.Usage.{IsHelpReply, IsUsageReply};
 
 use crate::live::progress::Progress;
@@ -43,6 +44,9 @@ pub fn command_live<
     ensures replied { (r : LiveAsk) → AsksForLive (texts_of words.entry.now) r → IsTrue (F.tells files.old)
         → NoneFailed (O.failures out.old) (O.failures out.new)
         → IsPut (OrNoMemory (IsLiveReply (F.file files.old) r)) (O.contents out.old) (O.contents out.new) result }
+    // The same of a reader of any files: the answer is that of files which give what the reader answered in this call.
+    ensures read { (r : LiveAsk) → AsksForLive (texts_of words.entry.now) r → NoneFailed (O.failures out.old) (O.failures out.new)
+        → HasReadFrom F.answers (λ file. IsPut (OrNoMemory (IsLiveReply file r)) (O.contents out.old) (O.contents out.new) result) files.old }
     // Words that ask for help get a text, with status 0, unless memory is refused.
     ensures helped { AsksForLiveHelp (texts_of words.entry.now) → NoneFailed (O.failures out.old) (O.failures out.new)
         → IsPut (OrNoMemory IsHelpReply) (O.contents out.old) (O.contents out.new) result }
@@ -101,8 +105,8 @@ fn run_live<
     err: &mut V,
     progress: &P,
 ) -> Result<u8, OutputFault>
-    ensures replied { (r : LiveAsk) → AsksForLive (texts_of words.entry.now) r → IsTrue (F.tells files.old)
-        → IfOk result (IsPut (OrNoMemory (IsLiveReply (F.file files.old) r)) (O.contents out.old) (O.contents out.new)) }
+    ensures read { (r : LiveAsk) → AsksForLive (texts_of words.entry.now) r
+        → HasReadFrom F.answers (λ file. IfOk result (IsPut (OrNoMemory (IsLiveReply file r)) (O.contents out.old) (O.contents out.new))) files.old }
     ensures helped { AsksForLiveHelp (texts_of words.entry.now)
         → IfOk result (IsPut (OrNoMemory IsHelpReply) (O.contents out.old) (O.contents out.new)) }
     ensures mistaken { IsLiveMistake (texts_of words.entry.now)
@@ -146,8 +150,8 @@ fn live_with_hint<
     err: &mut V,
     progress: &P,
 ) -> Result<u8, OutputFault>
-    ensures replied { IsTrue (F.tells files.old) → IfOk result
-        (IsPut (IsLiveReply (F.file files.old) (live_of request.now)) (O.contents out.old) (O.contents out.new)) }
+    ensures read { HasReadFrom F.answers (λ file. IfOk result
+        (IsPut (IsLiveReply file (live_of request.now)) (O.contents out.old) (O.contents out.new))) files.old }
     ensures status { IfOk result (λ status. status ≤ 1) }
     ensures flushed { OnOk result (IsTrue (O.is_flushed out.new)) }
     ensures faults { CountsFault result (O.failures out.old) (O.failures out.new) }

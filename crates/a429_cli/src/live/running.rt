@@ -4,6 +4,7 @@ ghost use Rattle.a429_console.specs.Files.{bytes_of};
 ghost use Rattle.a429_cli.specs.LiveReplies.{IsLiveReading, IsLiveReply, IsLiving, IsNoLiveStart, IsPreparedLive, IsRunResult, files_of, refusal_of};
 ghost use Rattle.a429_console.specs.LiveWords.{live_of};
 ghost use Rattle.a429_console.specs.Outputs.{CountsFault, IsPut};
+ghost use Rattle.a429_console.specs.Readings.{HasRead};
 ghost use Rattle.a429_console.specs.RefusalText.{OrMemory};
 
 use crate::live::control::Resubmits;
@@ -47,7 +48,7 @@ fn read_input<F: FileReader>(
     files: &mut F,
     request: &LiveRequest,
 ) -> Result<LiveInput, CommandRefusal>
-    ensures { IsTrue (F.tells files.old) → IsLiveReading (F.file files.old) (live_of request.now) result }
+    ensures { HasRead F.answers (λ file. IsLiveReading file (live_of request.now) result) files.old files.new }
 {
     let table = read_file(alloc, files, request.table)?;
     let words = read_file(alloc, files, request.words)?;
@@ -134,7 +135,7 @@ fn lived<R: Threads + Wait, F: FileReader, P: Progress + Sync>(
     request: &LiveRequest,
     progress: &P,
 ) -> Result<Vec<u8>, CommandRefusal>
-    ensures { IsTrue (F.tells files.old) → IsLiving (F.file files.old) (live_of request.now) result }
+    ensures { HasRead F.answers (λ file. IsLiving file (live_of request.now) result) files.old files.new }
 {
     let input = read_input(alloc, files, request)?;
     let prepared = prepare(alloc, &input)?;
@@ -157,8 +158,8 @@ pub fn run_station<R: Threads + Wait, F: FileReader, O: Output, P: Progress + Sy
     out: &mut O,
     progress: &P,
 ) -> Result<u8, OutputFault>
-    ensures replied { IsTrue (F.tells files.old) → IfOk result
-        (IsPut (IsLiveReply (F.file files.old) (live_of request.now)) (O.contents out.old) (O.contents out.new)) }
+    ensures replied { HasRead F.answers (λ file. IfOk result
+        (IsPut (IsLiveReply file (live_of request.now)) (O.contents out.old) (O.contents out.new))) files.old files.new }
     ensures status { IfOk result (λ status. status ≤ 1) }
     ensures flushed { OnOk result (IsTrue (O.is_flushed out.new)) }
     ensures faults { CountsFault result (O.failures out.old) (O.failures out.new) }

@@ -1,5 +1,5 @@
 //! Files as the commands read them.
-ghost use Rattle.std.specs.Prelude.{◌≡◌, List, ℕ, Option, IfOk, IsTrue, string_bytes};
+ghost use Rattle.std.specs.Prelude.{◌≡◌, List, ℕ, Option, IfOk, string_bytes};
 ghost use Rattle.a429_console.specs.Files.{texts_of};
 ghost use Rattle.a429_console.specs.Readings.{HasRead, IsAnswerOf, answer_of};
 ghost use Rattle.a429_console.specs.FileReadings.{AreReadings, IsReading, shown_char, shown_name};
@@ -48,9 +48,6 @@ pub fn read_file<F: FileReader>(
     name: &str,
 ) -> Result<Vec<u8>, CommandRefusal>
     ensures answered { HasRead F.answers (λ file. IsReading file name.now result) files.old files.new }
-    ensures read { IsTrue (F.tells files.old) → IsReading (F.file files.old) name.now result }
-    ensures tells { F.tells files.new ≡ F.tells files.old }
-    ensures keeps { (other : List ℕ) → F.file files.new other ≡ F.file files.old other }
 {
     let answer = files.read(name);
     taken(alloc, name, answer)
@@ -63,7 +60,6 @@ pub fn read_files<F: FileReader>(
     names: &[&str],
 ) -> Result<Vec<Vec<u8>>, CommandRefusal>
     ensures answered { HasRead F.answers (λ file. AreReadings file (texts_of names.now) result) files.old files.new }
-    ensures read { IsTrue (F.tells files.old) → AreReadings (F.file files.old) (texts_of names.now) result }
 {
     let mut all = Vec::new(alloc);
     for name in names {

@@ -4,6 +4,7 @@ use Rattle.a429_cli.proofs.program.answer_live.Goals as goal
 pub returns : goal.returns
 returns g c = record {
   answered = λ r asks. (c.command_live.ensures.asked r asks, λ tells whole. c.command_live.ensures.replied r asks tells whole);
+  read = c.command_live.ensures.read;
   ends = record {
     few = c.command_live.ensures.status;
     helped = c.command_live.ensures.helped;

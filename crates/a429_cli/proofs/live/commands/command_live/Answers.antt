@@ -1,5 +1,8 @@
 use Rattle.std.proofs.Common.{sym, ◌∙◌}
 use Rattle.a429_console.proofs.Endings.{counted_once, failure_shows, none_counted_once, none_has_failed}
+use Rattle.a429_console.specs.Outputs.{IsPut, OrNoMemory}
+use Rattle.a429_console.proofs.ReadingParts.{known_read}
+use Rattle.a429_cli.specs.LiveReplies.{IsLiveReply}
 use Rattle.a429_cli.proofs.live.commands.command_live.Goals as goal
 
 pub returns-in-Err-clause-replied : goal.returns-in-Err-clause-replied
@@ -31,3 +34,9 @@ returns-in-Err-clause-announced g c = λ failed none. rw c.in-Err.ensures.left a
 
 pub returns-in-Err-clause-hushed : goal.returns-in-Err-clause-hushed
 returns-in-Err-clause-hushed g c = λ failed. c.tell_fault.ensures.hushed (sym c.in-Err.ensures.faults.1 ∙ failed.1) ∙ c.in-Err.ensures.left
+
+pub returns-in-Ok-clause-replied : goal.returns-in-Ok-clause-replied
+returns-in-Ok-clause-replied g c = λ r asks tells none.
+    let h = c.in-Ok.ensures.read r asks in
+    known_read g.F.FileReader.answers g.F.FileReader.tells g.F.FileReader.file g.met.F.FileReader.known
+    {P = λ file. IsPut (OrNoMemory (IsLiveReply file r)) (g.O.Output.contents c.args.out.now) (g.O.Output.contents c.run_live.new.out) c.in-Ok.status} c.args.files.now h.0 h.1 tells

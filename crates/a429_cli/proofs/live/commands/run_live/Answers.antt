@@ -1,7 +1,8 @@
-use Rattle.std.proofs.Common.{arith, inl, inr, subst}
+use Rattle.std.proofs.Common.{arith, inl, inr, refl, subst}
 use Rattle.std.proofs.lemmas.Result.{IfOk-weaker}
 use Rattle.clap.specs.declared.error.ErrorKind.{ErrorKind}
 use Rattle.a429_console.specs.Files.{texts_of}
+use Rattle.a429_console.proofs.ReadingParts.{read_none, read_weaker}
 use Rattle.a429_cli.specs.LiveReplies.{IsLiveReply}
 use Rattle.a429_console.specs.LiveWords.{LiveAsk}
 use Rattle.a429_console.specs.Outputs.{IsMemoryReply}
@@ -24,16 +25,18 @@ returns-in-Err-clause-usage g c = λ fault.
     let kinds = live_kinds_of_words (texts_of c.args.words.now) in
     IfOk-weaker c.explain.result _ _ (λ status put. mistake_is_told _ _ status put.0 (mistake_replied kinds c.in-Err.error _ _ c.in-Err.ensures.kinds fault.1 status put.0 put.1)) c.explain.ensures.replied
 
-pub returns-in-Ok-clause-replied : goal.returns-in-Ok-clause-replied
-returns-in-Ok-clause-replied g c = λ r asks tells.
-    let file = g.F.FileReader.file c.args.files.now in
+pub returns-in-Ok-clause-read : goal.returns-in-Ok-clause-read
+returns-in-Ok-clause-read g c = λ r asks.
+    let h = c.live_with_hint.ensures.read in
     let same = c.in-Ok.ensures.asked r asks in
-    IfOk-weaker c.live_with_hint.result _ _ (λ status put. (put.0, inl (subst (λ (a : LiveAsk). IsLiveReply file a status put.0) same put.1), put.2)) (c.live_with_hint.ensures.replied tells)
+    (h.0, read_weaker h.1 (λ file replied. IfOk-weaker c.live_with_hint.result _ _ (λ status put.
+    (put.0, inl (subst (λ (a : LiveAsk). IsLiveReply file a status put.0) same put.1), put.2)) replied))
 
-pub returns-in-Err-clause-replied : goal.returns-in-Err-clause-replied
-returns-in-Err-clause-replied g c = λ r asks tells.
+pub returns-in-Err-clause-read : goal.returns-in-Err-clause-read
+returns-in-Err-clause-read g c = λ r asks.
     let spent = c.in-Err.ensures.asked r asks in
-    IfOk-weaker c.explain.result _ _ (λ status put. (put.0, inr (subst (λ (k : ErrorKind). IsReplyOfKind (g.V.Output.failures c.args.err.now) (g.V.Output.failures c.explain.new.err) k status put.0) spent put.1), put.2)) c.explain.ensures.replied
+    (c.args.files.now, read_none refl (λ file. IfOk-weaker c.explain.result _ _ (λ status put.
+    (put.0, inr (subst (λ (k : ErrorKind). IsReplyOfKind (g.V.Output.failures c.args.err.now) (g.V.Output.failures c.explain.new.err) k status put.0) spent put.1), put.2)) c.explain.ensures.replied))
 
 pub returns-in-Err-clause-asked : goal.returns-in-Err-clause-asked
 returns-in-Err-clause-asked g c = λ r asks.

@@ -10,35 +10,32 @@ use Rattle.a429_cli.specs.LiveReplies.{IsLiveRefusal, IsNoLiveStart, IsReportOf,
 use Rattle.a429_cli.specs.declared.live.words.Arrival.{Arrival}
 use Rattle.a429_console.specs.LiveWords.{live_of}
 use Rattle.a429_console.specs.RefusalText.{OrMemory}
+use Rattle.a429_console.proofs.ReadingParts.{read_weaker}
 use Rattle.a429_console.proofs.Refused.{failed, matched_both, or_memory_weaker}
 use Rattle.a429_cli.proofs.live.running.lived.Goals as goal
 
 pub returns-in_err-input : goal.returns-in_err-input
-returns-in_err-input g c = λ tells.
-    let file = g.F.FileReader.file c.args.files.now in
+returns-in_err-input g c =
     let r = live_of c.args.request.now in
     let e = c.in_err-input.field-0.0 in
     let p = err_from_is_err_and c.from_residual.result c.from_residual.ensures.1 in
-    failed c.from_residual.result _ (OrMemory (IsLiveRefusal file r)) e (p.1 ∙ ap Err p.2)
-    (or_memory_weaker (IsFirstUnread file (r.table ∷ r.words ∷ r.further)) (IsLiveRefusal file r) e (λ one. inl one) (c.in_err-input.ensures tells))
+    read_weaker c.in_err-input.ensures (λ file bad. failed c.from_residual.result _ (OrMemory (IsLiveRefusal file r)) e (p.1 ∙ ap Err p.2)
+    (or_memory_weaker (IsFirstUnread file (r.table ∷ r.words ∷ r.further)) (IsLiveRefusal file r) e (λ one. inl one) bad))
 
 pub returns-in_err-prepared : goal.returns-in_err-prepared
-returns-in_err-prepared g c = λ tells.
-    let file = g.F.FileReader.file c.args.files.now in
+returns-in_err-prepared g c =
     let r = live_of c.args.request.now in
     let i = files_of c.in_ok-input.input in
     let e = c.in_err-prepared.field-0.0 in
     let p = err_from_is_err_and c.from_residual-in_err-prepared.result c.from_residual-in_err-prepared.ensures.1 in
-    failed c.from_residual-in_err-prepared.result _ (OrMemory (IsLiveRefusal file r)) e (p.1 ∙ ap Err p.2)
-    (or_memory_weaker (IsNoLiveStart i) (IsLiveRefusal file r) e (λ one. inr (i, c.in_ok-input.ensures tells, inl one)) c.in_err-prepared.ensures)
+    read_weaker c.in_ok-input.ensures (λ file read. failed c.from_residual-in_err-prepared.result _ (OrMemory (IsLiveRefusal file r)) e (p.1 ∙ ap Err p.2)
+    (or_memory_weaker (IsNoLiveStart i) (IsLiveRefusal file r) e (λ one. inr (i, read, inl one)) c.in_err-prepared.ensures))
 
 pub returns : goal.returns
-returns g c = λ tells.
-    let file = g.F.FileReader.file c.args.files.now in
+returns g c =
     let r = live_of c.args.request.now in
     let i = files_of c.in_ok-input.input in
     let q = c.in_ok-prepared.prepared.proposal in
-    let read = c.in_ok-input.ensures tells in
     let start = c.in_ok-prepared.ensures in
     let came = c.in_ok-prepared.prepared.arrivals.items in
     let of_station : IsRunResult q.station c.deref.result.now r.frames (bytes_of c.deref-2.result.now) c.run-result.result =
@@ -47,6 +44,7 @@ returns g c = λ tells.
     subst (λ (a : List Arrival). IsRunResult q.station a r.frames (bytes_of c.deref-2.result.now) c.run-result.result) c.deref.ensures.value of_station in
     let of_files : IsRunResult q.station came r.frames i.further c.run-result.result =
     subst (λ (tables : List (Vec ℕ Global)). IsRunResult q.station came r.frames (bytes_of tables) c.run-result.result) c.deref-2.ensures.value of_words in
+    read_weaker c.in_ok-input.ensures (λ file read.
     matched_both c.run-result.result (λ text. IsRunReport q.station came r.frames i.further text.items) (λ text. IsReportOf file r text.items) (OrMemory (IsRunRefusal q.station came r.frames)) (OrMemory (IsLiveRefusal file r))
     (λ text report. (i, q, came, read, start, report))
-    (λ e why. or_memory_weaker (IsRunRefusal q.station came r.frames) (IsLiveRefusal file r) e (λ one. inr (i, read, inr (q, came, start, one))) why) of_files
+    (λ e why. or_memory_weaker (IsRunRefusal q.station came r.frames) (IsLiveRefusal file r) e (λ one. inr (i, read, inr (q, came, start, one))) why) of_files)

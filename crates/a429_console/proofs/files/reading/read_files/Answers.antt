@@ -1,11 +1,10 @@
 use Rattle.std.proofs.Common.{◌≡◌, ◌∙◌, ◌∷◌, [], ℕ, List, Bor, ap, drop, get_or, inl, map, append-nil, ◌+◌}
-use Rattle.std.specs.Prelude.{Err, Ok}
+use Rattle.std.specs.Prelude.{Err}
 use Rattle.std.proofs.Math.ListN.{drop_of_length-le}
 use Rattle.std.proofs.lemmas.List.{drop_more, map-append}
 use Rattle.std.proofs.lemmas.Result.{err_from_is_err_and}
-use Rattle.a429_console.specs.Files.{texts_of}
-use Rattle.a429_console.proofs.ReadingParts.{known_read, read_then, read_weaker}
-use Rattle.a429_console.specs.FileReadings.{AreReadings, IsFileRefusal, IsFirstUnread}
+use Rattle.a429_console.proofs.ReadingParts.{read_then, read_weaker}
+use Rattle.a429_console.specs.FileReadings.{IsFileRefusal, IsFirstUnread}
 use Rattle.a429_console.specs.RefusalText.{OrMemory}
 use Rattle.a429_console.specs.declared.refusals.CommandRefusal.TheVariants as refused
 use Rattle.a429_console.proofs.Refused.{or_memory_weaker, failed}
@@ -35,11 +34,6 @@ returns-in_err-read_file-clause-answered g c =
     (λ file so_far bad. failed c.from_residual.result _ (OrMemory (IsFirstUnread file names)) e (p.1 ∙ ap Err p.2)
     (or_memory_weaker (IsFileRefusal file name.now) (IsFirstUnread file names) e (λ one. so_far.0 e (rw more (inl one))) bad))
 
-pub returns-in_err-read_file-clause-read : goal.returns-in_err-read_file-clause-read
-returns-in_err-read_file-clause-read g c =
-    known_read g.F.FileReader.answers g.F.FileReader.tells g.F.FileReader.file g.met.F.FileReader.known {P = λ file. AreReadings file (texts_of c.args.names.now) c.from_residual.result} c.args.files.now c.read_file.new.files
-    (returns-in_err-read_file-clause-answered g c)
-
 pub returns-in_err-push-clause-answered : goal.returns-in_err-push-clause-answered
 returns-in_err-push-clause-answered g c =
     let p = err_from_is_err_and c.from_residual-in_err-push.result c.from_residual-in_err-push.ensures.1 in
@@ -50,8 +44,3 @@ pub returns-clause-answered : goal.returns-clause-answered
 returns-clause-answered g c =
     let none_left : drop c.loop-name.name-index c.args.names.now ≡ [] = drop_of_length-le c.args.names.now c.loop-name-test.false in
     read_weaker c.loop-name.invariant (λ file so_far. rw (append-nil (map (λ b. b.items) c.loop-name.all.items)) at (so_far.1 [] (rw none_left tt)))
-
-pub returns-clause-read : goal.returns-clause-read
-returns-clause-read g c =
-    known_read g.F.FileReader.answers g.F.FileReader.tells g.F.FileReader.file g.met.F.FileReader.known {P = λ file. AreReadings file (texts_of c.args.names.now) (Ok c.loop-name.all)} c.args.files.now c.loop-name.files
-    (returns-clause-answered g c)
