@@ -2,7 +2,8 @@
 use Rattle.std.specs.Prelude.{◌≡◌, ◌+◌, ◌∷◌, [], ◌++◌, ◌&&◌, ℕ, List, Option, Some, None, Result, Ok, Err, codes, if◌then◌else◌, nat_lt, nat_le, option_map, option_and_then}
 use Rattle.std.specs.Str.{bytes_eq}
 use Rattle.a429_word.specs.Hexadecimal.{raw_word}
-use Rattle.a429_console.specs.CutText.{cut, lines_of}
+use Rattle.a429_console.specs.CutText.{cut}
+use Rattle.a429_console.specs.Lines.{entries_of}
 use Rattle.a429_cli.specs.ScriptText.{decimal_number}
 use Rattle.a429_console.specs.Names.{Naming, number_named}
 use Rattle.a429_console.specs.declared.refusals.CommandRefusal.{CommandRefusal}
@@ -37,31 +38,9 @@ line_event names further line = option_and_then (λ p. event_by names further p.
 
 -- ---- the events of a script
 
--- the event of a text's first line, and the text after the line
-abbrev pub first_event : Naming → ℕ → List ℕ → Option (ScriptEvent × List ℕ)
-first_event names further text = option_and_then (λ p. option_map (λ e. (e, p.1)) (line_event names further p.0)) (cut 10 text)
-
--- events before those of later lines
-abbrev pub events_before : List ScriptEvent → Result (List ScriptEvent) ℕ → Result (List ScriptEvent) ℕ
-events_before events (Ok later) = Ok (events ++ later)
-events_before events (Err n) = Err n
-
-abbrev pub event_then : Option ScriptEvent → ℕ → Result (List ScriptEvent) ℕ → Result (List ScriptEvent) ℕ
-event_then None n later = Err n
-event_then (Some e) n later = events_before (e ∷ []) later
-
--- of lines from number n on, and what stands after the last: the events, or the number of the first faulty line
-abbrev pub events_from : Naming → ℕ → ℕ → List (List ℕ) → List ℕ → Result (List ScriptEvent) ℕ
-events_from names further n [] [] = Ok []
-events_from names further n [] (x ∷ xs) = Err n
-events_from names further n (line ∷ lines) rest = event_then (line_event names further line) n (events_from names further (n + 1) lines rest)
-
-abbrev pub events_after : Naming → ℕ → ℕ → List ℕ → Result (List ScriptEvent) ℕ
-events_after names further n text = events_from names further (n + 1) (lines_of text).0 (lines_of text).1
-
 -- the events of a script, or the number of its first faulty line, from 1
-unfoldable pub script_events : Naming → ℕ → List ℕ → Result (List ScriptEvent) ℕ
-script_events names further script = events_after names further 0 script
+abbrev pub script_events : Naming → ℕ → List ℕ → Result (List ScriptEvent) ℕ
+script_events names further script = entries_of (line_event names further) script
 
 -- the number is that of the script's first faulty line
 abbrev pub IsScriptFault : Naming → ℕ → List ℕ → CommandRefusal → Type 0

@@ -5,7 +5,8 @@ use Rattle.std.specs.declared.alloc.Global.{Global}
 use Rattle.a429_word.specs.Hexadecimal.{raw_word}
 use Rattle.a429_console.specs.Names.{Naming, number_named}
 use Rattle.a429_console.specs.RefusalText.{OrMemory}
-use Rattle.a429_console.specs.CutText.{cut, lines_of}
+use Rattle.a429_console.specs.CutText.{cut}
+use Rattle.a429_console.specs.Lines.{entries_of}
 use Rattle.a429_cli.specs.declared.live.words.Arrival.{Arrival}
 use Rattle.a429_console.specs.declared.refusals.CommandRefusal.{CommandRefusal}
 use Rattle.a429_console.specs.declared.refusals.CommandRefusal.TheVariants as refused
@@ -18,31 +19,9 @@ arrival _ _ = None
 unfoldable pub line_arrival : Naming → List ℕ → Option Arrival
 line_arrival names line = option_and_then (λ p. arrival (number_named names.receivers p.0) (raw_word p.1)) (cut 32 line)
 
--- the word of a text's first line, and the text after the line
-abbrev pub first_arrival : Naming → List ℕ → Option (Arrival × List ℕ)
-first_arrival names text = option_and_then (λ p. option_map (λ a. (a, p.1)) (line_arrival names p.0)) (cut 10 text)
-
--- words before those of later lines
-abbrev pub arrivals_before : List Arrival → Result (List Arrival) ℕ → Result (List Arrival) ℕ
-arrivals_before arrivals (Ok later) = Ok (arrivals ++ later)
-arrivals_before arrivals (Err n) = Err n
-
-abbrev pub arrival_then : Option Arrival → ℕ → Result (List Arrival) ℕ → Result (List Arrival) ℕ
-arrival_then None n later = Err n
-arrival_then (Some a) n later = arrivals_before (a ∷ []) later
-
--- of lines from number n on, and what stands after the last: the words, or the number of the first faulty line
-abbrev pub arrivals_from : Naming → ℕ → List (List ℕ) → List ℕ → Result (List Arrival) ℕ
-arrivals_from names n [] [] = Ok []
-arrivals_from names n [] (x ∷ xs) = Err n
-arrivals_from names n (line ∷ lines) rest = arrival_then (line_arrival names line) n (arrivals_from names (n + 1) lines rest)
-
-abbrev pub arrivals_after : Naming → ℕ → List ℕ → Result (List Arrival) ℕ
-arrivals_after names n text = arrivals_from names (n + 1) (lines_of text).0 (lines_of text).1
-
 -- the words of a file, or the number of its first faulty line, from 1
-unfoldable pub arrivals_of : Naming → List ℕ → Result (List Arrival) ℕ
-arrivals_of names text = arrivals_after names 0 text
+abbrev pub arrivals_of : Naming → List ℕ → Result (List Arrival) ℕ
+arrivals_of names text = entries_of (line_arrival names) text
 
 -- the number is that of the file's first faulty line
 abbrev pub IsWordsFault : Naming → List ℕ → CommandRefusal → Type 0

@@ -16,7 +16,7 @@ pub mod station;
 use crate::pending::Pending;
 use crate::replay::further::{FurtherTable, plan_tables};
 use crate::replay::playing::play_all;
-use crate::replay::script::check_script;
+use crate::replay::script::{ScriptForm, check_script};
 use crate::replay::station::Station;
 use a429_console::files::FileReader;
 use a429_console::output::endings::finish;
@@ -70,7 +70,11 @@ fn prepare(alloc: Global, input: &Input) -> Result<Station, CommandRefusal>
     ensures { MatchResult result (IsPreparedFor (input_of input.now)) (OrMemory (IsNoStart (input_of input.now))) }
 {
     let station = Station::open(alloc, &input.table)?;
-    check_script(&station.names, input.further.len(), &input.script)?;
+    let form = ScriptForm {
+        names: &station.names,
+        further: input.further.len(),
+    };
+    check_script(&form, &input.script)?;
     Ok(station)
 }
 

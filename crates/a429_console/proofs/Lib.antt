@@ -22,3 +22,4 @@ pub mod ReadingParts
 pub mod Refused
 pub mod RefusalEndings
 pub mod SoFar
+pub mod EntryLines

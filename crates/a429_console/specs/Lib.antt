@@ -15,3 +15,4 @@ pub mod Names
 pub mod FileReadings
 pub mod RefusalText
 pub mod Tables
+pub mod Lines

@@ -4,6 +4,7 @@ ghost use Rattle.a429_console.specs.Readings.{IsAnswerOf, answer_of};
 ghost use Rattle.a429_console.specs.declared.files.FileFault.{FileFault};
 
 pub mod disk;
+pub mod lines;
 pub mod memory;
 pub mod reading;
 

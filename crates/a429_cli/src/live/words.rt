@@ -1,13 +1,14 @@
 //! Files of words, one a line.
-ghost use Rattle.std.specs.Prelude.{◌≡◌, ◌<◌, IfOk, IfSome, length, map, option_map, vec_len};
+ghost use Rattle.std.specs.Prelude.{◌≡◌, IfOk, map, vec_len};
 ghost use Rattle.std.specs.List.{range_with_len};
 ghost use Rattle.a429_filter.specs.Sources.{at_start};
-ghost use Rattle.a429_cli.specs.WordsFile.{IsWordsReading, first_arrival, line_arrival, raw_for, words_for};
+ghost use Rattle.a429_cli.specs.WordsFile.{IsWordsReading, line_arrival, raw_for, words_for};
 
-use a429_console::texts::cut_at;
 use a429_filter::MemoryLine;
 use crate::names::Names;
+use a429_console::files::lines::{LineForm, LinesFault, read_lines};
 use a429_console::refusals::CommandRefusal;
+use a429_console::texts::cut_at;
 use a429_word::raw_word;
 use std::alloc::{AllocError, Global};
 
@@ -31,13 +32,25 @@ fn read_line(names: &Names, line: &[u8]) -> Option<Arrival>
     })
 }
 
-/// The word of a text's first line, and the text after the line.
-fn first_arrival<'a>(names: &Names, text: &'a [u8]) -> Option<(Arrival, &'a [u8])>
-    ensures arrival { option_map (λ p. (p.0, p.1.now)) result ≡ first_arrival names.now text.entry.now }
-    ensures shorter { IfSome result (λ p. length p.1.now < length text.entry.now) }
-{
-    let (line, rest) = cut_at(text, b'\n')?;
-    Some((read_line(names, line)?, rest))
+/// The form of the lines of a file of words: a word for one of the receivers of these names.
+#[derive(Clone, Copy)]
+struct WordsForm<'a> {
+    names: &'a Names,
+}
+
+impl LineForm for WordsForm<'_> {
+    ghost use Rattle.std.specs.Prelude.{⊤};
+    ghost use Rattle.a429_cli.specs.WordsFile.{line_arrival};
+
+    type Entry = Arrival;
+
+    ghost states = { λ f. line_arrival f.names.now };
+
+    ghost fits = { λ _ _. ⊤ };
+
+    fn entry(&self, line: &[u8]) -> Option<Arrival> {
+        read_line(self.names, line)
+    }
 }
 
 /// Reads a file of words for the receivers of these names. Refused is the number of its first faulty line, from 1: of
@@ -49,16 +62,11 @@ pub fn read_words(
 ) -> Result<Vec<Arrival>, CommandRefusal>
     ensures { IsWordsReading names.now bytes.now result }
 {
-    let mut arrivals = Vec::new(alloc);
-    let mut text = bytes;
-    while !text.is_empty() {
-        let Some((arrival, rest)) = first_arrival(names, text) else {
-            return Err(CommandRefusal::Script(arrivals.len() + 1));
-        };
-        arrivals.push(arrival)?;
-        text = rest;
+    match read_lines(alloc, &WordsForm { names }, bytes) {
+        Ok(arrivals) => Ok(arrivals),
+        Err(LinesFault::Line(number)) => Err(CommandRefusal::Script(number)),
+        Err(LinesFault::NoMemory) => Err(CommandRefusal::Memory),
     }
-    Ok(arrivals)
 }
 
 /// The raw word, where it comes in at this receiver.

@@ -7,7 +7,8 @@ ghost use Rattle.a429_console.specs.RefusalText.{OrMemory};
 
 use crate::pending::{Pending, put_if_full};
 use crate::replay::further::FurtherTable;
-use crate::replay::script::{ScriptEvent, first_event};
+use crate::replay::script::{ScriptEvent, ScriptForm};
+use a429_console::files::lines::first_entry;
 use a429_console::output::{Output, OutputFault};
 use a429_core::{Event, StationState};
 use crate::names::Names;
@@ -80,8 +81,12 @@ pub fn play_all<O: Output>(
     ensures few { OnOk result (length lines.old.text.items < 65536 → length lines.new.text.items < 65536) }
     ensures faults { CountsFault result (O.failures out.old) (O.failures out.new) }
 {
+    let form = ScriptForm {
+        names,
+        further: further.len(),
+    };
     let mut text = script;
-    while let Some((event, rest)) = first_event(names, further.len(), text) {
+    while let Some((event, rest)) = first_entry(&form, text) {
         let Ok(()) = play(alloc, state, names, further, event, lines) else {
             return Ok(false);
         };

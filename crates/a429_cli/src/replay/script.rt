@@ -1,12 +1,13 @@
 //! Scripts of events, one a line.
-ghost use Rattle.std.specs.Prelude.{◌≡◌, ◌<◌, ℕ, length, IfSome, MatchResult, option_map};
+ghost use Rattle.std.specs.Prelude.{◌≡◌, ◌<◌, ℕ, IfSome, MatchResult};
 ghost use Rattle.a429_cli.specs.ScriptText.{decimal_digit, decimal_number};
-ghost use Rattle.a429_cli.specs.Script.{arrive_event, line_event, first_event, publish_event, IsScript, IsScriptFault};
+ghost use Rattle.a429_cli.specs.Script.{arrive_event, line_event, publish_event, IsScript, IsScriptFault};
 ghost use Rattle.a429_cli.specs.Playing.{HasTable};
 
-use a429_console::texts::cut_at;
 use crate::names::Names;
+use a429_console::files::lines::{LineForm, check_lines};
 use a429_console::refusals::CommandRefusal;
+use a429_console::texts::cut_at;
 use a429_word::raw_word;
 
 /// An event of a script. Receivers and groups are numbered from 0 in table order, the further tables of the
@@ -85,33 +86,35 @@ fn read_line(names: &Names, further: usize, line: &[u8]) -> Option<ScriptEvent>
     }
 }
 
-/// The event of a text's first line, and the text after the line.
-pub fn first_event<'a>(
-    names: &Names,
-    further: usize,
-    text: &'a [u8],
-) -> Option<(ScriptEvent, &'a [u8])>
-    ensures event { option_map (λ p. (p.0, p.1.now)) result ≡ first_event names.now further text.entry.now }
-    ensures shorter { IfSome result (λ p. length p.1.now < length text.entry.now) }
-    ensures table { IfSome result (λ p. HasTable further p.0) }
-{
-    let (line, rest) = cut_at(text, b'\n')?;
-    Some((read_line(names, further, line)?, rest))
+/// The form of a script's lines: with the names of its station, beside so many further tables.
+#[derive(Clone, Copy)]
+pub struct ScriptForm<'a> {
+    pub names: &'a Names,
+    pub further: usize,
 }
 
-/// Checks a script of a station with these names, beside so many further tables. Refused is the number of its
-/// first faulty line, from 1: of one that is no event, names nothing, or does not end with a line feed.
-pub fn check_script(names: &Names, further: usize, script: &[u8]) -> Result<(), CommandRefusal>
-    ensures { MatchResult result (λ _. IsScript names.now further script.now) (IsScriptFault names.now further script.now) }
-{
-    let mut lines = 0;
-    let mut text = script;
-    while !text.is_empty() {
-        let Some((_, rest)) = first_event(names, further, text) else {
-            return Err(CommandRefusal::Script(lines + 1));
-        };
-        lines += 1;
-        text = rest;
+impl LineForm for ScriptForm<'_> {
+    ghost use Rattle.a429_cli.specs.Script.{line_event};
+    ghost use Rattle.a429_cli.specs.Playing.{HasTable};
+
+    type Entry = ScriptEvent;
+
+    ghost states = { λ f. line_event f.names.now f.further };
+
+    ghost fits = { λ f e. HasTable f.further e };
+
+    fn entry(&self, line: &[u8]) -> Option<ScriptEvent> {
+        read_line(self.names, self.further, line)
     }
-    Ok(())
+}
+
+/// Checks a script. Refused is the number of its first faulty line, from 1: of one that is no event, names nothing, or
+/// does not end with a line feed.
+pub fn check_script(form: &ScriptForm<'_>, script: &[u8]) -> Result<(), CommandRefusal>
+    ensures { MatchResult result (λ _. IsScript form.now.names.now form.now.further script.now) (IsScriptFault form.now.names.now form.now.further script.now) }
+{
+    match check_lines(form, script) {
+        Ok(()) => Ok(()),
+        Err(line) => Err(CommandRefusal::Script(line)),
+    }
 }

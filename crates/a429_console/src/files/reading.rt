@@ -47,7 +47,7 @@ pub fn read_file<F: FileReader>(
     files: &mut F,
     name: &str,
 ) -> Result<Vec<u8>, CommandRefusal>
-    ensures answered { HasRead F.answers (λ file. IsReading file name.now result) files.old files.new }
+    ensures { HasRead F.answers (λ file. IsReading file name.now result) files.old files.new }
 {
     let answer = files.read(name);
     taken(alloc, name, answer)
@@ -59,7 +59,7 @@ pub fn read_files<F: FileReader>(
     files: &mut F,
     names: &[&str],
 ) -> Result<Vec<Vec<u8>>, CommandRefusal>
-    ensures answered { HasRead F.answers (λ file. AreReadings file (texts_of names.now) result) files.old files.new }
+    ensures { HasRead F.answers (λ file. AreReadings file (texts_of names.now) result) files.old files.new }
 {
     let mut all = Vec::new(alloc);
     for name in names {

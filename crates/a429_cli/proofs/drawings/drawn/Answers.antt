@@ -15,7 +15,7 @@ returns-in_err-table g c =
     let group = option_map (λ (n : Bor (List ℕ)). n.now) c.args.group in
     let e = c.in_err-table.field-0.0 in
     let p = err_from_is_err_and c.from_residual.result c.from_residual.ensures.1 in
-    read_weaker c.in_err-table.ensures.answered (λ file bad. failed c.from_residual.result _ (OrMemory (IsNoImage file name group)) e (p.1 ∙ ap Err p.2)
+    read_weaker c.in_err-table.ensures (λ file bad. failed c.from_residual.result _ (OrMemory (IsNoImage file name group)) e (p.1 ∙ ap Err p.2)
     (or_memory_weaker (IsFileRefusal file name) (IsNoImage file name group) e (λ one. inl (inl one)) bad))
 
 pub returns : goal.returns
@@ -25,7 +25,7 @@ returns g c =
     let table = c.in_ok-table.table.items in
     let q = c.in_ok-proposal.proposal in
     let proposed = subst (λ (t : List ℕ). IsProposedBy t q) c.deref.ensures.value c.in_ok-proposal.ensures in
-    read_weaker c.in_ok-table.ensures.answered (λ file read.
+    read_weaker c.in_ok-table.ensures (λ file read.
     matched_both c.image_of.result (λ text. IsImage q group c.args.slots text.items) (λ text. IsImageOf file name group c.args.slots text.items) (OrMemory (IsNoGroup q.station.groups group)) (OrMemory (IsNoImage file name group))
     (λ text is. (table, q, read, proposed, is))
     (λ e bad. or_memory_weaker (IsNoGroup q.station.groups group) (IsNoImage file name group) e (λ one. inr (table, q, read, proposed, one)) bad)

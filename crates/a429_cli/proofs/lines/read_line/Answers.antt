@@ -12,7 +12,7 @@ pub returns-in_err-bytes : goal.returns-in_err-bytes
 returns-in_err-bytes g c =
     let e = c.in_err-bytes.field-0.0 in
     let p = err_from_is_err_and c.from_residual.result c.from_residual.ensures.1 in
-    read_weaker c.in_err-bytes.ensures.answered (λ file bad.
+    read_weaker c.in_err-bytes.ensures (λ file bad.
     let none = IsLinesRefusal file c.args.name.now (map (λ f. f.now) c.args.filters.now) in
     failed c.from_residual.result _ (OrMemory none) e (p.1 ∙ ap Err p.2)
     (or_memory_weaker (IsFileRefusal file c.args.name.now) none e (λ one. inl one) bad))

@@ -10,4 +10,4 @@ use Rattle.a429_cli.proofs.replay.read_further.Goals as goal
 pub returns-in_err-tables : goal.returns-in_err-tables
 returns-in_err-tables g c =
     let p = err_from_is_err_and c.from_residual.result c.from_residual.ensures.1 in
-    read_weaker c.in_err-tables.ensures.answered (λ file bad. failed c.from_residual.result _ (OrMemory (IsFirstUnread file (map (λ n. n.now) c.args.names.now))) c.in_err-tables.field-0.0 (p.1 ∙ ap Err p.2) bad)
+    read_weaker c.in_err-tables.ensures (λ file bad. failed c.from_residual.result _ (OrMemory (IsFirstUnread file (map (λ n. n.now) c.args.names.now))) c.in_err-tables.field-0.0 (p.1 ∙ ap Err p.2) bad)

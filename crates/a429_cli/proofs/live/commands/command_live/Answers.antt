@@ -40,3 +40,6 @@ returns-in-Ok-clause-replied g c = λ r asks tells none.
     let h = c.in-Ok.ensures.read r asks in
     known_read g.F.FileReader.answers g.F.FileReader.tells g.F.FileReader.file g.met.F.FileReader.known
     {P = λ file. IsPut (OrNoMemory (IsLiveReply file r)) (g.O.Output.contents c.args.out.now) (g.O.Output.contents c.run_live.new.out) c.in-Ok.status} c.args.files.now h.0 h.1 tells
+
+pub returns-in-Ok-clause-read : goal.returns-in-Ok-clause-read
+returns-in-Ok-clause-read g c = λ r asks none. c.in-Ok.ensures.read r asks

@@ -1,20 +1,21 @@
 use Rattle.std.proofs.Common.{rules, ◌≡◌, ◌∙◌, ◌++◌, ◌∷◌, [], length, ap, refl, sym, append-nil}
 use Rattle.std.specs.Prelude.{Some, None}
 use Rattle.std.specs.Io.KnownBytes.{Appends, append_known}
-use Rattle.a429_cli.specs.Script.{first_event, script_events}
+use Rattle.a429_console.specs.Lines.{entries_of, first_entry}
+use Rattle.a429_cli.specs.Script.{line_event}
 use Rattle.a429_cli.proofs.PlayedLines.{Appends-same, Appends-text, Appends-then, played_push}
-use Rattle.a429_cli.proofs.ScriptLines.{events_before-nil, events_last, events_next, events_so_far}
+use Rattle.a429_console.proofs.EntryLines.{entries_before-nil, entries_last, entries_next, entries_so_far}
 use Rattle.a429_cli.proofs.replay.playing.play_all.Goals as goal
 
 pub loop-event-init : goal.loop-event-init
-unfolding script_events
-loop-event-init g c = record { played = λ o E s. ([], E, [], sym (events_before-nil _), (refl, refl), s, Appends-same _); few = λ h. h; kept = refl }
+unfolding entries_of
+loop-event-init g c = record { played = λ o E s. ([], E, [], sym (entries_before-nil _), (refl, refl), s, Appends-same _); few = λ h. h; kept = refl }
 
 pub returns-in_default-play-clause-played : goal.returns-in_default-play-clause-played
 returns-in_default-play-clause-played g c = λ events is o E s.
     let was = c.loop-event.invariant.played o E s in
     let kept : c.play.new.lines.text.items ≡ c.loop-event.lines.text.items = search rules in
-    let done = events_so_far was.0 _ events (sym was.3 ∙ is) in
+    let done = entries_so_far was.0 _ events (sym was.3 ∙ is) in
     (length was.0, was.1, was.2, rw done was.4, rw kept was.6, λ no. cc)
 
 pub loop-event-preserved : goal.loop-event-preserved
@@ -24,7 +25,7 @@ loop-event-preserved g c = record {
       let names = c.args.names.now in
       let further = c.args.further.now in
       let event = c.in-Some.event in
-      let first : first_event names (length c.args.further.now) c.loop-event.text.now ≡ Some (event, c.in-Some.rest.now) = search rules in
+      let first : first_entry (line_event names (length c.args.further.now)) c.loop-event.text.now ≡ Some (event, c.in-Some.rest.now) = search rules in
       let now = c.in-Ok.ensures.played o was.1 was.5 in
       let one : Appends (append_known (g.O.Output.contents c.loop-event.out) c.loop-event.lines.text.items) (append_known (g.O.Output.contents c.loop-event.out) c.play.new.lines.text.items) now.1 =
       rw now.4 (Appends-text _ _ _) in
@@ -32,7 +33,7 @@ loop-event-preserved g c = record {
         was.0 ++ event ∷ [],
         now.0,
         was.2 ++ now.1,
-        was.3 ∙ events_next names (length c.args.further.now) was.0 event c.loop-event.text.now c.in-Some.rest.now first,
+        was.3 ∙ entries_next (line_event names (length c.args.further.now)) was.0 event c.loop-event.text.now c.in-Some.rest.now first,
         played_push o names.sources further E was.0 event was.1 now.0 was.2 now.1 was.4 now.2,
         now.3,
         Appends-then _ _ _ _ _ was.6 last,
@@ -45,7 +46,7 @@ pub returns-clause-played : goal.returns-clause-played
 returns-clause-played g c = λ events is o E s.
     let was = c.loop-event.invariant.played o E s in
     let names = c.args.names.now in
-    let none : first_event names (length c.args.further.now) c.loop-event.text.now ≡ None = search rules in
-    let all = events_last names (length c.args.further.now) was.0 events c.loop-event.text.now none (sym was.3 ∙ is) in
-    let done = events_so_far was.0 _ events (sym was.3 ∙ is) in
+    let none : first_entry (line_event names (length c.args.further.now)) c.loop-event.text.now ≡ None = search rules in
+    let all = entries_last (line_event names (length c.args.further.now)) was.0 events c.loop-event.text.now none (sym was.3 ∙ is) in
+    let done = entries_so_far was.0 _ events (sym was.3 ∙ is) in
     (length was.0, was.1, was.2, rw done was.4, was.6, λ sufficed. ap length (sym all))

@@ -20,27 +20,27 @@ loop-name-preserved g c =
     let name = get_or c.args.names.now c.loop-name.name-index none in
     let left = drop (c.loop-name.name-index + 1) c.args.names.now in
     let more : drop c.loop-name.name-index c.args.names.now ≡ name ∷ left = drop_more c.args.names.now c.loop-name.name-index none c.loop-name-test.true in
-    read_then c.loop-name.invariant c.in_ok-read_file.ensures.answered
+    read_then c.loop-name.invariant c.in_ok-read_file.ensures
     (λ file so_far is. rw (c.in_ok-push.ensures.items, map-append) (one_more names (map (λ n. n.now) left) (map (λ b. b.items) c.loop-name.all.items) name.now c.in_ok-read_file.field-0.items file (rw more at so_far) is))
 
-pub returns-in_err-read_file-clause-answered : goal.returns-in_err-read_file-clause-answered
-returns-in_err-read_file-clause-answered g c =
+pub returns-in_err-read_file : goal.returns-in_err-read_file
+returns-in_err-read_file g c =
     let names = map (λ (n : Bor (List ℕ)). n.now) c.args.names.now in
     let name = get_or c.args.names.now c.loop-name.name-index none in
     let e = c.in_err-read_file.field-0.0 in
     let p = err_from_is_err_and c.from_residual.result c.from_residual.ensures.1 in
     let more = drop_more c.args.names.now c.loop-name.name-index none c.loop-name-test.true in
-    read_then c.loop-name.invariant c.in_err-read_file.ensures.answered
+    read_then c.loop-name.invariant c.in_err-read_file.ensures
     (λ file so_far bad. failed c.from_residual.result _ (OrMemory (IsFirstUnread file names)) e (p.1 ∙ ap Err p.2)
     (or_memory_weaker (IsFileRefusal file name.now) (IsFirstUnread file names) e (λ one. so_far.0 e (rw more (inl one))) bad))
 
-pub returns-in_err-push-clause-answered : goal.returns-in_err-push-clause-answered
-returns-in_err-push-clause-answered g c =
+pub returns-in_err-push : goal.returns-in_err-push
+returns-in_err-push g c =
     let p = err_from_is_err_and c.from_residual-in_err-push.result c.from_residual-in_err-push.ensures.1 in
-    read_then c.loop-name.invariant c.in_ok-read_file.ensures.answered
+    read_then c.loop-name.invariant c.in_ok-read_file.ensures
     (λ file so_far is. failed c.from_residual-in_err-push.result _ (OrMemory (IsFirstUnread file (map (λ n. n.now) c.args.names.now))) refused.Memory (p.1 ∙ ap Err p.2) tt)
 
-pub returns-clause-answered : goal.returns-clause-answered
-returns-clause-answered g c =
+pub returns : goal.returns
+returns g c =
     let none_left : drop c.loop-name.name-index c.args.names.now ≡ [] = drop_of_length-le c.args.names.now c.loop-name-test.false in
     read_weaker c.loop-name.invariant (λ file so_far. rw (append-nil (map (λ b. b.items) c.loop-name.all.items)) at (so_far.1 [] (rw none_left tt)))
