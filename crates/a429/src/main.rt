@@ -14,9 +14,9 @@ fn main(rt: HostRuntime) -> ExitCode {
     let mut err = CountedWriter::new(rt.stderr());
     let status = if is_terminal {
         let line = ProgressLine::new(rt.alloc(), rt.stderr());
-        run_program(&rt, &HintLines, &mut files, &mut out, &mut err, &line)
+        run_program(&rt, &rt, &HintLines, &mut files, &mut out, &mut err, &line)
     } else {
-        run_program(&rt, &HintLines, &mut files, &mut out, &mut err, &NoProgress)
+        run_program(&rt, &rt, &HintLines, &mut files, &mut out, &mut err, &NoProgress)
     };
     ExitCode::from(status)
 }

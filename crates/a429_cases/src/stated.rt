@@ -4,10 +4,9 @@ use crate::malformed::Malformed;
 use crate::parts::{has_file, head_and_lines, name_and_rest, part_bytes};
 use crate::rows::has_place;
 use crate::spelling::cut_around;
-use crate::words::words_of;
-use a429_cli::{CountedWriter, MemoryFiles, command};
+use crate::words::{CaseWords, words_of};
+use a429_cli::{CountedWriter, MemoryFiles, NoProgress, run_program};
 use a429_hints::HintLines;
-use a429_cli::{NoProgress, command_live};
 use std::alloc::Global;
 use std::sync::Wait;
 use std::thread::Threads;
@@ -164,27 +163,22 @@ impl<'a> Case<'a> {
         })
     }
 
-    /// Does the command, as the program does.
+    /// Runs the program on the words of the case.
     pub fn played<R: AllocGlobal + Threads + Wait>(&mut self, rt: &R) -> Outcome {
         let alloc = rt.alloc();
         let mut out = CountedWriter::new(Vec::new(alloc));
         let mut err = CountedWriter::new(Vec::new(alloc));
         let Case { words, files, .. } = self;
-        let is_live = words.first().is_some_and(|first| *first == "live");
-        let status = if is_live {
-            command_live(
-                rt,
-                alloc,
-                words,
-                &HintLines,
-                files,
-                &mut out,
-                &mut err,
-                &NoProgress,
-            )
-        } else {
-            command(alloc, words, &HintLines, files, &mut out, &mut err)
-        };
+        let given = CaseWords { words };
+        let status = run_program(
+            rt,
+            &given,
+            &HintLines,
+            files,
+            &mut out,
+            &mut err,
+            &NoProgress,
+        );
         let CountedWriter { writer: out, .. } = out;
         let CountedWriter { writer: err, .. } = err;
         Outcome { out, err, status }

@@ -1,7 +1,40 @@
 //! The words of a command.
 
+ghost use Rattle.std.specs.Io.{WritesAtMost};
+
 use crate::malformed::Malformed;
+use a429_cli::Arguments;
 use std::alloc::{AllocError, Global};
+use std::env::FillError;
+
+/// The words of a case, given as those of a program are: at place 0 stands the program's name.
+#[derive(Clone, Copy)]
+pub struct CaseWords<'a> {
+    pub words: &'a [&'a str],
+}
+
+impl Arguments for CaseWords<'_> {
+    ghost use Rattle.std.specs.Prelude.{⊤};
+
+    ghost gives = { λ _ _ _. ⊤ };
+
+    ghost ends = { λ _ _. ⊤ };
+
+    fn argument(&self, place: usize, room: &mut [u8]) -> Result<usize, FillError> {
+        let word = match place.checked_sub(1) {
+            None => "a429",
+            Some(at) => match self.words.get(at) {
+                Some(word) => word,
+                None => return Err(FillError::NotPresent),
+            },
+        };
+        match room.get_mut(..word.len()) {
+            Some(room) => room.copy_from_slice(word.as_bytes()),
+            None => return Err(FillError::TooLong),
+        }
+        Ok(word.len())
+    }
+}
 
 /// The words of a line. Between quotes stands one word, which may have spaces or be empty; `N*WORD` is so many.
 pub fn words_of<'a>(alloc: Global, line: &'a str) -> Result<Vec<&'a str>, Malformed> {

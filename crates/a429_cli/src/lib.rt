@@ -13,7 +13,7 @@ mod program;
 mod replay;
 mod word;
 
-pub use a429_console::arguments::given::given_words;
+pub use a429_console::arguments::given::{Arguments, given_words};
 pub use a429_console::arguments::requests::Request;
 pub use a429_console::files::disk::DiskFiles;
 pub use a429_console::files::memory::MemoryFiles;

@@ -112,21 +112,32 @@ fn run_words<
     }
 }
 
-/// Does the command of the words that the program was given. Words that are not all UTF-8 are a mistake. While a station
-/// runs, `progress` is told how far it is.
+/// Runs the program: does the command that its words ask for, `live` too. Answers and refusals go to `out`, the text of
+/// a mistake and hints to `err`; words that are not all UTF-8 are a mistake. While a station runs, `progress` is told
+/// how far it is. The status is the program's: 0 if the command was done, 1 if it was refused or an output failed, and
+/// 2 for a mistake. It may wait for the threads of a station.
 pub fn run_program<
+    R: AllocGlobal + Threads + Wait,
+    A: Arguments,
     H: Hints,
-    R: Arguments + AllocGlobal + Threads + Wait,
     F: FileReader,
     O: Output,
     V: Output,
     P: Progress + Sync,
->(rt: &R, hints: &H, files: &mut F, out: &mut O, err: &mut V, progress: &P) -> u8
-    ensures { HasRun (R.gives rt.now) (R.ends rt.now) (record { tells = F.tells files.old; file = F.file files.old })
+>(
+    rt: &R,
+    arguments: &A,
+    hints: &H,
+    files: &mut F,
+    out: &mut O,
+    err: &mut V,
+    progress: &P,
+) -> u8
+    ensures { HasRun (A.gives arguments.now) (A.ends arguments.now) (record { tells = F.tells files.old; file = F.file files.old })
         (λ Says. HasReadFrom F.answers Says files.old)
         (writing O.contents O.failures O.is_flushed out.old out.new) (writing V.contents V.failures V.is_flushed err.old err.new) result }
 {
-    match given_words(rt) {
+    match given_words(rt.alloc(), arguments) {
         Ok(words) => run_words(rt, &words, hints, files, out, err, progress),
         Err(WordsFault::NotText) => warn(NOT_TEXT, err),
         Err(WordsFault::NoMemory) => without_memory(out, err),

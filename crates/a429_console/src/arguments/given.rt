@@ -47,19 +47,19 @@ impl<R: Env> Arguments for R {
 }
 
 /// The bytes of the argument at a place, or none where there is no argument.
-fn argument_bytes<R: Arguments>(
-    rt: &R,
+fn argument_bytes<A: Arguments>(
     alloc: Global,
+    arguments: &A,
     place: usize,
 ) -> Result<Option<Vec<u8>>, AllocError>
-    ensures given { IfOk result (λ found. IfSome found (λ bytes. R.gives rt.now place bytes.items)) }
-    ensures ended { IfOk result (λ found. found ≡ None → R.ends rt.now place) }
+    ensures given { IfOk result (λ found. IfSome found (λ bytes. A.gives arguments.now place bytes.items)) }
+    ensures ended { IfOk result (λ found. found ≡ None → A.ends arguments.now place) }
 {
     let mut size = 256usize;
     let mut room = Vec::new(alloc);
     for _ in 0..usize::BITS {
         room.resize(size, 0u8)?;
-        match rt.argument(place, &mut room) {
+        match arguments.argument(place, &mut room) {
             Ok(n) => {
                 room.truncate(n);
                 return Ok(Some(room));
@@ -72,13 +72,13 @@ fn argument_bytes<R: Arguments>(
 }
 
 /// The words of the command line, without the program's path.
-pub fn given_words<R: Arguments + AllocGlobal>(rt: &R) -> Result<Vec<String>, WordsFault>
-    ensures words { IfOk result (λ words. AreGiven (R.gives rt.now) (R.ends rt.now) (map string_bytes words.items)) }
-    ensures not_text { result ≡ Err WordsFault.NotText → HasNoText (R.gives rt.now) }
+pub fn given_words<A: Arguments>(alloc: Global, arguments: &A) -> Result<Vec<String>, WordsFault>
+    ensures words { IfOk result (λ words. AreGiven (A.gives arguments.now) (A.ends arguments.now) (map string_bytes words.items)) }
+    ensures not_text { result ≡ Err WordsFault.NotText → HasNoText (A.gives arguments.now) }
 {
-    let mut words = Vec::new(rt.alloc());
+    let mut words = Vec::new(alloc);
     for place in 1..usize::MAX {
-        match word_at(rt, rt.alloc(), place)? {
+        match word_at(alloc, arguments, place)? {
             Some(word) => push_word(&mut words, word)?,
             None => return Ok(words),
         }
@@ -97,12 +97,12 @@ fn push_word(words: &mut Vec<String>, word: String) -> Result<(), WordsFault>
 }
 
 /// The word at a place, or none behind the last.
-fn word_at<R: Arguments>(rt: &R, alloc: Global, place: usize) -> Result<Option<String>, WordsFault>
-    ensures given { IfOk result (λ found. IfSome found (λ word. R.gives rt.now place (string_bytes word))) }
-    ensures ended { IfOk result (λ found. found ≡ None → R.ends rt.now place) }
-    ensures not_text { result ≡ Err WordsFault.NotText → (bytes : List ℕ) × R.gives rt.now place bytes × (¬ (IsUtf8 bytes)) }
+fn word_at<A: Arguments>(alloc: Global, arguments: &A, place: usize) -> Result<Option<String>, WordsFault>
+    ensures given { IfOk result (λ found. IfSome found (λ word. A.gives arguments.now place (string_bytes word))) }
+    ensures ended { IfOk result (λ found. found ≡ None → A.ends arguments.now place) }
+    ensures not_text { result ≡ Err WordsFault.NotText → (bytes : List ℕ) × A.gives arguments.now place bytes × (¬ (IsUtf8 bytes)) }
 {
-    match argument_bytes(rt, alloc, place) {
+    match argument_bytes(alloc, arguments, place) {
         Ok(Some(bytes)) => match String::from_utf8(bytes) {
             Ok(word) => Ok(Some(word)),
             Err(_) => Err(WordsFault::NotText),

@@ -13,7 +13,7 @@ returns-in-Err-NotText g c =
 pub returns-in-Ok : goal.returns-in-Ok
 returns-in-Ok g c =
     let file = g.F.FileReader.file c.args.files.now in
-    ran_with (g.R.Arguments.gives c.args.rt.now) (g.R.Arguments.ends c.args.rt.now) (record { tells = g.F.FileReader.tells c.args.files.now; file = file })
+    ran_with (g.A.Arguments.gives c.args.arguments.now) (g.A.Arguments.ends c.args.arguments.now) (record { tells = g.F.FileReader.tells c.args.files.now; file = file })
     (λ Says. HasReadFrom g.F.FileReader.answers Says c.args.files.now) (writing g.O.Output.contents g.O.Output.failures g.O.Output.is_flushed c.args.out.now c.run_words.new.out)
     (writing g.V.Output.contents g.V.Output.failures g.V.Output.is_flushed c.args.err.now c.run_words.new.err) c.run_words.result (map string_bytes c.in-Ok.words.items) c.in-Ok.ensures.words
     (rw c.deref.ensures.value at c.run_words.ensures)

@@ -6,7 +6,7 @@ use Rattle.a429_console.proofs.arguments.given.given_words.Goals as goal
 
 pub loop-place-preserved : goal.loop-place-preserved
 loop-place-preserved g c =
-    let gives = g.R.Arguments.gives c.args.rt.now in
+    let gives = g.A.Arguments.gives c.args.arguments.now in
     let before = c.loop-place.words.items in
     let word = c.in-Some.word in
     let at : c.loop-place.place ≡ length before + 1 = c.loop-place.invariant.place_is in

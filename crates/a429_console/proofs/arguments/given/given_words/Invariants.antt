@@ -5,5 +5,5 @@ use Rattle.a429_console.proofs.arguments.given.given_words.Given as goal
 abbrev pub invariant-loop-place : goal.invariant-loop-place
 invariant-loop-place g l = record {
   place_is : l.place ≡ length l.words.items + 1;
-  given : AreFrom (g.R.Arguments.gives l.rt) 1 (map string_bytes l.words.items);
+  given : AreFrom (g.A.Arguments.gives l.arguments) 1 (map string_bytes l.words.items);
 }
