@@ -1,6 +1,7 @@
 /* Counts the requests for memory that a program makes, and refuses the one whose number stands in REFUSED, counted
    from 1; with a minus behind the number, each from there on. At its end the program writes to descriptor 3 how many
-   it made. It goes before a program by LD_PRELOAD. */
+   it made. The start of the thread whose number stands in NO_THREAD, from 1, is refused too. It goes before a program by
+   LD_PRELOAD. */
 
 #include <errno.h>
 
@@ -11,6 +12,7 @@ extern void *__libc_realloc(void *at, size_t size);
 extern void *__libc_calloc(size_t count, size_t size);
 extern char *getenv(const char *name);
 extern unsigned long strtoul(const char *text, char **end, int base);
+extern void *dlsym(void *library, const char *name);
 extern int dprintf(int descriptor, const char *form, ...);
 extern _Noreturn void _Exit(int status);
 
@@ -36,6 +38,20 @@ void *realloc(void *at, size_t size) {
 
 void *calloc(size_t count, size_t size) {
     return is_refused() ? 0 : __libc_calloc(count, size);
+}
+
+typedef int starting(void *thread, const void *how, void *(*run)(void *), void *with);
+
+static unsigned long started;
+
+int pthread_create(void *thread, const void *how, void *(*run)(void *), void *with) {
+    const char *number = getenv("NO_THREAD");
+    char *rest;
+    unsigned long place = __atomic_add_fetch(&started, 1, __ATOMIC_SEQ_CST);
+    /* the C library after this one, which has the call of this name */
+    starting *start = (starting *)dlsym((void *)-1L, "pthread_create");
+    if ((number && strtoul(number, &rest, 10) == place) || !start) return EAGAIN;
+    return start(thread, how, run, with);
 }
 
 __attribute__((constructor)) static void begin(void) {

@@ -1,9 +1,11 @@
 //! A caller of commands that concludes from what they promise, and tests of commands whose readers refuse files or whose
-//! writers fail, and of what a run tells while it works.
+//! writers fail, of what a run tells while it works, and of the program on words of its own.
 #![tactic(auto)]
 
 #[cfg(test)]
 mod files;
+#[cfg(test)]
+mod program;
 #[cfg(test)]
 mod progress;
 pub mod replays;

@@ -6,6 +6,7 @@ use Rattle.std.specs.List.{flat_map}
 use Rattle.std.specs.Option.{option_map_or}
 use Rattle.a429_word.specs.Texts.{octal}
 use Rattle.a429_equipment.specs.TableRecord.{TableRecord}
+use Rattle.a429_grid.specs.Grid.{slot_time}
 use Rattle.a429_equipment.specs.declared.rows.GroupRow.{GroupRow}
 use Rattle.a429_equipment.specs.declared.rows.OutputRow.{OutputRow}
 use Rattle.a429_equipment.specs.declared.rows.ReceiverRow.{ReceiverRow}
@@ -57,7 +58,7 @@ sent_fields receivers group source =
 -- how many microseconds so many slots last at a rate in bit/s, rounded up: a slot is 36 bit times
 -- (ARINC 429 Part 1: a word has 32 bits, and 4 bit times at least lie between two words)
 abbrev pub slots_us : ℕ → ℕ → ℕ
-slots_us rate slots = div_ceil (36000000 * slots) rate
+slots_us rate slots = div_ceil (slot_time * slots) rate
 
 -- The longest time in microseconds, within one plan, from the acceptance of a word until it, or a later word of its source, has gone out whole,
 -- where its output has a period of so many slots: a cell of the output begins within one period, and lasts one slot.

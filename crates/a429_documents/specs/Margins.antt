@@ -6,7 +6,7 @@ use Rattle.a429_equipment.specs.TableRecord.{TableRecord}
 use Rattle.a429_equipment.specs.declared.rows.GroupRow.{GroupRow}
 use Rattle.a429_equipment.specs.declared.rows.OutputRow.{OutputRow}
 use Rattle.a429_equipment.specs.declared.rows.SourceRow.{SourceRow}
-use Rattle.a429_grid.specs.Grid.{IsGridPeriod, IsPeriod}
+use Rattle.a429_grid.specs.Grid.{IsGridPeriod, IsPeriod, slot_time}
 use Rattle.a429_pack.specs.Widening.{IsLeastSaving, NoneSaves}
 use Rattle.a429_pack.specs.Windows.{raw_bound}
 use Rattle.a429_slots.specs.Tables.{GroupTable, PlanTable, placed_at, outputs_of, frame_of, buses_of, cells_of, groups_of}
@@ -16,7 +16,7 @@ use Rattle.a429_documents.specs.Document.{slots_us}
 
 -- as many whole slots as there are in the output's greatest interval at this rate (profile: raw bound)
 abbrev pub window_of : ℕ → OutputRow → ℕ
-window_of rate row = row.max_us * rate / 36000000
+window_of rate row = row.max_us * rate / slot_time
 
 -- the exponents of the periods of a group's outputs, in table order
 abbrev pub periods_of : GroupTable → List ℕ

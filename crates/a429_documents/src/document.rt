@@ -8,7 +8,7 @@ ghost use Rattle.a429_documents.specs.Document.{icd_columns, receiver_name, sdi_
 
 use crate::rows::Row;
 use a429_equipment::{Equipment, GroupRow, OutputRow, ReceiverRow, SourceRow};
-use a429_grid::Period;
+use a429_grid::{Period, SLOT_TIME};
 use a429_slots::{GroupPlan, OUTPUTS, OutputId, Proposal, SendLimits, SlotPlace};
 use a429_word::{Label, Sdi};
 use std::alloc::{AllocError, Global};
@@ -72,7 +72,7 @@ pub fn slots_us(rate: u32, slots: u32) -> u64
     requires { 1 ≤ rate }
     ensures { result ≡ slots_us rate slots }
 {
-    (36_000_000 * u64::from(slots)).div_ceil(u64::from(rate))
+    (SLOT_TIME * u64::from(slots)).div_ceil(u64::from(rate))
 }
 
 /// The longest time in microseconds, within one plan, from the acceptance of a word until it, or a later word of its

@@ -12,15 +12,12 @@ ghost use Rattle.a429_cert.specs.PlanText.{HasSources};
 use crate::document::slots_us;
 use a429_cert::write_heading;
 use a429_equipment::{Equipment, GroupRow, OutputRow, SourceRow};
-use a429_grid::Period;
+use a429_grid::{Period, SLOT_TIME};
 use a429_pack::laws::fewest_by_demand;
 use a429_pack::{raw_bound, widening_saves};
 use a429_slots::{GroupPlan, OUTPUTS, OutputId, Proposal};
 use std::alloc::{AllocError, Global};
 use std::fmt::Write;
-
-/// How long a slot is at a rate of 1 bit/s, in microseconds: 36 bit times (ARINC 429 Part 1; the slot is the profile's).
-const SLOT: u64 = 36_000_000;
 
 /// How many whole slots the greatest interval of an output has, at a rate in bit/s.
 fn window(rate: u32, row: &OutputRow) -> u32
@@ -28,7 +25,7 @@ fn window(rate: u32, row: &OutputRow) -> u32
     requires interval { IsInterval row.now }
     ensures { result ≡ window_of rate row.now }
 {
-    (u64::from(row.max_us) * u64::from(rate) / SLOT) as u32
+    (u64::from(row.max_us) * u64::from(rate) / SLOT_TIME) as u32
 }
 
 /// The windows of outputs, in table order.

@@ -4,9 +4,9 @@ ghost use Rattle.a429_grid.specs.Grid.{IsWithin, IsGridPeriod, HasNoGridPeriod, 
 
 use std::marker::Model;
 
-/// What a slot lasts at a rate of 1 bit/s, in microseconds: 36 bit times, which are the 32 bits of a
-/// word and the gap of four behind it (ARINC 429 Part 1; the slot is the profile's).
-const SLOT: u64 = 36_000_000;
+/// How long a slot is at a rate of 1 bit/s, in microseconds: 36 bit times, which are a gap of four and the 32 bits of a
+/// word (ARINC 429 Part 1 for both; the slot is the profile's).
+pub const SLOT_TIME: u64 = 36_000_000;
 
 /// A period on the slot grid: a power of two of slots, 1 to 8192 (profile). Contracts see its
 /// exponent `k`; it has `2^k` slots.
@@ -59,7 +59,7 @@ impl Period {
 pub fn fits(period: Period, min_us: u32, max_us: u32, rate: u32) -> bool
     ensures { IsTrue result ↔ IsWithin min_us max_us rate (2 ^ period) }
 {
-    let lasting = SLOT * u64::from(period.slots());
+    let lasting = SLOT_TIME * u64::from(period.slots());
     let rate = u64::from(rate);
     u64::from(min_us) * rate <= lasting && lasting <= u64::from(max_us) * rate
 }
@@ -87,5 +87,5 @@ pub fn spacing(min_us: u32, rate: u32) -> u32
     ensures value { result ≡ least_spacing min_us rate }
     ensures some { 1 ≤ result }
 {
-    ((u64::from(min_us) * u64::from(rate) + (SLOT - 1)) / SLOT) as u32
+    ((u64::from(min_us) * u64::from(rate) + (SLOT_TIME - 1)) / SLOT_TIME) as u32
 }

@@ -1,5 +1,6 @@
 //! Hints about intervals that have no period of the grid.
 
+use a429_grid::SLOT_TIME;
 use std::io::Write;
 use std::{fmt, io};
 
@@ -7,9 +8,6 @@ use std::{fmt, io};
 const PERIODS: [u64; 14] = [
     1, 2, 4, 8, 16, 32, 64, 128, 256, 512, 1024, 2048, 4096, 8192,
 ];
-
-/// A slot of 36 bit times, in microseconds times bit/s.
-const SLOT: u64 = 36_000_000;
 
 /// An output that has no period: its interval in microseconds, and the rate of its group in bit/s.
 #[derive(Clone, Copy)]
@@ -25,7 +23,7 @@ struct Slots(u64);
 
 impl fmt::Display for Slots {
     fn fmt<W: fmt::Write>(&self, f: &mut fmt::Formatter<W>) -> fmt::Result {
-        let (whole, thousandths) = (self.0 / SLOT, self.0 % SLOT / (SLOT / 1000));
+        let (whole, thousandths) = (self.0 / SLOT_TIME, self.0 % SLOT_TIME / (SLOT_TIME / 1000));
         write!(f, "{whole}.{thousandths:03}")
     }
 }
@@ -50,20 +48,20 @@ pub fn tell_unfit<V: Write>(unfit: Unfit, err: &mut V) -> io::Result<()> {
 
 /// Tells the greatest period that is shorter than an interval, where there is one.
 fn tell_period_below<V: Write>(shortest: u64, rate: u32, err: &mut V) -> io::Result<()> {
-    let is_shorter = |slots: &&u64| slots.saturating_mul(SLOT) < shortest;
+    let is_shorter = |slots: &&u64| slots.saturating_mul(SLOT_TIME) < shortest;
     let Some(slots) = PERIODS.iter().rev().find(is_shorter) else {
         return Ok(());
     };
-    let us = slots.saturating_mul(SLOT) / u64::from(rate.max(1));
+    let us = slots.saturating_mul(SLOT_TIME) / u64::from(rate.max(1));
     writeln!(err, "a429: min_us = {us} would admit period {slots}")
 }
 
 /// Tells the least period that is longer than an interval, where there is one.
 fn tell_period_above<V: Write>(longest: u64, rate: u32, err: &mut V) -> io::Result<()> {
-    let is_longer = |slots: &&u64| slots.saturating_mul(SLOT) > longest;
+    let is_longer = |slots: &&u64| slots.saturating_mul(SLOT_TIME) > longest;
     let Some(slots) = PERIODS.iter().find(is_longer) else {
         return Ok(());
     };
-    let us = slots.saturating_mul(SLOT).div_ceil(u64::from(rate.max(1)));
+    let us = slots.saturating_mul(SLOT_TIME).div_ceil(u64::from(rate.max(1)));
     writeln!(err, "a429: max_us = {us} would admit period {slots}")
 }
