@@ -1,12 +1,12 @@
 -- Lines that are written one after another.
-use Rattle.std.proofs.Common.{◌≡◌, ◌∙◌, ℕ, Bool, true, false, List, [], ◌∷◌, ◌++◌, refl, sym, ap, subst, append_assoc, append-nil, arith, codes, inl, inr, length, take}
+use Rattle.std.proofs.Common.{◌≡◌, ◌∙◌, ℕ, Bool, true, false, List, [], ◌∷◌, ◌++◌, refl, sym, ap, subst, append_assoc, append-nil, arith, inl, inr, length, take}
 use Rattle.std.specs.Prelude.{Option, Some, None, IsTrue}
 use Rattle.std.proofs.lemmas.List.{take_all}
 use Rattle.std.specs.Io.KnownBytes.{Appends, append_known}
 use Rattle.a429_slots.specs.Events.{Event}
 use Rattle.a429_slots.specs.History.{Opening}
 use Rattle.a429_slots.specs.Proposed.{Proposed}
-use Rattle.a429_console.specs.Outputs.{ending, status_of}
+use Rattle.a429_console.specs.Outputs.{ending, memory_refused, status_of}
 use Rattle.a429_cli.specs.Playing.{Happens, Played}
 use Rattle.a429_cli.specs.Replaying.{IsOutcome, IsPlayed, ReplayInput}
 use Rattle.a429_cli.specs.declared.replay.script.ScriptEvent.{ScriptEvent}
@@ -55,4 +55,4 @@ pub played_ended : (i : ReplayInput) (q : Proposed) (events : List ScriptEvent) 
 played_ended i q events n lines true played whole =
     let every : take n events ≡ events = rw (whole refl) (take_all (length events) events (omega arith)) in
     inl (subst (λ (bytes : List ℕ). IsPlayed i q events bytes) (sym (append-nil lines)) (rw every at played), refl)
-played_ended i q events n lines false played whole = inr (n, lines, played, refl, sym (append_assoc lines (codes "refused memory") (10 ∷ [])))
+played_ended i q events n lines false played whole = inr (n, lines, played, refl, sym (append_assoc lines (memory_refused) (10 ∷ [])))

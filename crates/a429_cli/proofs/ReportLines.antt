@@ -1,5 +1,5 @@
 -- What is printed of the reports of a line, one after another.
-use Rattle.std.proofs.Common.{◌≡◌, ◌∙◌, ◌+◌, ◌-◌, ◌≤◌, ◌∷◌, [], ◌++◌, ℕ, List, Bool, true, false, ap, arith, refl, sym, length, take, slice_range, append_assoc, append-nil, codes, inl, inr}
+use Rattle.std.proofs.Common.{◌≡◌, ◌∙◌, ◌+◌, ◌-◌, ◌≤◌, ◌∷◌, [], ◌++◌, ℕ, List, Bool, true, false, ap, arith, refl, sym, length, take, slice_range, append_assoc, append-nil, inl, inr}
 use Rattle.std.specs.Prelude.{Option, Some, None, filter, filter_map}
 use Rattle.std.proofs.lemmas.Grind.{flat_map-append}
 use Rattle.std.proofs.lemmas.List.{length-map, map-append}
@@ -17,7 +17,7 @@ use Rattle.a429_table.specs.Stated.{filter_of}
 use Rattle.a429_line.specs.LineBytes.{symbol_of, symbols_of}
 use Rattle.a429_cli.specs.LineReports.{found_line, printed, received, word_line}
 use Rattle.a429_cli.specs.LineReplies.{IsPrinted, IsTold, IsToldInPart, filter_list}
-use Rattle.a429_console.specs.Outputs.{ending, status_of}
+use Rattle.a429_console.specs.Outputs.{ending, memory_refused, status_of}
 
 -- ---- reports
 
@@ -59,7 +59,7 @@ told_before filters line first later is = (length first, length (reports first),
 -- with the end of the lines
 pub told_ended : (filters : Option (List Filter)) (line : List Symbol) (all : Bool) (lines : List ℕ) → IsPrinted filters line all lines → IsTold filters line (status_of all) (lines ++ ending all)
 told_ended filters line true lines is = inl (append-nil lines ∙ is, refl)
-told_ended filters line false lines part = inr (lines, part, refl, sym (append_assoc lines (codes "refused memory") (10 ∷ [])))
+told_ended filters line false lines part = inr (lines, part, refl, sym (append_assoc lines (memory_refused) (10 ∷ [])))
 
 -- ---- filters
 

@@ -1,5 +1,5 @@
 -- The command `lines`: what it writes, and its status.
-use Rattle.std.specs.Prelude.{◌≡◌, ◌==◌, ◌||◌, ◌+◌, ◌∷◌, [], ◌++◌, ◌⊎◌, ℕ, List, Bool, true, false, Option, Some, None, Result, MatchResult, codes, map, take, is_none, if◌then◌else◌}
+use Rattle.std.specs.Prelude.{◌≡◌, ◌==◌, ◌||◌, ◌+◌, ◌∷◌, [], ◌++◌, ◌⊎◌, ℕ, List, Bool, true, false, Option, Some, None, Result, MatchResult, map, take, is_none, if◌then◌else◌}
 use Rattle.a429_line.specs.declared.found.Symbol.{Symbol}
 use Rattle.a429_line.specs.Reports.{reports, rest}
 use Rattle.a429_filter.specs.declared.filters.Filter.{Filter}
@@ -9,6 +9,7 @@ use Rattle.a429_console.specs.FileReadings.{readable, IsFileRefusal}
 use Rattle.a429_line.specs.LineBytes.{symbols_of}
 use Rattle.a429_cli.specs.LineFiles.{first_bad_byte}
 use Rattle.a429_cli.specs.LineReports.{printed, rest_line}
+use Rattle.a429_console.specs.Outputs.{memory_refused}
 use Rattle.a429_console.specs.RefusalText.{OrMemory, refusal_line}
 use Rattle.a429_cli.specs.declared.lines.Line.{Line}
 use Rattle.a429_console.specs.declared.refusals.CommandRefusal.{CommandRefusal}
@@ -70,7 +71,7 @@ IsPrinted filters line false lines = IsToldInPart filters line lines
 abbrev pub IsTold : Option (List Filter) → List Symbol → ℕ → List ℕ → Type 0
 IsTold filters line status bytes =
     ((bytes ≡ printed filters (reports line) ++ rest_line filters (rest line)) × (status ≡ 0))
-    ⊎ ((lines : List ℕ) × IsToldInPart filters line lines × (status ≡ 1) × (bytes ≡ lines ++ codes "refused memory" ++ 10 ∷ []))
+    ⊎ ((lines : List ℕ) × IsToldInPart filters line lines × (status ≡ 1) × (bytes ≡ lines ++ memory_refused ++ 10 ∷ []))
 
 -- what is printed of a line that was read, and whether memory sufficed for all
 abbrev pub IsLinePrinted : Line → Bool → List ℕ → Type 0

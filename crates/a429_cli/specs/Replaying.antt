@@ -1,7 +1,8 @@
 -- The command `replay`: what it writes, and its status.
-use Rattle.std.specs.Prelude.{◌≡◌, ◌∷◌, [], ◌++◌, ◌⊎◌, ℕ, List, Option, Ok, codes, take, length}
+use Rattle.std.specs.Prelude.{◌≡◌, ◌∷◌, [], ◌++◌, ◌⊎◌, ℕ, List, Option, Ok, take, length}
 use Rattle.a429_slots.specs.Events.{Event}
 use Rattle.a429_slots.specs.Proposed.{Proposed}
+use Rattle.a429_console.specs.Outputs.{memory_refused}
 use Rattle.a429_console.specs.Names.{naming_of}
 use Rattle.a429_console.specs.FileReadings.{AreRead, IsFirstUnread}
 use Rattle.a429_console.specs.Tables.{IsProposedBy, IsTableRefusal}
@@ -49,7 +50,7 @@ IsPlayed i q events bytes =
 abbrev pub IsOutcome : ReplayInput → Proposed → List ScriptEvent → ℕ → List ℕ → Type 0
 IsOutcome i q events status bytes =
     (IsPlayed i q events bytes × (status ≡ 0))
-    ⊎ ((n : ℕ) × (lines : List ℕ) × IsPlayed i q (take n events) lines × (status ≡ 1) × (bytes ≡ lines ++ codes "refused memory" ++ 10 ∷ []))
+    ⊎ ((n : ℕ) × (lines : List ℕ) × IsPlayed i q (take n events) lines × (status ≡ 1) × (bytes ≡ lines ++ memory_refused ++ 10 ∷ []))
 
 -- what a replay writes, and its status: the line of a refusal, or what it comes to from its beginning
 abbrev pub IsReplay : (List ℕ → Option (List ℕ)) → List ℕ → List ℕ → List (List ℕ) → ℕ → List ℕ → Type 0

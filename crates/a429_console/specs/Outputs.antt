@@ -49,9 +49,13 @@ IsPut Says old new x = (bytes : List ℕ) × Says x bytes × Appends old new byt
 abbrev pub AppendsPending : Option (List ℕ) → List ℕ → Option (List ℕ) → List ℕ → List ℕ → Type 0
 AppendsPending old kept new left bytes = Appends (append_known old kept) (append_known new left) bytes
 
+-- the line that says that memory was refused, without its line feed
+abbrev pub memory_refused : List ℕ
+memory_refused = codes "refused memory"
+
 -- memory was refused before anything was put
 abbrev pub IsMemoryReply : ℕ → List ℕ → Type 0
-IsMemoryReply status bytes = (status ≡ 1) × (bytes ≡ codes "refused memory" ++ 10 ∷ [])
+IsMemoryReply status bytes = (status ≡ 1) × (bytes ≡ memory_refused ++ 10 ∷ [])
 
 -- what Says tells, or that memory was refused before anything was put
 abbrev pub OrNoMemory : (ℕ → List ℕ → Type 0) → ℕ → List ℕ → Type 0
@@ -60,7 +64,7 @@ OrNoMemory Says status bytes = Says status bytes ⊎ IsMemoryReply status bytes
 -- what ends the lines of a command: nothing, or where memory did not suffice for all of them the line that says so
 abbrev pub ending : Bool → List ℕ
 ending true = []
-ending false = codes "refused memory" ++ 10 ∷ []
+ending false = memory_refused ++ 10 ∷ []
 
 -- whether memory sufficed, as a status
 abbrev pub status_of : Bool → ℕ

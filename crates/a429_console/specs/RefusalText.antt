@@ -2,6 +2,7 @@
 use Rattle.std.specs.Prelude.{◌≡◌, ◌⊎◌, ◌++◌, ◌∷◌, [], ℕ, List, Option, ⊤, codes, string_bytes}
 use Rattle.std.specs.Fmt.{decimal}
 use Rattle.std.specs.Io.KnownBytes.{Appends}
+use Rattle.a429_console.specs.Outputs.{memory_refused}
 use Rattle.a429_table.specs.Printed.{kind_text, place_text}
 use Rattle.a429_console.specs.declared.refusals.CommandRefusal.{CommandRefusal}
 use Rattle.a429_console.specs.declared.refusals.CommandRefusal.TheVariants as refused
@@ -22,7 +23,7 @@ refusal_line refused.Gate = codes "refused gate"
 refusal_line refused.Source = codes "refused source"
 refusal_line refused.Sink = codes "refused sink"
 refusal_line refused.TooMuch = codes "refused too-much"
-refusal_line refused.Memory = codes "refused memory"
+refusal_line refused.Memory = memory_refused
 
 -- a refusal for the cause that Stands, or for want of memory
 abbrev pub OrMemory : (CommandRefusal → Type 0) → CommandRefusal → Type 0

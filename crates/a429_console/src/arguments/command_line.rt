@@ -10,7 +10,7 @@ use std::alloc::{AllocError, Global};
 const PROGRAM: &str =
     "ARINC 429 data concentrator: takes in words, and sends them on by planned slots";
 
-const VERSION: &str = "0.1.0";
+const VERSION: &str = "0.2.0";
 
 const WORD: &str = "Tell what a word of 32 bits says: its fields, and its data as BNR and as BCD";
 

@@ -1,7 +1,7 @@
 //! How commands end.
-ghost use Rattle.std.specs.Prelude.{◌≡◌, ◌≤◌, ◌+◌, ◌++◌, ◌∷◌, [], codes, true, false, IfOk, OnOk, IsTrue};
+ghost use Rattle.std.specs.Prelude.{◌≡◌, ◌≤◌, ◌+◌, ◌++◌, ◌∷◌, [], true, false, IfOk, OnOk, IsTrue};
 ghost use Rattle.std.specs.Io.KnownBytes.{Appends};
-ghost use Rattle.a429_console.specs.Outputs.{CountsFault, NoneFailed, ending, failed_line, is_closing, status_of};
+ghost use Rattle.a429_console.specs.Outputs.{CountsFault, NoneFailed, ending, failed_line, is_closing, memory_refused, status_of};
 
 use crate::output::{Output, OutputFault};
 
@@ -35,7 +35,7 @@ pub fn put_refused<O: Output>(line: &[u8], out: &mut O) -> Result<u8, OutputFaul
 /// Puts the line that says that memory was refused. The status is 1.
 pub fn refuse_memory<O: Output>(out: &mut O) -> Result<u8, OutputFault>
     ensures status { IfOk result (λ status. status ≡ 1) }
-    ensures line { OnOk result (Appends (O.contents out.old) (O.contents out.new) (codes "refused memory" ++ 10 ∷ [])) }
+    ensures line { OnOk result (Appends (O.contents out.old) (O.contents out.new) (memory_refused ++ 10 ∷ [])) }
     ensures flushed { OnOk result (IsTrue (O.is_flushed out.new)) }
     ensures faults { CountsFault result (O.failures out.old) (O.failures out.new) }
 {

@@ -1,9 +1,10 @@
-use Rattle.std.proofs.Common.{rules, codes, refl, inr, ap, ◌≡◌, ◌∙◌, ◌++◌, ◌∷◌, [], arith, true, false}
+use Rattle.std.proofs.Common.{rules, refl, inr, ap, ◌≡◌, ◌∙◌, ◌++◌, ◌∷◌, [], arith, true, false}
 use Rattle.std.specs.Prelude.{None, Some}
 use Rattle.std.proofs.lemmas.Grind.{common_steps}
 use Rattle.a429_word.specs.Bits.{has_odd_parity}
 use Rattle.a429_word.specs.Hexadecimal.{raw_word}
 use Rattle.a429_console.proofs.Refused.{both_ok}
+use Rattle.a429_console.specs.Outputs.{memory_refused}
 use Rattle.a429_console.specs.declared.refusals.CommandRefusal.TheVariants as refused
 use Rattle.a429_cli.specs.WordLines.{reply_to, word_lines}
 use Rattle.a429_cli.proofs.WordEndings.{word_refused, word_told}
@@ -34,4 +35,4 @@ returns-in-Ok-write_word-clause-replied g c =
 
 pub returns-clause-replied : goal.returns-clause-replied
 returns-clause-replied g c =
-    both_ok c.refuse_memory.result _ _ (λ status is line. (codes "refused memory" ++ 10 ∷ [], inr (is, refl), line)) c.refuse_memory.ensures.status c.refuse_memory.ensures.line
+    both_ok c.refuse_memory.result _ _ (λ status is line. (memory_refused ++ 10 ∷ [], inr (is, refl), line)) c.refuse_memory.ensures.status c.refuse_memory.ensures.line
