@@ -1,18 +1,20 @@
 -- The words of a request in their plain form ask for it.
-use Rattle.std.proofs.Common.{◌≡◌, ◌∙◌, ap, refl, true, false, arith}
-use Rattle.std.specs.Prelude.{◌^◌, ◌<◌, ℕ, Option, Some, None, IfSome, option_map}
+use Rattle.std.proofs.Common.{◌≡◌, ◌∙◌, ◌∷◌, ap, refl, true, false, codes, Bool, List, arith}
+use Rattle.std.specs.Prelude.{◌^◌, ◌<◌, ◌≤◌, ℕ, Option, Some, None, IfSome, if◌then◌else◌, option_and_then, option_map}
 use Rattle.std.specs.Fmt.{decimal}
+use Rattle.std.specs.Str.Parse.{digits_value, without_leading_plus}
 use Rattle.clap.specs.ValueTests.{is_unsigned_in}
 use Rattle.clap.specs.Words.{Text, subcommand_of, takes}
-use Rattle.a429_console.specs.CommandLine.{command_line, most_slots, IsName, IsPlainSlots}
-use Rattle.a429_console.specs.Requests.{RequestBytes, Word, Lines, Plan, Check, Icd, Margin, Draw, Replay, request_words, HasNames}
-use Rattle.a429_console.specs.RequestRows.{request_found}
+use Rattle.a429_console.specs.CommandLine.{command_line, most_frames, most_slots, IsName, IsPlainSlots}
+use Rattle.a429_console.specs.Requests.{RequestBytes, Command, Word, Lines, Plan, Check, Icd, Margin, Draw, Replay, Live, LiveAsk, request_words, HasNames}
+use Rattle.a429_console.specs.RequestRows.{found_by, frames_of, number_of, request_by}
 use Rattle.a429_console.proofs.PlainWords.{IsPlainWord, name_is_plain}
 use Rattle.a429_console.proofs.RequestWords.{check_asked, check_level, check_takes, lines_asked, lines_takes, plan_asked, plan_level, plan_takes, replay_asked, replay_takes, word_asked, word_level, word_takes}
 use Rattle.a429_console.proofs.IcdWords.{icd_asked, icd_csv_asked, icd_csv_takes, icd_takes}
 use Rattle.a429_console.proofs.MarginWords.{margin_asked, margin_takes}
 use Rattle.a429_console.proofs.DrawWords.{Passes, draw_asked, draw_takes}
-use Rattle.a429_console.proofs.Decimals.{decimal_is_name, decimal_passes, slots_of_decimal}
+use Rattle.a429_console.proofs.Decimals.{decimal_is_name, decimal_passes, number_of_decimal}
+use Rattle.a429_console.proofs.LiveWords.{live_asked, live_takes}
 
 slots_pass : (n : ℕ) → IsPlainSlots n → IsPlainWord (decimal n) × (is_unsigned_in 1 most_slots (decimal n) ≡ true)
 slots_pass n plain =
@@ -26,25 +28,53 @@ options_pass (Some g) None a b = (name_is_plain g a, tt)
 options_pass None (Some n) a b = (tt, slots_pass n b)
 options_pass (Some g) (Some n) a b = (name_is_plain g a, slots_pass n b)
 
-pub asked_words : (r : RequestBytes) → HasNames r → request_found (subcommand_of command_line (request_words r)) ≡ Some r
-asked_words (Word t) a = word_asked t a
-asked_words (Lines t filters) (a, names) = lines_asked t filters a names
-asked_words (Plan t) a = plan_asked t a
-asked_words (Check t s) (a, b) = check_asked t s a b
-asked_words (Icd t false) a = icd_asked t a
-asked_words (Icd t true) a = icd_csv_asked t a
-asked_words (Margin t) a = margin_asked t a
-asked_words (Draw t group slots) (a, b, c) =
-    draw_asked t group (option_map decimal slots) (name_is_plain t a) (options_pass group slots b c) ∙ ap (option_map (Draw t group)) (slots_of_decimal slots c)
-asked_words (Replay t s further) (a, b, names) = replay_asked t s further a b names
+passes_by : (b : Bool) (v n : ℕ) → option_and_then (λ (number : Option ℕ). number) (if b then Some (Some v) else None) ≡ Some n → b ≡ true
+passes_by true v n is = refl
+passes_by false v n is = absurd (cc is)
+
+frames_pass : (text : Text) (n : ℕ) → frames_of (Some text) ≡ Some n → is_unsigned_in 0 most_frames text ≡ true
+unfolding number_of
+frames_pass text n is = passes_by (is_unsigned_in 0 most_frames text) (digits_value 10 (without_leading_plus text)) n is
+
+-- words of `live`, with any text of the number of frames
+abbrev pub live_words : LiveAsk → Text → List Text
+live_words r text = codes "live" ∷ r.table ∷ r.words ∷ text ∷ r.further
+
+pub live_asked_by : (r : LiveAsk) (text : Text) → HasNames (Live r) → IsName text → frames_of (Some text) ≡ Some r.frames → found_by request_by (subcommand_of command_line (live_words r text)) ≡ Some (Live r)
+live_asked_by r text (a, b, few, names) c is =
+    live_asked r.table r.words text r.further a b c names ∙ ap (λ n. option_map Live (option_map (λ frames. record r { frames = frames }) n)) is
+
+pub live_takes_by : (r : LiveAsk) (text : Text) → HasNames (Live r) → IsName text → frames_of (Some text) ≡ Some r.frames → takes command_line (live_words r text) ≡ true
+live_takes_by r text (a, b, few, names) c is = live_takes r.table r.words text r.further a b c (frames_pass text r.frames is) names
+
+few_is_small : (n : ℕ) → n ≤ most_frames → n < 2 ^ 64
+few_is_small n few = omega (arith, few)
+
+frames_of_decimal : (n : ℕ) → n ≤ most_frames → frames_of (Some (decimal n)) ≡ Some n
+frames_of_decimal n few = ap (option_and_then (λ (number : Option ℕ). number)) (number_of_decimal 0 most_frames (Some n) (omega arith) (omega arith, few))
+
+pub asked_words : (r : RequestBytes) → HasNames r → found_by request_by (subcommand_of command_line (request_words r)) ≡ Some r
+asked_words (Command (Word t)) a = word_asked t a
+asked_words (Command (Lines t filters)) (a, names) = lines_asked t filters a names
+asked_words (Command (Plan t)) a = plan_asked t a
+asked_words (Command (Check t s)) (a, b) = check_asked t s a b
+asked_words (Command (Icd t false)) a = icd_asked t a
+asked_words (Command (Icd t true)) a = icd_csv_asked t a
+asked_words (Command (Margin t)) a = margin_asked t a
+asked_words (Command (Draw t group slots)) (a, b, c) =
+    draw_asked t group (option_map decimal slots) (name_is_plain t a) (options_pass group slots b c)
+    ∙ ap (λ n. option_map Command (option_map (Draw t group) n)) (number_of_decimal 1 most_slots slots (omega arith) c)
+asked_words (Command (Replay t s further)) (a, b, names) = replay_asked t s further a b names
+asked_words (Live r) (a, b, few, names) = live_asked_by r (decimal r.frames) (a, b, few, names) (decimal_is_name r.frames (few_is_small r.frames few)) (frames_of_decimal r.frames few)
 
 pub takes_words : (r : RequestBytes) → HasNames r → takes command_line (request_words r) ≡ true
-takes_words (Word t) a = word_takes t ∙ rw (word_level t (name_is_plain t a)) refl
-takes_words (Lines t filters) (a, names) = lines_takes t filters (name_is_plain t a) names
-takes_words (Plan t) a = plan_takes t ∙ rw (plan_level t (name_is_plain t a)) refl
-takes_words (Check t s) (a, b) = check_takes t s ∙ rw (check_level t s (name_is_plain t a) (name_is_plain s b)) refl
-takes_words (Icd t false) a = icd_takes t a
-takes_words (Icd t true) a = icd_csv_takes t a
-takes_words (Margin t) a = margin_takes t a
-takes_words (Draw t group slots) (a, b, c) = draw_takes t group (option_map decimal slots) (name_is_plain t a) (options_pass group slots b c)
-takes_words (Replay t s further) (a, b, names) = replay_takes t s further (name_is_plain t a) (name_is_plain s b) names
+takes_words (Command (Word t)) a = word_takes t ∙ rw (word_level t (name_is_plain t a)) refl
+takes_words (Command (Lines t filters)) (a, names) = lines_takes t filters (name_is_plain t a) names
+takes_words (Command (Plan t)) a = plan_takes t ∙ rw (plan_level t (name_is_plain t a)) refl
+takes_words (Command (Check t s)) (a, b) = check_takes t s ∙ rw (check_level t s (name_is_plain t a) (name_is_plain s b)) refl
+takes_words (Command (Icd t false)) a = icd_takes t a
+takes_words (Command (Icd t true)) a = icd_csv_takes t a
+takes_words (Command (Margin t)) a = margin_takes t a
+takes_words (Command (Draw t group slots)) (a, b, c) = draw_takes t group (option_map decimal slots) (name_is_plain t a) (options_pass group slots b c)
+takes_words (Command (Replay t s further)) (a, b, names) = replay_takes t s further (name_is_plain t a) (name_is_plain s b) names
+takes_words (Live r) (a, b, few, names) = live_takes_by r (decimal r.frames) (a, b, few, names) (decimal_is_name r.frames (few_is_small r.frames few)) (frames_of_decimal r.frames few)

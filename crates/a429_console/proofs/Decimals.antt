@@ -9,8 +9,8 @@ use Rattle.std.proofs.lemmas.Str.Parse.{without_leading_plus_none}
 use Rattle.clap.specs.ValueTests.{is_unsigned_in}
 use Rattle.clap.specs.declared.builder.value_parser.ValueParser.TheVariants as reads
 use Rattle.clap.proofs.ValueTestLemmas.{Accepts-accepts}
-use Rattle.a429_console.specs.CommandLine.{IsName, IsPlainSlots, most_slots}
-use Rattle.a429_console.specs.RequestRows.{slots_of}
+use Rattle.a429_console.specs.CommandLine.{IsName}
+use Rattle.a429_console.specs.RequestRows.{number_of}
 
 digits_are_name : (ds : List ℕ) → AllDigits 10 ds → IsName ds
 digits_are_name [] all = tt
@@ -38,10 +38,10 @@ decimal_passes low high n above below small =
     Accepts-accepts true (reads.Unsigned low high) (decimal n)
     (subst (λ (ds : List ℕ). IsNumeral 10 ds) (sym (no_plus n small)) (decimal_is_IsNumeral n small).0, omega (arith, value), omega (arith, value), omega (arith, value))
 
--- a number of slots in decimal digits is read as it
-pub slots_of_decimal : (slots : Option ℕ) → IfSome slots IsPlainSlots → slots_of (option_map decimal slots) ≡ Some slots
-unfolding slots_of
-slots_of_decimal None plain = refl
-slots_of_decimal (Some n) plain =
-    let small : n < 2 ^ 64 = omega (arith, plain.1) in
-    rw (decimal_passes 1 most_slots n plain.0 plain.1 small) (ap (λ (m : ℕ). Some (Some m)) (decimal_value n small))
+-- a number of the range, in decimal digits, is read as it
+pub number_of_decimal : (least most : ℕ) (number : Option ℕ) → most < 2 ^ 64 → IfSome number (λ n. (least ≤ n) × (n ≤ most)) → number_of least most (option_map decimal number) ≡ Some number
+unfolding number_of
+number_of_decimal least most None few plain = refl
+number_of_decimal least most (Some n) few plain =
+    let small : n < 2 ^ 64 = omega (arith, plain.1, few) in
+    rw (decimal_passes least most n plain.0 plain.1 small) (ap (λ (m : ℕ). Some (Some m)) (decimal_value n small))

@@ -9,8 +9,8 @@ use Rattle.clap.specs.Takes.{default_passes, is_valid, level_passes, settle_pass
 use Rattle.clap.specs.ValueTests.{is_unsigned_in}
 use Rattle.clap.proofs.OnLiterals.{clap_on_literals}
 use Rattle.a429_console.specs.CommandLine.{command_line, top_shape, draw_app, most_slots}
-use Rattle.a429_console.specs.Requests.{Draw, option_words}
-use Rattle.a429_console.specs.RequestRows.{draw_request, request_found, slots_of}
+use Rattle.a429_console.specs.Requests.{Command, Draw, option_words}
+use Rattle.a429_console.specs.RequestRows.{draw_request, found_by, number_of, request_by}
 use Rattle.a429_console.proofs.PlainWords.{IsPlainWord, at_word, for_none, turn_of_value, turn_of_word, walked_value, walked_word}
 use Rattle.a429_console.proofs.StoppedWords.{stopped_more, stopped_passes}
 use Rattle.a429_console.proofs.ManyWords.{row_of_words}
@@ -139,7 +139,7 @@ draw_walks t (Some g) (Some n) p q =
 -- ---- what stands at the end
 
 -- what is asked for by what was read
-draw_read : (t : Text) (group slots : Option Text) → draw_request (finished draw_leaf.rules (at_end t group slots).held) ≡ option_map (Draw t group) (slots_of slots)
+draw_read : (t : Text) (group slots : Option Text) → draw_request (finished draw_leaf.rules (at_end t group slots).held) ≡ option_map (Draw t group) (number_of 1 most_slots slots)
 unfolding clap_on_literals
 draw_read t None None = refl
 draw_read t (Some g) None = refl
@@ -178,10 +178,10 @@ unfolding command_line
 draw_entered words = ap (entered (built command_line)) (draw_stop words) ∙ draw_enters words
 
 pub draw_asked : (t : Text) (group slots : Option Text) → IsPlainWord t → Passes group slots
-    → request_found (subcommand_of command_line (codes "draw" ∷ draw_words t group slots)) ≡ option_map (Draw t group) (slots_of slots)
+    → found_by request_by (subcommand_of command_line (codes "draw" ∷ draw_words t group slots)) ≡ option_map Command (option_map (Draw t group) (number_of 1 most_slots slots))
 draw_asked t group slots p q =
-    ap request_found (draw_entered (draw_words t group slots))
-    ∙ (ap (λ (w : Walk). draw_request (finished draw_leaf.rules w.held)) (draw_walks t group slots p q).comes ∙ draw_read t group slots)
+    ap (found_by request_by) (draw_entered (draw_words t group slots))
+    ∙ ap (option_map Command) (ap (λ (w : Walk). draw_request (finished draw_leaf.rules w.held)) (draw_walks t group slots p q).comes ∙ draw_read t group slots)
 
 pub draw_takes : (t : Text) (group slots : Option Text) → IsPlainWord t → Passes group slots → takes command_line (codes "draw" ∷ draw_words t group slots) ≡ true
 unfolding command_line clap_on_literals passes_with

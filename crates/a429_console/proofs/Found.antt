@@ -1,20 +1,27 @@
 -- What was found of the words that name a command.
-use Rattle.std.proofs.Common.{◌≡◌, ◌∙◌, ap, sym, refl, true, false, codes, Bool, List, []}
-use Rattle.std.specs.Prelude.{Option, Some, None, Result, Ok, Err, MatchResult, not, if◌then◌else◌, option_and_then, option_map, unwrap_or, Box}
+use Rattle.std.proofs.Common.{◌≡◌, ◌∙◌, ◌<◌, ◌^◌, ap, sym, refl, true, false, codes, ℕ, Bool, List, arith}
+use Rattle.std.specs.Prelude.{Option, Some, None, Result, Ok, Err, not, if◌then◌else◌, option_and_then, option_map, Box}
 use Rattle.std.proofs.lemmas.Bool.{and_parts}
 use Rattle.std.proofs.lemmas.Option.{same_Some}
 use Rattle.std.proofs.lemmas.Slice.Eq.{bytes_eq-Decides}
 use Rattle.std.specs.Str.{bytes_eq}
+use Rattle.std.specs.Str.Parse.{ParsesUnsigned, digits_value, without_leading_plus}
 use Rattle.std.specs.Box.{box_value}
 use Rattle.std.specs.declared.alloc.Global.{Global}
-use Rattle.clap.specs.Words.{Row, Text, all_of, app_of, first_of, subcommand_name_of, one_of, subcommand_rows, subcommand_rows_of}
+use Rattle.clap.specs.ValueTests.{is_unsigned_in}
+use Rattle.clap.specs.Words.{ReadsOne, Row, Text, app_of, first_of, one_of, subcommand_name_of, subcommand_rows, subcommand_rows_of}
+use Rattle.clap.specs.declared.builder.value_parser.ValueParser.TheVariants as reads
+use Rattle.clap.specs.declared.error.Error.{Error}
 use Rattle.clap.specs.declared.parser.matches.SubCommand.{SubCommand}
 use Rattle.clap.specs.declared.builder.command.Command.{Command}
 use Rattle.clap.specs.declared.builder.command.Command.TheViews.{out-Command}
 use Rattle.clap.specs.declared.parser.matches.ArgMatches.{ArgMatches}
 use Rattle.clap.specs.declared.parser.matches.ArgMatches.TheViews.{out-ArgMatches, out-SubCommand}
-use Rattle.a429_console.specs.Requests.{RequestBytes, Word, Lines, Plan, Check, Icd, Margin, Replay}
-use Rattle.a429_console.specs.RequestRows.{flag_given, request_by, word_request, lines_request, plan_request, check_request, icd_request, margin_request, replay_request}
+use Rattle.clap.proofs.ValueTestLemmas.{accepts-Accepts}
+use Rattle.a429_console.specs.CommandLine.{most_frames, most_slots}
+use Rattle.a429_console.specs.Requests.{CommandAsk, Word, Lines, Plan, Check, Icd, Margin, Draw, Replay, LiveAsk, IsReadOf}
+use Rattle.a429_console.specs.RequestRows.{flag_given, found_by, frames_of, number_of, values_of}
+use Rattle.a429_console.specs.RequestRows.{word_request, lines_request, plan_request, check_request, icd_request, margin_request, draw_request, replay_request, live_request}
 
 was_not : (b : Bool) → not b ≡ true → b ≡ false
 was_not true e = cc
@@ -31,32 +38,40 @@ name_of_rows m = go (out-ArgMatches m).subcommand
     go None = refl
     go (Some b) = refl
 
-pub found_asked : (met : Option (Text × List Row)) (name : Text) (rows : List Row) (r : RequestBytes) → option_map (λ (p : Text × List Row). p.0) met ≡ Some name
-    → option_map (λ (p : Text × List Row). p.1) met ≡ Some rows → option_and_then (λ (p : Text × List Row). request_by p.0 p.1) met ≡ Some r → request_by name rows ≡ Some r
-found_asked None name rows r n rs all = cc
-found_asked (Some p) name rows r n rs all =
-    ap (λ (x : Text). request_by x rows) (sym (same_Some p.0 name n)) ∙ (ap (λ (x : List Row). request_by p.0 x) (sym (same_Some p.1 rows rs)) ∙ all)
+found_asked : {A : Type 0} (by : Text → List Row → Option A) (met : Option (Text × List Row)) (name : Text) (rows : List Row) (r : A)
+    → option_map (λ (p : Text × List Row). p.0) met ≡ Some name → option_map (λ (p : Text × List Row). p.1) met ≡ Some rows → found_by by met ≡ Some r → by name rows ≡ Some r
+found_asked by None name rows r n rs all = cc
+found_asked by (Some p) name rows r n rs all =
+    ap (λ (x : Text). by x rows) (sym (same_Some p.0 name n)) ∙ (ap (λ (x : List Row). by p.0 x) (sym (same_Some p.1 rows rs)) ∙ all)
 
-pub matched_weaker : {X E : Type 0} (result : Result X E) (P Q : X → Type 0) (F : E → Type 0) → ((x : X) → P x → Q x) → MatchResult result P F → MatchResult result Q F
-matched_weaker (Ok x) P Q F more p = more x p
-matched_weaker (Err e) P Q F more p = p
+more_found : {A Q : Type 0} (bytes_of : Q → A) (found met : Option A) (result : Result Q Error) → ((r : A) → met ≡ Some r → found ≡ Some r)
+    → IsReadOf bytes_of found result → IsReadOf bytes_of met result
+more_found bytes_of found met (Ok q) same is = λ r asked. is r (same r asked)
+more_found bytes_of found met (Err e) same is = is
 
-pub weaker_at_both : {X E : Type 0} (result : Result X E) (P Q : X → Type 0) (F G : E → Type 0) → ((x : X) → P x → Q x) → ((e : E) → F e → G e) → MatchResult result P F → MatchResult result Q G
-weaker_at_both (Ok x) P Q F G more other p = more x p
-weaker_at_both (Err e) P Q F G more other p = other e p
+-- what was read of the rows under a name is what was found
+pub read_by_name : {A Q : Type 0} (bytes_of : Q → A) (by : Text → List Row → Option A) (m : ArgMatches) (name : Text) (rows : List Row) (result : Result Q Error)
+    → subcommand_name_of m ≡ Some name → option_map (λ (p : Text × List Row). p.1) (subcommand_rows_of m) ≡ Some rows → IsReadOf bytes_of (by name rows) result
+    → IsReadOf bytes_of (found_by by (subcommand_rows_of m)) result
+read_by_name bytes_of by m name rows result named at is =
+    more_found bytes_of (by name rows) (found_by by (subcommand_rows_of m)) result (λ r asked. found_asked by (subcommand_rows_of m) name rows r (name_of_rows m ∙ named) at asked) is
 
-pub word_is : (rows : List Row) (t : Text) (r : RequestBytes) → Some t ≡ first_of (codes "HEX") rows → word_request rows ≡ Some r → Word t ≡ r
+-- a part of what is asked for was read
+pub by_part : {A B : Type 0} (whole : A → B) (found : Option A) (part : A) (r : B) → ((a : A) → found ≡ Some a → part ≡ a) → option_map whole found ≡ Some r → whole part ≡ r
+by_part whole None part r same is = absurd (cc is)
+by_part whole (Some a) part r same is = ap whole (same a refl) ∙ same_Some (whole a) r is
+
+pub word_is : (rows : List Row) (t : Text) (r : CommandAsk) → Some t ≡ first_of (codes "HEX") rows → word_request rows ≡ Some r → Word t ≡ r
 word_is rows t r at asked = same_Some (Word t) r (ap (option_map Word) at ∙ asked)
 
-pub lines_is : (rows : List Row) (file : Text) (many : Option (List Text)) (filters : List Text) (r : RequestBytes) → Some file ≡ first_of (codes "FILE") rows
-    → many ≡ all_of (codes "FILTER") rows → unwrap_or many [] ≡ filters → lines_request rows ≡ Some r → Lines file filters ≡ r
-lines_is rows file many filters r at all is asked =
-    same_Some (Lines file filters) r (ap (λ (fs : List Text). Some (Lines file fs)) (sym is) ∙ (rw (← at, ← all) at asked))
+pub lines_is : (rows : List Row) (file : Text) (filters : List Text) (r : CommandAsk) → Some file ≡ first_of (codes "FILE") rows → filters ≡ values_of (codes "FILTER") rows
+    → lines_request rows ≡ Some r → Lines file filters ≡ r
+lines_is rows file filters r at all asked = ap (Lines file) all ∙ same_Some (Lines file (values_of (codes "FILTER") rows)) r (rw (← at) at asked)
 
-pub plan_is : (rows : List Row) (t : Text) (r : RequestBytes) → Some t ≡ first_of (codes "TABLE") rows → plan_request rows ≡ Some r → Plan t ≡ r
+pub plan_is : (rows : List Row) (t : Text) (r : CommandAsk) → Some t ≡ first_of (codes "TABLE") rows → plan_request rows ≡ Some r → Plan t ≡ r
 plan_is rows t r at asked = same_Some (Plan t) r (ap (option_map Plan) at ∙ asked)
 
-pub check_is : (rows : List Row) (t s : Text) (r : RequestBytes) → Some t ≡ first_of (codes "TABLE") rows → Some s ≡ first_of (codes "PLAN") rows → check_request rows ≡ Some r → Check t s ≡ r
+pub check_is : (rows : List Row) (t s : Text) (r : CommandAsk) → Some t ≡ first_of (codes "TABLE") rows → Some s ≡ first_of (codes "PLAN") rows → check_request rows ≡ Some r → Check t s ≡ r
 check_is rows t s r table text asked = same_Some (Check t s) r (rw (← table, ← text) at asked)
 
 -- what `get_flag` says of the value of an option
@@ -76,18 +91,51 @@ flag_is (Some text) flag b said given =
     flag_by flag (bytes_eq text (codes "true")) (bytes_eq text (codes "false")) b (λ e. said.at_true (ap Some ((bytes_eq-Decides text (codes "true")).0 e)))
     (λ e. said.at_false (ap Some ((bytes_eq-Decides text (codes "false")).0 e))) given
 
-icd_by : (t : Text) (given : Option Bool) (flag : Bool) (r : RequestBytes) → ((b : Bool) → given ≡ Some b → flag ≡ b) → option_map (Icd t) given ≡ Some r → Icd t flag ≡ r
-icd_by t None flag r same is = absurd (cc is)
-icd_by t (Some b) flag r same is = ap (Icd t) (same b refl) ∙ same_Some (Icd t b) r is
-
-pub icd_is : (rows : List Row) (t : Text) (flag : Bool) (r : RequestBytes) → Some t ≡ first_of (codes "TABLE") rows → IsFlag (one_of (codes "csv") rows) flag → icd_request rows ≡ Some r → Icd t flag ≡ r
+pub icd_is : (rows : List Row) (t : Text) (flag : Bool) (r : CommandAsk) → Some t ≡ first_of (codes "TABLE") rows → IsFlag (one_of (codes "csv") rows) flag → icd_request rows ≡ Some r → Icd t flag ≡ r
 icd_is rows t flag r at said asked =
-    icd_by t (flag_given (one_of (codes "csv") rows)) flag r (λ b is. flag_is (one_of (codes "csv") rows) flag b said is) (rw (← at) at asked)
+    by_part (Icd t) (flag_given (one_of (codes "csv") rows)) flag r (λ b is. flag_is (one_of (codes "csv") rows) flag b said is) (rw (← at) at asked)
 
-pub margin_is : (rows : List Row) (t : Text) (r : RequestBytes) → Some t ≡ first_of (codes "TABLE") rows → margin_request rows ≡ Some r → Margin t ≡ r
+pub margin_is : (rows : List Row) (t : Text) (r : CommandAsk) → Some t ≡ first_of (codes "TABLE") rows → margin_request rows ≡ Some r → Margin t ≡ r
 margin_is rows t r at asked = same_Some (Margin t) r (ap (option_map Margin) at ∙ asked)
 
-pub replay_is : (rows : List Row) (t s : Text) (many : Option (List Text)) (further : List Text) (r : RequestBytes) → Some t ≡ first_of (codes "TABLE") rows → Some s ≡ first_of (codes "SCRIPT") rows
-    → many ≡ all_of (codes "FURTHER") rows → unwrap_or many [] ≡ further → replay_request rows ≡ Some r → Replay t s further ≡ r
-replay_is rows t s many further r table script all is asked =
-    same_Some (Replay t s further) r (ap (λ (fs : List Text). Some (Replay t s fs)) (sym is) ∙ (rw (← table, ← script, ← all) at asked))
+-- a text is read as a number of 32 bits
+module _ {E : Type 0} (gives : Text → Result ℕ E → Type 0) (parses : (t : Text) (r : Result ℕ E) → gives t r → ParsesUnsigned 32 10 t r) (least most : ℕ) (small : most < 2 ^ 32) where
+  one_read : (t : Text) (b : Bool) (read number : Option ℕ) → is_unsigned_in least most t ≡ b → ReadsOne gives t read
+      → (if b then Some (Some (digits_value 10 (without_leading_plus t))) else None) ≡ Some number → read ≡ number
+  one_read t false read number is said asked = absurd (cc asked)
+  one_read t true (Some n) number is said asked = ap Some (parses t _ said).1 ∙ same_Some (Some (digits_value 10 (without_leading_plus t))) number asked
+  one_read t true None number is said asked =
+      let numeral = accepts-Accepts true (reads.Unsigned least most) t is in
+      let fits : digits_value 10 (without_leading_plus t) < 2 ^ 32 = omega (arith, numeral.3, small) in
+      absurd (parses t _ said.1 (numeral.0, fits))
+
+  -- what `get_one` says of the text of a number
+  pub number_read : (text : Option Text) (read number : Option ℕ) → (text ≡ None → read ≡ None) → ((t : Text) → text ≡ Some t → ReadsOne gives t read)
+      → number_of least most text ≡ Some number → read ≡ number
+  unfolding number_of
+  number_read None read number none value asked = none refl ∙ same_Some None number asked
+  number_read (Some t) read number none value asked = one_read t (is_unsigned_in least most t) read number refl (value t refl) asked
+
+pub draw_is : (rows : List Row) (t : Text) (group : Option Text) (slots : Option ℕ) (r : CommandAsk) → Some t ≡ first_of (codes "TABLE") rows → group ≡ first_of (codes "group") rows
+    → ((n : Option ℕ) → number_of 1 most_slots (one_of (codes "slots") rows) ≡ Some n → slots ≡ n) → draw_request rows ≡ Some r → Draw t group slots ≡ r
+draw_is rows t group slots r table at same asked = by_part (Draw t group) (number_of 1 most_slots (one_of (codes "slots") rows)) slots r same (rw (← table, ← at) at asked)
+
+pub replay_is : (rows : List Row) (t s : Text) (further : List Text) (r : CommandAsk) → Some t ≡ first_of (codes "TABLE") rows → Some s ≡ first_of (codes "SCRIPT") rows
+    → further ≡ values_of (codes "FURTHER") rows → replay_request rows ≡ Some r → Replay t s further ≡ r
+replay_is rows t s further r table script all asked =
+    ap (Replay t s) all ∙ same_Some (Replay t s (values_of (codes "FURTHER") rows)) r (rw (← table, ← script) at asked)
+
+given_number : (found : Option (Option ℕ)) (frames n : ℕ) → ((m : Option ℕ) → found ≡ Some m → Some frames ≡ m) → option_and_then (λ (number : Option ℕ). number) found ≡ Some n → frames ≡ n
+given_number None frames n same is = absurd (cc is)
+given_number (Some m) frames n same is = same_Some frames n (same m refl ∙ is)
+
+abbrev live_with : Text → Text → List Text → ℕ → LiveAsk
+live_with t w further frames = record { table = t; words = w; frames = frames; further = further }
+
+pub live_is : (rows : List Row) (t w : Text) (frames : ℕ) (further : List Text) (r : LiveAsk) → Some t ≡ first_of (codes "TABLE") rows → Some w ≡ first_of (codes "WORDS") rows
+    → ((n : Option ℕ) → number_of 0 most_frames (one_of (codes "FRAMES") rows) ≡ Some n → Some frames ≡ n) → further ≡ values_of (codes "FURTHER") rows
+    → live_request rows ≡ Some r → live_with t w further frames ≡ r
+live_is rows t w frames further r table words same all asked =
+    ap (λ (fs : List Text). live_with t w fs frames) all
+    ∙ by_part (live_with t w (values_of (codes "FURTHER") rows)) (frames_of (one_of (codes "FRAMES") rows)) frames r
+    (λ n is. given_number (number_of 0 most_frames (one_of (codes "FRAMES") rows)) frames n same is) (rw (← table, ← words) at asked)

@@ -1,15 +1,15 @@
 -- What the words of `icd` come to, with its option and without.
-use Rattle.std.proofs.Common.{◌≡◌, ◌∙◌, ap, ap₂, refl, codes, true, false, List, [], ◌∷◌}
-use Rattle.std.specs.Prelude.{Some, None, Bool, ◌&&◌, option_and_then}
+use Rattle.std.proofs.Common.{◌≡◌, ◌∙◌, ap, ap₂, refl, codes, true, false, [], ◌∷◌}
+use Rattle.std.specs.Prelude.{Some, None, Bool, ◌&&◌, option_map}
 use Rattle.std.specs.List.{list_all}
-use Rattle.clap.specs.Words.{Row, Shape, Text, subcommand_of, takes}
+use Rattle.clap.specs.Words.{Shape, Text, subcommand_of, takes}
 use Rattle.clap.specs.Walk.{Walk, idle, walk, walked, walk_from, nothing_held, finished}
 use Rattle.clap.specs.Simple.{built_leaf, inherited}
 use Rattle.clap.specs.Takes.{default_passes, is_valid, level_passes, settle_passes, walk_passes}
 use Rattle.clap.proofs.OnLiterals.{clap_on_literals}
 use Rattle.a429_console.specs.CommandLine.{command_line, top_shape, icd_app, IsName}
-use Rattle.a429_console.specs.Requests.{Icd}
-use Rattle.a429_console.specs.RequestRows.{request_by, icd_request}
+use Rattle.a429_console.specs.Requests.{Command, Icd}
+use Rattle.a429_console.specs.RequestRows.{found_by, icd_request, request_by}
 use Rattle.a429_console.proofs.PlainWords.{IsPlainWord, name_is_plain, at_word, for_none, walked_word, turn_of_word}
 use Rattle.a429_console.proofs.ManyWords.{row_of_words}
 use Rattle.a429_console.proofs.RequestWords.{held_last}
@@ -54,15 +54,15 @@ icd_csv_entered : (t : Text) → subcommand_of command_line (codes "icd" ∷ t �
 unfolding command_line clap_on_literals
 icd_csv_entered t = refl
 
-pub icd_asked : (t : Text) → IsName t → option_and_then (λ (p : Text × List Row). request_by p.0 p.1) (subcommand_of command_line (codes "icd" ∷ t ∷ [])) ≡ Some (Icd t false)
+pub icd_asked : (t : Text) → IsName t → found_by request_by (subcommand_of command_line (codes "icd" ∷ t ∷ [])) ≡ Some (Command (Icd t false))
 icd_asked t a =
-    ap (option_and_then (λ (p : Text × List Row). request_by p.0 p.1)) (icd_entered t)
-    ∙ (ap (λ (w : Walk). icd_request (finished icd_leaf.rules w.held)) (icd_first t (name_is_plain t a)) ∙ icd_without t)
+    ap (found_by request_by) (icd_entered t)
+    ∙ ap (option_map Command) (ap (λ (w : Walk). icd_request (finished icd_leaf.rules w.held)) (icd_first t (name_is_plain t a)) ∙ icd_without t)
 
-pub icd_csv_asked : (t : Text) → IsName t → option_and_then (λ (p : Text × List Row). request_by p.0 p.1) (subcommand_of command_line (codes "icd" ∷ t ∷ codes "--csv" ∷ [])) ≡ Some (Icd t true)
+pub icd_csv_asked : (t : Text) → IsName t → found_by request_by (subcommand_of command_line (codes "icd" ∷ t ∷ codes "--csv" ∷ [])) ≡ Some (Command (Icd t true))
 icd_csv_asked t a =
-    ap (option_and_then (λ (p : Text × List Row). request_by p.0 p.1)) (icd_csv_entered t)
-    ∙ (ap (λ (w : Walk). icd_request (finished icd_leaf.rules w.held)) (icd_walked t (name_is_plain t a)) ∙ icd_with t)
+    ap (found_by request_by) (icd_csv_entered t)
+    ∙ ap (option_map Command) (ap (λ (w : Walk). icd_request (finished icd_leaf.rules w.held)) (icd_walked t (name_is_plain t a)) ∙ icd_with t)
 
 icd_walk_passes : (t : Text) → IsPlainWord t → walk_passes icd_leaf [] (walk_from nothing_held) (t ∷ []) ≡ true
 unfolding walk_passes

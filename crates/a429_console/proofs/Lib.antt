@@ -6,11 +6,9 @@ pub mod MarginWords
 pub mod IcdWords
 pub mod DrawWords
 pub mod Decimals
+pub mod LiveWords
 pub mod AskedWords
-pub mod LiveRequestWords
 pub mod Elsewhere
-pub mod LiveFound
-pub mod DrawFound
 pub mod Found
 pub mod HexDigits
 pub mod HexText

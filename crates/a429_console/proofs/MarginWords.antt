@@ -1,14 +1,14 @@
 -- What the words of `margin` come to.
-use Rattle.std.proofs.Common.{◌≡◌, ◌∙◌, ap, refl, codes, true, false, List, [], ◌∷◌}
-use Rattle.std.specs.Prelude.{Some, Bool, ◌&&◌, option_and_then}
-use Rattle.clap.specs.Words.{Row, Shape, Text, subcommand_of, takes}
+use Rattle.std.proofs.Common.{◌≡◌, ◌∙◌, ap, refl, codes, true, false, [], ◌∷◌}
+use Rattle.std.specs.Prelude.{Some, Bool, ◌&&◌}
+use Rattle.clap.specs.Words.{Shape, Text, subcommand_of, takes}
 use Rattle.clap.specs.Walk.{Walk, idle, walk, walked, walk_from, nothing_held, finished}
 use Rattle.clap.specs.Simple.{built_leaf, inherited}
 use Rattle.clap.specs.Takes.{level_passes, walk_passes}
 use Rattle.clap.proofs.OnLiterals.{clap_on_literals}
 use Rattle.a429_console.specs.CommandLine.{command_line, top_shape, margin_app, IsName}
-use Rattle.a429_console.specs.Requests.{Margin}
-use Rattle.a429_console.specs.RequestRows.{request_by}
+use Rattle.a429_console.specs.Requests.{Command, Margin}
+use Rattle.a429_console.specs.RequestRows.{found_by, request_by}
 use Rattle.a429_console.proofs.PlainWords.{IsPlainWord, name_is_plain, at_word, for_none, walked_word, turn_of_word}
 use Rattle.a429_console.proofs.ManyWords.{row_of_words}
 use Rattle.a429_console.proofs.RequestWords.{held_last}
@@ -28,7 +28,7 @@ margin_entered : (t : Text) → subcommand_of command_line (codes "margin" ∷ t
 unfolding command_line clap_on_literals
 margin_entered t = refl
 
-pub margin_asked : (t : Text) → IsName t → option_and_then (λ (p : Text × List Row). request_by p.0 p.1) (subcommand_of command_line (codes "margin" ∷ t ∷ [])) ≡ Some (Margin t)
+pub margin_asked : (t : Text) → IsName t → found_by request_by (subcommand_of command_line (codes "margin" ∷ t ∷ [])) ≡ Some (Command (Margin t))
 margin_asked t a = rw (margin_entered t, margin_rows t (name_is_plain t a)) refl
 
 margin_walk_passes : (t : Text) → IsPlainWord t → walk_passes margin_leaf [] (walk_from nothing_held) (t ∷ []) ≡ true

@@ -1,6 +1,6 @@
 -- What the words of each command come to.
 use Rattle.std.proofs.Common.{◌≡◌, ◌∙◌, ap, ap₂, refl, codes, true, false, List, [], ◌∷◌, ◌++◌, fold}
-use Rattle.std.specs.Prelude.{Some, Bool, ◌&&◌, is_some, option_and_then}
+use Rattle.std.specs.Prelude.{Some, Bool, ◌&&◌, is_some}
 use Rattle.std.specs.List.{list_all}
 use Rattle.std.specs.List.{AllByRecursion}
 use Rattle.clap.specs.Words.{Row, Shape, Text, is_simple, is_simple_and_free, subcommand_of, takes}
@@ -9,8 +9,8 @@ use Rattle.clap.specs.Simple.{built, built_leaf, entered, inherited, names_of}
 use Rattle.clap.specs.Takes.{default_passes, entered_passes, is_valid, level_passes, settle_passes, step_passes, walk_passes}
 use Rattle.clap.proofs.OnLiterals.{clap_on_literals}
 use Rattle.a429_console.specs.CommandLine.{command_line, top_shape, word_app, lines_app, plan_app, check_app, replay_app, IsName}
-use Rattle.a429_console.specs.Requests.{Word, Lines, Plan, Check, Replay}
-use Rattle.a429_console.specs.RequestRows.{request_by}
+use Rattle.a429_console.specs.Requests.{Command, Word, Lines, Plan, Check, Replay}
+use Rattle.a429_console.specs.RequestRows.{found_by, request_by}
 use Rattle.a429_console.proofs.PlainWords.{IsPlainWord, name_is_plain, at_word, for_none, walked_word, turn_of_word}
 use Rattle.a429_console.proofs.StoppedWords.{stopped_more, stopped_passes}
 use Rattle.a429_console.proofs.ManyWords.{TakesMany, row_of_words, rows_of_many, held_many, rows_at_end, settles_at_end, words_pass}
@@ -77,7 +77,7 @@ word_entered : (t : Text) → subcommand_of command_line (codes "word" ∷ t ∷
 unfolding command_line clap_on_literals
 word_entered t = refl
 
-pub word_asked : (t : Text) → IsName t → option_and_then (λ (p : Text × List Row). request_by p.0 p.1) (subcommand_of command_line (codes "word" ∷ t ∷ [])) ≡ Some (Word t)
+pub word_asked : (t : Text) → IsName t → found_by request_by (subcommand_of command_line (codes "word" ∷ t ∷ [])) ≡ Some (Command (Word t))
 word_asked t a = rw (word_entered t, word_rows t (name_is_plain t a)) refl
 
 word_walk_passes : (t : Text) → IsPlainWord t → walk_passes word_leaf [] (walk_from nothing_held) (t ∷ []) ≡ true
@@ -156,12 +156,12 @@ lines_entered : (t : Text) (filters : List Text) → subcommand_of command_line 
 unfolding command_line
 lines_entered t filters = ap (entered (built command_line)) (lines_stop t filters) ∙ lines_enters t filters
 
-lines_of_rows : (t : Text) (filters : List Text) → request_by (codes "lines") (file_rows t ++ rows_of_many (codes "FILTER") filters) ≡ Some (Lines t filters)
+lines_of_rows : (t : Text) (filters : List Text) → request_by (codes "lines") (file_rows t ++ rows_of_many (codes "FILTER") filters) ≡ Some (Command (Lines t filters))
 lines_of_rows t [] = refl
 lines_of_rows t (f ∷ fs) = refl
 
 pub lines_asked : (t : Text) (filters : List Text) → IsName t → AllByRecursion IsName filters
-    → option_and_then (λ (p : Text × List Row). request_by p.0 p.1) (subcommand_of command_line (codes "lines" ∷ t ∷ filters)) ≡ Some (Lines t filters)
+    → found_by request_by (subcommand_of command_line (codes "lines" ∷ t ∷ filters)) ≡ Some (Command (Lines t filters))
 lines_asked t filters a names = rw (lines_entered t filters, lines_rows t filters (name_is_plain t a) names) (lines_of_rows t filters)
 
 lines_walk_passes : (t : Text) (filters : List Text) → IsPlainWord t → AllByRecursion IsName filters → walk_passes lines_leaf [] (walk_from nothing_held) (t ∷ filters) ≡ true
@@ -211,7 +211,7 @@ plan_entered : (t : Text) → subcommand_of command_line (codes "plan" ∷ t ∷
 unfolding command_line clap_on_literals
 plan_entered t = refl
 
-pub plan_asked : (t : Text) → IsName t → option_and_then (λ (p : Text × List Row). request_by p.0 p.1) (subcommand_of command_line (codes "plan" ∷ t ∷ [])) ≡ Some (Plan t)
+pub plan_asked : (t : Text) → IsName t → found_by request_by (subcommand_of command_line (codes "plan" ∷ t ∷ [])) ≡ Some (Command (Plan t))
 plan_asked t a = rw (plan_entered t, plan_rows t (name_is_plain t a)) refl
 
 plan_walk_passes : (t : Text) → IsPlainWord t → walk_passes plan_leaf [] (walk_from nothing_held) (t ∷ []) ≡ true
@@ -249,7 +249,7 @@ check_entered : (t s : Text) → subcommand_of command_line (codes "check" ∷ t
 unfolding command_line clap_on_literals
 check_entered t s = refl
 
-pub check_asked : (t s : Text) → IsName t → IsName s → option_and_then (λ (p : Text × List Row). request_by p.0 p.1) (subcommand_of command_line (codes "check" ∷ t ∷ s ∷ [])) ≡ Some (Check t s)
+pub check_asked : (t s : Text) → IsName t → IsName s → found_by request_by (subcommand_of command_line (codes "check" ∷ t ∷ s ∷ [])) ≡ Some (Command (Check t s))
 check_asked t s a b = rw (check_entered t s, check_rows t s (name_is_plain t a) (name_is_plain s b)) refl
 
 check_walk_passes : (t s : Text) → IsPlainWord t → IsPlainWord s → walk_passes check_leaf [] (walk_from nothing_held) (t ∷ s ∷ []) ≡ true
@@ -334,12 +334,12 @@ replay_entered : (t s : Text) (further : List Text) → subcommand_of command_li
 unfolding command_line
 replay_entered t s further = ap (entered (built command_line)) (replay_stop t s further) ∙ replay_enters t s further
 
-request_of_rows : (t s : Text) (further : List Text) → request_by (codes "replay") (base_rows t s ++ rows_of_many (codes "FURTHER") further) ≡ Some (Replay t s further)
+request_of_rows : (t s : Text) (further : List Text) → request_by (codes "replay") (base_rows t s ++ rows_of_many (codes "FURTHER") further) ≡ Some (Command (Replay t s further))
 request_of_rows t s [] = refl
 request_of_rows t s (f ∷ fs) = refl
 
 pub replay_asked : (t s : Text) (further : List Text) → IsName t → IsName s → AllByRecursion IsName further
-    → option_and_then (λ (p : Text × List Row). request_by p.0 p.1) (subcommand_of command_line (codes "replay" ∷ t ∷ s ∷ further)) ≡ Some (Replay t s further)
+    → found_by request_by (subcommand_of command_line (codes "replay" ∷ t ∷ s ∷ further)) ≡ Some (Command (Replay t s further))
 replay_asked t s further a b names =
     rw (replay_entered t s further, replay_rows t s further (name_is_plain t a) (name_is_plain s b) names) (request_of_rows t s further)
 

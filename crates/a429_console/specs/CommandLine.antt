@@ -59,12 +59,16 @@ draw_app =
     with_rule (with_rule (with_rule (new_app (codes "draw")) (required_rule (codes "TABLE"))) (option_rule (codes "group")))
     (number_option_rule (codes "slots") 1 most_slots)
 
+-- how many frames can be sent
+abbrev pub most_frames : ℕ
+most_frames = 1000000
+
 abbrev pub replay_app : App
 replay_app = with_rule (with_rule (with_rule (new_app (codes "replay")) (required_rule (codes "TABLE"))) (required_rule (codes "SCRIPT"))) (many_rule (codes "FURTHER"))
 
 abbrev pub live_app : App
 live_app =
-    with_rule (with_rule (with_rule (with_rule (new_app (codes "live")) (required_rule (codes "TABLE"))) (required_rule (codes "WORDS"))) (number_rule (codes "FRAMES") 1000000))
+    with_rule (with_rule (with_rule (with_rule (new_app (codes "live")) (required_rule (codes "TABLE"))) (required_rule (codes "WORDS"))) (number_rule (codes "FRAMES") most_frames))
     (many_rule (codes "FURTHER"))
 
 abbrev pub top_shape : Shape

@@ -5,60 +5,91 @@ use Rattle.clap.specs.Words.{Kinds}
 use Rattle.a429_console.specs.Outputs.{FailedCalls, HasFailed, HasFailedBy, IsMemoryReply, IsPut, NoneFailed, OrNoMemory, failed_line}
 use Rattle.a429_console.specs.Usage.{AreHelp, AreMistakes, IsHelpReply, IsUsageReply}
 
--- an output, before a call and after it: its bytes, what is known of its calls that failed, and whether it passed on all that it took
-pub record Writing : Type 0 where
-  pub had : Option (List ℕ)
-  pub has : Option (List ℕ)
-  pub failed_before : FailedCalls
-  pub failed : FailedCalls
-  pub is_flushed : Bool
+-- an output before a call and after it, and what its type says of it: its bytes, its calls that failed, and whether it passed on all that it took
+pub record Writing (X : Type 0) : Type 0 where
+  pub contents : X → Option (List ℕ)
+  pub failures : X → FailedCalls
+  pub is_flushed : X → Bool
+  pub old : X
+  pub new : X
 
--- the same of an output of any type, by what that type tells
-abbrev pub writing : {X : Type 0} → (X → Option (List ℕ)) → (X → FailedCalls) → (X → Bool) → X → X → Writing
-writing contents failures is_flushed old new =
-    record { had = contents old; has = contents new; failed_before = failures old; failed = failures new; is_flushed = is_flushed new }
+-- the same, as clauses write it
+abbrev pub writing : {X : Type 0} → (X → Option (List ℕ)) → (X → FailedCalls) → (X → Bool) → X → X → Writing X
+writing contents failures is_flushed old new = record { contents = contents; failures = failures; is_flushed = is_flushed; old = old; new = new }
 
 -- no call of it failed
-abbrev pub IsWhole : Writing → Type 0
-IsWhole w = NoneFailed w.failed_before w.failed
+abbrev pub IsWhole : {X : Type 0} → Writing X → Type 0
+IsWhole w = NoneFailed (w.failures w.old) (w.failures w.new)
+
+-- a call of it failed
+abbrev pub IsFailed : {X : Type 0} → Writing X → Type 0
+IsFailed w = HasFailed (w.failures w.old) (w.failures w.new)
 
 -- it is left as it was
-abbrev pub IsLeft : Writing → Type 0
-IsLeft w = (w.has ≡ w.had) × (w.failed ≡ w.failed_before)
+abbrev pub IsLeft : {X : Type 0} → Writing X → Type 0
+IsLeft w = w.new ≡ w.old
+
+-- all that it took was passed on
+abbrev pub IsPassedOn : {X : Type 0} → Writing X → Type 0
+IsPassedOn w = IsTrue (w.is_flushed w.new)
+
+-- after a call of it that failed there was no further one: it would fail too
+abbrev pub FailsOnce : {X : Type 0} → Writing X → Type 0
+FailsOnce w = (w.failures w.new).count ≤ (w.failures w.old).count + 1
 
 -- bytes were put to it that Says tells of the status
-abbrev pub IsPutTo : (ℕ → List ℕ → Type 0) → Writing → ℕ → Type 0
-IsPutTo Says w status = IsPut Says w.had w.has status
-
--- where the output failed, one line was written to the other; where its reader has closed it, the other is left as it was
-pub record TellsFailure (out err : Writing) : Type 0 where
-  pub announced : HasFailedBy false out.failed_before out.failed → IsWhole err → Appends err.had err.has failed_line
-  pub hushed : HasFailedBy true out.failed_before out.failed → IsLeft err
-
--- memory was refused before anything was put
-pub record IsMemoryRefused (out err : Writing) (status : ℕ) : Type 0 where
-  pub status_is : status ≡ 1
-  pub put : IsWhole out → IsPutTo IsMemoryReply out status
-  pub told : IsWhole out → IsTrue out.is_flushed
-  pub failure : TellsFailure out err
+abbrev pub IsPutTo : {X : Type 0} → (ℕ → List ℕ → Type 0) → Writing X → ℕ → Type 0
+IsPutTo Says w status = IsPut Says (w.contents w.old) (w.contents w.new) status
 
 -- a mistake was told, and nothing was put
-abbrev pub IsMistakeTold : Writing → Writing → ℕ → Type 0
-IsMistakeTold out err status = IsPutTo (IsUsageReply err.failed_before err.failed) out status
+abbrev pub IsMistakeTold : {X Y : Type 0} → Writing X → Writing Y → ℕ → Type 0
+IsMistakeTold out err status = IsPutTo (IsUsageReply (err.failures err.old) (err.failures err.new)) out status
+
+-- how a failure of the output is told on the other one
+pub record TellsFailure {X Y : Type 0} (out : Writing X) (err : Writing Y) : Type 0 where
+  -- one line says it
+  pub announced : HasFailedBy false (out.failures out.old) (out.failures out.new) → IsWhole err → Appends (err.contents err.old) (err.contents err.new) failed_line
+  -- nothing is written if the reader of the output has closed it
+  pub hushed : HasFailedBy true (out.failures out.old) (out.failures out.new) → IsLeft err
+
+-- memory was refused before anything was put
+pub record IsMemoryRefused {X Y : Type 0} (out : Writing X) (err : Writing Y) (status : ℕ) : Type 0 where
+  -- the status is 1
+  pub status_is : status ≡ 1
+  -- one line says it
+  pub put : IsWhole out → IsPutTo IsMemoryReply out status
+  -- the line was passed on
+  pub told : IsWhole out → IsPassedOn out
+  -- a failure of the output is told on the other one
+  pub failure : TellsFailure out err
 
 -- how a command ends on words that come to one of these kinds, or ask for something where there is none
-pub record EndsBy (kinds : Kinds) (out err : Writing) (status : ℕ) : Type 0 where
+pub record EndsBy {X Y : Type 0} (kinds : Kinds) (out : Writing X) (err : Writing Y) (status : ℕ) : Type 0 where
+  -- the status is 0, 1 or 2
   pub few : status ≤ 2
+  -- words that ask for help get a text, with status 0, unless memory is refused
   pub helped : AreHelp kinds → IsWhole out → IsPutTo (OrNoMemory IsHelpReply) out status
-  pub mistaken : AreMistakes kinds → IsWhole out → IsPutTo (OrNoMemory (IsUsageReply err.failed_before err.failed)) out status
+  -- of a mistake nothing is put, with status 2, or 1 if a call of the other output failed, unless memory is refused
+  pub mistaken : AreMistakes kinds → IsWhole out → IsPutTo (OrNoMemory (IsUsageReply (err.failures err.old) (err.failures err.new))) out status
+  -- after a mistake the status is not 0
   pub usage : AreMistakes kinds → status ≢ 0
+  -- with status 2 the words ask for no command of this call
   pub unasked : status ≡ 2 → kinds ≢ []
-  pub failed : (status ≡ 1) ⊎ ((out.failed ≡ out.failed_before) × (err.failed ≡ err.failed_before))
-  pub once : out.failed.count ≤ out.failed_before.count + 1
-  pub once_told : err.failed.count ≤ err.failed_before.count + 1
+  -- if a call of an output failed, the status is 1
+  pub failed : (status ≡ 1) ⊎ ((out.failures out.new ≡ out.failures out.old) × (err.failures err.new ≡ err.failures err.old))
+  -- at most one call of the output failed
+  pub once : FailsOnce out
+  -- at most one call of the other output failed
+  pub once_told : FailsOnce err
+  -- a failure of the output is told on the other one
   pub failure : TellsFailure out err
+  -- with status 0 nothing is written to the other output
   pub quiet : status ≡ 0 → IsLeft err
+  -- with status 2 nothing is put
   pub silent : status ≡ 2 → IsLeft out
-  pub warned : status ≡ 2 → IsTrue err.is_flushed
-  pub flushed : status ≡ 0 → IsTrue out.is_flushed
-  pub told : status ≡ 1 → IsWhole out → IsTrue out.is_flushed ⊎ ((kinds ≢ []) × HasFailed err.failed_before err.failed)
+  -- with status 2 the text of the mistake was passed on
+  pub warned : status ≡ 2 → IsPassedOn err
+  -- with status 0 all that was put was passed on
+  pub flushed : status ≡ 0 → IsPassedOn out
+  -- with status 1 a refusal was passed on, unless a call failed: of the output, or of the other one, which was to get the text of a mistake
+  pub told : status ≡ 1 → IsWhole out → IsPassedOn out ⊎ ((kinds ≢ []) × IsFailed err)

@@ -5,7 +5,6 @@ pub mod Files
 pub mod Nibbles
 pub mod Outputs
 pub mod Requests
-pub mod LiveWords
 pub mod RequestRows
 pub mod CutText
 pub mod GivenWords

@@ -1,27 +1,31 @@
 -- What is asked for by the values that were read of a command's words.
-use Rattle.std.specs.Prelude.{◌≡◌, [], ℕ, Bool, List, Option, Some, None, Result, MatchResult, true, false, codes, not, if◌then◌else◌, option_and_then, option_map, unwrap_or}
+use Rattle.std.specs.Prelude.{◌≡◌, [], ℕ, Bool, List, Option, Some, None, true, false, codes, if◌then◌else◌, option_and_then, option_map, unwrap_or}
 use Rattle.std.specs.Str.{bytes_eq}
 use Rattle.std.specs.Str.Parse.{digits_value, without_leading_plus}
 use Rattle.clap.specs.ValueTests.{is_unsigned_in}
-use Rattle.clap.specs.Words.{HasKind, Row, Text, first_of, one_of, all_of, subcommand_of, takes}
-use Rattle.clap.specs.declared.error.Error.{Error}
-use Rattle.a429_console.specs.CommandLine.{command_line, most_slots}
-use Rattle.a429_console.specs.LiveWords.{IsLiveReadOf, LiveTexts, live_texts}
-use Rattle.a429_console.specs.Requests.{IsReadOf, RequestBytes, Word, Lines, Plan, Check, Icd, Margin, Draw, Replay}
-use Rattle.a429_console.specs.Usage.{elsewhere, is_live}
-use Rattle.a429_console.specs.declared.arguments.requests.LiveRequest.{LiveRequest}
-use Rattle.a429_console.specs.declared.arguments.requests.Request.{Request}
+use Rattle.clap.specs.Words.{Row, Text, first_of, one_of, all_of, subcommand_of, takes}
+use Rattle.a429_console.specs.CommandLine.{command_line, most_frames, most_slots}
+use Rattle.a429_console.specs.Requests.{CommandAsk, Word, Lines, Plan, Check, Icd, Margin, Draw, Replay, LiveAsk, RequestBytes, Command, Live}
 
-abbrev pub word_request : List Row → Option RequestBytes
+-- the values of an argument that is given as often as one likes
+abbrev pub values_of : Text → List Row → List Text
+values_of id rows = unwrap_or (all_of id rows) []
+
+-- the number of an argument, by its text: none where it is not given, and nothing where the text is no whole number of this range
+unfoldable pub number_of : ℕ → ℕ → Option Text → Option (Option ℕ)
+number_of least most None = Some None
+number_of least most (Some text) = if is_unsigned_in least most text then Some (Some (digits_value 10 (without_leading_plus text))) else None
+
+abbrev pub word_request : List Row → Option CommandAsk
 word_request rows = option_map Word (first_of (codes "HEX") rows)
 
-abbrev pub lines_request : List Row → Option RequestBytes
-lines_request rows = option_map (λ file. Lines file (unwrap_or (all_of (codes "FILTER") rows) [])) (first_of (codes "FILE") rows)
+abbrev pub lines_request : List Row → Option CommandAsk
+lines_request rows = option_map (λ file. Lines file (values_of (codes "FILTER") rows)) (first_of (codes "FILE") rows)
 
-abbrev pub plan_request : List Row → Option RequestBytes
+abbrev pub plan_request : List Row → Option CommandAsk
 plan_request rows = option_map Plan (first_of (codes "TABLE") rows)
 
-abbrev pub check_request : List Row → Option RequestBytes
+abbrev pub check_request : List Row → Option CommandAsk
 check_request rows = option_and_then (λ table. option_map (Check table) (first_of (codes "PLAN") rows)) (first_of (codes "TABLE") rows)
 
 -- whether an option without a value was given, by the value that the parser gives it
@@ -29,28 +33,32 @@ abbrev pub flag_given : Option Text → Option Bool
 flag_given None = Some false
 flag_given (Some text) = if bytes_eq text (codes "true") then Some true else (if bytes_eq text (codes "false") then Some false else None)
 
-abbrev pub icd_request : List Row → Option RequestBytes
+abbrev pub icd_request : List Row → Option CommandAsk
 icd_request rows = option_and_then (λ table. option_map (Icd table) (flag_given (one_of (codes "csv") rows))) (first_of (codes "TABLE") rows)
 
-abbrev pub margin_request : List Row → Option RequestBytes
+abbrev pub margin_request : List Row → Option CommandAsk
 margin_request rows = option_map Margin (first_of (codes "TABLE") rows)
 
--- how many slots are asked for, by the text of the option: no number where it is not given
-unfoldable pub slots_of : Option Text → Option (Option ℕ)
-slots_of None = Some None
-slots_of (Some text) = if is_unsigned_in 1 most_slots text then Some (Some (digits_value 10 (without_leading_plus text))) else None
+abbrev pub draw_request : List Row → Option CommandAsk
+draw_request rows = option_and_then (λ table. option_map (Draw table (first_of (codes "group") rows)) (number_of 1 most_slots (one_of (codes "slots") rows))) (first_of (codes "TABLE") rows)
 
-abbrev pub draw_request : List Row → Option RequestBytes
-draw_request rows = option_and_then (λ table. option_map (Draw table (first_of (codes "group") rows)) (slots_of (one_of (codes "slots") rows))) (first_of (codes "TABLE") rows)
-
-abbrev pub replay_request : List Row → Option RequestBytes
+abbrev pub replay_request : List Row → Option CommandAsk
 replay_request rows =
-    option_and_then (λ table. option_map (λ script. Replay table script (unwrap_or (all_of (codes "FURTHER") rows) [])) (first_of (codes "SCRIPT") rows))
+    option_and_then (λ table. option_map (λ script. Replay table script (values_of (codes "FURTHER") rows)) (first_of (codes "SCRIPT") rows))
     (first_of (codes "TABLE") rows)
 
--- by the name of the command
-abbrev pub request_by : Text → List Row → Option RequestBytes
-request_by name rows =
+-- how many frames are asked for
+abbrev pub frames_of : Option Text → Option ℕ
+frames_of text = option_and_then (λ number. number) (number_of 0 most_frames text)
+
+abbrev pub live_request : List Row → Option LiveAsk
+live_request rows =
+    option_and_then (λ table. option_and_then (λ words. option_map (λ frames. record { table = table; words = words; frames = frames; further = values_of (codes "FURTHER") rows })
+    (frames_of (one_of (codes "FRAMES") rows))) (first_of (codes "WORDS") rows)) (first_of (codes "TABLE") rows)
+
+-- of `command`, by the name of the command
+abbrev pub command_by : Text → List Row → Option CommandAsk
+command_by name rows =
     if bytes_eq name (codes "word") then word_request rows
     else (if bytes_eq name (codes "lines") then lines_request rows
     else (if bytes_eq name (codes "plan") then plan_request rows
@@ -60,22 +68,14 @@ request_by name rows =
     else (if bytes_eq name (codes "draw") then draw_request rows
     else (if bytes_eq name (codes "replay") then replay_request rows else None)))))))
 
+-- of either call
+abbrev pub request_by : Text → List Row → Option RequestBytes
+request_by name rows = if bytes_eq name (codes "live") then option_map Live (live_request rows) else option_map Command (command_by name rows)
+
 -- by what was found of the words: the command's name and its values
-abbrev pub request_found : Option (Text × List Row) → Option RequestBytes
-request_found found = option_and_then (λ p. request_by p.0 p.1) found
+abbrev pub found_by : {A : Type 0} → (Text → List Row → Option A) → Option (Text × List Row) → Option A
+found_by by found = option_and_then (λ p. by p.0 p.1) found
 
 -- the rules of the command line take these words, and by the values that they give them this is asked for
 unfoldable pub AsksFor : List (List ℕ) → RequestBytes → Type 0
-AsksFor words r = (takes command_line words ≡ true) × (request_found (subcommand_of command_line words) ≡ Some r)
-
--- what was found is what `command` does, and it was read; or it is what another call does, or memory was refused
-abbrev pub IsRequestFound : Option (Text × List Row) → Result Request Error → Type 0
-IsRequestFound found result = MatchResult result (λ q. IsReadOf (request_found found) q × (is_live found ≡ false)) (HasKind (elsewhere (is_live found)))
-
--- of `live`, by what was found
-abbrev pub live_found : Option (Text × List Row) → Option LiveTexts
-live_found found = option_and_then (λ p. if bytes_eq p.0 (codes "live") then live_texts p.1 else None) found
-
--- the same of `command_live`
-abbrev pub IsLiveFound : Option (Text × List Row) → Result LiveRequest Error → Type 0
-IsLiveFound found result = MatchResult result (λ q. IsLiveReadOf (live_found found) q × (is_live found ≡ true)) (HasKind (elsewhere (not (is_live found))))
+AsksFor words r = (takes command_line words ≡ true) × (found_by request_by (subcommand_of command_line words) ≡ Some r)

@@ -1,30 +1,48 @@
 -- What the words of a command line ask for.
-use Rattle.std.specs.Prelude.{◌≡◌, ◌∷◌, ◌++◌, [], ℕ, Bool, true, false, List, Option, Some, None, IfSome, codes, option_map}
+use Rattle.std.specs.Prelude.{◌≡◌, ◌≤◌, ◌∷◌, ◌++◌, [], ℕ, Bool, true, false, List, Option, Some, None, IfSome, Result, MatchResult, codes, option_map}
 use Rattle.std.specs.Fmt.{decimal}
 use Rattle.std.specs.List.{AllByRecursion}
-use Rattle.a429_console.specs.CommandLine.{IsName, IsPlainSlots}
+use Rattle.clap.specs.Words.{kind_of}
+use Rattle.clap.specs.declared.error.Error.{Error}
+use Rattle.clap.specs.declared.error.kind.ErrorKind.TheVariants.{OutOfMemory}
+use Rattle.a429_console.specs.CommandLine.{IsName, IsPlainSlots, most_frames}
 use Rattle.a429_console.specs.Files.{texts_of}
+use Rattle.a429_console.specs.declared.arguments.requests.CommandRequest.{CommandRequest}
+use Rattle.a429_console.specs.declared.arguments.requests.CommandRequest.TheVariants as asked
+use Rattle.a429_console.specs.declared.arguments.requests.LiveRequest.{LiveRequest}
 use Rattle.a429_console.specs.declared.arguments.requests.Request.{Request}
 use Rattle.a429_console.specs.declared.arguments.requests.Request.TheVariants as read
 
+-- what `command` is asked for, by the bytes of its texts
+pub data CommandAsk : Type 0 where
+  -- the word of a text
+  Word : List ℕ → CommandAsk
+  -- a line file and filters
+  Lines : List ℕ → List (List ℕ) → CommandAsk
+  -- a table
+  Plan : List ℕ → CommandAsk
+  -- a table and the text of a plan
+  Check : List ℕ → List ℕ → CommandAsk
+  -- a table, and whether it is told as comma-separated values
+  Icd : List ℕ → Bool → CommandAsk
+  -- a table
+  Margin : List ℕ → CommandAsk
+  -- a table, the group that is drawn where one alone is, and how many slots of each bus where that is said
+  Draw : List ℕ → Option (List ℕ) → Option ℕ → CommandAsk
+  -- a table, a script and further tables
+  Replay : List ℕ → List ℕ → List (List ℕ) → CommandAsk
+
+-- what `command_live` is asked for: a table, a file of words, how many frames, and further tables
+pub record LiveAsk : Type 0 where
+  pub table : List ℕ
+  pub words : List ℕ
+  pub frames : ℕ
+  pub further : List (List ℕ)
+
 -- a request by the bytes of its texts: what contracts see of a `Request`
 pub data RequestBytes : Type 0 where
-  -- the word of a text
-  Word : List ℕ → RequestBytes
-  -- a line file and filters
-  Lines : List ℕ → List (List ℕ) → RequestBytes
-  -- a table
-  Plan : List ℕ → RequestBytes
-  -- a table and the text of a plan
-  Check : List ℕ → List ℕ → RequestBytes
-  -- a table, and whether it is told as comma-separated values
-  Icd : List ℕ → Bool → RequestBytes
-  -- a table
-  Margin : List ℕ → RequestBytes
-  -- a table, the group that is drawn where one alone is, and how many slots of each bus where that is said
-  Draw : List ℕ → Option (List ℕ) → Option ℕ → RequestBytes
-  -- a table, a script and further tables
-  Replay : List ℕ → List ℕ → List (List ℕ) → RequestBytes
+  Command : CommandAsk → RequestBytes
+  Live : LiveAsk → RequestBytes
 
 -- the words of an option that has a value, where it is given
 abbrev pub option_words : List ℕ → Option (List ℕ) → List (List ℕ)
@@ -33,38 +51,53 @@ option_words name (Some value) = name ∷ value ∷ []
 
 -- its words in their plain form: what it names, and then its options
 abbrev pub request_words : RequestBytes → List (List ℕ)
-request_words (Word text) = codes "word" ∷ text ∷ []
-request_words (Lines file filters) = codes "lines" ∷ file ∷ filters
-request_words (Plan table) = codes "plan" ∷ table ∷ []
-request_words (Check table text) = codes "check" ∷ table ∷ text ∷ []
-request_words (Icd table false) = codes "icd" ∷ table ∷ []
-request_words (Icd table true) = codes "icd" ∷ table ∷ codes "--csv" ∷ []
-request_words (Margin table) = codes "margin" ∷ table ∷ []
-request_words (Draw table group slots) = codes "draw" ∷ table ∷ (option_words (codes "--group") group ++ option_words (codes "--slots") (option_map decimal slots))
-request_words (Replay table script further) = codes "replay" ∷ table ∷ script ∷ further
+request_words (Command (Word text)) = codes "word" ∷ text ∷ []
+request_words (Command (Lines file filters)) = codes "lines" ∷ file ∷ filters
+request_words (Command (Plan table)) = codes "plan" ∷ table ∷ []
+request_words (Command (Check table text)) = codes "check" ∷ table ∷ text ∷ []
+request_words (Command (Icd table false)) = codes "icd" ∷ table ∷ []
+request_words (Command (Icd table true)) = codes "icd" ∷ table ∷ codes "--csv" ∷ []
+request_words (Command (Margin table)) = codes "margin" ∷ table ∷ []
+request_words (Command (Draw table group slots)) =
+    codes "draw" ∷ table ∷ (option_words (codes "--group") group ++ option_words (codes "--slots") (option_map decimal slots))
+request_words (Command (Replay table script further)) = codes "replay" ∷ table ∷ script ∷ further
+request_words (Live r) = codes "live" ∷ r.table ∷ r.words ∷ decimal r.frames ∷ r.further
 
--- each text of it is a name, and a number of slots can be asked for
+-- each text of it is a name, and its number can be asked for
 abbrev pub HasNames : RequestBytes → Type 0
-HasNames (Word text) = IsName text
-HasNames (Lines file filters) = IsName file × AllByRecursion IsName filters
-HasNames (Plan table) = IsName table
-HasNames (Check table text) = IsName table × IsName text
-HasNames (Icd table csv) = IsName table
-HasNames (Margin table) = IsName table
-HasNames (Draw table group slots) = IsName table × IfSome group IsName × IfSome slots IsPlainSlots
-HasNames (Replay table script further) = IsName table × IsName script × AllByRecursion IsName further
+HasNames (Command (Word text)) = IsName text
+HasNames (Command (Lines file filters)) = IsName file × AllByRecursion IsName filters
+HasNames (Command (Plan table)) = IsName table
+HasNames (Command (Check table text)) = IsName table × IsName text
+HasNames (Command (Icd table csv)) = IsName table
+HasNames (Command (Margin table)) = IsName table
+HasNames (Command (Draw table group slots)) = IsName table × IfSome group IsName × IfSome slots IsPlainSlots
+HasNames (Command (Replay table script further)) = IsName table × IsName script × AllByRecursion IsName further
+HasNames (Live r) = IsName r.table × IsName r.words × (r.frames ≤ most_frames) × AllByRecursion IsName r.further
 
--- the bytes of what was read of the words
+-- ---- the bytes of what was read of the words
+
+abbrev pub command_of : CommandRequest → CommandAsk
+command_of (asked.Word text) = Word text.now
+command_of (asked.Lines file filters) = Lines file.now (texts_of filters.items)
+command_of (asked.Plan table) = Plan table.now
+command_of (asked.Check table text) = Check table.now text.now
+command_of (asked.Icd table csv) = Icd table.now csv
+command_of (asked.Margin table) = Margin table.now
+command_of (asked.Draw table group slots) = Draw table.now (option_map (λ g. g.now) group) slots
+command_of (asked.Replay table script further) = Replay table.now script.now (texts_of further.items)
+
+abbrev pub live_of : LiveRequest → LiveAsk
+live_of q = record { table = q.table.now; words = q.words.now; frames = q.frames; further = texts_of q.further.items }
+
 abbrev pub request_of : Request → RequestBytes
-request_of (read.Word text) = Word text.now
-request_of (read.Lines file filters) = Lines file.now (texts_of filters.items)
-request_of (read.Plan table) = Plan table.now
-request_of (read.Check table text) = Check table.now text.now
-request_of (read.Icd table csv) = Icd table.now csv
-request_of (read.Margin table) = Margin table.now
-request_of (read.Draw table group slots) = Draw table.now (option_map (λ g. g.now) group) slots
-request_of (read.Replay table script further) = Replay table.now script.now (texts_of further.items)
+request_of (read.Command q) = Command (command_of q)
+request_of (read.Live q) = Live (live_of q)
 
--- where something was asked for, it was read
-abbrev pub IsReadOf : Option RequestBytes → Request → Type 0
-IsReadOf asked request = (r : RequestBytes) → asked ≡ Some r → request_of request ≡ r
+-- this was asked for and was read, or memory was refused
+abbrev pub IsRead : {A Q : Type 0} → (Q → A) → A → Result Q Error → Type 0
+IsRead bytes_of asked result = MatchResult result (λ q. bytes_of q ≡ asked) (λ e. kind_of e ≡ OutOfMemory)
+
+-- what was found was read, if it asks for something; or memory was refused
+abbrev pub IsReadOf : {A Q : Type 0} → (Q → A) → Option A → Result Q Error → Type 0
+IsReadOf bytes_of found result = MatchResult result (λ q. (asked : _) → found ≡ Some asked → bytes_of q ≡ asked) (λ e. kind_of e ≡ OutOfMemory)

@@ -1,13 +1,16 @@
 -- Words that ask for no command: calls for help or for the version, and mistakes (profile: status 0, 1 and 2).
-use Rattle.std.specs.Prelude.{◌≡◌, ◌≢◌, ◌∷◌, [], ◌⊎◌, ℕ, Bool, true, false, not, List, Option, Some, None, codes}
+use Rattle.std.specs.Prelude.{◌≡◌, ◌≢◌, ◌∷◌, [], ◌⊎◌, ℕ, Bool, true, false, not, List, Option, Some, None, Result, MatchResult, codes}
 use Rattle.std.specs.List.{list_all, list_any}
 use Rattle.std.specs.Str.{bytes_eq}
 use Rattle.clap.specs.Kinds.{or_else}
-use Rattle.clap.specs.Words.{Kinds, Row, Text, fault_of, subcommand_of}
+use Rattle.clap.specs.Words.{HasKind, Kinds, Row, Text, fault_of, subcommand_of}
+use Rattle.clap.specs.declared.error.Error.{Error}
 use Rattle.clap.specs.declared.error.kind.ErrorKind.{ErrorKind}
 use Rattle.clap.specs.declared.error.kind.ErrorKind.TheVariants.{DisplayHelp, DisplayVersion, InvalidSubcommand, OutOfMemory}
 use Rattle.a429_console.specs.CommandLine.{command_line}
 use Rattle.a429_console.specs.Outputs.{FailedCalls, HasFailed, IsMemoryReply, OrNoMemory}
+use Rattle.a429_console.specs.declared.arguments.requests.Request.{Request}
+use Rattle.a429_console.specs.declared.arguments.requests.Request.TheVariants as read
 
 -- the command that was found is `live`
 abbrev pub is_live : Option (Text × List Row) → Bool
@@ -27,6 +30,15 @@ kinds_of_words words = or_else (fault_of command_line words) (elsewhere (is_live
 -- the same of `command_live`, of which `live` is the one command
 abbrev pub live_kinds_of_words : List (List ℕ) → Kinds
 live_kinds_of_words words = or_else (fault_of command_line words) (elsewhere (not (is_live (subcommand_of command_line words))))
+
+-- the request is one of `command_live`
+abbrev pub is_run : Request → Bool
+is_run (read.Live _) = true
+is_run (read.Command _) = false
+
+-- the kinds that words come to for a call: an error has one of them, and a request means that there is none, or that another call does it
+abbrev pub ComesTo : Kinds → (Request → Bool) → Result Request Error → Type 0
+ComesTo kinds is_another result = MatchResult result (λ request. kinds ≡ elsewhere (is_another request)) (HasKind kinds)
 
 -- the help or the version
 abbrev pub is_help : ErrorKind → Bool
@@ -53,6 +65,18 @@ AsksForHelp words = AreHelp (kinds_of_words words)
 -- a mistake: no request, and no call for help
 abbrev pub IsUsageFault : List (List ℕ) → Type 0
 IsUsageFault words = AreMistakes (kinds_of_words words)
+
+-- they ask for no run of a station
+abbrev pub IsNoLive : List (List ℕ) → Type 0
+IsNoLive words = live_kinds_of_words words ≢ []
+
+-- they ask `command_live` for help or for the version
+abbrev pub AsksForLiveHelp : List (List ℕ) → Type 0
+AsksForLiveHelp words = AreHelp (live_kinds_of_words words)
+
+-- a mistake: no run of a station, and no call for help
+abbrev pub IsLiveMistake : List (List ℕ) → Type 0
+IsLiveMistake words = AreMistakes (live_kinds_of_words words)
 
 -- a text was put, of which nothing is said
 abbrev pub IsHelpReply : ℕ → List ℕ → Type 0

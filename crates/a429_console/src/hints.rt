@@ -1,6 +1,6 @@
 //! Who tells a person what can be done about a refusal.
 
-use crate::arguments::requests::{LiveRequest, Request};
+use crate::arguments::requests::Request;
 use crate::files::FileReader;
 use std::alloc::Global;
 use std::io;
@@ -15,15 +15,6 @@ pub trait Hints {
         &self,
         alloc: Global,
         request: &Request,
-        files: &mut F,
-        err: &mut V,
-    ) -> io::Result<()>;
-
-    /// The same of a run that was refused.
-    fn tell_live<F: FileReader, V: Write>(
-        &self,
-        alloc: Global,
-        request: &LiveRequest,
         files: &mut F,
         err: &mut V,
     ) -> io::Result<()>;

@@ -2,7 +2,7 @@
 
 use crate::looks::{are_there, look_at};
 use crate::plans::{tell_no_drawing, tell_no_plan, tell_no_verdict};
-use a429_console::arguments::requests::{LiveRequest, Request};
+use a429_console::arguments::requests::{CommandRequest, Request};
 use a429_console::files::FileReader;
 use a429_console::hints::Hints;
 use std::alloc::Global;
@@ -24,23 +24,6 @@ impl Hints for HintLines {
         tell_of_request(alloc, request, files, err)?;
         err.flush()
     }
-
-    fn tell_live<F: FileReader, V: Write>(
-        &self,
-        alloc: Global,
-        request: &LiveRequest,
-        files: &mut F,
-        err: &mut V,
-    ) -> io::Result<()> {
-        let LiveRequest {
-            table,
-            words,
-            further,
-            ..
-        } = request;
-        tell_of_run(alloc, files, table, words, further, err)?;
-        err.flush()
-    }
 }
 
 fn tell_of_request<F: FileReader, V: Write>(
@@ -50,17 +33,31 @@ fn tell_of_request<F: FileReader, V: Write>(
     err: &mut V,
 ) -> io::Result<()> {
     match request {
-        Request::Word { .. } => Ok(()),
-        Request::Lines { file, .. } => {
+        Request::Command(asked) => tell_of_command(alloc, asked, files, err),
+        Request::Live(run) => tell_of_run(alloc, files, run.table, run.words, &run.further, err),
+    }
+}
+
+fn tell_of_command<F: FileReader, V: Write>(
+    alloc: Global,
+    request: &CommandRequest,
+    files: &mut F,
+    err: &mut V,
+) -> io::Result<()> {
+    match request {
+        CommandRequest::Word { .. } => Ok(()),
+        CommandRequest::Lines { file, .. } => {
             look_at(alloc, files, file, err)?;
             Ok(())
         }
-        Request::Plan { table } | Request::Icd { table, .. } | Request::Margin { table } => {
-            tell_of_table(alloc, files, table, err)
+        CommandRequest::Plan { table }
+        | CommandRequest::Icd { table, .. }
+        | CommandRequest::Margin { table } => tell_of_table(alloc, files, table, err),
+        CommandRequest::Draw { table, group, .. } => {
+            tell_of_drawing(alloc, files, table, *group, err)
         }
-        Request::Draw { table, group, .. } => tell_of_drawing(alloc, files, table, *group, err),
-        Request::Check { table, plan } => tell_of_check(alloc, files, table, plan, err),
-        Request::Replay {
+        CommandRequest::Check { table, plan } => tell_of_check(alloc, files, table, plan, err),
+        CommandRequest::Replay {
             table,
             script,
             further,

@@ -1,11 +1,10 @@
 //! What the words of the command line ask for.
-ghost use Rattle.std.specs.Prelude.{◌≡◌, ℕ, List, Option, IfOk, MatchResult, Some, codes, true};
-ghost use Rattle.clap.specs.Words.{FailsBy, HasKind, first_of, found_of, kind_of, one_of, rows_of, subcommand_rows_of};
+ghost use Rattle.std.specs.Prelude.{◌≡◌, ◌<◌, ◌^◌, ℕ, Option, IfOk, Some, not, true};
+ghost use Rattle.clap.specs.Words.{HasKind, found_of, kind_of, one_of, rows_of, subcommand_rows_of};
 ghost use Rattle.a429_console.specs.Files.{texts_of};
-ghost use Rattle.a429_console.specs.Requests.{IsReadOf, RequestBytes, request_of};
-ghost use Rattle.a429_console.specs.RequestRows.{AsksFor, IsLiveFound, IsRequestFound, check_request, draw_request, icd_request, lines_request, margin_request, plan_request, replay_request, slots_of, word_request};
-ghost use Rattle.a429_console.specs.LiveWords.{AsksForLive, IsFrames, IsLiveReadOf, LiveAsk, live_of, live_texts};
-ghost use Rattle.a429_console.specs.Usage.{elsewhere, kinds_of_words, live_kinds_of_words};
+ghost use Rattle.a429_console.specs.Requests.{IsRead, IsReadOf, RequestBytes, command_of, live_of, request_of};
+ghost use Rattle.a429_console.specs.RequestRows.{AsksFor, check_request, command_by, draw_request, found_by, icd_request, lines_request, live_request, margin_request, number_of, plan_request, replay_request, request_by, values_of, word_request};
+ghost use Rattle.a429_console.specs.Usage.{ComesTo, elsewhere, is_live, is_run, kinds_of_words, live_kinds_of_words};
 
 use crate::arguments::command_line::build_command;
 use clap::error::ErrorKind;
@@ -15,6 +14,15 @@ use std::alloc::{AllocError, Global};
 /// What the words ask for.
 #[derive(Debug, Drop)]
 pub enum Request<'a> {
+    /// One of the commands that `command` does.
+    Command(CommandRequest<'a>),
+    /// The command `live`, which `command_live` does.
+    Live(LiveRequest<'a>),
+}
+
+/// What `command` is asked for.
+#[derive(Debug, Drop)]
+pub enum CommandRequest<'a> {
     /// To tell what the word of this text says.
     Word {
         text: &'a str,
@@ -72,10 +80,11 @@ pub struct LiveRequest<'a> {
 /// for people, and is of kind `OutOfMemory` where memory was refused.
 pub fn parse<'a>(alloc: Global, words: &'a [&'a str]) -> Result<Request<'a>, Error>
     // Words that ask for something are read as it, and are refused for want of memory alone.
-    ensures asked { (r : RequestBytes) → AsksFor (texts_of words.entry.now) r
-        → MatchResult result (λ request. request_of request ≡ r) (λ e. kind_of e ≡ ErrorKind.OutOfMemory) }
-    // What is answered in their place is of a kind that the rules of the command line give, or memory was refused.
-    ensures kinds { FailsBy (kinds_of_words (texts_of words.entry.now)) result }
+    ensures asked { (r : RequestBytes) → AsksFor (texts_of words.entry.now) r → IsRead request_of r result }
+    // An error has a kind that the words come to for `command`; a request means that they come to none, unless it is for `live`.
+    ensures kinds { ComesTo (kinds_of_words (texts_of words.entry.now)) is_run result }
+    // The same for `command_live`, which does `live` alone.
+    ensures live_kinds { ComesTo (live_kinds_of_words (texts_of words.entry.now)) (λ request. not (is_run request)) result }
 {
     let command = build_command(alloc)?;
     let matches = command.try_get_matches_from(words)?;
@@ -84,7 +93,7 @@ pub fn parse<'a>(alloc: Global, words: &'a [&'a str]) -> Result<Request<'a>, Err
 }
 
 /// The error of words that ask for a command which another call does.
-fn not_here(alloc: Global, message: &str) -> Error
+pub fn not_here(alloc: Global, message: &str) -> Error
     ensures { HasKind (elsewhere true) result }
 {
     match usage_error(alloc, message) {
@@ -101,7 +110,18 @@ fn usage_error(alloc: Global, message: &str) -> Result<Error, AllocError>
 
 /// What the words ask for, by what was found of them.
 fn read_request<'a>(alloc: Global, matches: &ArgMatches<'a>) -> Result<Request<'a>, Error>
-    ensures { IsRequestFound (subcommand_rows_of matches.now) result }
+    ensures read { IsReadOf request_of (found_by request_by (subcommand_rows_of matches.now)) result }
+    ensures named { IfOk result (λ request. is_live (subcommand_rows_of matches.now) ≡ is_run request) }
+{
+    match matches.subcommand_matches("live") {
+        Some(found) => Ok(Request::Live(asked_live(alloc, found)?)),
+        None => Ok(Request::Command(read_command(alloc, matches)?)),
+    }
+}
+
+/// What `command` is asked for, by what was found of the words.
+fn read_command<'a>(alloc: Global, matches: &ArgMatches<'a>) -> Result<CommandRequest<'a>, Error>
+    ensures { IsReadOf command_of (found_by command_by (subcommand_rows_of matches.now)) result }
 {
     if let Some(found) = matches.subcommand_matches("word") {
         return asked_word(found);
@@ -127,172 +147,139 @@ fn read_request<'a>(alloc: Global, matches: &ArgMatches<'a>) -> Result<Request<'
     if let Some(found) = matches.subcommand_matches("replay") {
         return asked_replay(alloc, found);
     }
-    if matches.subcommand_matches("live").is_some() {
-        return Err(not_here(alloc, "this call runs no station"));
-    }
     Err(Error::from(AllocError))
 }
 
-/// Reads the words of the command line, without the program's name, as those of `live`. The error is as of `parse`.
-pub fn parse_live<'a>(alloc: Global, words: &'a [&'a str]) -> Result<LiveRequest<'a>, Error>
-    // Words of `live` ask for it, and are refused for want of memory alone.
-    ensures asked { (r : LiveAsk) → AsksForLive (texts_of words.entry.now) r
-        → MatchResult result (λ request. live_of request ≡ r) (λ e. kind_of e ≡ ErrorKind.OutOfMemory) }
-    // What is answered in their place is of a kind that the rules of the command line give, or memory was refused.
-    ensures kinds { FailsBy (live_kinds_of_words (texts_of words.entry.now)) result }
+/// The number of an argument, where one is given: that of its text, which the rules of the command line let through.
+fn asked_number(found: &ArgMatches<'_>, id: &str) -> Option<u32>
+    ensures { (least most : ℕ) (number : Option ℕ) → most < 2 ^ 32
+        → number_of least most (one_of id.now (rows_of (found_of found.now))) ≡ Some number → result ≡ number }
 {
-    let command = build_command(alloc)?;
-    let matches = command.try_get_matches_from(words)?;
-    // behind a reference, as in `parse`
-    read_live(alloc, &matches)
+    found.get_one(id)
 }
 
-/// What the words of `live` ask for, by what was found of them.
-fn read_live<'a>(alloc: Global, matches: &ArgMatches<'a>) -> Result<LiveRequest<'a>, Error>
-    ensures { IsLiveFound (subcommand_rows_of matches.now) result }
+/// The values of an argument, in the order in which they are given.
+fn asked_values<'a>(
+    alloc: Global,
+    found: &ArgMatches<'a>,
+    id: &str,
+) -> Result<Vec<&'a str>, AllocError>
+    ensures { IfOk result (λ values. texts_of values.items ≡ values_of id.now (rows_of (found_of found.now))) }
 {
-    match matches.subcommand_matches("live") {
-        Some(found) => asked_live(alloc, found),
-        None => Err(not_here(alloc, "this call runs stations, and does nothing else")),
-    }
-}
-
-/// What the words of `live` ask for.
-fn asked_live<'a>(alloc: Global, found: &ArgMatches<'a>) -> Result<LiveRequest<'a>, Error>
-    ensures { MatchResult result (IsLiveReadOf (live_texts (rows_of (found_of found.now)))) (λ e. kind_of e ≡ ErrorKind.OutOfMemory) }
-{
-    let (Some(table), Some(words)) = (found.get_str("TABLE"), found.get_str("WORDS")) else {
-        return Err(Error::from(AllocError));
-    };
-    let Some(frames) = asked_frames(found) else {
-        return Err(Error::from(AllocError));
-    };
-    let further = match found.get_strs("FURTHER") {
-        Some(further) => Vec::from_slice(alloc, further)?,
-        None => Vec::new(alloc),
-    };
-    Ok(LiveRequest {
-        table,
-        words,
-        frames,
-        further,
-    })
-}
-
-/// How many frames are asked for: the number of the text, which the rules of the command line let through.
-fn asked_frames(found: &ArgMatches<'_>) -> Option<u32>
-    ensures { (text : List ℕ) → first_of (codes "FRAMES") (rows_of (found_of found.now)) ≡ Some text
-        → (n : ℕ) → IsFrames text n → result ≡ Some n }
-{
-    let text = found.get_str("FRAMES")?;
-    match text.parse::<u32>() {
-        Ok(frames) => Some(frames),
-        Err(_) => None,
+    match found.get_strs(id) {
+        Some(values) => Vec::from_slice(alloc, values),
+        None => Ok(Vec::new(alloc)),
     }
 }
 
 /// What the words of `word` ask for.
-fn asked_word<'a>(found: &ArgMatches<'a>) -> Result<Request<'a>, Error>
-    ensures { MatchResult result (IsReadOf (word_request (rows_of (found_of found.now)))) (λ e. kind_of e ≡ ErrorKind.OutOfMemory) }
+fn asked_word<'a>(found: &ArgMatches<'a>) -> Result<CommandRequest<'a>, Error>
+    ensures { IsReadOf command_of (word_request (rows_of (found_of found.now))) result }
 {
     match found.get_str("HEX") {
-        Some(text) => Ok(Request::Word { text }),
+        Some(text) => Ok(CommandRequest::Word { text }),
         None => Err(Error::from(AllocError)),
     }
 }
 
 /// What the words of `lines` ask for.
-fn asked_lines<'a>(alloc: Global, found: &ArgMatches<'a>) -> Result<Request<'a>, Error>
-    ensures { MatchResult result (IsReadOf (lines_request (rows_of (found_of found.now)))) (λ e. kind_of e ≡ ErrorKind.OutOfMemory) }
+fn asked_lines<'a>(alloc: Global, found: &ArgMatches<'a>) -> Result<CommandRequest<'a>, Error>
+    ensures { IsReadOf command_of (lines_request (rows_of (found_of found.now))) result }
 {
     let Some(file) = found.get_str("FILE") else {
         return Err(Error::from(AllocError));
     };
-    let filters = match found.get_strs("FILTER") {
-        Some(filters) => Vec::from_slice(alloc, filters)?,
-        None => Vec::new(alloc),
-    };
-    Ok(Request::Lines { file, filters })
+    let filters = asked_values(alloc, found, "FILTER")?;
+    Ok(CommandRequest::Lines { file, filters })
 }
 
 /// What the words of `plan` ask for.
-fn asked_plan<'a>(found: &ArgMatches<'a>) -> Result<Request<'a>, Error>
-    ensures { MatchResult result (IsReadOf (plan_request (rows_of (found_of found.now)))) (λ e. kind_of e ≡ ErrorKind.OutOfMemory) }
+fn asked_plan<'a>(found: &ArgMatches<'a>) -> Result<CommandRequest<'a>, Error>
+    ensures { IsReadOf command_of (plan_request (rows_of (found_of found.now))) result }
 {
     match found.get_str("TABLE") {
-        Some(table) => Ok(Request::Plan { table }),
+        Some(table) => Ok(CommandRequest::Plan { table }),
         None => Err(Error::from(AllocError)),
     }
 }
 
 /// What the words of `check` ask for.
-fn asked_check<'a>(found: &ArgMatches<'a>) -> Result<Request<'a>, Error>
-    ensures { MatchResult result (IsReadOf (check_request (rows_of (found_of found.now)))) (λ e. kind_of e ≡ ErrorKind.OutOfMemory) }
+fn asked_check<'a>(found: &ArgMatches<'a>) -> Result<CommandRequest<'a>, Error>
+    ensures { IsReadOf command_of (check_request (rows_of (found_of found.now))) result }
 {
     let (Some(table), Some(plan)) = (found.get_str("TABLE"), found.get_str("PLAN")) else {
         return Err(Error::from(AllocError));
     };
-    Ok(Request::Check { table, plan })
+    Ok(CommandRequest::Check { table, plan })
 }
 
 /// What the words of `icd` ask for.
-fn asked_icd<'a>(found: &ArgMatches<'a>) -> Result<Request<'a>, Error>
-    ensures { MatchResult result (IsReadOf (icd_request (rows_of (found_of found.now)))) (λ e. kind_of e ≡ ErrorKind.OutOfMemory) }
+fn asked_icd<'a>(found: &ArgMatches<'a>) -> Result<CommandRequest<'a>, Error>
+    ensures { IsReadOf command_of (icd_request (rows_of (found_of found.now))) result }
 {
     let Some(table) = found.get_str("TABLE") else {
         return Err(Error::from(AllocError));
     };
     let csv = found.get_flag("csv");
-    Ok(Request::Icd { table, csv })
+    Ok(CommandRequest::Icd { table, csv })
 }
 
 /// What the words of `margin` ask for.
-fn asked_margin<'a>(found: &ArgMatches<'a>) -> Result<Request<'a>, Error>
-    ensures { MatchResult result (IsReadOf (margin_request (rows_of (found_of found.now)))) (λ e. kind_of e ≡ ErrorKind.OutOfMemory) }
+fn asked_margin<'a>(found: &ArgMatches<'a>) -> Result<CommandRequest<'a>, Error>
+    ensures { IsReadOf command_of (margin_request (rows_of (found_of found.now))) result }
 {
     match found.get_str("TABLE") {
-        Some(table) => Ok(Request::Margin { table }),
+        Some(table) => Ok(CommandRequest::Margin { table }),
         None => Err(Error::from(AllocError)),
     }
 }
 
 /// What the words of `draw` ask for.
-fn asked_draw<'a>(found: &ArgMatches<'a>) -> Result<Request<'a>, Error>
-    ensures { MatchResult result (IsReadOf (draw_request (rows_of (found_of found.now)))) (λ e. kind_of e ≡ ErrorKind.OutOfMemory) }
+fn asked_draw<'a>(found: &ArgMatches<'a>) -> Result<CommandRequest<'a>, Error>
+    ensures { IsReadOf command_of (draw_request (rows_of (found_of found.now))) result }
 {
     let Some(table) = found.get_str("TABLE") else {
         return Err(Error::from(AllocError));
     };
     let group = found.get_str("group");
-    let slots = asked_slots(found);
-    Ok(Request::Draw {
+    let slots = asked_number(found, "slots");
+    Ok(CommandRequest::Draw {
         table,
         group,
         slots,
     })
 }
 
-/// How many slots are asked for, where a number is: that of the text, which the rules of the command line let through.
-fn asked_slots(found: &ArgMatches<'_>) -> Option<u32>
-    ensures { (slots : Option ℕ) → slots_of (one_of (codes "slots") (rows_of (found_of found.now))) ≡ Some slots → result ≡ slots }
-{
-    found.get_one("slots")
-}
-
 /// What the words of `replay` ask for.
-fn asked_replay<'a>(alloc: Global, found: &ArgMatches<'a>) -> Result<Request<'a>, Error>
-    ensures { MatchResult result (IsReadOf (replay_request (rows_of (found_of found.now)))) (λ e. kind_of e ≡ ErrorKind.OutOfMemory) }
+fn asked_replay<'a>(alloc: Global, found: &ArgMatches<'a>) -> Result<CommandRequest<'a>, Error>
+    ensures { IsReadOf command_of (replay_request (rows_of (found_of found.now))) result }
 {
     let (Some(table), Some(script)) = (found.get_str("TABLE"), found.get_str("SCRIPT")) else {
         return Err(Error::from(AllocError));
     };
-    let further = match found.get_strs("FURTHER") {
-        Some(further) => Vec::from_slice(alloc, further)?,
-        None => Vec::new(alloc),
-    };
-    Ok(Request::Replay {
+    let further = asked_values(alloc, found, "FURTHER")?;
+    Ok(CommandRequest::Replay {
         table,
         script,
+        further,
+    })
+}
+
+/// What the words of `live` ask for.
+fn asked_live<'a>(alloc: Global, found: &ArgMatches<'a>) -> Result<LiveRequest<'a>, Error>
+    ensures { IsReadOf live_of (live_request (rows_of (found_of found.now))) result }
+{
+    let (Some(table), Some(words)) = (found.get_str("TABLE"), found.get_str("WORDS")) else {
+        return Err(Error::from(AllocError));
+    };
+    let Some(frames) = asked_number(found, "FRAMES") else {
+        return Err(Error::from(AllocError));
+    };
+    let further = asked_values(alloc, found, "FURTHER")?;
+    Ok(LiveRequest {
+        table,
+        words,
+        frames,
         further,
     })
 }

@@ -1,8 +1,9 @@
-use Rattle.std.proofs.Common.{◌∙◌, codes}
+use Rattle.std.proofs.Common.{◌∙◌, arith, codes}
 use Rattle.std.specs.Prelude.{option_map}
 use Rattle.clap.specs.Words.{found_of, rows_of}
 use Rattle.clap.proofs.WalkLemmas.{first_value-rows}
-use Rattle.a429_console.proofs.DrawFound.{draw_is}
+use Rattle.a429_console.specs.CommandLine.{most_slots}
+use Rattle.a429_console.proofs.Found.{draw_is}
 use Rattle.a429_console.proofs.arguments.requests.asked_draw.Goals as goal
 
 pub returns : goal.returns
@@ -10,4 +11,5 @@ returns c = λ r asked.
     let found = found_of c.args.found.now in
     let table = c.in-Some.ensures ∙ first_value-rows found (codes "TABLE") in
     let group = c.get_str-group.ensures ∙ first_value-rows found (codes "group") in
-    draw_is (rows_of found) c.in-Some.table.now (option_map (λ g. g.now) c.get_str-group.result) c.asked_slots-slots.result r table group (λ n is. c.asked_slots-slots.ensures n is) asked
+    draw_is (rows_of found) c.in-Some.table.now (option_map (λ g. g.now) c.get_str-group.result) c.asked_number-slots.result r table group
+    (λ n is. c.asked_number-slots.ensures 1 most_slots n (omega arith) is) asked

@@ -1,17 +1,16 @@
 -- What the words of `live` come to.
-use Rattle.std.proofs.Common.{◌≡◌, ◌∙◌, ap, ap₂, refl, codes, true, false, List, [], ◌∷◌, ◌++◌, fold}
-use Rattle.std.specs.Prelude.{Some, Bool, ◌&&◌}
+use Rattle.std.proofs.Common.{◌≡◌, ◌∙◌, ap, ap₂, refl, codes, true, false, ℕ, List, [], ◌∷◌, ◌++◌, fold}
+use Rattle.std.specs.Prelude.{Some, Bool, ◌&&◌, option_map}
 use Rattle.std.specs.List.{AllByRecursion}
 use Rattle.clap.specs.Words.{Row, Shape, Text, subcommand_of, takes}
 use Rattle.clap.specs.Walk.{Held, Walk, idle, positional, value, walk, walked, walk_from, nothing_held, finished, stop_after, to_positional, arg_by_index}
 use Rattle.clap.specs.Simple.{built, built_leaf, entered, inherited}
 use Rattle.clap.specs.Takes.{is_valid, level_passes, settle_passes, step_passes, walk_passes}
-use Rattle.clap.specs.ValueTests.{accepts}
-use Rattle.clap.specs.declared.builder.value_parser.ValueParser.TheVariants as reads
+use Rattle.clap.specs.ValueTests.{is_unsigned_in}
 use Rattle.clap.proofs.OnLiterals.{clap_on_literals}
-use Rattle.a429_console.specs.CommandLine.{command_line, top_shape, live_app, IsName}
-use Rattle.a429_console.specs.LiveWords.{live_texts}
-use Rattle.a429_console.specs.RequestRows.{live_found}
+use Rattle.a429_console.specs.CommandLine.{command_line, top_shape, live_app, most_frames, IsName}
+use Rattle.a429_console.specs.Requests.{Live, LiveAsk}
+use Rattle.a429_console.specs.RequestRows.{found_by, frames_of, live_request, request_by}
 use Rattle.a429_console.proofs.PlainWords.{IsPlainWord, name_is_plain, at_word, for_none, walked_word, turn_of_word}
 use Rattle.a429_console.proofs.StoppedWords.{stopped_more, stopped_passes}
 use Rattle.a429_console.proofs.ManyWords.{TakesMany, row_of_words, rows_of_many, held_many, rows_at_end, settles_at_end, words_pass}
@@ -50,7 +49,7 @@ live_fourth t w n f p = walked_word live_leaf.rules idle (held_frames t w n) 4 f
 
 -- the number of frames is one that the rule lets through
 abbrev Passes : Text → Type 0
-Passes n = accepts false (reads.Unsigned 0 1000000) n ≡ true
+Passes n = is_unsigned_in 0 most_frames n ≡ true
 
 frames_pass : (t w n : Text) → Passes n → step_passes live_leaf 4 (held_frames t w n) value ≡ true
 unfolding clap_on_literals
@@ -125,15 +124,18 @@ live_entered : (t w n : Text) (further : List Text) → subcommand_of command_li
 unfolding command_line
 live_entered t w n further = ap (entered (built command_line)) (live_stop t w n further) ∙ live_enters t w n further
 
-live_of_rows : (t w n : Text) (further : List Text) → live_texts (three_rows t w n ++ rows_of_many (codes "FURTHER") further) ≡ Some (record { table = t; words = w; frames = n; further = further })
+abbrev asks : Text → Text → List Text → ℕ → LiveAsk
+asks t w further frames = record { table = t; words = w; frames = frames; further = further }
+
+live_of_rows : (t w n : Text) (further : List Text) → live_request (three_rows t w n ++ rows_of_many (codes "FURTHER") further) ≡ option_map (asks t w further) (frames_of (Some n))
 live_of_rows t w n [] = refl
 live_of_rows t w n (f ∷ fs) = refl
 
 pub live_asked : (t w n : Text) (further : List Text) → IsName t → IsName w → IsName n → AllByRecursion IsName further
-    → live_found (subcommand_of command_line (codes "live" ∷ t ∷ w ∷ n ∷ further)) ≡ Some (record { table = t; words = w; frames = n; further = further })
+    → found_by request_by (subcommand_of command_line (codes "live" ∷ t ∷ w ∷ n ∷ further)) ≡ option_map Live (option_map (asks t w further) (frames_of (Some n)))
 live_asked t w n further a b c names =
-    ap live_found (live_entered t w n further)
-    ∙ (ap live_texts (live_rows t w n further (name_is_plain t a) (name_is_plain w b) (name_is_plain n c) names) ∙ live_of_rows t w n further)
+    ap (found_by request_by) (live_entered t w n further)
+    ∙ ap (option_map Live) (ap live_request (live_rows t w n further (name_is_plain t a) (name_is_plain w b) (name_is_plain n c) names) ∙ live_of_rows t w n further)
 
 live_walk_passes : (t w n : Text) (further : List Text) → IsPlainWord t → IsPlainWord w → IsPlainWord n → Passes n → AllByRecursion IsName further
     → walk_passes live_leaf [] (walk_from nothing_held) (t ∷ w ∷ n ∷ further) ≡ true
