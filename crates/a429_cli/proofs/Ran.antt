@@ -5,7 +5,7 @@ use Rattle.a429_console.specs.Ends.{Writing}
 use Rattle.a429_console.specs.GivenWords.{AreGiven}
 use Rattle.a429_cli.specs.ProgramRuns.{HasRun, IsDoneOrRefused, Reader}
 
-pub ran_with : (gives : ℕ → List ℕ → Type 0) (ends : ℕ → Type 0) (reader : Reader) (Reads : ((List ℕ → Option (List ℕ)) → Type 0) → Type 0) (out err : Writing) (status : ℕ) (words : List (List ℕ))
+pub ran_with : {X Y : Type 0} (gives : ℕ → List ℕ → Type 0) (ends : ℕ → Type 0) (reader : Reader) (Reads : ((List ℕ → Option (List ℕ)) → Type 0) → Type 0) (out : Writing X) (err : Writing Y) (status : ℕ) (words : List (List ℕ))
     → AreGiven gives ends words → IsDoneOrRefused words reader Reads out err status → HasRun gives ends reader Reads out err status
 ran_with gives ends reader Reads out err status words given (inl done) = inl (words, given, done)
 ran_with gives ends reader Reads out err status words given (inr refused) = inr (inr refused)

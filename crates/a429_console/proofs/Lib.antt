@@ -21,3 +21,4 @@ pub mod Refused
 pub mod RefusalEndings
 pub mod SoFar
 pub mod EntryLines
+pub mod CallEnds

@@ -1,8 +1,9 @@
 -- How a call ends: what became of the output and of the one beside it, and the status (profile: output).
-use Rattle.std.specs.Prelude.{◌≡◌, ◌≢◌, ◌≤◌, ◌+◌, [], ◌⊎◌, ℕ, List, Bool, true, false, Option, IsTrue}
+use Rattle.std.specs.Prelude.{◌≡◌, ◌≢◌, ◌≤◌, ◌+◌, [], ◌⊎◌, ℕ, List, Bool, true, false, Option, IsTrue, Result, IfOk, OnErr}
 use Rattle.std.specs.Io.KnownBytes.{Appends}
 use Rattle.clap.specs.Words.{Kinds}
-use Rattle.a429_console.specs.Outputs.{FailedCalls, HasFailed, HasFailedBy, IsMemoryReply, IsPut, NoneFailed, OrNoMemory, failed_line}
+use Rattle.a429_console.specs.Outputs.{CountsFault, FailedCalls, HasFailed, HasFailedBy, IsMemoryReply, IsPut, NoneFailed, OrNoMemory, failed_line}
+use Rattle.a429_console.specs.declared.output.OutputFault.{OutputFault}
 use Rattle.a429_console.specs.Usage.{AreHelp, AreMistakes, IsHelpReply, IsUsageReply}
 
 -- an output before a call and after it, and what its type says of it: its bytes, its calls that failed, and whether it passed on all that it took
@@ -93,3 +94,20 @@ pub record EndsBy {X Y : Type 0} (kinds : Kinds) (out : Writing X) (err : Writin
   pub flushed : status ≡ 0 → IsPassedOn out
   -- with status 1 a refusal was passed on, unless a call failed: of the output, or of the other one, which was to get the text of a mistake
   pub told : status ≡ 1 → IsWhole out → IsPassedOn out ⊎ ((kinds ≢ []) × IsFailed err)
+
+-- the same of a call that stops at a failure of the output, which is yet to be told
+pub record EndsOrFails {X Y : Type 0} (kinds : Kinds) (out : Writing X) (err : Writing Y) (result : Result ℕ OutputFault) : Type 0 where
+  pub few : IfOk result (λ status. status ≤ 2)
+  pub helped : AreHelp kinds → IfOk result (IsPutTo (OrNoMemory IsHelpReply) out)
+  pub mistaken : AreMistakes kinds → IfOk result (IsPutTo (OrNoMemory (IsUsageReply (err.failures err.old) (err.failures err.new))) out)
+  pub usage : AreMistakes kinds → IfOk result (λ status. status ≢ 0)
+  pub unasked : IfOk result (λ status. status ≡ 2 → kinds ≢ [])
+  pub failed : IfOk result (λ status. (status ≡ 1) ⊎ (err.failures err.new ≡ err.failures err.old))
+  pub faults : CountsFault result (out.failures out.old) (out.failures out.new)
+  pub once_told : FailsOnce err
+  pub quiet : IfOk result (λ status. status ≡ 0 → IsLeft err)
+  pub left : OnErr result (IsLeft err)
+  pub silent : IfOk result (λ status. status ≡ 2 → IsLeft out)
+  pub warned : IfOk result (λ status. status ≡ 2 → IsPassedOn err)
+  pub flushed : IfOk result (λ status. status ≡ 0 → IsPassedOn out)
+  pub told : IfOk result (λ status. status ≡ 1 → IsPassedOn out ⊎ ((kinds ≢ []) × IsFailed err))

@@ -2,7 +2,7 @@
 ghost use Rattle.std.specs.Prelude.{◌≡◌, ◌≤◌, IfOk, IsTrue, MatchResult, OnOk, vec_len};
 ghost use Rattle.a429_console.specs.Files.{bytes_of};
 ghost use Rattle.a429_cli.specs.LiveReplies.{IsLiveReading, IsLiveReply, IsLiving, IsNoLiveStart, IsPreparedLive, IsRunResult, files_of, refusal_of};
-ghost use Rattle.a429_console.specs.LiveWords.{live_of};
+ghost use Rattle.a429_console.specs.Requests.{live_of};
 ghost use Rattle.a429_console.specs.Outputs.{CountsFault, IsPut};
 ghost use Rattle.a429_console.specs.Readings.{HasRead};
 ghost use Rattle.a429_console.specs.RefusalText.{OrMemory};

@@ -8,7 +8,7 @@ use Rattle.a429_console.specs.Files.{bytes_of}
 use Rattle.a429_console.specs.FileReadings.{IsFirstUnread}
 use Rattle.a429_cli.specs.LiveReplies.{IsLiveRefusal, IsNoLiveStart, IsReportOf, IsRunRefusal, IsRunReport, IsRunResult, files_of}
 use Rattle.a429_cli.specs.declared.live.words.Arrival.{Arrival}
-use Rattle.a429_console.specs.LiveWords.{live_of}
+use Rattle.a429_console.specs.Requests.{live_of}
 use Rattle.a429_console.specs.RefusalText.{OrMemory}
 use Rattle.a429_console.proofs.ReadingParts.{read_weaker}
 use Rattle.a429_console.proofs.Refused.{failed, matched_both, or_memory_weaker}

@@ -1,0 +1,27 @@
+use Rattle.std.proofs.Common.{◌≡◌, arith, inr, refl, subst, sym}
+use Rattle.std.proofs.lemmas.Result.{IfOk-weaker}
+use Rattle.clap.specs.Words.{Kinds}
+use Rattle.a429_console.specs.Ends.{EndsOrFails, writing}
+use Rattle.a429_console.specs.Files.{texts_of}
+use Rattle.a429_console.specs.Usage.{live_kinds_of_words}
+use Rattle.a429_console.proofs.CallEnds.{explained_ends}
+use Rattle.a429_console.proofs.ReadingParts.{read_none}
+use Rattle.a429_cli.proofs.live.commands.run_words.Goals as goal
+
+pub returns-in-Ok-clause-read : goal.returns-in-Ok-clause-read
+returns-in-Ok-clause-read g c = λ r asks. c.run_here.ensures.read r (c.in-Ok.ensures.asked r asks)
+
+pub returns-in-Ok-clause-asked : goal.returns-in-Ok-clause-asked
+returns-in-Ok-clause-asked g c = λ r asks. c.run_here.ensures.asked r (c.in-Ok.ensures.asked r asks)
+
+pub returns-in-Ok-clause-ends : goal.returns-in-Ok-clause-ends
+returns-in-Ok-clause-ends g c =
+    subst (λ (kinds : Kinds). EndsOrFails kinds (writing g.O.Output.contents g.O.Output.failures g.O.Output.is_flushed c.args.out.now c.run_here.new.out)
+    (writing g.V.Output.contents g.V.Output.failures g.V.Output.is_flushed c.args.err.now c.run_here.new.err) c.run_here.result) (sym c.in-Ok.ensures.live_kinds) c.run_here.ensures.ends
+
+pub returns-in-Err-clause-read : goal.returns-in-Err-clause-read
+returns-in-Err-clause-read g c = λ r asks.
+    let spent = c.in-Err.ensures.asked r asks in (
+      c.args.files.now,
+      read_none refl (λ file. IfOk-weaker c.explain.result _ _ (λ status put. (put.0, inr (rw spent at put.1), put.2)) c.explain.ensures.replied),
+    )

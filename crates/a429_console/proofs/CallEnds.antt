@@ -1,0 +1,131 @@
+-- How a call ends, by what it did.
+use Rattle.std.proofs.Common.{◌≡◌, ◌≢◌, ◌≤◌, ◌+◌, ◌⊎◌, ◌∙◌, [], ℕ, List, true, false, ap, arith, inl, inr, refl, subst, sym}
+use Rattle.std.specs.Prelude.{Option, Result, Ok, Err, IfOk, IsTrue, OnErr, OnOk}
+use Rattle.std.proofs.lemmas.Result.{IfOk-weaker}
+use Rattle.std.specs.Io.KnownBytes.{Appends}
+use Rattle.clap.specs.Words.{HasKind, Kinds, kind_of}
+use Rattle.clap.specs.declared.error.Error.{Error}
+use Rattle.clap.specs.declared.error.kind.ErrorKind.TheVariants.{OutOfMemory}
+use Rattle.a429_console.specs.Ends.{EndsBy, EndsOrFails, FailsOnce, IsFailed, IsLeft, IsPassedOn, IsPutTo, IsWhole, Writing}
+use Rattle.a429_console.specs.Outputs.{CountsFault, FailedCalls, NoneFailed, failed_line, is_closing}
+use Rattle.a429_console.specs.Usage.{AreHelp, AreMistakes, IsReplyOfKind}
+use Rattle.a429_console.specs.declared.output.OutputFault.{OutputFault}
+use Rattle.a429_console.proofs.Endings.{counted_once, failure_shows, none_counted_once, none_has_failed}
+use Rattle.a429_console.proofs.KindReplies.{help_replied, mistake_is_told, mistake_replied, no_request_or}
+
+with_the_rest : {A B C : Type 0} → A → B ⊎ C → B ⊎ (A × C)
+with_the_rest a (inl b) = inl b
+with_the_rest a (inr c) = inr (a, c)
+
+-- the output did not fail
+pub done_ends : {X Y : Type 0} (kinds : Kinds) (out : Writing X) (err : Writing Y) (status : ℕ) → EndsOrFails kinds out err (Ok status) → EndsBy kinds out err status
+done_ends kinds out err status e = record {
+  few = e.few;
+  helped = λ asks whole. e.helped asks;
+  mistaken = λ mistake whole. e.mistaken mistake;
+  usage = e.usage;
+  unasked = e.unasked;
+  failed = with_the_rest e.faults e.failed;
+  once = none_counted_once (out.failures out.old) (out.failures out.new) e.faults;
+  once_told = e.once_told;
+  failure = record {
+    announced = λ failed whole. absurd (none_has_failed false (out.failures out.old) (out.failures out.new) e.faults failed);
+    hushed = λ failed. absurd (none_has_failed true (out.failures out.old) (out.failures out.new) e.faults failed);
+  };
+  quiet = e.quiet;
+  silent = e.silent;
+  warned = e.warned;
+  flushed = e.flushed;
+  told = λ one whole. e.told one;
+}
+
+-- the output failed, and that was told on the other one, which was left as it was until then
+pub failed_ends : {X Y : Type 0} (kinds : Kinds) (out : Writing X) (err : Writing Y) (mid : Y) (fault : OutputFault) → EndsOrFails kinds out (record err { new = mid }) (Err fault)
+    → (is_closing fault ≡ false → NoneFailed (err.failures mid) (err.failures err.new) → Appends (err.contents mid) (err.contents err.new) failed_line)
+    → (is_closing fault ≡ true → err.new ≡ mid) → (err.failures err.new).count ≤ (err.failures mid).count + 1 → EndsBy kinds out err 1
+failed_ends {X} {Y} kinds out err mid fault e announced hushed once =
+    let shows = failure_shows fault (out.failures out.old) (out.failures out.new) e.faults in
+    record {
+      few = omega arith;
+      helped = λ asks whole. absurd (shows whole);
+      mistaken = λ mistake whole. absurd (shows whole);
+      usage = λ mistake none. absurd (omega (arith, none));
+      unasked = λ is. absurd (omega (arith, is));
+      failed = inl refl;
+      once = counted_once fault (out.failures out.old) (out.failures out.new) e.faults;
+      once_told = subst (λ (y : Y). (err.failures err.new).count ≤ (err.failures y).count + 1) e.left once;
+      failure = record {
+        announced = λ failed whole.
+            subst (λ (y : Y). Appends (err.contents y) (err.contents err.new) failed_line) e.left
+            (announced (sym e.faults.1 ∙ failed.1) (subst (λ (y : Y). NoneFailed (err.failures y) (err.failures err.new)) (sym e.left) whole));
+        hushed = λ failed. hushed (sym e.faults.1 ∙ failed.1) ∙ e.left;
+      };
+      quiet = λ is. absurd (omega (arith, is));
+      silent = λ is. absurd (omega (arith, is));
+      warned = λ is. absurd (omega (arith, is));
+      flushed = λ is. absurd (omega (arith, is));
+      told = λ one whole. absurd (shows whole);
+    }
+
+no_help : {A : Type 0} → AreHelp [] → A
+no_help asks = absurd (asks.0 refl)
+
+no_mistake : {A : Type 0} → AreMistakes [] → A
+no_mistake mistake = absurd (mistake.0 refl)
+
+few_means : (result : Result ℕ OutputFault) → IfOk result (λ status. status ≤ 1) → IfOk result (λ status. status ≤ 2)
+few_means result few = IfOk-weaker result _ _ (λ status one. omega (arith, one)) few
+
+not_two : (Q : ℕ → Type 0) (result : Result ℕ OutputFault) → IfOk result (λ status. status ≤ 1) → IfOk result (λ status. status ≡ 2 → Q status)
+not_two Q result few = IfOk-weaker result _ _ (λ status one two. absurd (omega (arith, one, two))) few
+
+passed_on : (P : Type 0) (Q : ℕ → Type 0) (result : Result ℕ OutputFault) → (P → (status : ℕ) → Q status) → OnOk result P → IfOk result Q
+passed_on P Q (Ok status) more p = more p status
+passed_on P Q (Err fault) more p = tt
+
+-- what is asked for was answered
+pub answered_ends : {X Y : Type 0} (out : Writing X) (err : Writing Y) (result : Result ℕ OutputFault)
+    → IfOk result (λ status. status ≤ 1) → OnOk result (IsPassedOn out) → CountsFault result (out.failures out.old) (out.failures out.new)
+    → IfOk result (λ status. status ≡ 0 → IsLeft err) → OnErr result (IsLeft err)
+    → IfOk result (λ status. (status ≡ 1) ⊎ (err.failures err.new ≡ err.failures err.old)) → FailsOnce err → EndsOrFails [] out err result
+answered_ends out err result few flushed faults quiet left failed once = record {
+  few = few_means result few;
+  helped = no_help;
+  mistaken = no_mistake;
+  usage = no_mistake;
+  unasked = not_two (λ status. [] ≢ []) result few;
+  failed = failed;
+  faults = faults;
+  once_told = once;
+  quiet = quiet;
+  left = left;
+  silent = not_two (λ status. IsLeft out) result few;
+  warned = not_two (λ status. IsPassedOn err) result few;
+  flushed = passed_on (IsPassedOn out) (λ status. status ≡ 0 → IsPassedOn out) result (λ on status zero. on) flushed;
+  told = passed_on (IsPassedOn out) (λ status. status ≡ 1 → IsPassedOn out ⊎ (([] ≢ []) × IsFailed err)) result (λ on status one. inl on) flushed;
+}
+
+-- an error of one of these kinds was explained in place of an answer
+pub explained_ends : {X Y : Type 0} (kinds : Kinds) (error : Error) (out : Writing X) (err : Writing Y) (result : Result ℕ OutputFault) → HasKind kinds error
+    → IfOk result (IsPutTo (IsReplyOfKind (err.failures err.old) (err.failures err.new) (kind_of error)) out)
+    → CountsFault result (out.failures out.old) (out.failures out.new) → IfOk result (λ status. status ≤ 2)
+    → IfOk result (λ status. status ≡ 0 → IsPassedOn out) → IfOk result (λ status. status ≡ 1 → IsPassedOn out ⊎ ((kind_of error ≢ OutOfMemory) × IsFailed err))
+    → IfOk result (λ status. status ≡ 2 → IsPassedOn err) → IfOk result (λ status. status ≡ 0 → IsLeft err) → OnErr result (IsLeft err)
+    → IfOk result (λ status. status ≡ 2 → IsLeft out) → IfOk result (λ status. (status ≡ 1) ⊎ (err.failures err.new ≡ err.failures err.old)) → FailsOnce err
+    → IfOk result (λ status. status ≡ 2 → kinds ≢ []) → EndsOrFails kinds out err result
+explained_ends kinds error out err result has replied faults few flushed told warned quiet left silent failed once unasked = record {
+  few = few;
+  helped = λ asks. IfOk-weaker result _ _ (λ status put. (put.0, help_replied kinds error _ _ has asks.1 status put.0 put.1, put.2)) replied;
+  mistaken = λ mistake. IfOk-weaker result _ _ (λ status put. (put.0, mistake_replied kinds error _ _ has mistake.1 status put.0 put.1, put.2)) replied;
+  usage = λ mistake. IfOk-weaker result _ _ (λ status put. mistake_is_told _ _ status put.0 (mistake_replied kinds error _ _ has mistake.1 status put.0 put.1)) replied;
+  unasked = unasked;
+  failed = failed;
+  faults = faults;
+  once_told = once;
+  quiet = quiet;
+  left = left;
+  silent = silent;
+  warned = warned;
+  flushed = flushed;
+  told = IfOk-weaker result _ _ (λ status or one. no_request_or kinds error has (or one)) told;
+}
