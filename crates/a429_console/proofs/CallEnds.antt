@@ -1,13 +1,14 @@
 -- How a call ends, by what it did.
-use Rattle.std.proofs.Common.{◌≡◌, ◌≢◌, ◌≤◌, ◌+◌, ◌⊎◌, ◌∙◌, [], ℕ, List, true, false, ap, arith, inl, inr, refl, subst, sym}
+use Rattle.std.proofs.Common.{◌≡◌, ◌≢◌, ◌≤◌, ◌+◌, ◌⊎◌, ◌∙◌, ◌∷◌, [], ℕ, List, true, false, ap, arith, inl, inr, refl, subst, sym}
 use Rattle.std.specs.Prelude.{Option, Result, Ok, Err, IfOk, IsTrue, OnErr, OnOk}
 use Rattle.std.proofs.lemmas.Result.{IfOk-weaker}
 use Rattle.std.specs.Io.KnownBytes.{Appends}
 use Rattle.clap.specs.Words.{HasKind, Kinds, kind_of}
 use Rattle.clap.specs.declared.error.Error.{Error}
+use Rattle.clap.specs.declared.error.kind.ErrorKind.{ErrorKind}
 use Rattle.clap.specs.declared.error.kind.ErrorKind.TheVariants.{OutOfMemory}
 use Rattle.a429_console.specs.Ends.{EndsBy, EndsOrFails, FailsOnce, IsFailed, IsLeft, IsPassedOn, IsPutTo, IsWhole, Writing}
-use Rattle.a429_console.specs.Outputs.{CountsFault, FailedCalls, NoneFailed, failed_line, is_closing}
+use Rattle.a429_console.specs.Outputs.{CountsFault, FailedCalls, IsMemoryReply, NoneFailed, failed_line, is_closing}
 use Rattle.a429_console.specs.Usage.{AreHelp, AreMistakes, IsReplyOfKind}
 use Rattle.a429_console.specs.declared.output.OutputFault.{OutputFault}
 use Rattle.a429_console.proofs.Endings.{counted_once, failure_shows, none_counted_once, none_has_failed}
@@ -105,6 +106,14 @@ answered_ends out err result few flushed faults quiet left failed once = record 
   told = passed_on (IsPassedOn out) (λ status. status ≡ 1 → IsPassedOn out ⊎ (([] ≢ []) × IsFailed err)) result (λ on status one. inl on) flushed;
 }
 
+-- status 2 is that of words that ask for nothing
+two_is_a_mistake : (ks : Kinds) (e : Error) (old new : FailedCalls) → HasKind ks e → (status : ℕ) (bytes : List ℕ) → IsReplyOfKind old new (kind_of e) status bytes → status ≡ 2 → ks ≢ []
+two_is_a_mistake ks e old new (inl memory) status bytes reply two =
+    let told : IsMemoryReply status bytes = subst (λ (k : ErrorKind). IsReplyOfKind old new k status bytes) memory reply in
+    absurd (omega (arith, told.0, two))
+two_is_a_mistake [] e old new (inr among) status bytes reply two = absurd among
+two_is_a_mistake (k ∷ ks) e old new (inr among) status bytes reply two = λ empty. cc
+
 -- an error of one of these kinds was explained in place of an answer
 pub explained_ends : {X Y : Type 0} (kinds : Kinds) (error : Error) (out : Writing X) (err : Writing Y) (result : Result ℕ OutputFault) → HasKind kinds error
     → IfOk result (IsPutTo (IsReplyOfKind (err.failures err.old) (err.failures err.new) (kind_of error)) out)
@@ -112,13 +121,13 @@ pub explained_ends : {X Y : Type 0} (kinds : Kinds) (error : Error) (out : Writi
     → IfOk result (λ status. status ≡ 0 → IsPassedOn out) → IfOk result (λ status. status ≡ 1 → IsPassedOn out ⊎ ((kind_of error ≢ OutOfMemory) × IsFailed err))
     → IfOk result (λ status. status ≡ 2 → IsPassedOn err) → IfOk result (λ status. status ≡ 0 → IsLeft err) → OnErr result (IsLeft err)
     → IfOk result (λ status. status ≡ 2 → IsLeft out) → IfOk result (λ status. (status ≡ 1) ⊎ (err.failures err.new ≡ err.failures err.old)) → FailsOnce err
-    → IfOk result (λ status. status ≡ 2 → kinds ≢ []) → EndsOrFails kinds out err result
-explained_ends kinds error out err result has replied faults few flushed told warned quiet left silent failed once unasked = record {
+    → EndsOrFails kinds out err result
+explained_ends kinds error out err result has replied faults few flushed told warned quiet left silent failed once = record {
   few = few;
   helped = λ asks. IfOk-weaker result _ _ (λ status put. (put.0, help_replied kinds error _ _ has asks.1 status put.0 put.1, put.2)) replied;
   mistaken = λ mistake. IfOk-weaker result _ _ (λ status put. (put.0, mistake_replied kinds error _ _ has mistake.1 status put.0 put.1, put.2)) replied;
   usage = λ mistake. IfOk-weaker result _ _ (λ status put. mistake_is_told _ _ status put.0 (mistake_replied kinds error _ _ has mistake.1 status put.0 put.1)) replied;
-  unasked = unasked;
+  unasked = IfOk-weaker result _ _ (λ status put two. two_is_a_mistake kinds error _ _ has status put.0 put.1 two) replied;
   failed = failed;
   faults = faults;
   once_told = once;
