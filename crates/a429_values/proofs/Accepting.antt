@@ -39,6 +39,7 @@ new_receiving p number limit counts at views small here is inside sized zeros =
       here = here;
       one = is ∙ ap (λ (x : View). x ∷ []) (sym now);
       receives = ap (λ (x : View). x.receives) now;
+      no_transmitter = ap (λ (x : View). x.transmits) now;
       numbered = ap (λ (x : View). x.number) now;
       station = ap (λ (x : View). x.station) now;
       inside = inside;
@@ -70,6 +71,7 @@ receiving_after p number limit counts at views s raw n m at' views' h inside rea
       here = same ∙ h.here;
       one = is ∙ ap (λ (x : View). x ∷ []) (sym now);
       receives = ap (λ (x : View). x.receives) now ∙ h.receives;
+      no_transmitter = ap (λ (x : View). x.transmits) now ∙ h.no_transmitter;
       numbered = ap (λ (x : View). x.number) now ∙ h.numbered;
       station = ap (λ (x : View). x.station) now ∙ h.station;
       inside = h.inside;

@@ -1,7 +1,8 @@
 -- Each step of the table keeps its rule.
-use Rattle.std.proofs.Common.{◌≡◌, ◌≢◌, ◌⊎◌, ℕ, zero, suc, ◌+◌, ◌*◌, ◌<◌, ◌≤◌, eqb, List, [], ◌∷◌, ◌++◌, length, get_or, set, take, Some, None, Option, Bool, true, false, cond, refl, sym, ap, ◌∙◌, subst, ⊎_elim, inl, inr, arith, eq-eqb, ne_eqb, ◌||◌, zero-le, length-set, get_or-set_other, get_or-set_same, le_refl}
+use Rattle.std.proofs.Common.{◌≡◌, ◌≢◌, ◌↔◌, ℕ, ◌+◌, ◌*◌, ◌<◌, ◌≤◌, eqb, List, [], ◌∷◌, ◌++◌, length, get_or, set, take, Some, None, Option, Bool, true, false, is_some, cond, refl, sym, ap, ◌∙◌, subst, ⊎_elim, arith, eq-eqb, ne_eqb, ◌||◌, zero-le, length-set, get_or-set_other, get_or-set_same, le_refl}
 use Rattle.std.specs.Prelude.{slice_get}
-use mathlib.Core.Option.{some, none, some-injective, some-ne-none}
+use Rattle.std.proofs.Math.Bool.{or-false}
+use mathlib.Core.Option.{some, none, some-ne-none}
 use lib.Seq.{set-get_or, take-length}
 use mathlib.Core.Logic.{dite}
 use native.Mathlib.Decide.{ℕ_discrete}
@@ -20,10 +21,11 @@ use Rattle.a429_equipment.specs.Agreement.{words_of, load_after, is_of, IsCut, A
 use Rattle.a429_equipment.specs.Receiving.{IsAccepted, AreAccepted}
 use Rattle.a429_values.specs.declared.view.View.{View}
 use Rattle.a429_values.specs.Words.{IsCounted}
-use Rattle.a429_values.specs.Views.{spent, desk, dealt, dealt_transmitter, receiver, transmitter, both_of, transmitting, receiving, with_accepted, with_load, found_by, seen}
-use Rattle.a429_values.specs.Rule.{number_of, Fits, Sends, Kept}
+use Rattle.a429_values.specs.Views.{spent, desk, dealt, dealt_transmitter, receiver, transmitter, both_of, transmitting, receiving, with_accepted, with_load, found_by, seen, CanMeet}
+use Rattle.a429_values.specs.Rule.{number_of, JustAt, IsDesk, IsReceiver, IsTransmitter, Fits, Kept}
 use Rattle.a429_values.proofs.Counted.{load_same, load_other, of_row, load_counted, is_of_row, is_of_yes, row_at}
 use Rattle.a429_values.proofs.Cutting.{cuts_longer, cuts_within, none_above}
+use Rattle.a429_values.proofs.Seating.{at_end, one_seat, just_set, just_more, just_new, just_gone, just_moved, just_none, reseat, reseated}
 use Rattle.a429_equipment.proofs.Lasting.{agrees_more}
 
 -- xs at r, and f elsewhere
@@ -36,15 +38,28 @@ put_here r xs f = rw (eq-eqb r r refl) refl
 put_else : (r : ℕ) (xs : List (ℕ × ℕ)) (f : ℕ → List (ℕ × ℕ)) (q : ℕ) → q ≢ r → put r xs f q ≡ f q
 put_else r xs f q ne = rw (ne_eqb q r ne) refl
 
-or_left : (a b : Bool) → (a || b) ≡ false → a ≡ false
-or_left true b e = absurd (cc)
-or_left false b e = refl
+or_true : (b : Bool) → (b || true) ≡ true
+or_true true = refl
+or_true false = refl
 
-or_right : (a b : Bool) → (a || b) ≡ false → b ≡ false
-or_right true b e = absurd (cc)
-or_right false b e = e
+none_of : (o : Option ℕ) → is_some o ≡ false → o ≡ None
+none_of None e = refl
+none_of (Some x) e = absurd (cc)
 
-module _ (t : TableRecord) (seat : ℕ → Option ℕ) (acc : ℕ → List (ℕ × ℕ)) (at : ℕ) where
+-- the numbers that were given out, and one more
+given_more : (xs : List ℕ) (r i : ℕ) (seat : ℕ → Option ℕ) → ((q : ℕ) → list_any (λ y. eqb y q) xs ≡ is_some (seat q)) → (q : ℕ) → list_any (λ y. eqb y q) (xs ++ r ∷ []) ≡ is_some (reseat r i seat q)
+given_more xs r i seat given = reseated (λ (q : ℕ) (o : Option ℕ). list_any (λ y. eqb y q) (xs ++ r ∷ []) ≡ is_some o) r i seat
+    (list_any-append (λ y. eqb y r) xs (r ∷ []) ∙ rw (eq-eqb r r refl) (or_true (list_any (λ y. eqb y r) xs)))
+    (λ q ne. list_any-append (λ y. eqb y q) xs (r ∷ []) ∙ rw (ne_eqb r q (λ is. ne (sym is))) (or-false (list_any (λ y. eqb y q) xs)) ∙ given q)
+
+-- where a number that was given out goes to another seat, the same numbers are given out
+still_given : (r i : ℕ) (seat : ℕ → Option ℕ) → is_some (seat r) ≡ true → (q : ℕ) → is_some (reseat r i seat q) ≡ is_some (seat q)
+still_given r i seat is = reseated (λ (q : ℕ) (o : Option ℕ). is_some o ≡ is_some (seat q)) r i seat (sym is) (λ q ne. refl)
+
+still_unused : (r i : ℕ) (seat : ℕ → Option ℕ) (acc : ℕ → List (ℕ × ℕ)) → ((q : ℕ) → seat q ≡ None → acc q ≡ []) → (q : ℕ) → reseat r i seat q ≡ None → acc q ≡ []
+still_unused r i seat acc unused = reseated (λ (q : ℕ) (o : Option ℕ). o ≡ None → acc q ≡ []) r i seat (λ e. absurd (cc)) (λ q ne. unused q)
+
+module _ (t : TableRecord) (seat sender : ℕ → Option ℕ) (acc : ℕ → List (ℕ × ℕ)) where
   -- what one receiver accepts changes nothing for the others
   agrees_put : (r : ℕ) (e : ℕ × ℕ) (q : ℕ) (ls : List Load) → Agrees t q (acc q) ls → Agrees t q (put r (acc r ++ e ∷ []) acc q) ls
   agrees_put r e q ls h = dite (ℕ_discrete q r)
@@ -52,53 +67,33 @@ module _ (t : TableRecord) (seat : ℕ → Option ℕ) (acc : ℕ → List (ℕ 
       subst P (sym (ap (put r (acc r ++ e ∷ []) acc) is ∙ (put_here r (acc r ++ e ∷ []) acc ∙ ap (λ (k : ℕ). acc k ++ e ∷ []) (sym is)))) (agrees_more t q (acc q) (e ∷ []) ls h))
       (λ ne. let P : List (ℕ × ℕ) → Type 0 = λ xs. Agrees t q xs ls in subst P (sym (put_else r (acc r ++ e ∷ []) acc q ne)) h)
 
-  deals_put : (r : ℕ) (xs : List (ℕ × ℕ)) (given : List ℕ) (id : ℕ) → seat r ≡ Some id → ((q : ℕ) → list_any (λ y. eqb y q) given ≡ false → (seat q ≡ None) × (acc q ≡ [])) → (q : ℕ) → list_any (λ y. eqb y q) given ≡ false → (seat q ≡ None) × (put r xs acc q ≡ [])
-  deals_put r xs given id sat h q not_in = let f = h q not_in in (f.0, put_else r xs acc q (λ is. let clash : None ≡ Some id = sym f.0 ∙ (ap seat is ∙ sat) in absurd (cc)) ∙ f.1)
-
-  other_fits : (r id : ℕ) (e : ℕ × ℕ) (j : ℕ) (u : View) → seat r ≡ Some id → j ≢ id → Fits t seat acc at j u → Fits t seat (put r (acc r ++ e ∷ []) acc) at j u
-  other_fits r id e j u sat ne f = record {
+  other_fits : (r : ℕ) (e : ℕ × ℕ) (u : View) → (u.receives ≡ true → u.number ≢ r) → Fits t seat sender acc u → Fits t seat sender (put r (acc r ++ e ∷ []) acc) u
+  other_fits r e u ne f = record {
     station = f.station;
-    receives = λ on. let g = f.receives on in (g.0, put_else r (acc r ++ e ∷ []) acc u.number (λ is. let clash : Some j ≡ Some id = sym g.0 ∙ (ap seat is ∙ sat) in let same : j ≡ id = cc in ne same) ∙ g.1);
+    apart = f.apart;
+    given = f.given;
+    sent = f.sent;
+    receives = λ on. put_else r (acc r ++ e ∷ []) acc u.number (ne on) ∙ f.receives on;
     transmits = λ on q. agrees_put r e q u.loads (f.transmits on q);
-    deals = λ on. let g = f.deals on in (g.0, deals_put r (acc r ++ e ∷ []) u.given id sat g.1);
   }
 
-  my_fits : (r id : ℕ) (v : View) (e : ℕ × ℕ) → v.receives ≡ true → r ≡ v.number → Fits t seat acc at id v → Fits t seat (put r (acc r ++ e ∷ []) acc) at id (with_accepted v e)
-  my_fits r id v e on is f = let g = f.receives on in record {
+  my_fits : (v : View) (e : ℕ × ℕ) → v.receives ≡ true → Fits t seat sender acc v → Fits t seat sender (put v.number (acc v.number ++ e ∷ []) acc) (with_accepted v e)
+  my_fits v e on f = record {
     station = f.station;
-    receives = λ _. (g.0, ap (put r (acc r ++ e ∷ []) acc) (sym is) ∙ (put_here r (acc r ++ e ∷ []) acc ∙ ap (λ (xs : List (ℕ × ℕ)). xs ++ e ∷ []) (ap acc is ∙ g.1)));
-    transmits = λ sends q. agrees_put r e q v.loads (f.transmits sends q);
-    deals = λ desk. let d = f.deals desk in (d.0, deals_put r (acc r ++ e ∷ []) v.given id (ap seat is ∙ g.0) d.1);
+    apart = f.apart;
+    given = f.given;
+    sent = f.sent;
+    receives = λ _. put_here v.number (acc v.number ++ e ∷ []) acc ∙ ap (λ (xs : List (ℕ × ℕ)). xs ++ e ∷ []) (f.receives on);
+    transmits = λ sends q. agrees_put v.number e q v.loads (f.transmits sends q);
   }
 
--- every view but one stays as it fits
-each_set : (F : ℕ → View → Type 0) (views : List View) (id : ℕ) (w : View) → ((j : ℕ) (u : View) → j ≢ id → get_elem? views j ≡ some u → F j u) → F id w → (j : ℕ) (u : View) → get_elem? (set views id w) j ≡ some u → F j u
-each_set F views id w others mine j u e =
-    ⊎_elim
-    (λ (x : (j ≡ id) × (w ≡ u)). subst (λ (y : ℕ × View). F y.0 y.1) (λ i. (sym x.0 i, x.1 i)) mine)
-    (λ (x : (j ≢ id) × (get_elem? views j ≡ some u)). others j u x.0 x.1)
-    (at_set views id j w u e)
+  -- where a seat is given to a number, a view fits that is no desk
+  no_desk_fits : (seat' sender' : ℕ → Option ℕ) (u : View) → (u.deals ≡ true → ⊥) → Fits t seat sender acc u → Fits t seat' sender' acc u
+  no_desk_fits seat' sender' u never f = record { station = f.station; apart = f.apart; given = λ desk. absurd (never desk); sent = λ desk. absurd (never desk); receives = f.receives; transmits = f.transmits }
 
--- the seat of the receiver r is i
-abbrev reseat : ℕ → ℕ → (ℕ → Option ℕ) → ℕ → Option ℕ
-reseat r i seat q = cond (eqb q r) (Some i) (seat q)
-
-reseat_here : (r i : ℕ) (seat : ℕ → Option ℕ) → reseat r i seat r ≡ Some i
-reseat_here r i seat = rw (eq-eqb r r refl) refl
-
-reseat_else : (r i : ℕ) (seat : ℕ → Option ℕ) (q : ℕ) → q ≢ r → reseat r i seat q ≡ seat q
-reseat_else r i seat q ne = rw (ne_eqb q r ne) refl
-
-module _ (t : TableRecord) (seat : ℕ → Option ℕ) (acc : ℕ → List (ℕ × ℕ)) (at : ℕ) where
-  -- a receiver that goes to another seat changes nothing for a view that does not have it
-  moved_fits : (r to j : ℕ) (u : View) → seat r ≢ Some j → (u.deals ≡ true → list_any (λ y. eqb y r) u.given ≡ false → ⊥) → Fits t seat acc at j u → Fits t (reseat r to seat) acc at j u
-  moved_fits r to j u ne hd f = record {
-    station = f.station;
-    receives = λ on. let g = f.receives on in (reseat_else r to seat u.number (λ is. ne (ap seat (sym is) ∙ g.0)) ∙ g.0, g.1);
-    transmits = f.transmits;
-    deals = λ on. let g = f.deals on in
-        (g.0, λ q not_in. (reseat_else r to seat q (λ is. let P : ℕ → Type 0 = λ k. list_any (λ y. eqb y k) u.given ≡ false in hd on (subst P is not_in)) ∙ (g.1 q not_in).0, (g.1 q not_in).1));
-  }
+  -- where a receiver that was given out goes to another seat, each view fits
+  moved_fits : (r to : ℕ) (u : View) → is_some (seat r) ≡ true → Fits t seat sender acc u → Fits t (reseat r to seat) sender acc u
+  moved_fits r to u is f = record { station = f.station; apart = f.apart; given = λ desk q. f.given desk q ∙ sym (still_given r to seat is q); sent = f.sent; receives = f.receives; transmits = f.transmits }
 
   -- one more load
   one_more : (q s : ℕ) (row : SourceRow) (ls : List Load) → slice_get t.sources s ≡ Some row → Agrees t q (acc q) ls → (b : Bool) → is_of t q s ≡ b
@@ -115,52 +110,29 @@ module _ (t : TableRecord) (seat : ℕ → Option ℕ) (acc : ℕ → List (ℕ 
       let P : Bool → Type 0 = λ c. IsCut c (acc q) h.0 l h.0 in
       (h.0, cuts_longer (is_of t q) (acc q) 0 ls h.0 l h.0 h.1 (subst P (sym is) refl), (λ on. absurd (cc)))
 
-at_end : (views : List View) (a b : View) (j : ℕ) → get_elem? (views ++ a ∷ []) j ≡ some b → (get_elem? views j ≡ some b) ⊎ ((j ≡ length views) × (a ≡ b))
-at_end [] a b zero e = inr (refl, some-injective a b e)
-at_end [] a b (suc j) e = absurd (some-ne-none b (sym e))
-at_end (x ∷ xs) a b zero e = inl e
-at_end (x ∷ xs) a b (suc j) e = ⊎_elim (λ h. inl h) (λ h. inr (ap suc h.0, h.1)) (at_end xs a b j e)
+-- every view but one fits as it did
+each_set : (F : View → Type 0) (views : List View) (id : ℕ) (w : View) → ((j : ℕ) (u : View) → j ≢ id → get_elem? views j ≡ some u → F u) → F w → (j : ℕ) (u : View) → get_elem? (set views id w) j ≡ some u → F u
+each_set F views id w others mine j u e = ⊎_elim (λ (x : (j ≡ id) × (w ≡ u)). subst F x.1 mine) (λ (x : (j ≢ id) × (get_elem? views j ≡ some u)). others j u x.0 x.1) (at_set views id j w u e)
 
--- every view but one stays as it fits, and a new one fits
-each_snoc : (F : ℕ → View → Type 0) (views : List View) (w : View) → ((j : ℕ) (u : View) → get_elem? views j ≡ some u → F j u) → F (length views) w → (j : ℕ) (u : View) → get_elem? (views ++ w ∷ []) j ≡ some u → F j u
-each_snoc F views w old new j u e =
-    ⊎_elim (λ (x : get_elem? views j ≡ some u). old j u x) (λ (x : (j ≡ length views) × (w ≡ u)). subst (λ (y : ℕ × View). F y.0 y.1) (λ i. (sym x.0 i, x.1 i)) new) (at_end views w u j e)
-
--- the transmitters stay where they are
-same_sender : (sender : ℕ → Option ℕ) (at i : ℕ) (v w : View) → w.transmits ≡ v.transmits → w.group ≡ v.group → w.deals ≡ v.deals → w.sent ≡ v.sent → Sends sender at i v → Sends sender at i w
-same_sender sender at i v w a b c d h = record {
-  transmits = λ on. ap sender b ∙ h.transmits (sym a ∙ on);
-  deals = λ on. let g = h.deals (sym c ∙ on) in (g.0, λ q not. g.1 q (ap (λ (xs : List ℕ). list_any (λ y. eqb y q) xs) (sym d) ∙ not));
-}
-
-sends_set : (sender : ℕ → Option ℕ) (at : ℕ) (views : List View) (id : ℕ) (v w : View) → get_elem? views id ≡ some v → ((i : ℕ) (u : View) → get_elem? views i ≡ some u → Sends sender at i u)
-    → w.transmits ≡ v.transmits → w.group ≡ v.group → w.deals ≡ v.deals → w.sent ≡ v.sent → (i : ℕ) (u : View) → get_elem? (set views id w) i ≡ some u → Sends sender at i u
-sends_set sender at views id v w here all a b c d = each_set (Sends sender at) views id w (λ j u _ e. all j u e) (same_sender sender at id v w a b c d (all id v here))
-
--- a view that neither transmits nor deals
-no_sender : (sender : ℕ → Option ℕ) (at i : ℕ) (v : View) → v.transmits ≡ false → v.deals ≡ false → Sends sender at i v
-no_sender sender at i v a b = record { transmits = λ e. absurd (let clash : false ≡ true = sym a ∙ e in cc); deals = λ e. absurd (let clash : false ≡ true = sym b ∙ e in cc) }
-
--- the transmitter of a group that goes to a new seat changes nothing for a view that does not have it
-moved_sender : (sender : ℕ → Option ℕ) (at g to j : ℕ) (u : View) → sender g ≡ None → (u.deals ≡ true → list_any (λ y. eqb y g) u.sent ≡ false → ⊥) → Sends sender at j u → Sends (reseat g to sender) at j u
-moved_sender sender at g to j u free hd h = record {
-  transmits = λ on. reseat_else g to sender u.group (λ is. let clash : None ≡ Some j = sym free ∙ (ap sender (sym is) ∙ h.transmits on) in absurd (cc)) ∙ h.transmits on;
-  deals = λ on. let d = h.deals on in
-      (d.0, λ q not_in. reseat_else g to sender q (λ is. let P : ℕ → Type 0 = λ k. list_any (λ y. eqb y k) u.sent ≡ false in hd on (subst P is not_in)) ∙ d.1 q not_in);
-}
+-- every view fits as it did, and a new one fits
+each_more : (F : View → Type 0) (views : List View) (w : View) → ((j : ℕ) (u : View) → get_elem? views j ≡ some u → F u) → F w → (j : ℕ) (u : View) → get_elem? (views ++ w ∷ []) j ≡ some u → F u
+each_more F views w old new j u e = ⊎_elim (λ (x : get_elem? views j ≡ some u). old j u x) (λ (x : (j ≡ length views) × (w ≡ u)). subst F x.1 new) (at_end views w u j e)
 
 pub opens : (t : TableRecord) (words : List ℕ) → length t.sources ≤ length words → ((s : ℕ) → get_or words s 0 ≡ 0) → Kept t words (desk t ∷ [])
 opens t words long zeros = record {
   seat = λ _. None;
+  sender = λ _. None;
   accepted = λ _. [];
   desk_at = 0;
-  sender = λ _. None;
   long = long;
-  valid = λ _. tt;
   known = λ s _ _. zeros s;
-  each = each_snoc (Fits t (λ _. None) (λ _. []) 0) [] (desk t) (λ j u e. absurd (some-ne-none u (sym e)))
-      record { station = ((λ _. refl), (λ _. refl), (λ _. refl)); receives = λ e. absurd (cc); transmits = λ e. absurd (cc); deals = λ _. (refl, λ q _. (refl, refl)) };
-  sends = each_snoc (Sends (λ _. None) 0) [] (desk t) (λ j u e. absurd (some-ne-none u (sym e))) record { transmits = λ e. absurd (cc); deals = λ _. (refl, λ g _. refl) };
+  valid = λ _. tt;
+  unused = λ _ _. refl;
+  each = each_more (Fits t (λ _. None) (λ _. None) (λ _. [])) [] (desk t) (λ j u e. absurd (some-ne-none u (sym e)))
+      record { station = ((λ _. refl), (λ _. refl), (λ _. refl)); apart = λ _. (refl, refl); given = λ _ r. refl; sent = λ _ g. refl; receives = λ e. absurd (cc); transmits = λ e. absurd (cc) };
+  one_desk = just_new [] IsDesk (desk t) refl (just_none IsDesk);
+  receivers = λ r. just_more [] (IsReceiver r) None (desk t) (λ h. absurd (cc)) (just_none (IsReceiver r));
+  transmitters = λ g. just_more [] (IsTransmitter g) None (desk t) (λ h. absurd (cc)) (just_none (IsTransmitter g));
 }
 
 module _ {S : Type 0} (t : TableRecord) where
@@ -174,9 +146,9 @@ module _ {S : Type 0} (t : TableRecord) where
       let new : ℕ = n * 8388608 + bits in
       let r : ℕ = v.number in
       let f = k.each id v here in
-      let g = f.receives on in
+      let at_me : k.seat r ≡ Some id = (k.receivers r id).1 (v, here, (on, refl)) in
       let es : List (ℕ × ℕ) = k.accepted r in
-      let same : es ≡ v.accepted = g.1 in
+      let same : es ≡ v.accepted = f.receives on in
       let more : List (ℕ × ℕ) = es ++ (s, raw) ∷ [] in
       let now : ℕ → List (ℕ × ℕ) = put r more k.accepted in
       let at_r : now r ≡ more = put_here r more k.accepted in
@@ -188,9 +160,9 @@ module _ {S : Type 0} (t : TableRecord) where
         tt,
         record {
           seat = k.seat;
+          sender = k.sender;
           accepted = now;
           desk_at = k.desk_at;
-          sender = k.sender;
           long = omega (arith, k.long, long');
           valid = λ q. dite (ℕ_discrete q r)
               (λ is. subst (λ (p : ℕ × List (ℕ × ℕ)). AreAccepted t p.0 p.1) (λ i. (sym is i, sym (ap now is ∙ at_r) i)) (all_push (IsAccepted t r) es (s, raw) (k.valid r) own))
@@ -202,9 +174,13 @@ module _ {S : Type 0} (t : TableRecord) where
               (λ ne. get_or-set_other state.words s x new 0 ne ∙ (k.known x row there ∙ dite (ℕ_discrete row.receiver r)
               (λ is. ap (λ (y : ℕ). number_of (load_after x (k.accepted y))) is ∙ (ap number_of (sym (load_other x s raw es (λ e. ne (sym e)))) ∙ ap (λ (es : List (ℕ × ℕ)). number_of (load_after x es)) (sym (ap now is ∙ at_r))))
               (λ away. ap (λ (es : List (ℕ × ℕ)). number_of (load_after x es)) (sym (put_else r more k.accepted row.receiver away)))));
-          each = each_set (Fits t k.seat now k.desk_at) state.views id (with_accepted v (s, raw))
-              (λ j u ne e. other_fits t k.seat k.accepted k.desk_at r id (s, raw) j u g.0 ne (k.each j u e)) (my_fits t k.seat k.accepted k.desk_at r id v (s, raw) on refl f);
-          sends = sends_set k.sender k.desk_at state.views id v (with_accepted v (s, raw)) here k.sends refl refl refl refl;
+          unused = λ q e. put_else r more k.accepted q (λ is. let clash : None ≡ Some id = sym e ∙ (ap k.seat is ∙ at_me) in absurd (cc)) ∙ k.unused q e;
+          each = each_set (Fits t k.seat k.sender now) state.views id (with_accepted v (s, raw))
+              (λ j u ne e. other_fits t k.seat k.sender k.accepted r (s, raw) u (λ gets is. ne (one_seat state.views (IsReceiver r) (k.seat r) j id (k.receivers r) (u, e, (gets, is)) (v, here, (on, refl)))) (k.each j u e))
+              (my_fits t k.seat k.sender k.accepted v (s, raw) on f);
+          one_desk = just_set state.views IsDesk (Some k.desk_at) id v (with_accepted v (s, raw)) here ((λ h. h), (λ h. h)) k.one_desk;
+          receivers = λ q. just_set state.views (IsReceiver q) (k.seat q) id v (with_accepted v (s, raw)) here ((λ h. h), (λ h. h)) (k.receivers q);
+          transmitters = λ q. just_set state.views (IsTransmitter q) (k.sender q) id v (with_accepted v (s, raw)) here ((λ h. h), (λ h. h)) (k.transmitters q);
         },
         (refl, refl),
       )
@@ -219,22 +195,25 @@ module _ {S : Type 0} (t : TableRecord) where
       let number : w ≡ number_of l = k.known s row.0 row.1 in
       let st : v.station ≡ t = f.station.2 sends in
       let more : (q : ℕ) → (last : ℕ) × AgreesTo t q (k.accepted q) (v.loads ++ l ∷ []) last × (is_of t q s ≡ true → (last ≡ length (k.accepted q)) × (l ≡ load_after s (k.accepted q))) =
-      λ q. one_more t k.seat k.accepted k.desk_at q s row.0 v.loads row.1 (f.transmits sends q) (is_of t q s) refl in
+      λ q. one_more t k.seat k.sender k.accepted q s row.0 v.loads row.1 (f.transmits sends q) (is_of t q s) refl in
       let P : List ℕ → Type 0 = λ ws. Kept t ws (set state.views id (with_load v l)) in (
         with_load v l,
         keeps,
         tt,
         subst P (sym (set-get_or state.words s 0)) record {
           seat = k.seat;
+          sender = k.sender;
           accepted = k.accepted;
           desk_at = k.desk_at;
-          sender = k.sender;
           long = k.long;
-          valid = k.valid;
           known = k.known;
-          each = each_set (Fits t k.seat k.accepted k.desk_at) state.views id (with_load v l) (λ j u _ e. k.each j u e)
-              record { station = f.station; receives = f.receives; transmits = λ _ q. let m = more q in (m.0, m.1); deals = f.deals };
-          sends = sends_set k.sender k.desk_at state.views id v (with_load v l) here k.sends refl refl refl refl;
+          valid = k.valid;
+          unused = k.unused;
+          each = each_set (Fits t k.seat k.sender k.accepted) state.views id (with_load v l) (λ j u _ e. k.each j u e)
+              record { station = f.station; apart = f.apart; given = f.given; sent = f.sent; receives = f.receives; transmits = λ _ q. let m = more q in (m.0, m.1) };
+          one_desk = just_set state.views IsDesk (Some k.desk_at) id v (with_load v l) here ((λ h. h), (λ h. h)) k.one_desk;
+          receivers = λ q. just_set state.views (IsReceiver q) (k.seat q) id v (with_load v l) here ((λ h. h), (λ h. h)) (k.receivers q);
+          transmitters = λ q. just_set state.views (IsTransmitter q) (k.sender q) id v (with_load v l) here ((λ h. h), (λ h. h)) (k.transmitters q);
         },
         (
           record {
@@ -250,7 +229,7 @@ module _ {S : Type 0} (t : TableRecord) where
             no_less = let q = row.0.receiver in let h = f.transmits sends q in none_above (is_of t q) (k.accepted q) s 0 v.loads h.0 (is_of_yes t q s row.0 row.1 refl) h.1;
             agrees = λ on _. let g = f.receives on in
                 let Q : TableRecord → List (ℕ × ℕ) → Type 0 = λ y es. (last : ℕ) × AgreesTo y v.number es (v.loads ++ l ∷ []) last × (is_of y v.number s ≡ true → (last ≡ length es) × (l ≡ load_after s es)) in
-                subst (λ (y : TableRecord). Q y v.accepted) (sym st) (subst (Q t) g.1 (more v.number));
+                subst (λ (y : TableRecord). Q y v.accepted) (sym st) (subst (Q t) g (more v.number));
           },
           refl,
         ),
@@ -266,132 +245,149 @@ module _ {S : Type 0} (t : TableRecord) where
         tt,
         subst P (sym (set-get_or state.words s 0)) record {
           seat = k.seat;
+          sender = k.sender;
           accepted = k.accepted;
           desk_at = k.desk_at;
-          sender = k.sender;
           long = k.long;
-          valid = k.valid;
           known = k.known;
-          each = each_set (Fits t k.seat k.accepted k.desk_at) state.views id v (λ j u _ e. k.each j u e) f;
-          sends = sends_set k.sender k.desk_at state.views id v v here k.sends refl refl refl refl;
+          valid = k.valid;
+          unused = k.unused;
+          each = each_set (Fits t k.seat k.sender k.accepted) state.views id v (λ j u _ e. k.each j u e) f;
+          one_desk = just_set state.views IsDesk (Some k.desk_at) id v v here ((λ h. h), (λ h. h)) k.one_desk;
+          receivers = λ q. just_set state.views (IsReceiver q) (k.seat q) id v v here ((λ h. h), (λ h. h)) (k.receivers q);
+          transmitters = λ q. just_set state.views (IsTransmitter q) (k.sender q) id v v here ((λ h. h), (λ h. h)) (k.transmitters q);
         },
         (
           refl,
           λ on sends. let Q : TableRecord → List (ℕ × ℕ) → Type 0 = λ y es. Agrees y v.number es v.loads in
-              subst (λ (y : TableRecord). Q y v.accepted) (sym (f.station.1 on)) (subst (Q t) (f.receives on).1 (f.transmits sends v.number)),
+              subst (λ (y : TableRecord). Q y v.accepted) (sym (f.station.1 on)) (subst (Q t) (f.receives on) (f.transmits sends v.number)),
         ),
       )
 
   pub new_receiver : (id : ℕ) (v : View) (r : ℕ) → v.deals ≡ true → list_any (λ y. eqb y r) v.given ≡ false → Splits Rule id v (dealt v r) (receiver v.station r)
   new_receiver id v r on not_in state k here =
       let f = k.each id v here in
-      let g = f.deals on in
-      let free = g.1 r not_in in
+      let free : k.seat r ≡ None = none_of (k.seat r) (sym (f.given on r) ∙ not_in) in
       let views : List View = set state.views id (dealt v r) in
+      let w : View = receiver v.station r in
       let now : ℕ → Option ℕ = reseat r (length views) k.seat in
-      let apart : (j : ℕ) → k.seat r ≢ Some j = λ j e. let clash : None ≡ Some j = sym free.0 ∙ e in absurd (cc) in
+      let old : (P : View → Type 0) (seat : Option ℕ) → P v ↔ P (dealt v r) → JustAt state.views P seat → JustAt views P seat = λ P seat. just_set state.views P seat id v (dealt v r) here in
       record {
         seat = now;
+        sender = k.sender;
         accepted = k.accepted;
         desk_at = k.desk_at;
-        sender = k.sender;
         long = k.long;
-        valid = k.valid;
         known = k.known;
-        each = each_snoc (Fits t now k.accepted k.desk_at) views (receiver v.station r)
-            (each_set (Fits t now k.accepted k.desk_at) state.views id (dealt v r)
-            (λ j u ne e. moved_fits t k.seat k.accepted k.desk_at r (length views) j u (apart j) (λ desk _. ne (((k.each j u e).deals desk).0 ∙ sym g.0)) (k.each j u e))
-            (moved_fits t k.seat k.accepted k.desk_at r (length views) id (dealt v r) (apart id) (λ _ not. let no_more : eqb r r ≡ false = or_left (eqb r r) false (or_right (list_any (λ y. eqb y r) v.given) (eqb r r || false) (sym (list_any-append (λ y. eqb y r) v.given (r ∷ [])) ∙ not)) in let yes' : eqb r r ≡ true = eq-eqb r r refl in absurd (cc))
-            record { station = f.station; receives = f.receives; transmits = f.transmits; deals = λ _. (g.0, λ q not. g.1 q (or_left (list_any (λ y. eqb y q) v.given) (eqb r q || false) (sym (list_any-append (λ y. eqb y q) v.given (r ∷ [])) ∙ not))) }))
-            record { station = ((λ e. absurd (cc)), (λ _. f.station.0 on), (λ e. absurd (cc))); receives = λ _. (reseat_here r (length views) k.seat, free.1); transmits = λ e. absurd (cc); deals = λ e. absurd (cc) };
-        sends = each_snoc (Sends k.sender k.desk_at) views (receiver v.station r) (sends_set k.sender k.desk_at state.views id v (dealt v r) here k.sends refl refl refl refl) (no_sender k.sender k.desk_at (length views) (receiver v.station r) refl refl);
+        valid = k.valid;
+        unused = still_unused r (length views) k.seat k.accepted k.unused;
+        each = each_more (Fits t now k.sender k.accepted) views w
+            (each_set (Fits t now k.sender k.accepted) state.views id (dealt v r)
+            (λ j u ne e. no_desk_fits t k.seat k.sender k.accepted now k.sender u (λ desk. ne (one_seat state.views IsDesk (Some k.desk_at) j id k.one_desk (u, e, desk) (v, here, on))) (k.each j u e))
+            record { station = f.station; apart = f.apart; given = λ _. given_more v.given r (length views) k.seat (f.given on); sent = f.sent; receives = f.receives; transmits = f.transmits })
+            record { station = ((λ e. absurd (cc)), (λ _. f.station.0 on), (λ e. absurd (cc))); apart = λ e. absurd (cc); given = λ e. absurd (cc); sent = λ e. absurd (cc); receives = λ _. k.unused r free; transmits = λ e. absurd (cc) };
+        one_desk = just_more views IsDesk (Some k.desk_at) w (λ h. absurd (cc)) (old IsDesk (Some k.desk_at) ((λ h. h), (λ h. h)) k.one_desk);
+        receivers = reseated (λ (q : ℕ) (o : Option ℕ). JustAt (views ++ w ∷ []) (IsReceiver q) o) r (length views) k.seat
+            (just_new views (IsReceiver r) w (refl, refl) (old (IsReceiver r) None ((λ h. h), (λ h. h)) (subst (JustAt state.views (IsReceiver r)) free (k.receivers r))))
+            (λ q ne. just_more views (IsReceiver q) (k.seat q) w (λ h. ne (sym h.1)) (old (IsReceiver q) (k.seat q) ((λ h. h), (λ h. h)) (k.receivers q)));
+        transmitters = λ g. just_more views (IsTransmitter g) (k.sender g) w (λ h. absurd (cc)) (old (IsTransmitter g) (k.sender g) ((λ h. h), (λ h. h)) (k.transmitters g));
       }
 
   pub new_transmitter : (id : ℕ) (v : View) (g : ℕ) → v.deals ≡ true → list_any (λ y. eqb y g) v.sent ≡ false → Splits Rule id v (dealt_transmitter v g) (transmitter v.station g)
   new_transmitter id v g on not_in state k here =
       let f = k.each id v here in
-      let d = (k.sends id v here).deals on in
-      let free : k.sender g ≡ None = d.1 g not_in in
+      let free : k.sender g ≡ None = none_of (k.sender g) (sym (f.sent on g) ∙ not_in) in
       let views : List View = set state.views id (dealt_transmitter v g) in
+      let w : View = transmitter v.station g in
       let now : ℕ → Option ℕ = reseat g (length views) k.sender in
+      let old : (P : View → Type 0) (seat : Option ℕ) → P v ↔ P (dealt_transmitter v g) → JustAt state.views P seat → JustAt views P seat = λ P seat. just_set state.views P seat id v (dealt_transmitter v g) here in
       record {
         seat = k.seat;
+        sender = now;
         accepted = k.accepted;
         desk_at = k.desk_at;
-        sender = now;
         long = k.long;
-        valid = k.valid;
         known = k.known;
-        each = each_snoc (Fits t k.seat k.accepted k.desk_at) views (transmitter v.station g)
-            (each_set (Fits t k.seat k.accepted k.desk_at) state.views id (dealt_transmitter v g) (λ j u _ e. k.each j u e) record { station = f.station; receives = f.receives; transmits = f.transmits; deals = f.deals })
-            record { station = ((λ e. absurd (cc)), (λ e. absurd (cc)), (λ _. f.station.0 on)); receives = λ e. absurd (cc); transmits = λ _ q. (0, refl); deals = λ e. absurd (cc) };
-        sends = each_snoc (Sends now k.desk_at) views (transmitter v.station g)
-            (each_set (Sends now k.desk_at) state.views id (dealt_transmitter v g)
-            (λ j u ne e. moved_sender k.sender k.desk_at g (length views) j u free (λ desk _. ne (((k.sends j u e).deals desk).0 ∙ sym d.0)) (k.sends j u e))
-            (moved_sender k.sender k.desk_at g (length views) id (dealt_transmitter v g) free
-            (λ _ not. let no_more : eqb g g ≡ false = or_left (eqb g g) false (or_right (list_any (λ y. eqb y g) v.sent) (eqb g g || false) (sym (list_any-append (λ y. eqb y g) v.sent (g ∷ [])) ∙ not)) in let yes' : eqb g g ≡ true = eq-eqb g g refl in absurd (cc))
-            record { transmits = (k.sends id v here).transmits; deals = λ _. (d.0, λ q not. d.1 q (or_left (list_any (λ y. eqb y q) v.sent) (eqb g q || false) (sym (list_any-append (λ y. eqb y q) v.sent (g ∷ [])) ∙ not))) }))
-            record { transmits = λ _. reseat_here g (length views) k.sender; deals = λ e. absurd (cc) };
+        valid = k.valid;
+        unused = k.unused;
+        each = each_more (Fits t k.seat now k.accepted) views w
+            (each_set (Fits t k.seat now k.accepted) state.views id (dealt_transmitter v g)
+            (λ j u ne e. no_desk_fits t k.seat k.sender k.accepted k.seat now u (λ desk. ne (one_seat state.views IsDesk (Some k.desk_at) j id k.one_desk (u, e, desk) (v, here, on))) (k.each j u e))
+            record { station = f.station; apart = f.apart; given = f.given; sent = λ _. given_more v.sent g (length views) k.sender (f.sent on); receives = f.receives; transmits = f.transmits })
+            record { station = ((λ e. absurd (cc)), (λ e. absurd (cc)), (λ _. f.station.0 on)); apart = λ e. absurd (cc); given = λ e. absurd (cc); sent = λ e. absurd (cc); receives = λ e. absurd (cc); transmits = λ _ q. (0, refl) };
+        one_desk = just_more views IsDesk (Some k.desk_at) w (λ h. absurd (cc)) (old IsDesk (Some k.desk_at) ((λ h. h), (λ h. h)) k.one_desk);
+        receivers = λ r. just_more views (IsReceiver r) (k.seat r) w (λ h. absurd (cc)) (old (IsReceiver r) (k.seat r) ((λ h. h), (λ h. h)) (k.receivers r));
+        transmitters = reseated (λ (q : ℕ) (o : Option ℕ). JustAt (views ++ w ∷ []) (IsTransmitter q) o) g (length views) k.sender
+            (just_new views (IsTransmitter g) w (refl, refl) (old (IsTransmitter g) None ((λ h. h), (λ h. h)) (subst (JustAt state.views (IsTransmitter g)) free (k.transmitters g))))
+            (λ q ne. just_more views (IsTransmitter q) (k.sender q) w (λ h. ne (sym h.1)) (old (IsTransmitter q) (k.sender q) ((λ h. h), (λ h. h)) (k.transmitters q)));
       }
 
-  pub meets : (id : ℕ) (v : View) (other : ℕ) (w : View) → v.transmits ≡ true → w.receives ≡ true → Joins Rule id v other w (both_of v w) spent
-  meets id v other w sends on state k here apart there =
+  pub meets : (id : ℕ) (v : View) (other : ℕ) (w : View) → CanMeet v w → Joins Rule id v other w (both_of v w) spent
+  meets id v other w can state k here away there =
       let f = k.each id v here in
       let b : View = both_of v w in
-      let at_other : get_elem? state.views other ≡ some w = ⊎_elim (λ (x : (other ≡ id) × (b ≡ w)). absurd (apart x.0)) (λ (x : (other ≢ id) × (get_elem? state.views other ≡ some w)). x.1) (at_set state.views id other b w there) in
-      let g = (k.each other w at_other).receives on in
+      let at_other : get_elem? state.views other ≡ some w = ⊎_elim (λ (x : (other ≡ id) × (b ≡ w)). absurd (away x.0)) (λ (x : (other ≢ id) × (get_elem? state.views other ≡ some w)). x.1) (at_set state.views id other b w there) in
+      let g = k.each other w at_other in
+      let seat_w : k.seat w.number ≡ Some other = (k.receivers w.number other).1 (w, at_other, (can.2, refl)) in
+      let given : is_some (k.seat w.number) ≡ true = ap is_some seat_w in
       let now : ℕ → Option ℕ = reseat w.number id k.seat in
-      let none_here : (j : ℕ) → j ≢ other → k.seat w.number ≢ Some j = λ j ne e. let clash : Some other ≡ Some j = sym g.0 ∙ e in let same : other ≡ j = cc in ne (sym same) in
-      let given : (u : View) (j : ℕ) → Fits t k.seat k.accepted k.desk_at j u → u.deals ≡ true → list_any (λ y. eqb y w.number) u.given ≡ false → ⊥ =
-      λ u j fit desk not. let clash : None ≡ Some other = sym (((fit.deals desk).1 w.number not).0) ∙ g.0 in absurd (cc) in
-      let mine : Fits t now k.accepted k.desk_at id b =
-      record {
-        station = (f.station.0, (λ _. f.station.2 sends), f.station.2);
-        receives = λ _. (reseat_here w.number id k.seat, g.1);
-        transmits = f.transmits;
-        deals = λ desk. (moved_fits t k.seat k.accepted k.desk_at w.number id id v (none_here id (λ e. apart (sym e))) (given v id f) f).deals desk;
-      } in
+      let views : List View = set (set state.views id b) other spent in
+      let then : (P : View → Type 0) (seat : Option ℕ) → P v ↔ P b → P w ↔ P spent → JustAt state.views P seat → JustAt views P seat =
+      λ P seat mine its just. just_set (set state.views id b) P seat other w spent there its (just_set state.views P seat id v b here mine just) in
       record {
         seat = now;
+        sender = k.sender;
         accepted = k.accepted;
         desk_at = k.desk_at;
-        sender = k.sender;
         long = k.long;
-        valid = k.valid;
         known = k.known;
-        each = each_set (Fits t now k.accepted k.desk_at) (set state.views id b) other spent
-            (λ j u ne e. each_set (λ (j : ℕ) (u : View). j ≢ other → Fits t now k.accepted k.desk_at j u) state.views id b
-            (λ j u _ e away. moved_fits t k.seat k.accepted k.desk_at w.number id j u (none_here j away) (given u j (k.each j u e)) (k.each j u e)) (λ _. mine) j u e ne)
-            record { station = ((λ e. absurd (cc)), (λ e. absurd (cc)), (λ e. absurd (cc))); receives = λ e. absurd (cc); transmits = λ e. absurd (cc); deals = λ e. absurd (cc) };
-        sends = each_set (Sends k.sender k.desk_at) (set state.views id b) other spent (λ j u _ e. sends_set k.sender k.desk_at state.views id v b here k.sends refl refl refl refl j u e) (no_sender k.sender k.desk_at other spent refl refl);
+        valid = k.valid;
+        unused = still_unused w.number id k.seat k.accepted k.unused;
+        each = each_set (Fits t now k.sender k.accepted) (set state.views id b) other spent
+            (λ j u _ e. each_set (Fits t now k.sender k.accepted) state.views id b (λ i x _ h. moved_fits t k.seat k.sender k.accepted w.number id x given (k.each i x h))
+            record {
+              station = (f.station.0, (λ _. f.station.2 can.0), f.station.2);
+              apart = λ desk. let clash : true ≡ false = sym can.0 ∙ (f.apart desk).1 in absurd (cc);
+              given = (moved_fits t k.seat k.sender k.accepted w.number id v given f).given;
+              sent = f.sent;
+              receives = λ _. g.receives can.2;
+              transmits = f.transmits;
+            } j u e)
+            record { station = ((λ e. absurd (cc)), (λ e. absurd (cc)), (λ e. absurd (cc))); apart = λ e. absurd (cc); given = λ e. absurd (cc); sent = λ e. absurd (cc); receives = λ e. absurd (cc); transmits = λ e. absurd (cc) };
+        one_desk = then IsDesk (Some k.desk_at) ((λ h. h), (λ h. h)) ((λ h. let clash : true ≡ false = sym can.2 ∙ (g.apart h).0 in absurd (cc)), (λ h. absurd (cc))) k.one_desk;
+        receivers = reseated (λ (q : ℕ) (o : Option ℕ). JustAt views (IsReceiver q) o) w.number id k.seat
+            (just_moved state.views (IsReceiver w.number) id other v b spent here away (can.2, refl) (λ h. absurd (cc)) (subst (JustAt state.views (IsReceiver w.number)) seat_w (k.receivers w.number)))
+            (λ q ne. then (IsReceiver q) (k.seat q) ((λ h. let clash : true ≡ false = sym h.0 ∙ can.1 in absurd (cc)), (λ h. absurd (ne (sym h.1)))) ((λ h. absurd (ne (sym h.1))), (λ h. absurd (cc))) (k.receivers q));
+        transmitters = λ q. then (IsTransmitter q) (k.sender q) ((λ h. h), (λ h. h)) ((λ h. let clash : true ≡ false = sym h.0 ∙ can.3 in absurd (cc)), (λ h. absurd (cc))) (k.transmitters q);
       }
 
   pub parts : (id : ℕ) (v : View) → v.receives ≡ true → Splits Rule id v (transmitting v) (receiving v)
   parts id v on state k here =
       let f = k.each id v here in
-      let g = f.receives on in
       let views : List View = set state.views id (transmitting v) in
+      let w : View = receiving v in
+      let seat_v : k.seat v.number ≡ Some id = (k.receivers v.number id).1 (v, here, (on, refl)) in
+      let given : is_some (k.seat v.number) ≡ true = ap is_some seat_v in
       let now : ℕ → Option ℕ = reseat v.number (length views) k.seat in
-      let none_here : (j : ℕ) → j ≢ id → k.seat v.number ≢ Some j = λ j ne e. let clash : Some id ≡ Some j = sym g.0 ∙ e in let same : id ≡ j = cc in ne (sym same) in
-      let given : (u : View) (j : ℕ) → Fits t k.seat k.accepted k.desk_at j u → u.deals ≡ true → list_any (λ y. eqb y v.number) u.given ≡ false → ⊥ =
-      λ u j fit desk not. let clash : None ≡ Some id = sym (((fit.deals desk).1 v.number not).0) ∙ g.0 in absurd (cc) in
+      let no_desk : v.deals ≡ true → ⊥ = λ desk. let clash : true ≡ false = sym on ∙ (f.apart desk).0 in absurd (cc) in
+      let old : (P : View → Type 0) (seat : Option ℕ) → P v ↔ P (transmitting v) → JustAt state.views P seat → JustAt views P seat = λ P seat. just_set state.views P seat id v (transmitting v) here in
       record {
         seat = now;
+        sender = k.sender;
         accepted = k.accepted;
         desk_at = k.desk_at;
-        sender = k.sender;
         long = k.long;
-        valid = k.valid;
         known = k.known;
-        each = each_snoc (Fits t now k.accepted k.desk_at) views (receiving v)
-            (each_set (Fits t now k.accepted k.desk_at) state.views id (transmitting v)
-            (λ j u ne e. moved_fits t k.seat k.accepted k.desk_at v.number (length views) j u (none_here j ne) (given u j (k.each j u e)) (k.each j u e))
-            record {
-              station = (f.station.0, (λ e. absurd (cc)), f.station.2);
-              receives = λ e. absurd (cc);
-              transmits = f.transmits;
-              deals = λ desk. let d = f.deals desk in (d.0, λ q not_in. (reseat_else v.number (length views) k.seat q (λ is. let P : ℕ → Type 0 = λ k. list_any (λ y. eqb y k) v.given ≡ false in given v id f desk (subst P is not_in)) ∙ (d.1 q not_in).0, (d.1 q not_in).1));
-            })
-            record { station = ((λ e. absurd (cc)), (λ _. f.station.1 on), (λ e. absurd (cc))); receives = λ _. (reseat_here v.number (length views) k.seat, g.1); transmits = λ e. absurd (cc); deals = λ e. absurd (cc) };
-        sends = each_snoc (Sends k.sender k.desk_at) views (receiving v) (sends_set k.sender k.desk_at state.views id v (transmitting v) here k.sends refl refl refl refl) (no_sender k.sender k.desk_at (length views) (receiving v) refl refl);
+        valid = k.valid;
+        unused = still_unused v.number (length views) k.seat k.accepted k.unused;
+        each = each_more (Fits t now k.sender k.accepted) views w
+            (each_set (Fits t now k.sender k.accepted) state.views id (transmitting v)
+            (λ j u _ e. moved_fits t k.seat k.sender k.accepted v.number (length views) u given (k.each j u e))
+            record { station = (f.station.0, (λ e. absurd (cc)), f.station.2); apart = λ desk. absurd (no_desk desk); given = λ desk. absurd (no_desk desk); sent = f.sent; receives = λ e. absurd (cc); transmits = f.transmits })
+            record { station = ((λ e. absurd (cc)), (λ _. f.station.1 on), (λ e. absurd (cc))); apart = λ e. absurd (cc); given = λ e. absurd (cc); sent = λ e. absurd (cc); receives = λ _. f.receives on; transmits = λ e. absurd (cc) };
+        one_desk = just_more views IsDesk (Some k.desk_at) w (λ h. absurd (cc)) (old IsDesk (Some k.desk_at) ((λ h. h), (λ h. h)) k.one_desk);
+        receivers = reseated (λ (q : ℕ) (o : Option ℕ). JustAt (views ++ w ∷ []) (IsReceiver q) o) v.number (length views) k.seat
+            (just_new views (IsReceiver v.number) w (on, refl) (just_gone state.views (IsReceiver v.number) id (transmitting v) (λ h. absurd (cc)) (subst (JustAt state.views (IsReceiver v.number)) seat_v (k.receivers v.number))))
+            (λ q ne. just_more views (IsReceiver q) (k.seat q) w (λ h. ne (sym h.1)) (old (IsReceiver q) (k.seat q) ((λ h. absurd (ne (sym h.1))), (λ h. absurd (cc))) (k.receivers q)));
+        transmitters = λ q. just_more views (IsTransmitter q) (k.sender q) w (λ h. absurd (cc)) (old (IsTransmitter q) (k.sender q) ((λ h. h), (λ h. h)) (k.transmitters q));
       }

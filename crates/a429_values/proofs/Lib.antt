@@ -1,5 +1,6 @@
 pub mod Counted
 pub mod Cutting
+pub mod Seating
 pub mod Keeps
 pub mod Meeting
 pub mod Accepting

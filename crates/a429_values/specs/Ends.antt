@@ -76,6 +76,7 @@ pub record IsReceiving (p : Place) (number limit : ℕ) (counts : List ℕ) (at 
   pub here : at ≡ p.hub
   pub one : views ≡ view_in views ∷ []
   pub receives : (view_in views).receives ≡ true
+  pub no_transmitter : (view_in views).transmits ≡ false
   pub numbered : (view_in views).number ≡ number
   pub station : (view_in views).station ≡ p.station
   pub inside : number < length p.station.receivers

@@ -1,5 +1,6 @@
--- The rule of the table: what holds of its words and of all views between any two steps.
-use Rattle.std.specs.Prelude.{◌≡◌, ◌==◌, ℕ, ◌≤◌, List, [], length, slice_get, slice_index, Option, None, Some, true, false}
+-- The rule of the table: what holds of its words and of all views between any two steps. A view is that of a desk, a receiver, a transmitter,
+-- a receiver and transmitter in one, or of a spent seat.
+use Rattle.std.specs.Prelude.{◌≡◌, ◌==◌, ◌↔◌, ℕ, ◌≤◌, List, [], length, slice_get, slice_index, is_some, Option, None, Some, true, false}
 use Rattle.std.specs.List.{list_any}
 use mathlib.Core.Option.{some}
 use lib.ListN.{get_elem?}
@@ -15,27 +16,52 @@ use Rattle.a429_values.specs.Words.{packed}
 abbrev pub number_of : Load → ℕ
 number_of l = packed l.count l.word
 
--- what the rule says of the view of seat i. Here `seat r` is the seat that receiver r is at, where it was given out, and `accepted r` is its list
-pub record Fits (t : TableRecord) (seat : ℕ → Option ℕ) (accepted : ℕ → List (ℕ × ℕ)) (desk_at i : ℕ) (v : View) : Type 0 where
+-- seat i has a view, and P holds of it
+abbrev pub HasAt : List View → (View → Type 0) → ℕ → Type 0
+HasAt views P i = (v : View) × (get_elem? views i ≡ some v) × P v
+
+-- P holds of the view of this seat and of no other view; without a seat, of no view at all
+abbrev pub JustAt : List View → (View → Type 0) → Option ℕ → Type 0
+JustAt views P seat = (i : ℕ) → (seat ≡ Some i) ↔ HasAt views P i
+
+abbrev pub IsDesk : View → Type 0
+IsDesk v = v.deals ≡ true
+
+abbrev pub IsReceiver : ℕ → View → Type 0
+IsReceiver r v = (v.receives ≡ true) × (v.number ≡ r)
+
+abbrev pub IsTransmitter : ℕ → View → Type 0
+IsTransmitter g v = (v.transmits ≡ true) × (v.group ≡ g)
+
+-- What the rule says of one view. Here `seat r` is the seat of receiver r, and `sender g` that of the transmitter of group g, where they were
+-- given out; `accepted r` is the list of receiver r.
+pub record Fits (t : TableRecord) (seat sender : ℕ → Option ℕ) (accepted : ℕ → List (ℕ × ℕ)) (v : View) : Type 0 where
+  -- it is of this station, unless it is spent
   pub station : (v.deals ≡ true → v.station ≡ t) × (v.receives ≡ true → v.station ≡ t) × (v.transmits ≡ true → v.station ≡ t)
-  pub receives : v.receives ≡ true → (seat v.number ≡ Some i) × (accepted v.number ≡ v.accepted)
+  -- a desk is nothing else
+  pub apart : v.deals ≡ true → (v.receives ≡ false) × (v.transmits ≡ false)
+  -- its numbers are those that have a seat
+  pub given : v.deals ≡ true → (r : ℕ) → list_any (λ y. y == r) v.given ≡ is_some (seat r)
+  pub sent : v.deals ≡ true → (g : ℕ) → list_any (λ y. y == g) v.sent ≡ is_some (sender g)
+  -- a receiver has its own list
+  pub receives : v.receives ≡ true → accepted v.number ≡ v.accepted
+  -- a transmitter's loads agree with the list of each receiver
   pub transmits : v.transmits ≡ true → (r : ℕ) → Agrees t r (accepted r) v.loads
-  pub deals : v.deals ≡ true → (i ≡ desk_at) × ((r : ℕ) → list_any (λ y. y == r) v.given ≡ false → (seat r ≡ None) × (accepted r ≡ []))
 
--- and of the transmitters: `sender g` is the seat that the transmitter of group g is at, where it was given out
-pub record Sends (sender : ℕ → Option ℕ) (desk_at i : ℕ) (v : View) : Type 0 where
-  pub transmits : v.transmits ≡ true → sender v.group ≡ Some i
-  pub deals : v.deals ≡ true → (i ≡ desk_at) × ((g : ℕ) → list_any (λ y. y == g) v.sent ≡ false → sender g ≡ None)
-
--- Each source's number is that of all words that its receiver's list has of it, and each list of loads agrees with each receiver's list. A
--- receiver or a transmitter that was given out is at one seat, any other at none; a receiver that was not has an empty list.
 pub record Kept (t : TableRecord) (words : List ℕ) (views : List View) : Type 0 where
   pub seat : ℕ → Option ℕ
+  pub sender : ℕ → Option ℕ
   pub accepted : ℕ → List (ℕ × ℕ)
   pub desk_at : ℕ
+  -- each source's number is that of all words that its receiver's list has of it
   pub long : length t.sources ≤ length words
-  pub valid : (r : ℕ) → AreAccepted t r (accepted r)
   pub known : (s : ℕ) (row : SourceRow) → slice_get t.sources s ≡ Some row → slice_index words s ≡ number_of (load_after s (accepted row.receiver))
-  pub sender : ℕ → Option ℕ
-  pub each : (i : ℕ) (v : View) → get_elem? views i ≡ some v → Fits t seat accepted desk_at i v
-  pub sends : (i : ℕ) (v : View) → get_elem? views i ≡ some v → Sends sender desk_at i v
+  -- a list has words of its receiver's sources alone, and none where the receiver was not given out
+  pub valid : (r : ℕ) → AreAccepted t r (accepted r)
+  pub unused : (r : ℕ) → seat r ≡ None → accepted r ≡ []
+  pub each : (i : ℕ) (v : View) → get_elem? views i ≡ some v → Fits t seat sender accepted v
+  -- there is one desk
+  pub one_desk : JustAt views IsDesk (Some desk_at)
+  -- a receiver or a transmitter that was given out is in one view, that of its seat; any other is in none
+  pub receivers : (r : ℕ) → JustAt views (IsReceiver r) (seat r)
+  pub transmitters : (g : ℕ) → JustAt views (IsTransmitter g) (sender g)

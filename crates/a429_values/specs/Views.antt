@@ -74,6 +74,10 @@ Deals v r w other = (w ≡ dealt v r) × (other ≡ receiver v.station r)
 abbrev pub DealsTransmitter : View → ℕ → View → View → Type 0
 DealsTransmitter v g w other = (w ≡ dealt_transmitter v g) × (other ≡ transmitter v.station g)
 
+-- a transmitter and no receiver, and a receiver and no transmitter
+abbrev pub CanMeet : View → View → Type 0
+CanMeet v w = (v.transmits ≡ true) × (v.receives ≡ false) × (w.receives ≡ true) × (w.transmits ≡ false)
+
 -- a receiver of this station
 abbrev pub IsReceiverOf : View → TableRecord → Type 0
 IsReceiverOf v t = (v.receives ≡ true) × (v.station ≡ t)

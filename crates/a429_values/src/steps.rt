@@ -3,7 +3,7 @@ ghost use Rattle.std.specs.Prelude.{◌≡◌, ◌<◌, ◌^◌, true};
 ghost use Rattle.a429_word.specs.Bits.{number_from};
 ghost use Rattle.a429_equipment.specs.Agreement.{Agrees};
 ghost use Rattle.a429_equipment.specs.Receiving.{IsAccepted};
-ghost use Rattle.a429_values.specs.Views.{with_accepted, both_of, transmitting, receiving, Found, CanDeal, CanDealTransmitter, Deals, DealsTransmitter, IsReceiverOf, IsNextCount};
+ghost use Rattle.a429_values.specs.Views.{with_accepted, both_of, transmitting, receiving, Found, CanDeal, CanDealTransmitter, CanMeet, Deals, DealsTransmitter, IsReceiverOf, IsNextCount};
 ghost use Rattle.a429_values.specs.Seats.{HasWordOf, IsAt, SitsAt, Stays};
 
 use crate::board::{
@@ -82,7 +82,7 @@ pub fn transmitter_step<N: Chosen>(board: &Board, seat: &mut HubSeat) -> HubSeat
 pub fn join_step(board: &Board, seat: &mut HubSeat, other: HubSeat)
     requires seat { SitsAt board.now.shared.table_id seat.old }
     requires other { IsAt board.now.shared.table_id other }
-    requires view { (seat.old.me.0.transmits ≡ true) × (other.me.0.receives ≡ true) }
+    requires view { CanMeet seat.old.me.0 other.me.0 }
     ensures seat { Stays seat.old seat.new }
     ensures view { seat.new.me.0 ≡ both_of seat.old.me.0 other.me.0 }
 {
