@@ -16,7 +16,15 @@ fn main(rt: HostRuntime) -> ExitCode {
         let line = ProgressLine::new(rt.alloc(), rt.stderr());
         run_program(&rt, &rt, &HintLines, &mut files, &mut out, &mut err, &line)
     } else {
-        run_program(&rt, &rt, &HintLines, &mut files, &mut out, &mut err, &NoProgress)
+        run_program(
+            &rt,
+            &rt,
+            &HintLines,
+            &mut files,
+            &mut out,
+            &mut err,
+            &NoProgress,
+        )
     };
     ExitCode::from(status)
 }

@@ -152,7 +152,7 @@ impl Front {
     }
 
     /// A copy.
-    pub(crate) fn again(&self) -> Front
+    pub(crate) fn copied(&self) -> Front
         ensures { result ≡ self.now }
     {
         Front {
@@ -201,7 +201,7 @@ impl Front {
     }
 
     /// Looks at the whole list. Who has the pen of the next plan knows that no list is longer than this one.
-    pub(crate) fn is_whole(&self, head: &Head, pen: &mut Pen, other: &Front)
+    pub(crate) fn look_at_all(&self, head: &Head, pen: &mut Pen, other: &Front)
         requires head { head.now ≡ head_of self.now.book }
         requires pen { (pen.old.book ≡ self.now.book) × (pen.old.nib ≡ next_nib (length self.now.log)) }
         requires other { other.now.book ≡ self.now.book }
@@ -215,7 +215,7 @@ impl Front {
     }
 
     /// This list with one plan more, by the pen of the next plan.
-    pub(crate) fn extended(&self, head: &Head, mut pen: Pen, plan: Plan<OUTPUTS>) -> Front
+    pub(crate) fn with_plan(&self, head: &Head, mut pen: Pen, plan: Plan<OUTPUTS>) -> Front
         requires head { head.now ≡ head_of self.now.book }
         requires pen { (pen.book ≡ self.now.book) × (pen.nib ≡ next_nib (length self.now.log)) }
         requires room { length self.now.log + 1 < 2 ^ 64 }

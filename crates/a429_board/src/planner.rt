@@ -64,14 +64,18 @@ fn show<R: Wait>(rt: &R, writer: PlanWriter, front: &Front) -> PlanWriter
 }
 
 // Shows the front by a writer that has shown all. It is refused where memory is, and the writer is gone then.
-fn shown<R: Wait>(rt: &R, mut writer: PlanWriter, front: &Front) -> Result<PlanWriter, AllocError>
+fn append_and_show<R: Wait>(
+    rt: &R,
+    mut writer: PlanWriter,
+    front: &Front,
+) -> Result<PlanWriter, AllocError>
     requires pending { drop writer.behind writer.log.items ≡ [] }
     requires book { writer.desk.shown.value.front.book ≡ front.now.book }
     ensures pending { IfOk result (λ w. drop w.behind w.log.items ≡ []) }
     ensures shown { IfOk result (λ w. w.desk.shown.value.front ≡ front.now) }
     ensures view { IfOk result (λ w. w.desk.place.me.0.client ≡ knower front.now.book) }
 {
-    if let Err(_) = writer.append(front.again()) {
+    if let Err(_) = writer.append(front.copied()) {
         writer.take(rt);
         return Err(AllocError);
     }
@@ -92,16 +96,16 @@ impl Planner {
         let (head, front) = front::open(plan);
         let pen = front.reserve(&head, 0).ok_or(AllocError)?;
         let first = Shown {
-            front: front.again(),
+            front: front.copied(),
         };
         let second = Shown {
-            front: front.again(),
+            front: front.copied(),
         };
         let writer: PlanWriter = Writer::new(alloc, first, second, watchers as usize)?;
         // The log of the writer gets its room here, so that no later call grows it: beside the next plan it
         // keeps the one that was shown last.
-        let writer = shown(rt, writer, &front)?;
-        let writer = shown(rt, writer, &front)?;
+        let writer = append_and_show(rt, writer, &front)?;
+        let writer = append_and_show(rt, writer, &front)?;
         Ok(Planner {
             writer,
             head,
@@ -116,7 +120,7 @@ impl Planner {
         ensures planner { self.new ≡ self.old }
         ensures watcher { IfOk result (λ w. w ≡ beginner self.old) }
     {
-        let front = Box::new(alloc, self.front.again())?;
+        let front = Box::new(alloc, self.front.copied())?;
         let opened = Box::new(alloc, *self.front.last())?;
         let mut reader = self.writer.factory().reader()?;
         reader.learn::<Copies>(self.writer.tell::<Copies>());
@@ -164,10 +168,10 @@ impl Planner {
         let Some(next) = front.reserve(head, front.count()) else {
             return Err(BoardFault::NoMemory);
         };
-        let longer = front.extended(head, replace(pen, next), plan.numbered(number));
+        let longer = front.with_plan(head, replace(pen, next), plan.numbered(number));
         // The log has room for one since `begin`. Were it refused, watchers would have the plan once they are
         // told, or from the next plan on.
-        if writer.append(longer.again()).is_ok() {
+        if writer.append(longer.copied()).is_ok() {
             replace_with(writer, (rt, &longer), |writer, (rt, longer)| {
                 (show(rt, writer, longer), ())
             });
@@ -192,8 +196,8 @@ impl Planner {
             front,
             ..
         } = self;
-        front.is_whole(head, pen, &watcher.sight.front);
-        *watcher.sight.front = front.again();
+        front.look_at_all(head, pen, &watcher.sight.front);
+        *watcher.sight.front = front.copied();
     }
 
     /// Ends the board, and changes no list. It may wait for watchers that read.

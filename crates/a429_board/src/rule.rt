@@ -25,7 +25,7 @@ impl Absorb<Front> for Shown {
     ghost never_fails = { Unit {0} };
 
     fn absorb_first(&mut self, operation: &Front, _other: &Shown) -> Result<(), AllocError> {
-        self.front = operation.again();
+        self.front = operation.copied();
         Ok(())
     }
 }

@@ -43,7 +43,7 @@ impl Model for Watcher {
 fn take_over(front: &mut Front, shown: &Front)
     ensures { front.new ≡ shown.now }
 {
-    *front = shown.again();
+    *front = shown.copied();
 }
 
 // Takes over what is shown now, where its list has more plans, unless the entry is refused. Nothing is copied where

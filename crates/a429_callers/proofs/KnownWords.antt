@@ -13,12 +13,12 @@ use Rattle.a429_equipment.specs.Arrivals.{AreApart}
 use Rattle.a429_equipment.specs.declared.loads.Load.{Load}
 use Rattle.a429_equipment.specs.declared.rows.SourceRow.{SourceRow}
 use Rattle.a429_slots.specs.declared.group_plan.SlotPlace.{SlotPlace}
-use Rattle.a429_slots.specs.Tables.{Placed, GroupTable, output_in}
+use Rattle.a429_slots.specs.Tables.{Placed, SlotTable, output_in}
 use Rattle.a429_slots.specs.Proposed.{Proposed}
 use Rattle.a429_slots.specs.Events.{Event, Arrive, Cell, Frame, Publish}
 use Rattle.a429_slots.specs.History.{Opening, OpensWith, AnsweredCell, accepted_by, accepted_in, cell_due, current}
 use Rattle.a429_slots.specs.GoingOn.{OthersPass, TellsNextCell, stands_after}
-use Rattle.a429_slots.specs.Sending.{Sending, next_cell}
+use Rattle.a429_slots.specs.FrameStates.{FrameState, next_cell}
 use Rattle.a429_slots.specs.Spacing.{HaveOwnPlans, IsOwnPlan}
 use Rattle.a429_slots.specs.declared.answers.Answer.{Answer}
 use Rattle.a429_slots.specs.declared.answers.Answer.TheVariants.{Accepted, Sent, Published, Refused}
@@ -26,9 +26,9 @@ use Rattle.a429_slots.specs.declared.answers.Refusal.TheVariants.{FrameEnd}
 use Rattle.a429_slots.specs.Answers.{answer, answers}
 use Rattle.a429_core.specs.Sends.{WordsAreAcceptedOneByOne}
 use Rattle.a429_core.specs.Latency.{AcceptedWordsGoOutInTime, IsAcceptedAt, next_on, next_slot_on, period_of}
-use Rattle.a429_workers.specs.Calls.{Call, Carried, Asks, Turns, Meets, Standing, AreLawful, IsAnswered, IsLawful, after, before_calls, loads_of, standing_after, word_of}
+use Rattle.a429_workers.specs.Calls.{Call, Carried, Asks, Turns, Meets, GroupState, AreLawful, IsAnswered, IsLawful, after, before_calls, loads_of, state_after, word_of}
 use Rattle.a429_workers.specs.Runs.{IsRun, IsWorking, WorkIsOneRun, answered, event_of, is_publish, is_sending, turn_answer}
-use Rattle.a429_callers.specs.KnownWords.{HasSender, IsKnown, KnownWordsGoOutInTime, SendsKnown, StaysInCalls, frame_after, next_after}
+use Rattle.a429_callers.specs.KnownWords.{HasSpacedOutput, IsKnown, KnownWordsGoOutInTime, SendsKnown, StaysInCalls, frame_after, next_after}
 use Rattle.a429_callers.proofs.RunPlaces.{CutsAlike, adds_one, at_count, count_at, count_grows, earlier, get_within, length-answers, nth, on_the_way, same_place, stands_alike, take_next}
 
 -- what the crates below promise
@@ -151,7 +151,7 @@ accepted_at law C o E source n (suc m) apart few some enough =
 
 -- ---- calls
 
-lawful_at : (g : ℕ) (p : GroupTable) (s : Standing) (calls : List Call) (n : ℕ) (c : Call) → AreLawful g p s calls → slice_get calls n ≡ Some c → IsLawful g p (standing_after g p s (take n calls)) c
+lawful_at : (g : ℕ) (p : SlotTable) (s : GroupState) (calls : List Call) (n : ℕ) (c : Call) → AreLawful g p s calls → slice_get calls n ≡ Some c → IsLawful g p (state_after g p s (take n calls)) c
 lawful_at g p s [] n c all there = absurd (none-some c there)
 lawful_at g p s (d ∷ calls) zero c all there = subst (IsLawful g p s) (same_Some d c there) all.0
 lawful_at g p s (d ∷ calls) (suc n) c all there = lawful_at g p (after g p s d) calls n c all.1 there
@@ -189,7 +189,7 @@ loaded_for earlier slot w output (Some l) word is sent = (l, refl)
 
 -- ---- the law
 
-module _ (law : AreLaws) (C : ℕ) (o : Opening) (g : ℕ) (p : GroupTable) (later : List Proposed) (calls : List Call) (heard : ℕ → List (ℕ × ℕ)) (W : IsWorking C o g p later calls heard)
+module _ (law : AreLaws) (C : ℕ) (o : Opening) (g : ℕ) (p : SlotTable) (later : List Proposed) (calls : List Call) (heard : ℕ → List (ℕ × ℕ)) (W : IsWorking C o g p later calls heard)
     (E : List Event) (R : IsRun C o g later calls heard E) where
   abbrev place_of : ℕ → ℕ
   place_of n = (R.places p n W.opens).place
@@ -208,12 +208,12 @@ module _ (law : AreLaws) (C : ℕ) (o : Opening) (g : ℕ) (p : GroupTable) (lat
   stands m n within same = stands_alike law.alike C o E law.pass g p m (place_of n) within (few n) (same ∙ sym (counted n)) ∙ (R.places p n W.opens).frame
 
   -- so its output stays from place to place
-  sender_at : (h k source : ℕ) (at : SlotPlace) (q : ℕ) → h ≤ k → StaysInCalls o g p calls h k source at q → (m : ℕ) → place_of h ≤ m → m ≤ place_of k → HasSender (current o g p (take m E)).table source at q
+  sender_at : (h k source : ℕ) (at : SlotPlace) (q : ℕ) → h ≤ k → StaysInCalls o g p calls h k source at q → (m : ℕ) → place_of h ≤ m → m ≤ place_of k → HasSpacedOutput (current o g p (take m E)).table source at q
   sender_at h k source at q after stays m from to =
       let within : m ≤ length E = omega (arith, to, few k) in
       let S = on_the_way (event_of g) calls h k (count_at law.alike C o E m) after
       (omega (arith, counted h, count_grows law.alike C o E (place_of h) m from within)) (omega (arith, counted k, count_grows law.alike C o E m (place_of k) to (few k))) in
-      subst (λ (s : Sending). HasSender s.table source at q) (sym (stands m S.number within (sym S.many))) (stays S.number S.from S.to)
+      subst (λ (s : FrameState). HasSpacedOutput s.table source at q) (sym (stands m S.number within (sym S.many))) (stays S.number S.from S.to)
 
   -- a slot passes only where a cell or a frame does
   later_place : (a b bus : ℕ) → a ≤ b → next_after o g p calls a bus < next_after o g p calls b bus → place_of a < place_of b
@@ -222,7 +222,7 @@ module _ (law : AreLaws) (C : ℕ) (o : Opening) (g : ℕ) (p : GroupTable) (lat
     | inr none ↦
         let same : many a ≡ many b = omega (arith, none, many_grow (event_of g) calls a b after) in
         let frames : frame_after o g p calls a ≡ frame_after o g p calls b = sym (R.places p a W.opens).frame ∙ stands (place_of a) b (few a) (counted a ∙ same) in
-        absurd (omega (arith, less, ap (λ (s : Sending). next_on s bus) frames))
+        absurd (omega (arith, less, ap (λ (s : FrameState). next_on s bus) frames))
   ]
 
   -- the cell in which a word of the source is sent, as a call
@@ -242,13 +242,13 @@ module _ (law : AreLaws) (C : ℕ) (o : Opening) (g : ℕ) (p : GroupTable) (lat
       let D = cell_call g J.x bus slot (Some word) J.is in
       let c = D.cell in
       let call : slice_get calls j ≡ Some (Asks (Some c)) = J.there ∙ ap (λ (z : Call). Some z) D.is in
-      let L : IsAnswered (standing_after g p (before_calls o.proposal.plan p o.first) (take j calls)) c = lawful_at g p (before_calls o.proposal.plan p o.first) calls j (Asks (Some c)) W.lawful call in
-      let (l, loaded) = loaded_for (standing_after g p (before_calls o.proposal.plan p o.first) (take j calls)).earlier c.slot word (output_in (frame_after o g p calls j).table L.cell.0 L.cell.1) c.load c.word L.word D.word_is in
+      let L : IsAnswered (state_after g p (before_calls o.proposal.plan p o.first) (take j calls)) c = lawful_at g p (before_calls o.proposal.plan p o.first) calls j (Asks (Some c)) W.lawful call in
+      let (l, loaded) = loaded_for (state_after g p (before_calls o.proposal.plan p o.first) (take j calls)).earlier c.slot word (output_in (frame_after o g p calls j).table L.cell.0 L.cell.1) c.load c.word L.word D.word_is in
       let stand = stands m j (omega (arith, below)) (sym J.before) in
       let due_here : next_cell (frame_after o g p calls j) ≡ Some cell = ap next_cell (sym stand) ∙ (sym (law.next g (current o g p (take m E))) ∙ due) in
       let one : L.cell ≡ cell = same_Some L.cell cell (sym L.due ∙ due_here) in
       let output : output_in (frame_after o g p calls j).table L.cell.0 L.cell.1 ≡ Some x =
-      ap (λ (z : ℕ × ℕ). output_in (frame_after o g p calls j).table z.0 z.1) one ∙ (ap (λ (s : Sending). output_in s.table cell.0 cell.1) (sym stand) ∙ there) in
+      ap (λ (z : ℕ × ℕ). output_in (frame_after o g p calls j).table z.0 z.1) one ∙ (ap (λ (s : FrameState). output_in s.table cell.0 cell.1) (sym stand) ∙ there) in
       let sources : Some l.source ≡ Some x.source = ap (option_map (λ (y : Load). y.source)) (sym loaded) ∙ (L.load ∙ ap (option_map (λ (y : Placed). y.source)) output) in
       let own : l.source ≡ source = same_Some l.source x.source sources ∙ same in
       let K = R.cells j c l call loaded in
@@ -278,7 +278,7 @@ module _ (law : AreLaws) (C : ℕ) (o : Opening) (g : ℕ) (p : GroupTable) (lat
       let period : 0 < period_of at = pow_pos at.period in
       let first = later_place h i at.bus low (omega (arith, settled, period)) in
       let then' = later_place i k at.bus after (omega (arith, passes, period)) in
-      let next_is : (n : ℕ) → next_slot_on o g p E (place_of n) at.bus ≡ next_after o g p calls n at.bus = λ n. ap (λ (s : Sending). next_on s at.bus) (R.places p n W.opens).frame in
+      let next_is : (n : ℕ) → next_slot_on o g p E (place_of n) at.bus ≡ next_after o g p calls n at.bus = λ n. ap (λ (s : FrameState). next_on s at.bus) (R.places p n W.opens).frame in
       let shown : K.load.count ≤ words_at C o E K.load.source (place_of i) = all_at (λ (l : Load). l.count ≤ words_at C o E l.source (place_of i)) (loads_of (take i calls)) K.number K.load (R.places p i W.opens).loaded K.there in
       let enough : count ≤ words_at C o E source (place_of i) = omega (arith, K.enough, shown, ap (λ (z : ℕ). words_at C o E z (place_of i)) K.same) in
       let A = accepted_at law.words C o E source count (place_of i) apart (few i) some enough in

@@ -7,7 +7,7 @@ use Rattle.a429_equipment.specs.Arrivals.{AreApart}
 use Rattle.a429_slots.specs.Answers.{answer, cell_answer}
 use Rattle.a429_slots.specs.Events.{Event, Arrive, Cell, Frame, Publish}
 use Rattle.a429_slots.specs.History.{Opening, OpensWith, answered_cells, current}
-use Rattle.a429_slots.specs.Tables.{GroupTable, groups_of}
+use Rattle.a429_slots.specs.Tables.{SlotTable, groups_of}
 use Rattle.a429_slots.specs.declared.answers.Answer.{Answer}
 use Rattle.a429_slots.specs.declared.answers.Answer.TheVariants.{Accepted, Sent, Changed, Published, Refused}
 use Rattle.a429_slots.specs.declared.answers.Refusal.TheVariants.{NoSuch}
@@ -57,9 +57,9 @@ is_sent (Published n) = 0
 is_sent (Refused r) = 0
 
 -- a group that sends a cell has a table
-group_there : (C : ℕ) (o : Opening) (E : List Event) (a : Answer) (t : Option GroupTable) → t ≡ slice_get (groups_of o.proposal.plan) 0
+group_there : (C : ℕ) (o : Opening) (E : List Event) (a : Answer) (t : Option SlotTable) → t ≡ slice_get (groups_of o.proposal.plan) 0
     → option_map_or (λ p. cell_answer C o E 0 (answered_cells C o 0 p E) (current o 0 p E)) t (Refused NoSuch) ≡ a → is_sent a ≡ 1
-    → (p : GroupTable) × OpensWith o 0 p
+    → (p : SlotTable) × OpensWith o 0 p
 unfolding is_sent
 group_there C o E a None is answered sent = absurd (omega (arith, ap is_sent answered, sent))
 group_there C o E a (Some p) is answered sent = (p, sym is)
@@ -70,7 +70,7 @@ pub second_sent : (C : ℕ) (o : Opening) (r first second a bus slot w : ℕ) �
 unfolding is_sent
 second_sent C o r first second a bus slot w law apart one other sent =
     let E : List Event = Arrive r first ∷ Arrive r second ∷ [] in
-    let p : (p : GroupTable) × OpensWith o 0 p = group_there C o E (Sent bus slot (Some w)) (slice_get (groups_of o.proposal.plan) 0) refl sent refl in
+    let p : (p : SlotTable) × OpensWith o 0 p = group_there C o E (Sent bus slot (Some w)) (slice_get (groups_of o.proposal.plan) 0) refl sent refl in
     let carried : CarriesLatest C o E (current o 0 p.0 E) bus slot w = law C o E 0 p.0 bus slot w apart p.1 sent in
     second_of C o first second a carried.source w (Arrive r first) (Arrive r second) r refl refl one other carried.latest.before carried.latest.receiver carried.latest.after carried.latest.split
     carried.latest.accepted carried.latest.none_later

@@ -12,18 +12,18 @@ use Rattle.a429_equipment.specs.Agreement.{Agrees, AgreesToTheEnd}
 use Rattle.a429_equipment.specs.Receiving.{IsReceived}
 use Rattle.a429_equipment.specs.SameStation.{HaveOneStation, same_station}
 use Rattle.a429_equipment.specs.Sound.{IsSound}
-use Rattle.a429_slots.specs.Tables.{GroupTable, PlanTable, groups_of}
+use Rattle.a429_slots.specs.Tables.{SlotTable, PlanTable, groups_of}
 use Rattle.a429_slots.specs.Planned.{IsPlanOf}
 use Rattle.a429_slots.specs.Proposed.{Proposed}
 use Rattle.a429_board.specs.Lists.{Planning, Watched, numbered}
 use Rattle.a429_board.specs.declared.planner.BoardFault.{BoardFault}
-use Rattle.a429_values.specs.Ends.{Place, Receiving, Sending}
+use Rattle.a429_values.specs.Ends.{Place, ReceiverEnd, TransmitterEnd}
 use Rattle.a429_values.specs.Later.{OthersStayAgreed}
 use Rattle.a429_workers.specs.Calls.{Call, Meets, loads_of}
 use Rattle.a429_workers.specs.Receives.{after_words}
 use Rattle.a429_workers.specs.Runs.{IsWired, IsWorking, WorkIsOneRun}
 use Rattle.a429_workers.specs.Sends.{HasSent, sent_in, with_cells}
-use Rattle.a429_workers.specs.Transmitting.{BeginsWith, GoesOnBy, HasMade, IsKnownPlan, Outset, StandsFor, Transmitting, led_by, met}
+use Rattle.a429_workers.specs.Transmitting.{BeginsWith, GoesOnByCalls, HasMade, IsKnownPlan, Outset, StandsForCalls, Transmitting, led_by, met}
 use Rattle.a429_workers.specs.declared.cells.Sent.{Sent}
 use Rattle.a429_callers.specs.OneRun.{AreShown, EndsRunOnce, HasHeard, HasMet, HasSentAll, IsOneRun, IsRunOver, fresh, heard_of, opening, two}
 use Rattle.a429_equipment.specs.declared.rows.SourceRow.{SourceRow}
@@ -66,7 +66,7 @@ shown_next t e plan next n list sound other planned after same sources is all =
 -- ---- one run
 
 -- the ends as they are then
-abbrev heard_at : Place → ℕ → List ℕ → Receiving
+abbrev heard_at : Place → ℕ → List ℕ → ReceiverEnd
 heard_at at r words = after_words (fresh at r) words
 
 receives : (t : TableRecord) (a b : List ℕ) → IsReceived (2 ^ 41 - 1) t 0 (heard_of t (two a b) 0) → IsReceived (2 ^ 41 - 1) t 1 (heard_of t (two a b) 1) → (r : ℕ) → IsReceived (2 ^ 41 - 1) t r (heard_of t (two a b) r)
@@ -102,10 +102,10 @@ pub one_run_of : (law : WorkIsOneRun) (at : Place) (w : Watched) (list : List Pl
 one_run_of law at w list begun sent done a b calls before after wired few some planned begins here S shown M =
     let t = at.station in
     let found = first_of (groups_of w.opened) (omega (arith, planned.count, some)) in
-    let p : GroupTable = found.0 in
+    let p : SlotTable = found.0 in
     let o : Outset = record { opened = w.opened; group = 0; table = p; first = 0; before = [] } in
     let all : List Call = (calls ++ []) ++ Meets M.one ∷ Meets M.other ∷ [] in
-    let stands : StandsFor o all done = M.stands o (calls ++ []) (S.stands o [] (begins p found.1)) in
+    let stands : StandsForCalls o all done = M.stands o (calls ++ []) (S.stands o [] (begins p found.1)) in
     let hub : done.transmitter.at ≡ at = M.station ∙ (S.same.hub ∙ here) in
     let station : done.transmitter.at.station ≡ t = ap (λ (q : Place). q.station) hub in
     let was : sent.transmitter.at.station ≡ t = ap (λ (q : Place). q.station) (S.same.hub ∙ here) in
@@ -140,20 +140,20 @@ one_run_of law at w list begun sent done a b calls before after wired few some p
 same_calls : (made : List Call) (x y : Call) → ((made ++ []) ++ x ∷ []) ++ y ∷ [] ≡ made ++ x ∷ y ∷ []
 same_calls made x y = append_assoc (made ++ []) (x ∷ []) (y ∷ []) ∙ ap (λ (l : List Call). l ++ x ∷ y ∷ []) (append-nil made)
 
-goes_on : (old told one other : Transmitting) (x y : Call) → GoesOnBy old [] told → GoesOnBy told (x ∷ []) one → GoesOnBy one (y ∷ []) other → GoesOnBy old (x ∷ y ∷ []) other
+goes_on : (old told one other : Transmitting) (x y : Call) → GoesOnByCalls old [] told → GoesOnByCalls told (x ∷ []) one → GoesOnByCalls one (y ∷ []) other → GoesOnByCalls old (x ∷ y ∷ []) other
 goes_on old told one other x y first second third = λ o made S.
-    subst (λ (l : List Call). StandsFor o l other) (same_calls made x y) (third o ((made ++ []) ++ x ∷ []) (second o (made ++ []) (first o made S)))
+    subst (λ (l : List Call). StandsForCalls o l other) (same_calls made x y) (third o ((made ++ []) ++ x ∷ []) (second o (made ++ []) (first o made S)))
 
 -- the planner's list, as a transmitter is told it
 abbrev pub told_of : Transmitting → List PlanTable → Transmitting
 told_of v list = record v { watcher = record v.watcher { list = list } }
 
-agreed_later : (t : TableRecord) (a b : Receiving) (before after : List Load) → a.number ≢ b.number → AgreesToTheEnd t a.number a.accepted before → OthersStayAgreed t b.number before after → Agrees t a.number a.accepted after
+agreed_later : (t : TableRecord) (a b : ReceiverEnd) (before after : List Load) → a.number ≢ b.number → AgreesToTheEnd t a.number a.accepted before → OthersStayAgreed t b.number before after → Agrees t a.number a.accepted after
 agreed_later t a b before after apart whole others = (whole.0, others a.number whole.0 a.accepted apart whole.1)
 
-pub met_both : (old told one other : Transmitting) (a b : Receiving) (list : List PlanTable) (l m : List Load) → a.number ≢ b.number
+pub met_both : (old told one other : Transmitting) (a b : ReceiverEnd) (list : List PlanTable) (l m : List Load) → a.number ≢ b.number
     → told ≡ told_of old list → one ≡ met told a → other ≡ met one b
-    → GoesOnBy old [] told → GoesOnBy told (Meets l ∷ []) one → GoesOnBy one (Meets m ∷ []) other
+    → GoesOnByCalls old [] told → GoesOnByCalls told (Meets l ∷ []) one → GoesOnByCalls one (Meets m ∷ []) other
     → AgreesToTheEnd told.transmitter.at.station a.number a.accepted one.transmitter.loads
     → AgreesToTheEnd one.transmitter.at.station b.number b.accepted other.transmitter.loads
     → OthersStayAgreed one.transmitter.at.station b.number one.transmitter.loads other.transmitter.loads
@@ -193,7 +193,7 @@ shown_after t e old new plan (Err fault) sound other planned after same one firs
 
 -- the receivers and the transmitter are of one hub, and the transmitter began by the planner's board
 pub run_over : {L B : Type 0} (given : L → List ℕ) (taken : B → Option (List Sent)) (law : EndsRunOnce) (t : TableRecord) (at : Place) (w : Watched) (list : List PlanTable)
-    (end : Sending) (begun sent done : Transmitting) (one one' other other' : Receiving) (heard also took : Bool) (f f' s s' : L) (b b' : B)
+    (end : TransmitterEnd) (begun sent done : Transmitting) (one one' other other' : ReceiverEnd) (heard also took : Bool) (f f' s s' : L) (b b' : B)
     → at.station ≡ t → IsWired t → length t.receivers ≡ 2 → 0 < length t.groups → IsPlanOf t w.opened
     → end ≡ record { at = at; number = 0; loads = [] } → BeginsWith end w 0 begun → begun.transmitter ≡ end
     → one ≡ fresh at 0 → other ≡ fresh at 1 → HasHeard given f f' one one' heard → HasHeard given s s' other other' also → HasSentAll begun sent (taken b) (taken b') took
@@ -201,9 +201,9 @@ pub run_over : {L B : Type 0} (given : L → List ℕ) (taken : B → Option (Li
 run_over given taken law t at w list end begun sent done one one' other other' heard also took f f' s s' b b' here wired few some planned is_end begins ends is_one is_other first second S shown M all_first all_second all_sent =
     let x = first.words in
     let y = second.words in
-    let was_one : one' ≡ heard_at at 0 x = first.taken all_first ∙ ap (λ (r : Receiving). after_words r x) is_one in
-    let was_other : other' ≡ heard_at at 1 y = second.taken all_second ∙ ap (λ (r : Receiving). after_words r y) is_other in
-    let met : HasMet sent done (heard_at at 0 x) (heard_at at 1 y) list = subst (λ (r : Receiving). HasMet sent done (heard_at at 0 x) r list) was_other (subst (λ (r : Receiving). HasMet sent done r other' list) was_one M) in
+    let was_one : one' ≡ heard_at at 0 x = first.taken all_first ∙ ap (λ (r : ReceiverEnd). after_words r x) is_one in
+    let was_other : other' ≡ heard_at at 1 y = second.taken all_second ∙ ap (λ (r : ReceiverEnd). after_words r y) is_other in
+    let met : HasMet sent done (heard_at at 0 x) (heard_at at 1 y) list = subst (λ (r : ReceiverEnd). HasMet sent done (heard_at at 0 x) r list) was_other (subst (λ (r : ReceiverEnd). HasMet sent done r other' list) was_one M) in
     let back = sym here in
     record {
       one = x;
@@ -213,6 +213,6 @@ run_over given taken law t at w list end begun sent done one one' other other' h
       run = subst (λ (k : TableRecord). IsOneRun k (two x y) (taken b) (taken b')) here (
           law at w list begun sent done x y S.calls (taken b) (taken b')
           (subst IsWired back wired) (subst (λ (k : TableRecord). length k.receivers ≡ 2) back few) (subst (λ (k : TableRecord). 0 < length k.groups) back some) (subst (λ (k : TableRecord). IsPlanOf k w.opened) back planned)
-          (subst (λ (e : Sending). BeginsWith e w 0 begun) is_end begins) (ap (λ (e : Sending). e.at) (ends ∙ is_end)) (S.sent all_sent)
+          (subst (λ (e : TransmitterEnd). BeginsWith e w 0 begun) is_end begins) (ap (λ (e : TransmitterEnd). e.at) (ends ∙ is_end)) (S.sent all_sent)
           (subst (λ (k : TableRecord). AreShown (opening k w.opened) list) back shown) met);
     }

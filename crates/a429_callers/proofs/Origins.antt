@@ -15,9 +15,9 @@ use Rattle.a429_equipment.specs.TableRecord.{TableRecord}
 use Rattle.a429_equipment.specs.Arrivals.{AreApart, accepts, is_for, passes_at, sorted}
 use Rattle.a429_equipment.specs.Receiving.{with_word, accepted_after}
 use Rattle.a429_equipment.specs.Agreement.{Agrees, Cuts, IsCut, is_of, words_of}
-use Rattle.a429_slots.specs.Tables.{Placed, GroupTable, output_in}
+use Rattle.a429_slots.specs.Tables.{Placed, SlotTable, output_in}
 use Rattle.a429_slots.specs.History.{AnsweredCell}
-use Rattle.a429_workers.specs.Calls.{Call, Carried, Asks, Turns, Meets, IsAnswered, IsLawful, Standing, AreLawful, after, loads_in, loads_of, standing_after, word_of}
+use Rattle.a429_workers.specs.Calls.{Call, Carried, Asks, Turns, Meets, IsAnswered, IsLawful, GroupState, AreLawful, after, loads_in, loads_of, state_after, word_of}
 use Rattle.a429_workers.specs.Receives.{Gives}
 use Rattle.a429_workers.specs.Runs.{WorkIsOneRun}
 use Rattle.a429_workers.specs.Sends.{sent_in}
@@ -177,7 +177,7 @@ word_told Q earlier slot None (Some l) w h same all = absurd (none-some w h)
 word_told Q earlier slot (Some p) None w h same all = absurd (none-some w h)
 word_told Q earlier slot (Some p) (Some l) w h same all = (p, refl, subst (λ (s : ℕ). Q s w) (same_Some l.source p.source same) (all.0 w (either _ l.word w h)))
 
-cell_told : (Q : ℕ → ℕ → Type 0) (s : Standing) (c : Carried) (w : ℕ) → IsAnswered s c → c.word ≡ Some w → AllByRecursion (LoadIs Q) (option_to_list c.load) → OutputHas Q (output_due s) w
+cell_told : (Q : ℕ → ℕ → Type 0) (s : GroupState) (c : Carried) (w : ℕ) → IsAnswered s c → c.word ≡ Some w → AllByRecursion (LoadIs Q) (option_to_list c.load) → OutputHas Q (output_due s) w
 cell_told Q s c w answered is all =
     let due : output_due s ≡ output_in s.frame.table answered.cell.0 answered.cell.1 =
     ap (λ (x : Option (ℕ × ℕ)). option_and_then (λ cell. output_in s.frame.table cell.0 cell.1) x) answered.due in
@@ -185,8 +185,8 @@ cell_told Q s c w answered is all =
     (word_told Q s.earlier c.slot (output_in s.frame.table answered.cell.0 answered.cell.1) c.load w (sym answered.word ∙ is) answered.load all)
 
 -- of each cell that was answered among lawful calls
-own_at : (g : ℕ) (p : GroupTable) (s : Standing) (calls more : List Call) (Q : ℕ → ℕ → Type 0) → AreLawful g p s (calls ++ more) → AllByRecursion (LoadIs Q) (loads_of (calls ++ more))
-    → (k : ℕ) (c : Carried) (w : ℕ) → slice_get calls k ≡ Some (Asks (Some c)) → c.word ≡ Some w → OutputHas Q (output_due (standing_after g p s (take k calls))) w
+own_at : (g : ℕ) (p : SlotTable) (s : GroupState) (calls more : List Call) (Q : ℕ → ℕ → Type 0) → AreLawful g p s (calls ++ more) → AllByRecursion (LoadIs Q) (loads_of (calls ++ more))
+    → (k : ℕ) (c : Carried) (w : ℕ) → slice_get calls k ≡ Some (Asks (Some c)) → c.word ≡ Some w → OutputHas Q (output_due (state_after g p s (take k calls))) w
 own_at g p s [] more Q lawful all k c w there is = absurd (none-some _ there)
 own_at g p s (x ∷ calls) more Q lawful all zero c w there is =
     let asked : x ≡ Asks (Some c) = same_Some x (Asks (Some c)) there in

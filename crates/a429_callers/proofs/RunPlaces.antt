@@ -8,7 +8,7 @@ use Rattle.std.proofs.lemmas.List.Elements.{filter-append, filter_map-append}
 use Rattle.std.proofs.lemmas.Option.{none-some, same_Some, slice_get_within}
 use mathlib.Core.List.{IsPrefix}
 use Rattle.a429_word.proofs.Lists.{prefix_on, prefix_self}
-use Rattle.a429_slots.specs.Tables.{GroupTable}
+use Rattle.a429_slots.specs.Tables.{SlotTable}
 use Rattle.a429_slots.specs.Events.{Event, Arrive, Cell, Frame, Publish}
 use Rattle.a429_slots.specs.History.{Opening, is_cell, is_frame}
 use Rattle.a429_slots.specs.GoingOn.{OthersPass, stands_after}
@@ -214,7 +214,7 @@ module _ (alike : CutsAlike) (C : ℕ) (o : Opening) (E : List Event) where
   still g (Cell k) h = absurd (cc)
   still g (Frame k) h = absurd (cc)
 
-  stands_by : OthersPass → (g : ℕ) (p : GroupTable) (a d : ℕ) → d + a ≤ length E → count_at (d + a) ≡ count_at a → stands_after o g p (take (d + a) E) ≡ stands_after o g p (take a E)
+  stands_by : OthersPass → (g : ℕ) (p : SlotTable) (a d : ℕ) → d + a ≤ length E → count_at (d + a) ≡ count_at a → stands_after o g p (take (d + a) E) ≡ stands_after o g p (take a E)
   stands_by pass g p a zero few same =
       let is : zero + a ≡ a = omega arith in
       ap (λ (k : ℕ). stands_after o g p (take k E)) is
@@ -234,14 +234,14 @@ module _ (alike : CutsAlike) (C : ℕ) (o : Opening) (E : List Event) where
             ∙ stands_by pass g p a d (omega (arith, few)) (omega (arith, same, at, ap (λ (xs : List (Event × Answer)). length xs) none))))
       ]
 
-  stands_to : OthersPass → (g : ℕ) (p : GroupTable) (a b : ℕ) → a ≤ b → b ≤ length E → count_at b ≡ count_at a → stands_after o g p (take b E) ≡ stands_after o g p (take a E)
+  stands_to : OthersPass → (g : ℕ) (p : SlotTable) (a b : ℕ) → a ≤ b → b ≤ length E → count_at b ≡ count_at a → stands_after o g p (take b E) ≡ stands_after o g p (take a E)
   stands_to pass g p a b after few same =
       let rest : (b - a) + a ≡ b = omega (arith, after) in
       subst (λ (k : ℕ). stands_after o g p (take k E) ≡ stands_after o g p (take a E)) rest
       (stands_by pass g p a (b - a) (omega (arith, few, rest)) (ap count_at rest ∙ same))
 
   -- as many of them lead to one place in a frame
-  pub stands_alike : OthersPass → (g : ℕ) (p : GroupTable) (a b : ℕ) → a ≤ length E → b ≤ length E → count_at a ≡ count_at b → stands_after o g p (take a E) ≡ stands_after o g p (take b E)
+  pub stands_alike : OthersPass → (g : ℕ) (p : SlotTable) (a b : ℕ) → a ≤ length E → b ≤ length E → count_at a ≡ count_at b → stands_after o g p (take a E) ≡ stands_after o g p (take b E)
   stands_alike pass g p a b few fits same = elim (cases_lt a b) [
     | inl lt ↦ sym (stands_to pass g p a b (omega (arith, lt)) fits (sym same))
     | inr ge ↦ stands_to pass g p b a ge few same

@@ -4,8 +4,8 @@ use Rattle.std.specs.List.{AllByRecursion}
 use Rattle.a429_equipment.specs.Arrivals.{AreApart}
 use Rattle.a429_equipment.specs.declared.loads.Load.{Load}
 use Rattle.a429_slots.specs.declared.group_plan.SlotPlace.{SlotPlace}
-use Rattle.a429_slots.specs.Tables.{Placed, GroupTable, outputs_of}
-use Rattle.a429_slots.specs.Sending.{Sending}
+use Rattle.a429_slots.specs.Tables.{Placed, SlotTable, outputs_of}
+use Rattle.a429_slots.specs.FrameStates.{FrameState}
 use Rattle.a429_slots.specs.Proposed.{Proposed}
 use Rattle.a429_slots.specs.History.{Opening}
 use Rattle.a429_slots.specs.Spacing.{IsOwnPlan}
@@ -14,20 +14,20 @@ use Rattle.a429_workers.specs.Calls.{Call, Carried, Asks, loads_of}
 use Rattle.a429_workers.specs.Runs.{IsWorking, led_to}
 
 -- the frame that the group is in after n calls, and the slot that is next on a bus then
-abbrev pub frame_after : Opening → ℕ → GroupTable → List Call → ℕ → Sending
+abbrev pub frame_after : Opening → ℕ → SlotTable → List Call → ℕ → FrameState
 frame_after o g p calls n = (led_to o g p (take n calls)).frame
 
-abbrev pub next_after : Opening → ℕ → GroupTable → List Call → ℕ → ℕ → ℕ
+abbrev pub next_after : Opening → ℕ → SlotTable → List Call → ℕ → ℕ → ℕ
 next_after o g p calls n bus = next_on (frame_after o g p calls n) bus
 
 -- the slot table has an output of the source at this place, and each output of it may send, with a least spacing of q slots at most
-pub record HasSender (t : GroupTable) (source : ℕ) (at : SlotPlace) (q : ℕ) : Type 0 where
+pub record HasSpacedOutput (t : SlotTable) (source : ℕ) (at : SlotPlace) (q : ℕ) : Type 0 where
   pub output : HasOutput t source at
   pub may : (n : ℕ) (x : Placed) → slice_get (outputs_of t) n ≡ Some x → x.source ≡ source → MaySend q x
 
 -- the output stays: from h calls on and up to k calls, the table in force has it
-abbrev pub StaysInCalls : Opening → ℕ → GroupTable → List Call → ℕ → ℕ → ℕ → SlotPlace → ℕ → Type 0
-StaysInCalls o g p calls h k source at q = (n : ℕ) → h ≤ n → n ≤ k → HasSender (frame_after o g p calls n).table source at q
+abbrev pub StaysInCalls : Opening → ℕ → SlotTable → List Call → ℕ → ℕ → ℕ → SlotPlace → ℕ → Type 0
+StaysInCalls o g p calls h k source at q = (n : ℕ) → h ≤ n → n ≤ k → HasSpacedOutput (frame_after o g p calls n).table source at q
 
 -- in the first n calls, by a cell or by meeting a receiver, the source was loaded when it had accepted `count` words or more
 pub record IsKnown (calls : List Call) (n source count : ℕ) : Type 0 where
@@ -53,7 +53,7 @@ pub record SendsKnown (calls : List Call) (k source count end : ℕ) : Type 0 wh
 
 -- Where an output had stayed for a period before call i, a word that the transmitter knew of by then has gone out, or a later one of its source,
 -- before one period of slots has passed from there on.
-abbrev pub GoOutInTime : Opening → ℕ → GroupTable → List Call → Type 0
+abbrev pub GoOutInTime : Opening → ℕ → SlotTable → List Call → Type 0
 GoOutInTime o g p calls =
     (h i k source : ℕ) (at : SlotPlace) (q count : ℕ) → h ≤ i → i ≤ k → k ≤ length calls → StaysInCalls o g p calls h k source at q
     → IsKnown calls i source count → 1 ≤ count → next_after o g p calls h at.bus + period_of at ≤ next_after o g p calls i at.bus
@@ -63,6 +63,6 @@ GoOutInTime o g p calls =
 -- So it is in the calls of a working transmitter, where each plan is that of its own table.
 abbrev pub KnownWordsGoOutInTime : Type 0
 KnownWordsGoOutInTime =
-    (C : ℕ) (o : Opening) (g : ℕ) (p : GroupTable) (later : List Proposed) (calls : List Call) (heard : ℕ → List (ℕ × ℕ))
+    (C : ℕ) (o : Opening) (g : ℕ) (p : SlotTable) (later : List Proposed) (calls : List Call) (heard : ℕ → List (ℕ × ℕ))
     → IsWorking C o g p later calls heard → AreApart o.proposal.station.sources → IsOwnPlan o.proposal → AllByRecursion IsOwnPlan later
     → GoOutInTime o g p calls

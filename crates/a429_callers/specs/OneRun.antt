@@ -11,12 +11,12 @@ use Rattle.a429_slots.specs.Planned.{IsPlanOf}
 use Rattle.a429_slots.specs.Proposed.{Proposed}
 use Rattle.a429_slots.specs.History.{Opening}
 use Rattle.a429_board.specs.Lists.{Planning, Watched}
-use Rattle.a429_values.specs.Ends.{Place, Receiving}
+use Rattle.a429_values.specs.Ends.{Place, ReceiverEnd}
 use Rattle.a429_workers.specs.Calls.{Call, Meets}
 use Rattle.a429_workers.specs.Runs.{ArePublished, HasRun, IsWired, plans_of}
 use Rattle.a429_workers.specs.Receives.{after_words}
 use Rattle.a429_workers.specs.Sends.{HasSent, sent_in, with_cells}
-use Rattle.a429_workers.specs.Transmitting.{BeginsWith, GoesOnBy, IsKnownPlan, Transmitting}
+use Rattle.a429_workers.specs.Transmitting.{BeginsWith, GoesOnByCalls, IsKnownPlan, Transmitting}
 use Rattle.a429_workers.specs.declared.cells.Sent.{Sent}
 
 -- the words that came in at the two receivers
@@ -54,11 +54,11 @@ pub record IsRunOver {L : Type 0} {B : Type 0} (given : L → List ℕ) (taken :
 -- ---- pieces of it
 
 -- a receiver that accepted nothing yet
-abbrev pub fresh : Place → ℕ → Receiving
+abbrev pub fresh : Place → ℕ → ReceiverEnd
 fresh at number = record { at = at; number = number; limit = 2 ^ 41 - 1; accepted = [] }
 
 -- the line gave words, and where it came to its end the receiver took them all
-pub record HasHeard {L : Type 0} (given : L → List ℕ) (line rest : L) (old new : Receiving) (done : Bool) : Type 0 where
+pub record HasHeard {L : Type 0} (given : L → List ℕ) (line rest : L) (old new : ReceiverEnd) (done : Bool) : Type 0 where
   pub words : List ℕ
   pub gave : given rest ≡ given line ++ words
   pub taken : done ≡ true → new ≡ after_words old words
@@ -83,10 +83,10 @@ pub record AreShown (o : Opening) (list : List PlanTable) : Type 0 where
   pub known : AllByRecursion (IsKnownPlan o.proposal.station) list
 
 -- a transmitter met two receivers, and was told this list of plans
-pub record HasMet (old new : Transmitting) (first second : Receiving) (list : List PlanTable) : Type 0 where
+pub record HasMet (old new : Transmitting) (first second : ReceiverEnd) (list : List PlanTable) : Type 0 where
   pub one : List Load
   pub other : List Load
-  pub stands : GoesOnBy old (Meets one ∷ Meets other ∷ []) new
+  pub stands : GoesOnByCalls old (Meets one ∷ Meets other ∷ []) new
   pub told : new.watcher.list ≡ list
   pub station : new.transmitter.at ≡ old.transmitter.at
   pub agrees_one : Agrees old.transmitter.at.station first.number first.accepted new.transmitter.loads

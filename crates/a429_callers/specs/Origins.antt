@@ -4,7 +4,7 @@ use Rattle.std.specs.List.{AllByRecursion}
 use Rattle.a429_equipment.specs.Arrivals.{accepts}
 use Rattle.a429_equipment.specs.TableRecord.{TableRecord}
 use Rattle.a429_equipment.specs.declared.rows.SourceRow.{SourceRow}
-use Rattle.a429_slots.specs.Tables.{GroupTable, Placed}
+use Rattle.a429_slots.specs.Tables.{SlotTable, Placed}
 use Rattle.a429_slots.specs.Answers.{answer}
 use Rattle.a429_slots.specs.Events.{Event, Cell}
 use Rattle.a429_slots.specs.History.{Opening, current}
@@ -15,7 +15,7 @@ use Rattle.a429_station.specs.Numbered.{AllOfThree}
 use Rattle.a429_station.specs.Resubmitting.{opening}
 use Rattle.a429_station.specs.declared.reports.Report.{Report}
 use Rattle.a429_callers.specs.KnownWords.{GoOutInTime}
-use Rattle.a429_workers.specs.Calls.{Asks, Call, Carried, Standing}
+use Rattle.a429_workers.specs.Calls.{Asks, Call, Carried, GroupState}
 use Rattle.a429_workers.specs.Runs as machine
 use Rattle.a429_workers.specs.Runs.{led_to}
 use Rattle.a429_workers.specs.SentWords.{output_due}
@@ -53,13 +53,13 @@ pub record IsWordOf (t : TableRecord) (came : ℕ → List ℕ) (source w : ℕ)
   pub arrived : Contains (came row.receiver) w
 
 -- an output stands in the cell that is due, and the word belongs to its source
-pub record IsOwnWord (t : TableRecord) (came : ℕ → List ℕ) (s : Standing) (w : ℕ) : Type 0 where
+pub record IsOwnWord (t : TableRecord) (came : ℕ → List ℕ) (s : GroupState) (w : ℕ) : Type 0 where
   pub output : Placed
   pub stands : output_due s ≡ Some output
   pub word : IsWordOf t came output.source w
 
 -- each word that these calls of a group's transmitter sent belongs to the source of the output that stands in its cell, by the plan in force there
-abbrev pub AreOwnWords : TableRecord → Course → ℕ → GroupTable → List Call → Type 0
+abbrev pub AreOwnWords : TableRecord → Course → ℕ → SlotTable → List Call → Type 0
 AreOwnWords t course g p calls =
     (k : ℕ) (c : Carried) (w : ℕ) → slice_get calls k ≡ Some (Asks (Some c)) → c.word ≡ Some w
     → IsOwnWord t course.came (led_to (opening t course.opened) g p (take k calls)) w
@@ -77,7 +77,7 @@ pub record HasRunOnOwnWords {L B : Type 0} (gives : L → List ℕ → L → Typ
 -- ---- the latest words
 
 -- in this history each word that the group sent is the latest that its source accepted before
-abbrev pub CarriesLatestWords : Opening → ℕ → GroupTable → List Event → Type 0
+abbrev pub CarriesLatestWords : Opening → ℕ → SlotTable → List Event → Type 0
 CarriesLatestWords o g p E =
     (k bus slot w : ℕ) → slice_get E k ≡ Some (Cell g) → answer 41 o (take k E) (Cell g) ≡ Sent bus slot (Some w)
     → CarriesLatest 41 o (take k E) (current o g p (take k E)) bus slot w

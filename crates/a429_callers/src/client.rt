@@ -84,7 +84,7 @@ pub fn ends_run_once()
 }
 
 /// The plan of an equipment, where it has one and memory is not refused.
-fn planned(alloc: Global, equipment: &Equipment) -> Option<Plan<OUTPUTS>>
+fn plan_of(alloc: Global, equipment: &Equipment) -> Option<Plan<OUTPUTS>>
     ensures { IfSome result (IsPlanOf equipment.now) }
 {
     let _sound = equipment.rate();
@@ -127,7 +127,7 @@ fn one_of(watchers: &mut Vec<Watcher>, planner: &Planner) -> Option<Watcher>
 }
 
 /// The first group's transmitter at slot 0, by one of these watchers.
-fn begun(
+fn open_transmit(
     alloc: Global,
     transmitter: Transmitter,
     watchers: &mut Vec<Watcher>,
@@ -236,8 +236,8 @@ pub fn run_once<R: Threads + Wait + Sync, L: LineSource + Send, B: BusSink + Sen
 {
     numbers_in_range(station);
     sources_apart(station);
-    let opens = planned(alloc, station)?;
-    let later = planned(alloc, next)?;
+    let opens = plan_of(alloc, station)?;
+    let later = plan_of(alloc, next)?;
     let Ends {
         mut one,
         mut other,
@@ -251,7 +251,7 @@ pub fn run_once<R: Threads + Wait + Sync, L: LineSource + Send, B: BusSink + Sen
     let Ok((mut planner, mut watchers)) = Board::open(rt, alloc, opens, 1) else {
         return None;
     };
-    let Some(mut transmit) = begun(alloc, transmitter, &mut watchers, &planner) else {
+    let Some(mut transmit) = open_transmit(alloc, transmitter, &mut watchers, &planner) else {
         planner.close(rt);
         return None;
     };

@@ -1,7 +1,7 @@
 //! The bytes of a part of a case.
 
 use crate::malformed::Malformed;
-use crate::spelling::{edited, spelled};
+use crate::spelling::{apply_edits, bytes_of_spelling};
 use a429_cli::{FileFault, FileReader, MemoryFiles};
 use std::alloc::{AllocError, Global};
 
@@ -37,7 +37,7 @@ pub fn part_bytes(
         return Err(Malformed::Lines);
     }
     if let Some(text) = how.strip_prefix("has ") {
-        return spelled(alloc, text);
+        return bytes_of_spelling(alloc, text);
     }
     match how.strip_prefix("is ") {
         Some(text) => shared_bytes(alloc, texts, text),
@@ -54,7 +54,7 @@ fn lines_bytes(alloc: Global, lines: Option<&str>) -> Result<Vec<u8>, Malformed>
     };
     for line in lines.split('\n') {
         match line.strip_prefix('\\') {
-            Some(text) => bytes.extend_from_slice(&spelled(alloc, text)?)?,
+            Some(text) => bytes.extend_from_slice(&bytes_of_spelling(alloc, text)?)?,
             None => {
                 bytes.extend_from_slice(line.as_bytes())?;
                 bytes.push(b'\n')?;
@@ -67,12 +67,12 @@ fn lines_bytes(alloc: Global, lines: Option<&str>) -> Result<Vec<u8>, Malformed>
 /// The bytes of `NAME`, of `NAME with EDITS`, or of `N bytes of NAME`.
 fn shared_bytes(alloc: Global, texts: &mut MemoryFiles, text: &str) -> Result<Vec<u8>, Malformed> {
     if let Some((name, edits)) = text.split_once(" with ") {
-        return edited(alloc, named(texts, name)?, edits);
+        return apply_edits(alloc, bytes_of_name(texts, name)?, edits);
     }
     let Some((count, name)) = text.split_once(" bytes of ") else {
-        return named(texts, text);
+        return bytes_of_name(texts, text);
     };
-    let bytes = named(texts, name)?;
+    let bytes = bytes_of_name(texts, name)?;
     let count = match count.parse::<usize>() {
         Ok(count) => count,
         Err(_) => return Err(Malformed::Bytes),
@@ -81,7 +81,7 @@ fn shared_bytes(alloc: Global, texts: &mut MemoryFiles, text: &str) -> Result<Ve
     Ok(Vec::from_slice(alloc, first)?)
 }
 
-fn named(texts: &mut MemoryFiles, name: &str) -> Result<Vec<u8>, Malformed> {
+fn bytes_of_name(texts: &mut MemoryFiles, name: &str) -> Result<Vec<u8>, Malformed> {
     match texts.read(name) {
         Ok(bytes) => Ok(bytes),
         Err(FileFault::Refused) => Err(Malformed::Name),

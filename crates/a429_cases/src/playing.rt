@@ -2,7 +2,7 @@
 
 use crate::malformed::Malformed;
 use crate::parts::{has_file, head_and_lines, name_and_rest, part_bytes};
-use crate::rows::{filled, has_place, numbered};
+use crate::rows::{fill_row, has_place, row_range};
 use crate::stated::{Case, Outcome};
 use a429_cli::MemoryFiles;
 use std::io;
@@ -101,7 +101,7 @@ impl<'a, R: Print + AllocGlobal + Threads + Wait> Player<'a, R> {
         }
         let alloc = self.rt.alloc();
         for row in rows.split('\n') {
-            match numbered(row) {
+            match row_range(row) {
                 Some((first, last, rest)) if first <= last => {
                     for number in first..=last {
                         let row = format!(in alloc; "{number}{rest}")?;
@@ -119,7 +119,7 @@ impl<'a, R: Print + AllocGlobal + Threads + Wait> Player<'a, R> {
     fn play_row(&mut self, title: &str, text: &str, row: &str) -> io::Result<()> {
         let alloc = self.rt.alloc();
         let title = format!(in alloc; "{title}: {row}")?;
-        let text = filled(alloc, text, row)?;
+        let text = fill_row(alloc, text, row)?;
         self.play(&title, &text)
     }
 
@@ -130,7 +130,7 @@ impl<'a, R: Print + AllocGlobal + Threads + Wait> Player<'a, R> {
         match Case::of(alloc, &mut self.texts, text) {
             Err(malformed) => self.tell(title, malformed),
             Ok(mut case) => {
-                let outcome = case.played(self.rt);
+                let outcome = case.play(self.rt);
                 if case.is_met(&outcome) {
                     return Ok(());
                 }

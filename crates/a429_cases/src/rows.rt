@@ -12,7 +12,7 @@ pub fn has_place(text: &str) -> bool {
 
 /// The text with the fields of a row in their places. The fields stand between bars; the last that the text asks
 /// for has all that is left of the row.
-pub fn filled(alloc: Global, text: &str, row: &str) -> Result<String, AllocError> {
+pub fn fill_row(alloc: Global, text: &str, row: &str) -> Result<String, AllocError> {
     let count = PLACES.iter().filter(|place| text.contains(**place)).count();
     let mut filled = String::from_str(alloc, text)?;
     for (place, field) in PLACES.iter().zip(row.splitn(count, '|')) {
@@ -22,7 +22,7 @@ pub fn filled(alloc: Global, text: &str, row: &str) -> Result<String, AllocError
 }
 
 /// The numbers that a row stands for, where it begins with `FIRST..LAST`, and the row from its first bar on.
-pub fn numbered(row: &str) -> Option<(usize, usize, &str)> {
+pub fn row_range(row: &str) -> Option<(usize, usize, &str)> {
     let numbers = row.split('|').next()?;
     let rest = row.strip_prefix(numbers)?;
     let (first, last) = numbers.trim().split_once("..")?;

@@ -5,8 +5,8 @@ use std::alloc::{AllocError, Global};
 
 /// The bytes that a spelled text means: `;` is a line feed, `\xHH` the byte with these hexadecimal digits, and
 /// `N of PART` is so many copies of the part.
-pub fn spelled(alloc: Global, text: &str) -> Result<Vec<u8>, Malformed> {
-    let (count, part) = counted(text);
+pub fn bytes_of_spelling(alloc: Global, text: &str) -> Result<Vec<u8>, Malformed> {
+    let (count, part) = count_and_part(text);
     let mut once = Vec::new(alloc);
     for (at, piece) in part.split('\\').enumerate() {
         if at == 0 {
@@ -38,7 +38,7 @@ fn push_copies(bytes: &mut Vec<u8>, text: &[u8], count: usize) -> Result<(), All
 }
 
 /// How many copies a spelled text asks for, and of what.
-fn counted(text: &str) -> (usize, &str) {
+fn count_and_part(text: &str) -> (usize, &str) {
     let Some((count, part)) = text.split_once(" of ") else {
         return (1, text);
     };
@@ -78,18 +78,18 @@ pub fn cut_around<'a>(bytes: &'a [u8], part: &[u8]) -> Option<(&'a [u8], &'a [u8
 }
 
 /// A text after edits `OLD => NEW`, which stand between bars. Each is made where OLD first stands.
-pub fn edited(alloc: Global, text: Vec<u8>, edits: &str) -> Result<Vec<u8>, Malformed> {
+pub fn apply_edits(alloc: Global, text: Vec<u8>, edits: &str) -> Result<Vec<u8>, Malformed> {
     let mut text = text;
     for edit in edits.split('|') {
-        text = edited_once(alloc, &text, edit)?;
+        text = apply_edit(alloc, &text, edit)?;
     }
     Ok(text)
 }
 
-fn edited_once(alloc: Global, text: &[u8], edit: &str) -> Result<Vec<u8>, Malformed> {
+fn apply_edit(alloc: Global, text: &[u8], edit: &str) -> Result<Vec<u8>, Malformed> {
     let (old, new) = edit.split_once("=>").ok_or(Malformed::Edit)?;
-    let old = spelled(alloc, old.trim())?;
-    let new = spelled(alloc, new.trim())?;
+    let old = bytes_of_spelling(alloc, old.trim())?;
+    let new = bytes_of_spelling(alloc, new.trim())?;
     let (front, back) = cut_around(text, &old).ok_or(Malformed::Edit)?;
     let mut all = Vec::from_slice(alloc, front)?;
     all.extend_from_slice(&new)?;

@@ -164,7 +164,7 @@ impl<'a> Case<'a> {
     }
 
     /// Runs the program on the words of the case.
-    pub fn played<R: AllocGlobal + Threads + Wait>(&mut self, rt: &R) -> Outcome {
+    pub fn play<R: AllocGlobal + Threads + Wait>(&mut self, rt: &R) -> Outcome {
         let alloc = rt.alloc();
         let mut out = CountedWriter::new(Vec::new(alloc));
         let mut err = CountedWriter::new(Vec::new(alloc));

@@ -55,7 +55,7 @@ pub fn words_of<'a>(alloc: Global, line: &'a str) -> Result<Vec<&'a str>, Malfor
 fn push_words<'a>(words: &mut Vec<&'a str>, text: &'a str) -> Result<(), AllocError> {
     for word in text.split(' ') {
         if !word.is_empty() {
-            let (count, word) = counted(word);
+            let (count, word) = count_and_word(word);
             for _ in 0..count {
                 words.push(word)?;
             }
@@ -64,7 +64,7 @@ fn push_words<'a>(words: &mut Vec<&'a str>, text: &'a str) -> Result<(), AllocEr
     Ok(())
 }
 
-fn counted(word: &str) -> (usize, &str) {
+fn count_and_word(word: &str) -> (usize, &str) {
     let Some((count, rest)) = word.split_once('*') else {
         return (1, word);
     };

@@ -18,7 +18,7 @@ use Rattle.a429_equipment.specs.declared.rows.OutputRow.{OutputRow}
 use Rattle.a429_equipment.specs.declared.rows.SourceRow.{SourceRow}
 use Rattle.a429_equipment.specs.Sound.{HaveOwn, HaveOwnSources}
 use Rattle.a429_grid.specs.Grid.{IsGridPeriod}
-use Rattle.a429_slots.specs.Tables.{Placed, GroupTable, placed_at, outputs_of}
+use Rattle.a429_slots.specs.Tables.{Placed, SlotTable, placed_at, outputs_of}
 use Rattle.a429_slots.specs.Planned.{IsServed}
 use Rattle.a429_pack.specs.Demanded.{demand_of}
 use Rattle.a429_pack.specs.Demands.{greatest}
@@ -39,7 +39,7 @@ abbrev pub due_at : DueGroup → ℕ → DueOutput
 due_at g i = get_or g.outputs.items i (record { source = []; period = 0; hold = None })
 
 -- the periods of a table's outputs, as exponents, by their numbers
-abbrev pub exponents_of : GroupTable → List ℕ
+abbrev pub exponents_of : SlotTable → List ℕ
 exponents_of t = map (λ p. p.place.period) (outputs_of t)
 
 -- ---- the periods
@@ -99,43 +99,43 @@ demand_is g ks some same =
 
 -- ---- the outputs by their numbers
 
-pub length-outputs : (t : GroupTable) → length (outputs_of t) ≡ length t.demands
+pub length-outputs : (t : SlotTable) → length (outputs_of t) ≡ length t.demands
 length-outputs t = length-map-range_with_len (placed_at t) 0 (length t.demands)
 
 -- the outputs of a planned group, and those that are due for it
-pub record AreSame (e : TableRecord) (rate : ℕ) (rows : List OutputRow) (t : GroupTable) (g : DueGroup) : Type 0 where
+pub record AreSame (e : TableRecord) (rate : ℕ) (rows : List OutputRow) (t : SlotTable) (g : DueGroup) : Type 0 where
   pub served : AllZip (IsServed rate) rows (outputs_of t)
   pub due : AllZip (IsDueOutput e rate) rows g.outputs.items
   pub own : HaveOwnSources rows
   pub names : HaveOwn (λ s. s.name) e.sources
 
-pub counts : (e : TableRecord) (rate : ℕ) (rows : List OutputRow) (t : GroupTable) (g : DueGroup) → AreSame e rate rows t g → (length t.demands ≡ length rows) × (length g.outputs.items ≡ length rows)
+pub counts : (e : TableRecord) (rate : ℕ) (rows : List OutputRow) (t : SlotTable) (g : DueGroup) → AreSame e rate rows t g → (length t.demands ≡ length rows) × (length g.outputs.items ≡ length rows)
 counts e rate rows t g s =
     (sym (length-outputs t) ∙ AllZip-long (IsServed rate) rows (outputs_of t) s.served, AllZip-long (IsDueOutput e rate) rows g.outputs.items s.due)
 
-served_at : (e : TableRecord) (rate : ℕ) (rows : List OutputRow) (t : GroupTable) (g : DueGroup) → AreSame e rate rows t g → (i : ℕ) → i < length rows → IsServed rate (row_at rows i) (placed_at t i)
+served_at : (e : TableRecord) (rate : ℕ) (rows : List OutputRow) (t : SlotTable) (g : DueGroup) → AreSame e rate rows t g → (i : ℕ) → i < length rows → IsServed rate (row_at rows i) (placed_at t i)
 served_at e rate rows t g s i below =
     let d : Placed = placed_at t 0 in
     subst (IsServed rate (row_at rows i)) (output_at t i d (omega (arith, (counts e rate rows t g s).0))) (zipped_at (IsServed rate) rows (outputs_of t) i blank d below s.served)
 
-pub due_here : (e : TableRecord) (rate : ℕ) (rows : List OutputRow) (t : GroupTable) (g : DueGroup) → AreSame e rate rows t g → (i : ℕ) → i < length rows → IsDueOutput e rate (row_at rows i) (due_at g i)
+pub due_here : (e : TableRecord) (rate : ℕ) (rows : List OutputRow) (t : SlotTable) (g : DueGroup) → AreSame e rate rows t g → (i : ℕ) → i < length rows → IsDueOutput e rate (row_at rows i) (due_at g i)
 due_here e rate rows t g s i below = zipped_at (IsDueOutput e rate) rows g.outputs.items i blank (record { source = []; period = 0; hold = None }) below s.due
 
-pub source_there : (e : TableRecord) (rate : ℕ) (rows : List OutputRow) (t : GroupTable) (g : DueGroup) (s : AreSame e rate rows t g) (i : ℕ) (below : i < length rows)
+pub source_there : (e : TableRecord) (rate : ℕ) (rows : List OutputRow) (t : SlotTable) (g : DueGroup) (s : AreSame e rate rows t g) (i : ℕ) (below : i < length rows)
     → slice_get e.sources (placed_at t i).source ≡ Some (due_here e rate rows t g s i below).source
 source_there e rate rows t g s i below = ap (slice_get e.sources) (served_at e rate rows t g s i below).0 ∙ (due_here e rate rows t g s i below).there
 
 -- the name that the text gives an output is its due one
-name_same : (e : TableRecord) (rate : ℕ) (rows : List OutputRow) (t : GroupTable) (g : DueGroup) → AreSame e rate rows t g → (i : ℕ) → i < length rows → (due_at g i).source ≡ source_name e.sources (placed_at t i).source
+name_same : (e : TableRecord) (rate : ℕ) (rows : List OutputRow) (t : SlotTable) (g : DueGroup) → AreSame e rate rows t g → (i : ℕ) → i < length rows → (due_at g i).source ≡ source_name e.sources (placed_at t i).source
 name_same e rate rows t g s i below =
     (due_here e rate rows t g s i below).name ∙ sym (ap (λ (o : Option SourceRow). option_map_or (λ (s : SourceRow). s.name) o []) (source_there e rate rows t g s i below))
 
-period_same : (e : TableRecord) (rate : ℕ) (rows : List OutputRow) (t : GroupTable) (g : DueGroup) → AreSame e rate rows t g → (i : ℕ) → i < length rows → (due_at g i).period ≡ 2 ^ (placed_at t i).place.period
+period_same : (e : TableRecord) (rate : ℕ) (rows : List OutputRow) (t : SlotTable) (g : DueGroup) → AreSame e rate rows t g → (i : ℕ) → i < length rows → (due_at g i).period ≡ 2 ^ (placed_at t i).place.period
 period_same e rate rows t g s i below =
     let row = row_at rows i in
     grid_same row.min_us row.max_us rate (due_at g i).period (2 ^ (placed_at t i).place.period) (due_here e rate rows t g s i below).period (served_at e rate rows t g s i below).1
 
-pub name_own : (e : TableRecord) (rate : ℕ) (rows : List OutputRow) (t : GroupTable) (g : DueGroup) → AreSame e rate rows t g → (i j : ℕ) → i < length rows → j < length rows → (due_at g i).source ≡ (due_at g j).source → i ≡ j
+pub name_own : (e : TableRecord) (rate : ℕ) (rows : List OutputRow) (t : SlotTable) (g : DueGroup) → AreSame e rate rows t g → (i j : ℕ) → i < length rows → j < length rows → (due_at g i).source ≡ (due_at g j).source → i ≡ j
 name_own e rate rows t g s i j low-i low-j same =
     let a = due_here e rate rows t g s i low-i in
     let b = due_here e rate rows t g s j low-j in
@@ -157,7 +157,7 @@ found name (o ∷ os) (suc i) d below at only =
     no_match true h = absurd (h refl)
     no_match false h = refl
 
-output_due : (e : TableRecord) (rate : ℕ) (rows : List OutputRow) (t : GroupTable) (g : DueGroup) → AreSame e rate rows t g → (i : ℕ) → i < length rows
+output_due : (e : TableRecord) (rate : ℕ) (rows : List OutputRow) (t : SlotTable) (g : DueGroup) → AreSame e rate rows t g → (i : ℕ) → i < length rows
     → output_of g (source_name e.sources (placed_at t i).source) ≡ Some (due_at g i)
 output_due e rate rows t g s i below =
     let many = (counts e rate rows t g s).1 in
@@ -165,21 +165,21 @@ output_due e rate rows t g s i below =
     found (source_name e.sources (placed_at t i).source) g.outputs.items i (record { source = []; period = 0; hold = None }) (omega arith) named
     (λ j less same. name_own e rate rows t g s j i (omega arith) below (same ∙ sym named))
 
-pub period_due : (e : TableRecord) (rate : ℕ) (rows : List OutputRow) (t : GroupTable) (g : DueGroup) → AreSame e rate rows t g → (i : ℕ) → i < length rows
+pub period_due : (e : TableRecord) (rate : ℕ) (rows : List OutputRow) (t : SlotTable) (g : DueGroup) → AreSame e rate rows t g → (i : ℕ) → i < length rows
     → period_of g (source_name e.sources (placed_at t i).source) ≡ Some (2 ^ (placed_at t i).place.period)
 period_due e rate rows t g s i below =
     ap (option_map (λ (o : DueOutput). o.period)) (output_due e rate rows t g s i below) ∙ ap (λ (n : ℕ). Some n) (period_same e rate rows t g s i below)
 
-pub row_hold : (e : TableRecord) (rate : ℕ) (rows : List OutputRow) (t : GroupTable) (g : DueGroup) → AreSame e rate rows t g → (i : ℕ) → i < length rows
+pub row_hold : (e : TableRecord) (rate : ℕ) (rows : List OutputRow) (t : SlotTable) (g : DueGroup) → AreSame e rate rows t g → (i : ℕ) → i < length rows
     → (placed_at t i).limits.hold ≡ (row_at rows i).hold
 row_hold e rate rows t g s i below = (served_at e rate rows t g s i below).2
 
-pub hold_due : (e : TableRecord) (rate : ℕ) (rows : List OutputRow) (t : GroupTable) (g : DueGroup) → AreSame e rate rows t g → (i : ℕ) → i < length rows
+pub hold_due : (e : TableRecord) (rate : ℕ) (rows : List OutputRow) (t : SlotTable) (g : DueGroup) → AreSame e rate rows t g → (i : ℕ) → i < length rows
     → hold_of g (source_name e.sources (placed_at t i).source) ≡ (placed_at t i).limits.hold
 hold_due e rate rows t g s i below =
     ap (option_and_then (λ (o : DueOutput). o.hold)) (output_due e rate rows t g s i below) ∙ (due_here e rate rows t g s i below).hold ∙ sym (row_hold e rate rows t g s i below)
 
-pub names_differ : (e : TableRecord) (rate : ℕ) (rows : List OutputRow) (t : GroupTable) (g : DueGroup) → AreSame e rate rows t g → (i j : ℕ) → i < length rows → j < length rows → i ≢ j
+pub names_differ : (e : TableRecord) (rate : ℕ) (rows : List OutputRow) (t : SlotTable) (g : DueGroup) → AreSame e rate rows t g → (i j : ℕ) → i < length rows → j < length rows → i ≢ j
     → source_name e.sources (placed_at t i).source ≢ source_name e.sources (placed_at t j).source
 names_differ e rate rows t g s i j low-i low-j other same =
     other (name_own e rate rows t g s i j low-i low-j (name_same e rate rows t g s i low-i ∙ same ∙ sym (name_same e rate rows t g s j low-j)))

@@ -6,8 +6,8 @@ use Rattle.std.proofs.lemmas.List.{drop_more, drop-drop, length-append}
 use Rattle.std.proofs.lemmas.List.Sums.{sum_by_more, sum_by-take-le}
 use Rattle.a429_cert.specs.declared.verdicts.Reason.{Reason}
 use Rattle.a429_cert.specs.declared.verdicts.No.{No}
-use Rattle.a429_cert.specs.declared.stops.Stop.{Stop}
-use Rattle.a429_cert.specs.declared.stops.Stop.TheVariants as stops
+use Rattle.a429_cert.specs.declared.stops.CheckStop.{CheckStop}
+use Rattle.a429_cert.specs.declared.stops.CheckStop.TheVariants as stops
 use Rattle.a429_cert.specs.declared.due.DueGroup.{DueGroup}
 use Rattle.a429_cert.specs.Lines.{lines_of, line_at}
 use Rattle.a429_cert.specs.Faults.{group_fault, output_faults, bound_fault, group_faults, groups_faults, end_fault, first_no, buses_of, Stops, Gives, due}
@@ -25,25 +25,25 @@ end_front n [] ys a e = absurd cc
 end_front n (None ∷ xs) ys a e = end_front (n + 1) xs ys a e
 end_front n (Some r ∷ xs) ys a e = e
 
-pub stops_front : (n : ℕ) (xs ys : List (Option Reason)) (s : Stop) → Stops s (first_no n xs) → Stops s (first_no n (xs ++ ys))
+pub stops_front : (n : ℕ) (xs ys : List (Option Reason)) (s : CheckStop) → Stops s (first_no n xs) → Stops s (first_no n (xs ++ ys))
 stops_front n xs ys stops.Memory h = tt
 stops_front n xs ys (stops.Refused a) h = end_front n xs ys a h
 
-pub stops_along : (o p : Option No) (s : Stop) → o ≡ p → Stops s p → Stops s o
+pub stops_along : (o p : Option No) (s : CheckStop) → o ≡ p → Stops s p → Stops s o
 stops_along o p s e h = subst (λ (x : Option No). Stops s x) (sym e) h
 
-pub gives_along : (o p : Option No) (r : Result (Unit {0}) Stop) → o ≡ p → Gives r p → Gives r o
+pub gives_along : (o p : Option No) (r : Result (Unit {0}) CheckStop) → o ≡ p → Gives r p → Gives r o
 gives_along o p r e h = subst (λ (x : Option No). Gives r x) (sym e) h
 
 -- ---- a line that was numbered
 
-pub passes : {T : Type 0} (r : Result T Reason) (x : T) (o : Option Reason) (a : Reason → Stop) (P : T → Type 0)
-    → MatchResult r (λ y. ◌≡◌ {A = Result T Stop} (Ok x) (Ok y)) (λ q. ◌≡◌ {A = Result T Stop} (Ok x) (Err (a q))) → MatchResult r (λ _. o ≡ None) (λ q. o ≡ Some q) → MatchResult r P (λ _. Unit {0})
+pub passes : {T : Type 0} (r : Result T Reason) (x : T) (o : Option Reason) (a : Reason → CheckStop) (P : T → Type 0)
+    → MatchResult r (λ y. ◌≡◌ {A = Result T CheckStop} (Ok x) (Ok y)) (λ q. ◌≡◌ {A = Result T CheckStop} (Ok x) (Err (a q))) → MatchResult r (λ _. o ≡ None) (λ q. o ≡ Some q) → MatchResult r P (λ _. Unit {0})
     → (o ≡ None) × P x
 passes (Ok y) x o a P e f h = let same : y ≡ x = cc in (f, subst P same h)
 passes (Err q) x o a P e f h = absurd cc
 
-pub last_gives : (r : Result (Unit {0}) Reason) (s : Result (Unit {0}) Stop) (o : Option Reason) (n : ℕ)
+pub last_gives : (r : Result (Unit {0}) Reason) (s : Result (Unit {0}) CheckStop) (o : Option Reason) (n : ℕ)
     → MatchResult r (λ y. s ≡ Ok y) (λ q. s ≡ Err (stops.Refused (record { reason = q; line = n }))) → MatchResult r (λ _. o ≡ None) (λ q. o ≡ Some q)
     → Gives s (first_no n (o ∷ []))
 last_gives (Ok y) s o n e f = rw (e, f) refl
@@ -55,7 +55,7 @@ pub length-output_faults : (version : ℕ) (g : DueGroup) (buses : ℕ) (lines :
 length-output_faults version g buses lines j zero = refl
 length-output_faults version g buses lines j (suc n) = ap suc (length-output_faults version g buses lines (j + 1) n)
 
-pub group_ends : (version : ℕ) (g : DueGroup) (lines rest : List (List ℕ)) (line : List ℕ) (number buses : ℕ) (s : Stop) → line ≡ line_at lines 0 → rest ≡ drop 1 lines → group_fault version g line ≡ None → buses ≡ buses_of version line
+pub group_ends : (version : ℕ) (g : DueGroup) (lines rest : List (List ℕ)) (line : List ℕ) (number buses : ℕ) (s : CheckStop) → line ≡ line_at lines 0 → rest ≡ drop 1 lines → group_fault version g line ≡ None → buses ≡ buses_of version line
     → Stops s (first_no (number + 1) (output_faults version g buses rest 0 (length g.outputs.items))) → Stops s (first_no number (group_faults version g lines))
 group_ends version g lines rest line number buses s at-line at-rest fine states h =
     let none : group_fault version g (line_at lines 0) ≡ None = rw (← at-line) fine in
@@ -66,7 +66,7 @@ group_ends version g lines rest line number buses s at-line at-rest fine states 
 pub last_line : (lines rest left : List (List ℕ)) (n : ℕ) → rest ≡ drop 1 lines → left ≡ drop n rest → line_at left 0 ≡ line_at lines (n + 1)
 last_line lines rest left n e f = rw (f, e, drop-drop n 1 lines) (line_from lines (1 + n) ∙ ap (λ (k : ℕ). line_at lines k) (omega arith))
 
-pub group_passes : (version : ℕ) (g : DueGroup) (lines rest : List (List ℕ)) (line last : List ℕ) (number buses : ℕ) (r : Result (Unit {0}) Stop) → line ≡ line_at lines 0 → rest ≡ drop 1 lines → group_fault version g line ≡ None → buses ≡ buses_of version line
+pub group_passes : (version : ℕ) (g : DueGroup) (lines rest : List (List ℕ)) (line last : List ℕ) (number buses : ℕ) (r : Result (Unit {0}) CheckStop) → line ≡ line_at lines 0 → rest ≡ drop 1 lines → group_fault version g line ≡ None → buses ≡ buses_of version line
     → first_no (number + 1) (output_faults version g buses rest 0 (length g.outputs.items)) ≡ None → last ≡ line_at lines (length g.outputs.items + 1)
     → Gives r (first_no (number + length g.outputs.items + 1) (bound_fault g buses last ∷ [])) → Gives r (first_no number (group_faults version g lines))
 group_passes version g lines rest line last number buses r at-line at-rest fine states outs at-last h =
@@ -123,7 +123,7 @@ groups_on version gs i n g lines lt e fine =
     ∙ pass_front n (group_faults version g lines) (groups_faults version (drop (i + 1) gs) (drop (length g.outputs.items + 2) lines)) fine
     ∙ ap (λ (k : ℕ). first_no (n + k) (groups_faults version (drop (i + 1) gs) (drop (length g.outputs.items + 2) lines))) (length-group_faults version g lines)
 
-pub groups_end : (version : ℕ) (gs : List DueGroup) (i n : ℕ) (g : DueGroup) (lines : List (List ℕ)) (s : Stop) → i < length gs → g ≡ get_or gs i g → Stops s (first_no n (group_faults version g lines))
+pub groups_end : (version : ℕ) (gs : List DueGroup) (i n : ℕ) (g : DueGroup) (lines : List (List ℕ)) (s : CheckStop) → i < length gs → g ≡ get_or gs i g → Stops s (first_no n (group_faults version g lines))
     → Stops s (first_no n (groups_faults version (drop i gs) lines))
 groups_end version gs i n g lines s lt e h =
     stops_along _ _ s (ap (λ (fs : List (Option Reason)). first_no n fs) (from_group version gs i g lines lt e)) (stops_front n (group_faults version g lines) _ s h)

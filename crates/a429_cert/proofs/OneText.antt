@@ -6,7 +6,7 @@ use Rattle.a429_equipment.specs.TableRecord.{TableRecord}
 use Rattle.a429_equipment.specs.declared.rows.GroupRow.{GroupRow}
 use Rattle.a429_equipment.specs.declared.rows.OutputRow.{OutputRow}
 use Rattle.a429_equipment.specs.declared.rows.SourceRow.{SourceRow}
-use Rattle.a429_slots.specs.Tables.{GroupTable, PlanTable, Placed, buses_of, frame_of, groups_of, order_of, placed_at}
+use Rattle.a429_slots.specs.Tables.{SlotTable, PlanTable, Placed, buses_of, frame_of, groups_of, order_of, placed_at}
 use Rattle.a429_slots.specs.OnePlan.{IsSameTable, IsSamePlan, PlansAreUnique}
 use Rattle.a429_slots.specs.Planned.{IsPlannedAt, IsPlannedFor, IsPlanOf}
 use Rattle.a429_cert.specs.Spelling.{Heading, Listing, Bounding, said_in}
@@ -17,13 +17,13 @@ use Rattle.a429_cert.proofs.OwnGroups.{order_moved}
 use Rattle.a429_slots.proofs.Cells.{output_at}
 
 -- an output of one of two tables is that of the other
-output_same : (t u : GroupTable) → IsSameTable t u → (o : ℕ) → o < length t.demands → placed_at t o ≡ placed_at u o
+output_same : (t u : SlotTable) → IsSameTable t u → (o : ℕ) → o < length t.demands → placed_at t o ≡ placed_at u o
 output_same t u same o below =
     let many : length t.demands ≡ length u.demands = ap length same.demands in
     let d : Placed = placed_at t 0 in
     sym (output_at t o d below) ∙ ap (λ (os : List Placed). get_or os o d) same.outputs ∙ output_at u o d (omega (arith, many))
 
-listings_same : (version : ℕ) (sources : List SourceRow) (t u : GroupTable) → IsSameTable t u → (order : List ℕ) → AllByRecursion (λ o. o < length t.demands) order
+listings_same : (version : ℕ) (sources : List SourceRow) (t u : SlotTable) → IsSameTable t u → (order : List ℕ) → AllByRecursion (λ o. o < length t.demands) order
     → map (listing_of version sources t) order ≡ map (listing_of version sources u) order
 listings_same version sources t u same [] below = refl
 listings_same version sources t u same (o ∷ order) below =
@@ -32,20 +32,20 @@ listings_same version sources t u same (o ∷ order) below =
     listing_at : ℕ → List SourceRow → Placed → Listing
     listing_at version sources p = placed_listing version (source_name sources p.source) p.place p.limits.hold
 
-heading_same : (version : ℕ) (g : GroupRow) (t u : GroupTable) → IsSameTable t u → heading_of version g t ≡ heading_of version g u
+heading_same : (version : ℕ) (g : GroupRow) (t u : SlotTable) → IsSameTable t u → heading_of version g t ≡ heading_of version g u
 heading_same version g t u same = ap₂ says same.frame same.buses
   where
     says : ℕ → ℕ → Heading
     says frame buses = record { name = g.name; rate = said_in version g.rate; frame = frame; buses = buses }
 
-bound_same : (t u : GroupTable) → IsSameTable t u → bound_of t ≡ bound_of u
+bound_same : (t u : SlotTable) → IsSameTable t u → bound_of t ≡ bound_of u
 bound_same t u same =
     ap (λ (d : ℕ). says d (buses_of t) (frame_of t)) (ap sum same.demands) ∙ ap (λ (b : ℕ). says (sum u.demands) b (frame_of t)) same.buses ∙ ap (λ (f : ℕ). says (sum u.demands) (buses_of u) f) same.frame
   where
     says : ℕ → ℕ → ℕ → Bounding
     says demand buses frame = record { demand = demand; full_buses = buses - 1; frame = frame }
 
-stated_same : (e : TableRecord) (g : GroupRow) (rate : ℕ) (rows : List OutputRow) (t u : GroupTable) → IsPlannedFor rate e.sources rows t → IsSameTable t u
+stated_same : (e : TableRecord) (g : GroupRow) (rate : ℕ) (rows : List OutputRow) (t u : SlotTable) → IsPlannedFor rate e.sources rows t → IsSameTable t u
     → stated_of e.version e.sources g t ≡ stated_of e.version e.sources g u
 stated_same e g rate rows t u planned same =
     let below = order_below (length t.demands) (order_of t) (order_moved e rate rows t planned) in
@@ -58,7 +58,7 @@ stated_same e g rate rows t u planned same =
     says : Heading → List Listing → Bounding → Stated
     says heading outputs bound = record { heading = heading; outputs = outputs; bound = bound }
 
-groups_same : (e : TableRecord) (groups : List GroupRow) (rowss : List (List OutputRow)) (ts us : List GroupTable) → AllZip (IsPlannedAt e.sources) (zip (map (λ row. row.rate) groups) rowss) ts → AllZip IsSameTable ts us
+groups_same : (e : TableRecord) (groups : List GroupRow) (rowss : List (List OutputRow)) (ts us : List SlotTable) → AllZip (IsPlannedAt e.sources) (zip (map (λ row. row.rate) groups) rowss) ts → AllZip IsSameTable ts us
     → stated_groups e.version e.sources groups ts ≡ stated_groups e.version e.sources groups us
 groups_same e groups rowss [] [] planned same = refl
 groups_same e groups rowss [] (u ∷ us) planned same = absurd same

@@ -24,7 +24,7 @@ use Rattle.a429_equipment.specs.NameForm.{is_name, is_name_byte}
 use Rattle.a429_pack.specs.Demanded.{demand_of, AreFewestBuses, IsBusCount}
 use Rattle.a429_pack.specs.Demands.{greatest, exponent_of}
 use Rattle.a429_pack.specs.Sums.{start_of}
-use Rattle.a429_slots.specs.Tables.{Placed, GroupTable, placed_at, outputs_of, order_of, frame_of, buses_of, cell_at}
+use Rattle.a429_slots.specs.Tables.{Placed, SlotTable, placed_at, outputs_of, order_of, frame_of, buses_of, cell_at}
 use Rattle.a429_slots.specs.Kept.{StandsJustAt}
 use Rattle.a429_slots.specs.Planned.{HasPeriod, IsServed, IsPlannedFor, asked_by, asked_of}
 use Rattle.a429_cert.specs.declared.due.DueGroup.{DueGroup}
@@ -46,7 +46,7 @@ abbrev pub FewestCarry : Type 0
 FewestCarry = (exponents : List ℕ) (buses : ℕ) → 1 ≤ length exponents → AreFewestBuses exponents buses → IsBusCount exponents buses
 
 -- a group of the table with its plan and what is due for it
-pub record IsOwnGroup (e : TableRecord) (row : GroupRow) (rows : List OutputRow) (t : GroupTable) (g : DueGroup) : Type 0 where
+pub record IsOwnGroup (e : TableRecord) (row : GroupRow) (rows : List OutputRow) (t : SlotTable) (g : DueGroup) : Type 0 where
   pub planned : IsPlannedFor row.rate e.sources rows t
   pub due : AllZip (IsDueOutput e row.rate) rows g.outputs.items
   pub rated : g.rate ≡ row.rate
@@ -58,7 +58,7 @@ pub record IsOwnGroup (e : TableRecord) (row : GroupRow) (rows : List OutputRow)
   pub names : HaveOwn (λ s. s.name) e.sources
   pub words : AllByRecursion IsSourceRow e.sources
 
-pub same_outputs : (e : TableRecord) (row : GroupRow) (rows : List OutputRow) (t : GroupTable) (g : DueGroup) → IsOwnGroup e row rows t g → AreSame e row.rate rows t g
+pub same_outputs : (e : TableRecord) (row : GroupRow) (rows : List OutputRow) (t : SlotTable) (g : DueGroup) → IsOwnGroup e row rows t g → AreSame e row.rate rows t g
 same_outputs e row rows t g o = record { served = o.planned.served; due = o.due; own = o.own; names = o.names }
 
 -- ---- names are words
@@ -82,13 +82,13 @@ name_is_word s h =
 
 -- ---- the exponents of the periods
 
-asked_exponents : (sources : List SourceRow) (t : GroupTable) → map exponent_of (asked_of sources t) ≡ exponents_of t
+asked_exponents : (sources : List SourceRow) (t : SlotTable) → map exponent_of (asked_of sources t) ≡ exponents_of t
 asked_exponents sources t = map-map exponent_of (asked_by sources) (outputs_of t)
 
-length-exponents : (t : GroupTable) → length (exponents_of t) ≡ length t.demands
+length-exponents : (t : SlotTable) → length (exponents_of t) ≡ length t.demands
 length-exponents t = length-map (outputs_of t) (λ p. p.place.period) ∙ length-outputs t
 
-pub frame_greatest : (e : TableRecord) (rate : ℕ) (rows : List OutputRow) (t : GroupTable) → IsPlannedFor rate e.sources rows t → frame_of t ≡ 2 ^ greatest (exponents_of t)
+pub frame_greatest : (e : TableRecord) (rate : ℕ) (rows : List OutputRow) (t : SlotTable) → IsPlannedFor rate e.sources rows t → frame_of t ≡ 2 ^ greatest (exponents_of t)
 frame_greatest e rate rows t p = ap (λ (k : ℕ). 2 ^ k) (p.layout.frame ∙ ap greatest (asked_exponents e.sources t))
 
 -- rows have one grid period each
@@ -102,19 +102,19 @@ same_exponents rate (r ∷ rows) (k ∷ ks) (o ∷ os) fit served =
     let one : k ≡ o.place.period = same_power k o.place.period (grid_same r.min_us r.max_us rate (2 ^ k) (2 ^ o.place.period) fit.0 served.0.1) in
     ap₂ (λ x xs. x ∷ xs) one (same_exponents rate rows ks os fit.1 served.1)
 
-pub carried : (e : TableRecord) (rate : ℕ) (rows : List OutputRow) (t : GroupTable) → FewestCarry → IsPlannedFor rate e.sources rows t → 1 ≤ length t.demands → IsBusCount (exponents_of t) (buses_of t)
+pub carried : (e : TableRecord) (rate : ℕ) (rows : List OutputRow) (t : SlotTable) → FewestCarry → IsPlannedFor rate e.sources rows t → 1 ≤ length t.demands → IsBusCount (exponents_of t) (buses_of t)
 carried e rate rows t law p some =
     law (exponents_of t) (buses_of t) (omega (arith, length-exponents t))
     (subst (λ (ks : List ℕ). AreFewestBuses ks (buses_of t)) (same_exponents rate rows p.fewest.exponents (outputs_of t) p.fewest.fit p.served) p.fewest.fewest)
 
-exponent_at : (t : GroupTable) (o : ℕ) → o < length t.demands → get_or (exponents_of t) o 0 ≡ (placed_at t o).place.period
+exponent_at : (t : SlotTable) (o : ℕ) → o < length t.demands → get_or (exponents_of t) o 0 ≡ (placed_at t o).place.period
 exponent_at t o below =
     let d : Placed = placed_at t 0 in
     get_or-map (λ p. p.place.period) (outputs_of t) o d 0 (omega (arith, length-outputs t))
     ∙ ap (λ (p : Placed). p.place.period) (get_or-map-range_with_len (placed_at t) 0 (length t.demands) o o d below (omega arith))
 
 -- a period is at most a frame
-period_within : (e : TableRecord) (rate : ℕ) (rows : List OutputRow) (t : GroupTable) → IsPlannedFor rate e.sources rows t → (o : ℕ) → o < length t.demands → 2 ^ (placed_at t o).place.period ≤ frame_of t
+period_within : (e : TableRecord) (rate : ℕ) (rows : List OutputRow) (t : SlotTable) → IsPlannedFor rate e.sources rows t → (o : ℕ) → o < length t.demands → 2 ^ (placed_at t o).place.period ≤ frame_of t
 period_within e rate rows t p o below =
     let one : 0 < 2 = omega arith in
     let most = up_to_greatest (exponents_of t) o (omega (arith, length-exponents t)) in
@@ -124,19 +124,19 @@ period_within e rate rows t p o below =
 
 -- ---- the order and the demands
 
-pub order_moved : (e : TableRecord) (rate : ℕ) (rows : List OutputRow) (t : GroupTable) → IsPlannedFor rate e.sources rows t → IsPermutation (range_with_len 0 (length t.demands)) (order_of t)
+pub order_moved : (e : TableRecord) (rate : ℕ) (rows : List OutputRow) (t : SlotTable) → IsPlannedFor rate e.sources rows t → IsPermutation (range_with_len 0 (length t.demands)) (order_of t)
 order_moved e rate rows t p =
     let many : length (asked_of e.sources t) ≡ length t.demands = length-map (outputs_of t) (asked_by e.sources) ∙ length-outputs t in
     subst (λ (n : ℕ). IsPermutation (range_with_len 0 n) (order_of t)) many p.layout.order.all
 
-length-order : (e : TableRecord) (rate : ℕ) (rows : List OutputRow) (t : GroupTable) → IsPlannedFor rate e.sources rows t → length (order_of t) ≡ length t.demands
+length-order : (e : TableRecord) (rate : ℕ) (rows : List OutputRow) (t : SlotTable) → IsPlannedFor rate e.sources rows t → length (order_of t) ≡ length t.demands
 length-order e rate rows t p = length_permutation (range_with_len 0 (length t.demands)) (order_of t) (order_moved e rate rows t p) ∙ length-range_with_len 0 (length t.demands)
 
 -- how many cells of a frame an output fills
-abbrev share : GroupTable → ℕ → ℕ
+abbrev share : SlotTable → ℕ → ℕ
 share t o = frame_of t / 2 ^ get_or t.periods o 0
 
-pub total_is : (e : TableRecord) (rate : ℕ) (rows : List OutputRow) (t : GroupTable) → IsPlannedFor rate e.sources rows t → sum t.demands ≡ demand_of (exponents_of t)
+pub total_is : (e : TableRecord) (rate : ℕ) (rows : List OutputRow) (t : SlotTable) → IsPlannedFor rate e.sources rows t → sum t.demands ≡ demand_of (exponents_of t)
 total_is e rate rows t p =
     let n = length t.demands in
     let placed : sum t.demands ≡ sum_by (share t) (order_of t) = ap sum p.layout.demands ∙ sum-map (share t) (order_of t) in
@@ -148,7 +148,7 @@ total_is e rate rows t p =
 -- ---- the buses
 
 -- the output at a place of the layout begins within the demand
-begins_within : (e : TableRecord) (rate : ℕ) (rows : List OutputRow) (t : GroupTable) → IsPlannedFor rate e.sources rows t → (k : ℕ) → k < length t.demands → get_or (order_of t) k 0 < length t.demands
+begins_within : (e : TableRecord) (rate : ℕ) (rows : List OutputRow) (t : SlotTable) → IsPlannedFor rate e.sources rows t → (k : ℕ) → k < length t.demands → get_or (order_of t) k 0 < length t.demands
     → start_of t.demands k < sum t.demands
 begins_within e rate rows t p k below known =
     let o : ℕ = get_or (order_of t) k 0 in
@@ -157,7 +157,7 @@ begins_within e rate rows t p k below known =
     let more = sum_by_more_le (λ x. x) t.demands k 0 below in
     omega (arith, more, positive, fills)
 
-bus_within : (e : TableRecord) (rate : ℕ) (rows : List OutputRow) (t : GroupTable) → FewestCarry → IsPlannedFor rate e.sources rows t → 1 ≤ length t.demands → (k : ℕ) → k < length t.demands → get_or (order_of t) k 0 < length t.demands
+bus_within : (e : TableRecord) (rate : ℕ) (rows : List OutputRow) (t : SlotTable) → FewestCarry → IsPlannedFor rate e.sources rows t → 1 ≤ length t.demands → (k : ℕ) → k < length t.demands → get_or (order_of t) k 0 < length t.demands
     → (placed_at t (get_or (order_of t) k 0)).place.bus < buses_of t
 bus_within e rate rows t law p some k below known =
     let at : get_or (order_of t) k 0 ≡ get_or t.order k 0 = get_or-take (length t.demands) t.order k 0 below in
@@ -171,21 +171,21 @@ bus_within e rate rows t law p some k below known =
 
 -- ---- the listings
 
-apart_cells : (version : ℕ) (t : GroupTable) (i j : ℕ) (sources : List SourceRow) → StandsJustAt t i (placed_at t i).place.bus (placed_at t i).place.offset (2 ^ (placed_at t i).place.period)
+apart_cells : (version : ℕ) (t : SlotTable) (i j : ℕ) (sources : List SourceRow) → StandsJustAt t i (placed_at t i).place.bus (placed_at t i).place.offset (2 ^ (placed_at t i).place.period)
     → StandsJustAt t j (placed_at t j).place.bus (placed_at t j).place.offset (2 ^ (placed_at t j).place.period) → i ≢ j → AreApart (listing_of version sources t i) (listing_of version sources t j)
 apart_cells version t i j sources at-i at-j other bus slot fills-i fills-j =
     let here : cell_at t bus slot ≡ Some i = (at-i.cells bus slot).1 (fills-i.on_bus, fills-i.at_offset) in
     let there : cell_at t bus slot ≡ Some j = (at-j.cells bus slot).1 (fills-j.on_bus, fills-j.at_offset) in
     other cc
 
-own_apart : (e : TableRecord) (row : GroupRow) (rows : List OutputRow) (t : GroupTable) (g : DueGroup) → IsOwnGroup e row rows t g → EachPair AreApart (stated_of e.version e.sources row t).outputs
+own_apart : (e : TableRecord) (row : GroupRow) (rows : List OutputRow) (t : SlotTable) (g : DueGroup) → IsOwnGroup e row rows t g → EachPair AreApart (stated_of e.version e.sources row t).outputs
 own_apart e row rows t g o =
     let moved = order_moved e row.rate rows t o.planned in
     each_pair AreApart (listing_of e.version e.sources t) (length t.demands) (order_of t) (order_below (length t.demands) (order_of t) moved) (order_once (length t.demands) (order_of t) moved)
     (λ i j low-i low-j other.
     apart_cells e.version t i j e.sources (o.planned.periodic i (omega (arith, length-outputs t))) (o.planned.periodic j (omega (arith, length-outputs t))) other)
 
-own_once : (e : TableRecord) (row : GroupRow) (rows : List OutputRow) (t : GroupTable) (g : DueGroup) → IsOwnGroup e row rows t g → EachPair (λ k l. k.source ≢ l.source) (stated_of e.version e.sources row t).outputs
+own_once : (e : TableRecord) (row : GroupRow) (rows : List OutputRow) (t : SlotTable) (g : DueGroup) → IsOwnGroup e row rows t g → EachPair (λ k l. k.source ≢ l.source) (stated_of e.version e.sources row t).outputs
 own_once e row rows t g o =
     let moved = order_moved e row.rate rows t o.planned in
     let s = same_outputs e row rows t g o in
@@ -194,17 +194,17 @@ own_once e row rows t g o =
     (λ i j low-i low-j other. names_differ e row.rate rows t g s i j (omega arith) (omega arith) other)
 
 -- the number at a place of the layout is that of an output
-ordered_below : (e : TableRecord) (rate : ℕ) (rows : List OutputRow) (t : GroupTable) → IsPlannedFor rate e.sources rows t → (k : ℕ) → k < length (order_of t) → get_or (order_of t) k 0 < length t.demands
+ordered_below : (e : TableRecord) (rate : ℕ) (rows : List OutputRow) (t : SlotTable) → IsPlannedFor rate e.sources rows t → (k : ℕ) → k < length (order_of t) → get_or (order_of t) k 0 < length t.demands
 ordered_below e rate rows t p k below =
     All-from_recursion (λ o. o < length t.demands) (order_of t) (order_below (length t.demands) (order_of t) (order_moved e rate rows t p)) k 0 below
 
-own_bus : (e : TableRecord) (row : GroupRow) (rows : List OutputRow) (t : GroupTable) (g : DueGroup) → FewestCarry → IsOwnGroup e row rows t g
+own_bus : (e : TableRecord) (row : GroupRow) (rows : List OutputRow) (t : SlotTable) (g : DueGroup) → FewestCarry → IsOwnGroup e row rows t g
     → (k : ℕ) → k < length (order_of t) → (listing_of e.version e.sources t (get_or (order_of t) k 0)).bus < buses_of t
 own_bus e row rows t g law o k below =
     let many = (counts e row.rate rows t g (same_outputs e row rows t g o)).0 in
     bus_within e row.rate rows t law o.planned (omega (arith, many, o.some)) k (omega (arith, length-order e row.rate rows t o.planned)) (ordered_below e row.rate rows t o.planned k below)
 
-own_placed : (e : TableRecord) (row : GroupRow) (rows : List OutputRow) (t : GroupTable) (g : DueGroup) → FewestCarry → IsOwnGroup e row rows t g → AllByRecursion (IsPlacedAsDue e.version g (buses_of t)) (stated_of e.version e.sources row t).outputs
+own_placed : (e : TableRecord) (row : GroupRow) (rows : List OutputRow) (t : SlotTable) (g : DueGroup) → FewestCarry → IsOwnGroup e row rows t g → AllByRecursion (IsPlacedAsDue e.version g (buses_of t)) (stated_of e.version e.sources row t).outputs
 own_placed e row rows t g law o =
     let s = same_outputs e row rows t g o in
     let many = (counts e row.rate rows t g s).0 in
@@ -228,7 +228,7 @@ limit_short : (limit : Option ℕ) → IfSome limit (λ hold. (1 ≤ hold) × (h
 limit_short None h = tt
 limit_short (Some limit) h = omega (arith, h.1)
 
-own_listings : (e : TableRecord) (row : GroupRow) (rows : List OutputRow) (t : GroupTable) (g : DueGroup) → FewestCarry → IsOwnGroup e row rows t g → AllByRecursion (FitsListing e.version) (stated_of e.version e.sources row t).outputs
+own_listings : (e : TableRecord) (row : GroupRow) (rows : List OutputRow) (t : SlotTable) (g : DueGroup) → FewestCarry → IsOwnGroup e row rows t g → AllByRecursion (FitsListing e.version) (stated_of e.version e.sources row t).outputs
 own_listings e row rows t g law o =
     let s = same_outputs e row rows t g o in
     let many = (counts e row.rate rows t g s).0 in
@@ -255,7 +255,7 @@ few_cells b f few small = mul-le-mul {n₁ = b} {m₁ = f} {n₂ = 16} {m₂ = 8
 
 -- ---- the group
 
-own_bound : (e : TableRecord) (row : GroupRow) (rows : List OutputRow) (t : GroupTable) (g : DueGroup) → FewestCarry → IsOwnGroup e row rows t g → StatesBound g (buses_of t) (stated_of e.version e.sources row t).bound
+own_bound : (e : TableRecord) (row : GroupRow) (rows : List OutputRow) (t : SlotTable) (g : DueGroup) → FewestCarry → IsOwnGroup e row rows t g → StatesBound g (buses_of t) (stated_of e.version e.sources row t).bound
 own_bound e row rows t g law o =
     let s = same_outputs e row rows t g o in
     let many = (counts e row.rate rows t g s).0 in
@@ -274,7 +274,7 @@ own_bound e row rows t g law o =
       within = rw (framed, total) fits.within;
     }
 
-own_fits : (e : TableRecord) (row : GroupRow) (rows : List OutputRow) (t : GroupTable) (g : DueGroup) → FewestCarry → IsOwnGroup e row rows t g → FitsStated e.version (stated_of e.version e.sources row t)
+own_fits : (e : TableRecord) (row : GroupRow) (rows : List OutputRow) (t : SlotTable) (g : DueGroup) → FewestCarry → IsOwnGroup e row rows t g → FitsStated e.version (stated_of e.version e.sources row t)
 own_fits e row rows t g law o =
     let bound = own_bound e row rows t g law o in
     let cells = few_cells (buses_of t) (frame_of t) o.planned.few_buses o.planned.few_slots in
@@ -288,7 +288,7 @@ some_bus : (b f d : ℕ) → (b - 1) * f < d → d ≤ b * f → 1 ≤ b
 some_bus zero f d above within = absurd (omega arith)
 some_bus (suc b) f d above within = omega arith
 
-pub own_matches : (e : TableRecord) (row : GroupRow) (rows : List OutputRow) (t : GroupTable) (g : DueGroup) → FewestCarry → IsOwnGroup e row rows t g → Matches e.version g (stated_of e.version e.sources row t)
+pub own_matches : (e : TableRecord) (row : GroupRow) (rows : List OutputRow) (t : SlotTable) (g : DueGroup) → FewestCarry → IsOwnGroup e row rows t g → Matches e.version g (stated_of e.version e.sources row t)
 own_matches e row rows t g law o =
     let s = same_outputs e row rows t g o in
     let many = counts e row.rate rows t g s in

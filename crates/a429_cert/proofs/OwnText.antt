@@ -7,7 +7,7 @@ use Rattle.a429_equipment.specs.TableRecord.{TableRecord}
 use Rattle.a429_equipment.specs.declared.rows.GroupRow.{GroupRow}
 use Rattle.a429_equipment.specs.declared.rows.OutputRow.{OutputRow}
 use Rattle.a429_equipment.specs.Sound.{HaveOwnSources, IsRate, IsHold, IsGroupRow, IsSound}
-use Rattle.a429_slots.specs.Tables.{GroupTable, PlanTable, groups_of}
+use Rattle.a429_slots.specs.Tables.{SlotTable, PlanTable, groups_of}
 use Rattle.a429_slots.specs.Planned.{IsPlannedAt, IsPlanOf}
 use Rattle.a429_cert.specs.declared.verdicts.Verdict.TheVariants as verdicts
 use Rattle.a429_cert.specs.declared.due.DueGroup.{DueGroup}
@@ -37,7 +37,7 @@ record AreOwnRows (e : TableRecord) (rowss : List (List OutputRow)) (groups : Li
 abbrev rated : List GroupRow → List (List OutputRow) → List (ℕ × List OutputRow)
 rated groups rowss = zip (map (λ g. g.rate) groups) rowss
 
-groups_match : (e : TableRecord) (groups : List GroupRow) (rowss : List (List OutputRow)) (ts : List GroupTable) (gs : List DueGroup) → FewestCarry → IsSound e → AreOwnRows e rowss groups
+groups_match : (e : TableRecord) (groups : List GroupRow) (rowss : List (List OutputRow)) (ts : List SlotTable) (gs : List DueGroup) → FewestCarry → IsSound e → AreOwnRows e rowss groups
     → AllZip (IsPlannedAt e.sources) (rated groups rowss) ts → AllZip (IsDueGroup e) (rated groups rowss) gs → map (λ g. g.name) gs ≡ map (λ g. g.name) groups
     → EachMatches e.version gs (stated_groups e.version e.sources groups ts)
 groups_match e [] rowss ts [] law sound own planned due names = tt

@@ -14,7 +14,7 @@ use Rattle.a429_equipment.specs.Sound.{IsSound}
 use Rattle.a429_equipment.specs.TableRecord.{TableRecord}
 use Rattle.a429_slots.specs.declared.group_plan.SlotPlace.{SlotPlace}
 use Rattle.a429_slots.specs.declared.group_plan.SendLimits.{SendLimits}
-use Rattle.a429_slots.specs.Tables.{Placed, GroupTable, PlanTable, placed_at, outputs_of, order_of, place_of, source_of, limits_of, groups_of}
+use Rattle.a429_slots.specs.Tables.{Placed, SlotTable, PlanTable, placed_at, outputs_of, order_of, place_of, source_of, limits_of, groups_of}
 use Rattle.a429_slots.specs.Planned.{IsPlannedAt, IsPlanOf}
 use Rattle.a429_cert.specs.Spelling.{Listing, output_text}
 use Rattle.a429_cert.specs.Checked.{Stated, stated_text}
@@ -25,12 +25,12 @@ use Rattle.a429_slots.proofs.Cells.{output_at}
 
 -- ---- an output
 
-pub output_is : (t : GroupTable) (o : ℕ) → o < length (outputs_of t) → slice_get (outputs_of t) o ≡ Some (placed_at t o)
+pub output_is : (t : SlotTable) (o : ℕ) → o < length (outputs_of t) → slice_get (outputs_of t) o ≡ Some (placed_at t o)
 output_is t o below =
     let d : Placed = placed_at t 0 in
     slice_get-get_or (outputs_of t) o d below ∙ ap (λ (p : Placed). Some p) (output_at t o d (omega (arith, length-outputs t)))
 
-pub listing_is : (version : ℕ) (sources : List SourceRow) (t : GroupTable) (o n : ℕ) (place : SlotPlace) (hold : Option ℕ) (row : SourceRow) → o < length (outputs_of t) → place_of t o ≡ Some place
+pub listing_is : (version : ℕ) (sources : List SourceRow) (t : SlotTable) (o n : ℕ) (place : SlotPlace) (hold : Option ℕ) (row : SourceRow) → o < length (outputs_of t) → place_of t o ≡ Some place
     → source_of t o ≡ Some n → option_map (λ l. l.hold) (limits_of t o) ≡ Some hold → slice_get sources n ≡ Some row
     → placed_listing version row.name place hold ≡ listing_of version sources t o
 listing_is version sources t o n place hold row below at from limited there =
@@ -60,18 +60,18 @@ outputs_more text new old f order k o there so now =
 
 -- ---- the groups
 
-pub known_in_group : (n i : ℕ) (sources : List SourceRow) (rates : List ℕ) (rowss : List (List OutputRow)) (ts : List GroupTable) (t : GroupTable) → AllZip (IsPlannedAt sources) (zip rates rowss) ts
+pub known_in_group : (n i : ℕ) (sources : List SourceRow) (rates : List ℕ) (rowss : List (List OutputRow)) (ts : List SlotTable) (t : SlotTable) → AllZip (IsPlannedAt sources) (zip rates rowss) ts
     → AllByRecursion (AllByRecursion (λ o. o.source < n)) rowss → slice_get ts i ≡ Some t → AllByRecursion (λ p. p.source < n) (outputs_of t)
 known_in_group n i sources rates rowss [] t planned known e = absurd cc
 known_in_group n i sources [] rowss (u ∷ ts) t planned known e = absurd planned
 known_in_group n i sources (rate ∷ rates) [] (u ∷ ts) t planned known e = absurd planned
 known_in_group n zero sources (rate ∷ rates) (rows ∷ rowss) (u ∷ ts) t planned known e =
     let same : u ≡ t = cc in
-    subst (λ (v : GroupTable). AllByRecursion (λ p. p.source < n) (outputs_of v)) same (served_known n rate rows (outputs_of u) planned.0.served known.0)
+    subst (λ (v : SlotTable). AllByRecursion (λ p. p.source < n) (outputs_of v)) same (served_known n rate rows (outputs_of u) planned.0.served known.0)
 known_in_group n (suc i) sources (rate ∷ rates) (rows ∷ rowss) (u ∷ ts) t planned known e = known_in_group n i sources rates rowss ts t planned.1 known.1 e
 
 -- one more group is written
-pub groups_more : (version : ℕ) (sources : List SourceRow) (groups : List GroupRow) (ts : List GroupTable) (i : ℕ) (row : GroupRow) (t : GroupTable) (text new whole : List ℕ) → slice_get groups i ≡ Some row → slice_get ts i ≡ Some t
+pub groups_more : (version : ℕ) (sources : List SourceRow) (groups : List GroupRow) (ts : List SlotTable) (i : ℕ) (row : GroupRow) (t : SlotTable) (text new whole : List ℕ) → slice_get groups i ≡ Some row → slice_get ts i ≡ Some t
     → text ++ flat_map stated_text (stated_groups version sources (drop i groups) (drop i ts)) ≡ whole → new ≡ text ++ stated_text (stated_of version sources row t)
     → new ++ flat_map stated_text (stated_groups version sources (drop (i + 1) groups) (drop (i + 1) ts)) ≡ whole
 groups_more version sources groups ts i row t text new whole here there so now =
@@ -84,9 +84,9 @@ groups_more version sources groups ts i row t text new whole here there so now =
 -- ---- what is read
 
 -- the whole order
-pub order_whole : (t : GroupTable) (k : ℕ) → length (outputs_of t) ≤ k → take k (order_of t) ≡ order_of t
+pub order_whole : (t : SlotTable) (k : ℕ) → length (outputs_of t) ≤ k → take k (order_of t) ≡ order_of t
 order_whole t k past = take_all k (order_of t) (omega (arith, length-take (length t.demands) t.order, length-outputs t))
 
-pub plan_known : (e : TableRecord) (p : PlanTable) (i : ℕ) (t : GroupTable) → IsSound e → IsPlanOf e p → slice_get (groups_of p) i ≡ Some t → AllByRecursion (λ o. o.source < length e.sources) (outputs_of t)
+pub plan_known : (e : TableRecord) (p : PlanTable) (i : ℕ) (t : SlotTable) → IsSound e → IsPlanOf e p → slice_get (groups_of p) i ≡ Some t → AllByRecursion (λ o. o.source < length e.sources) (outputs_of t)
 plan_known e p i t sound planned there =
     known_in_group (length e.sources) i e.sources (map (λ (g : GroupRow). g.rate) e.groups) e.outputs (groups_of p) t planned.groups sound.known_sources there

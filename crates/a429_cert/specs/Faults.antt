@@ -5,8 +5,8 @@ use Rattle.std.specs.Str.{bytes_eq}
 use Rattle.a429_cert.specs.declared.verdicts.Reason.{Reason}
 use Rattle.a429_cert.specs.declared.verdicts.Reason.TheVariants as reasons
 use Rattle.a429_cert.specs.declared.verdicts.No.{No}
-use Rattle.a429_cert.specs.declared.stops.Stop.{Stop}
-use Rattle.a429_cert.specs.declared.stops.Stop.TheVariants as stops
+use Rattle.a429_cert.specs.declared.stops.CheckStop.{CheckStop}
+use Rattle.a429_cert.specs.declared.stops.CheckStop.TheVariants as stops
 use Rattle.a429_cert.specs.declared.due.DueOutput.{DueOutput}
 use Rattle.a429_cert.specs.declared.due.DueGroup.{DueGroup}
 use Rattle.a429_cert.specs.declared.due.DueTable.{DueTable}
@@ -174,12 +174,12 @@ first_no n [] = None
 first_no n (None ∷ fs) = first_no (n + 1) fs
 first_no n (Some r ∷ fs) = Some (record { reason = r; line = n })
 
-abbrev pub Stops : Stop → Option No → Type 0
+abbrev pub Stops : CheckStop → Option No → Type 0
 Stops stops.Memory answer = Unit {0}
 Stops (stops.Refused refusal) answer = answer ≡ Some refusal
 
 -- what ended a check is its answer, unless memory ran out
-abbrev pub Gives : {A : Type 0} → Result A Stop → Option No → Type 0
+abbrev pub Gives : {A : Type 0} → Result A CheckStop → Option No → Type 0
 Gives (Ok x) answer = answer ≡ None
 Gives (Err stop) answer = Stops stop answer
 

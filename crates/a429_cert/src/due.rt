@@ -39,7 +39,7 @@ pub struct DueTable {
 }
 
 /// The same number in 64 bits.
-fn widened(number: Option<u32>) -> Option<u64>
+fn to_u64(number: Option<u32>) -> Option<u64>
     ensures { result ≡ number }
 {
     number.map(u64::from)
@@ -60,7 +60,7 @@ fn due_output(
     };
     let source = equipment.sources()[row.source].name.copied(alloc)?;
     let period = u64::from(period.slots());
-    let hold = widened(row.hold);
+    let hold = to_u64(row.hold);
     Ok(Some(DueOutput {
         source,
         period,
@@ -113,7 +113,7 @@ pub fn due_of(alloc: Global, equipment: &Equipment) -> Result<DueTable, NoVerdic
     }
     Ok(DueTable {
         version,
-        rate: widened(equipment.rate()),
+        rate: to_u64(equipment.rate()),
         groups,
     })
 }

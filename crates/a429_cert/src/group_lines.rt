@@ -10,7 +10,7 @@ use crate::due::DueGroup;
 use crate::line::{BoundLine, GroupLine, bound_line, group_line};
 use crate::lines::Lines;
 use crate::output_lines::check_outputs;
-use crate::stops::{Stop, numbered};
+use crate::stops::{CheckStop, with_line_number};
 use crate::verdicts::Reason;
 use std::alloc::Global;
 
@@ -111,14 +111,14 @@ pub fn check_group(
     group: &DueGroup,
     number: usize,
     lines: &mut Lines<'_>,
-) -> Result<(), Stop>
+) -> Result<(), CheckStop>
     requires modest { IsModest group.now }
     requires fits { number + length group.now.outputs.items + 2 < 2 ^ 64 }
     ensures answer { Gives result (first_no number (group_faults version group.now (lines_of lines.old.rest.now))) }
     ensures rest { OnOk result (lines_of lines.new.rest.now ≡ drop (length group.now.outputs.items + 2) (lines_of lines.old.rest.now)) }
 {
-    let buses = numbered(number, checked_group(version, group, lines.next_line()))?.buses;
+    let buses = with_line_number(number, checked_group(version, group, lines.next_line()))?.buses;
     check_outputs(alloc, version, group, buses, number + 1, lines)?;
     let last = number + group.outputs.len() + 1;
-    numbered(last, checked_bound(group, buses, lines.next_line()))
+    with_line_number(last, checked_bound(group, buses, lines.next_line()))
 }

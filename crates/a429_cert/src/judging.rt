@@ -7,7 +7,7 @@ ghost use Rattle.a429_cert.specs.Verdicts.{verdict};
 ghost use Rattle.a429_cert.specs.Judged.{IsNoVerdict, ShowsFewest};
 
 use crate::due::due_of;
-use crate::stops::Stop;
+use crate::stops::CheckStop;
 use crate::table_lines::check_lines;
 use crate::verdicts::Verdict;
 use a429_equipment::Equipment;
@@ -63,7 +63,7 @@ pub fn judge(alloc: Global, equipment: &Equipment, text: &[u8]) -> Result<Verdic
     let due = due_of(alloc, equipment)?;
     match check_lines(alloc, &due, text) {
         Ok(()) => Ok(Verdict::Fewest),
-        Err(Stop::Refused(refused)) => Ok(Verdict::No(refused)),
-        Err(Stop::Memory) => Err(NoVerdict::NoMemory),
+        Err(CheckStop::Refused(refused)) => Ok(Verdict::No(refused)),
+        Err(CheckStop::Memory) => Err(NoVerdict::NoMemory),
     }
 }

@@ -11,7 +11,7 @@ ghost use Rattle.a429_cert.specs.Faults.{output_of, shares, same_limit, says_oth
 use crate::due::{DueGroup, DueOutput};
 use crate::line::{OutputLine, output_line};
 use crate::lines::Lines;
-use crate::stops::Stop;
+use crate::stops::CheckStop;
 use crate::verdicts::{No, Reason};
 use std::alloc::Global;
 
@@ -115,7 +115,7 @@ pub fn check_outputs(
     buses: u64,
     number: usize,
     lines: &mut Lines<'_>,
-) -> Result<(), Stop>
+) -> Result<(), CheckStop>
     requires periods { HasPeriods group.now }
     requires fits { number + length group.now.outputs.items < 2 ^ 64 }
     ensures answer { Gives result (first_no number (all_output_faults version group.now buses (lines_of lines.old.rest.now))) }
@@ -127,7 +127,7 @@ pub fn check_outputs(
         match checked_output(version, group, buses, &earlier, line) {
             Ok(said) => earlier.push(said)?,
             Err(reason) => {
-                return Err(Stop::Refused(No {
+                return Err(CheckStop::Refused(No {
                     reason,
                     line: number + place,
                 }));

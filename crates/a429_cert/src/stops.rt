@@ -7,41 +7,41 @@ use std::alloc::{AllocError, AllocFailed};
 
 /// What ends a check early.
 #[derive(Drop)]
-pub enum Stop {
+pub enum CheckStop {
     /// Memory was refused.
     Memory,
     /// A line is refused.
     Refused(No),
 }
 
-impl From<AllocError> for Stop {
+impl From<AllocError> for CheckStop {
     ghost use Rattle.std.specs.Prelude.{◌≡◌};
-    ghost use Rattle.a429_cert.specs.declared.stops.Stop.TheVariants.{Memory};
+    ghost use Rattle.a429_cert.specs.declared.stops.CheckStop.TheVariants.{Memory};
 
     ghost from_gives = { λ _ e. e ≡ Memory };
 
-    fn from(_error: AllocError) -> Stop {
-        Stop::Memory
+    fn from(_error: AllocError) -> CheckStop {
+        CheckStop::Memory
     }
 }
 
-impl<T: Drop> From<AllocFailed<T>> for Stop {
+impl<T: Drop> From<AllocFailed<T>> for CheckStop {
     ghost use Rattle.std.specs.Prelude.{◌≡◌};
-    ghost use Rattle.a429_cert.specs.declared.stops.Stop.TheVariants.{Memory};
+    ghost use Rattle.a429_cert.specs.declared.stops.CheckStop.TheVariants.{Memory};
 
     ghost from_gives = { λ _ e. e ≡ Memory };
 
-    fn from(_error: AllocFailed<T>) -> Stop {
-        Stop::Memory
+    fn from(_error: AllocFailed<T>) -> CheckStop {
+        CheckStop::Memory
     }
 }
 
 /// What a line says, or the refusal of the line with this number.
-pub fn numbered<T: Drop>(line: usize, said: Result<T, Reason>) -> Result<T, Stop>
-    ensures { MatchResult said (λ x. result ≡ Ok x) (λ r. result ≡ Err (Stop.Refused (record { reason = r; line = line }))) }
+pub fn with_line_number<T: Drop>(line: usize, said: Result<T, Reason>) -> Result<T, CheckStop>
+    ensures { MatchResult said (λ x. result ≡ Ok x) (λ r. result ≡ Err (CheckStop.Refused (record { reason = r; line = line }))) }
 {
     match said {
         Ok(said) => Ok(said),
-        Err(reason) => Err(Stop::Refused(No { reason, line })),
+        Err(reason) => Err(CheckStop::Refused(No { reason, line })),
     }
 }

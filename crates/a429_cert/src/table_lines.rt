@@ -8,7 +8,7 @@ use crate::due::{DueGroup, DueTable};
 use crate::group_lines::check_group;
 use crate::line::{plan_line, rate_line};
 use crate::lines::Lines;
-use crate::stops::{Stop, numbered};
+use crate::stops::{CheckStop, with_line_number};
 use crate::verdicts::Reason;
 use std::alloc::Global;
 
@@ -53,7 +53,7 @@ fn check_groups(
     groups: &[DueGroup],
     first: usize,
     lines: &mut Lines<'_>,
-) -> Result<(), Stop>
+) -> Result<(), CheckStop>
     requires modest { All IsModest groups.now }
     requires head { first ≤ 3 }
     requires fits { due groups.now < 2 ^ 63 }
@@ -64,20 +64,20 @@ fn check_groups(
         check_group(alloc, version, group, number, lines)?;
         number += group.outputs.len() + 2;
     }
-    numbered(number, checked_end(lines))
+    with_line_number(number, checked_end(lines))
 }
 
 /// Checks each line of a text against the table.
-pub fn check_lines(alloc: Global, table: &DueTable, text: &[u8]) -> Result<(), Stop>
+pub fn check_lines(alloc: Global, table: &DueTable, text: &[u8]) -> Result<(), CheckStop>
     requires modest { All IsModest table.now.groups.items }
     requires fits { due table.now.groups.items < 2 ^ 63 }
     ensures { Gives result (first_no 1 (faults table.now (lines_of text.now))) }
 {
     let mut lines = Lines::of(text);
-    numbered(1, checked_plan(table.version, lines.next_line()))?;
+    with_line_number(1, checked_plan(table.version, lines.next_line()))?;
     let Some(rate) = table.rate else {
         return check_groups(alloc, table.version, &table.groups, 2, &mut lines);
     };
-    numbered(2, checked_rate(rate, lines.next_line()))?;
+    with_line_number(2, checked_rate(rate, lines.next_line()))?;
     check_groups(alloc, table.version, &table.groups, 3, &mut lines)
 }

@@ -108,7 +108,7 @@ fn write_outputs(
     ensures { OnOk result (string_bytes text.new ≡ string_bytes text.old ++ outputs_text version sources.now table.now) }
 {
     for place in 0..table.outputs() {
-        write_output(text, version, sources, table, table.ordered(place))?;
+        write_output(text, version, sources, table, table.output_at_place(place))?;
     }
     Ok(())
 }

@@ -7,13 +7,13 @@ use Rattle.a429_equipment.specs.TableRecord.{TableRecord}
 use Rattle.a429_equipment.specs.declared.rows.OutputRow.{OutputRow}
 use Rattle.a429_equipment.specs.declared.rows.SourceRow.{SourceRow}
 use Rattle.a429_slots.specs.Planned.{IsPlanOf, IsPlannedAt, rated_outputs}
-use Rattle.a429_slots.specs.Tables.{GroupTable, PlanTable, frame_of, groups_of}
-use Rattle.a429_slots.specs.Sending.{all_fit}
+use Rattle.a429_slots.specs.Tables.{SlotTable, PlanTable, frame_of, groups_of}
+use Rattle.a429_slots.specs.FrameStates.{all_fit}
 
 fits_from_0 : (slots : ℕ) → slots ≤ 8192 → nat_lt (0 + slots) (2 ^ 64) ≡ true
 fits_from_0 slots few = lt-ltb (0 + slots) (2 ^ 64) (omega (arith, few))
 
-groups_fit : (sources : List SourceRow) (rated : List (ℕ × List OutputRow)) (groups : List GroupTable) → AllZip (IsPlannedAt sources) rated groups → all_fit 0 groups ≡ true
+groups_fit : (sources : List SourceRow) (rated : List (ℕ × List OutputRow)) (groups : List SlotTable) → AllZip (IsPlannedAt sources) rated groups → all_fit 0 groups ≡ true
 groups_fit sources [] [] planned = refl
 groups_fit sources [] (t ∷ ts) planned = absurd planned
 groups_fit sources (rows ∷ rated) [] planned = absurd planned

@@ -10,12 +10,12 @@ use Rattle.a429_slots.specs.History.{last_of}
 use Rattle.a429_slots.specs.Planned.{IsPlanOf}
 use Rattle.a429_slots.specs.Proposed.{Proposed}
 use Rattle.a429_equipment.specs.SameStation.{same_station}
-use Rattle.a429_slots.specs.Sending.{Sending, after_cell, fits_next, turned}
-use Rattle.a429_slots.specs.Tables.{GroupTable, PlanTable, cells_of, groups_of}
+use Rattle.a429_slots.specs.FrameStates.{FrameState, after_cell, fits_next, turned}
+use Rattle.a429_slots.specs.Tables.{SlotTable, PlanTable, cells_of, groups_of}
 use Rattle.a429_station.specs.Course.{Course, IsSentIn, meetings}
 use Rattle.a429_station.specs.Numbered.{AllNumbered, AllOfThree}
 use Rattle.a429_station.specs.Resubmitting.{IsDoneBetween, Running}
-use Rattle.a429_workers.specs.Calls.{Call, Asks, Meets, StaysMid, StaysSpent, Standing, Takes, Turns, AreLawful, IsAnswered, after, before_calls, standing_after, table_of}
+use Rattle.a429_workers.specs.Calls.{Call, Asks, Meets, StaysMid, StaysSpent, GroupState, Takes, Turns, AreLawful, IsAnswered, after, before_calls, state_after, table_of}
 use Rattle.a429_workers.specs.Sends.{AreWhole, is_send, is_taken, sent_in}
 use Rattle.a429_workers.specs.declared.cells.Sent.{Sent}
 use Rattle.a429_workers.specs.declared.sending.SendTotals.{SendTotals}
@@ -27,13 +27,13 @@ use Rattle.a429_cli.specs.Resubmitted.{AreAnswers}
 
 -- ---- one cell, one frame
 
-cell_sent : (f : Sending) → nat_lt f.sent (cells_of f.table) ≡ true → after_cell f ≡ record f { sent = f.sent + 1 }
+cell_sent : (f : FrameState) → nat_lt f.sent (cells_of f.table) ≡ true → after_cell f ≡ record f { sent = f.sent + 1 }
 cell_sent f room = rw room refl
 
-frame_begun : (f : Sending) (t : GroupTable) → fits_next f t ≡ true → (turned f t).table ≡ t
+frame_begun : (f : FrameState) (t : SlotTable) → fits_next f t ≡ true → (turned f t).table ≡ t
 frame_begun f t room = rw room refl
 
-no_cell_sent : (f : Sending) (t : GroupTable) → fits_next f t ≡ true → (turned f t).sent ≡ 0
+no_cell_sent : (f : FrameState) (t : SlotTable) → fits_next f t ≡ true → (turned f t).sent ≡ 0
 no_cell_sent f t room = rw room refl
 
 -- a frame that was taken: all cells of the one before were sent, and the next one can be counted
@@ -44,9 +44,9 @@ taken_next n false false m is = absurd (cc is)
 
 -- ---- a group's calls
 
-module _ (g : ℕ) (p : GroupTable) where
+module _ (g : ℕ) (p : SlotTable) where
   -- the slot tables of the frames that were taken, in order
-  abbrev frames_in : List Call → List GroupTable
+  abbrev frames_in : List Call → List SlotTable
   frames_in [] = []
   frames_in (Turns plans (Takes n) ∷ calls) = table_of g p plans ∷ frames_in calls
   frames_in (Turns plans StaysMid ∷ calls) = frames_in calls
@@ -69,8 +69,8 @@ module _ (g : ℕ) (p : GroupTable) where
   frames_cells calls = sum_by cells_of (frames_in calls)
 
   -- the cells that calls send, with those of the frame that was begun before
-  counted : (rest : List Call) (s : Standing) (calls : List Call) → s.frame.sent ≤ cells_of s.frame.table → AreLawful g p s (calls ++ rest) → AllByRecursion (λ c. IsTrue (is_send c)) calls
-      → length (sent_in calls) + s.frame.sent + cells_of (standing_after g p s calls).frame.table ≡ cells_of s.frame.table + frames_cells calls + (standing_after g p s calls).frame.sent
+  counted : (rest : List Call) (s : GroupState) (calls : List Call) → s.frame.sent ≤ cells_of s.frame.table → AreLawful g p s (calls ++ rest) → AllByRecursion (λ c. IsTrue (is_send c)) calls
+      → length (sent_in calls) + s.frame.sent + cells_of (state_after g p s calls).frame.table ≡ cells_of s.frame.table + frames_cells calls + (state_after g p s calls).frame.sent
   counted rest s [] few law only = omega arith
   counted rest s (Asks None ∷ calls) few law only = absurd (cc (only.0))
   counted rest s (Meets loads ∷ calls) few law only = absurd (cc (only.0))
@@ -81,8 +81,8 @@ module _ (g : ℕ) (p : GroupTable) where
       let answered : IsAnswered s c = law.0 in
       let left = (due_is s.frame answered.cell answered.due).left in
       let one : next.frame ≡ record s.frame { sent = s.frame.sent + 1 } = cell_sent s.frame left in
-      let sent : next.frame.sent ≡ s.frame.sent + 1 = ap (λ (f : Sending). f.sent) one in
-      let same : cells_of next.frame.table ≡ cells_of s.frame.table = ap (λ (f : Sending). cells_of f.table) one in
+      let sent : next.frame.sent ≡ s.frame.sent + 1 = ap (λ (f : FrameState). f.sent) one in
+      let same : cells_of next.frame.table ≡ cells_of s.frame.table = ap (λ (f : FrameState). cells_of f.table) one in
       let room : s.frame.sent < cells_of s.frame.table = ltb-true s.frame.sent (cells_of s.frame.table) left in
       let later = counted rest next calls (omega (arith, sent, same, room)) law.1 only.1 in
       omega (arith, later, sent, same)
@@ -96,12 +96,12 @@ module _ (g : ℕ) (p : GroupTable) where
       let more = sum_by-cons cells_of (table_of g p plans) (frames_in calls) in
       omega (arith, later, none, begun, all, few, more)
 
-  module _ (R : GroupTable → Type 0) (own : R p) where
+  module _ (R : SlotTable → Type 0) (own : R p) where
     -- the group's slot tables of a plan
     abbrev Gives : PlanTable → Type 0
-    Gives x = (t : GroupTable) → slice_get (groups_of x) g ≡ Some t → R t
+    Gives x = (t : SlotTable) → slice_get (groups_of x) g ≡ Some t → R t
 
-    of_group : (y : Option GroupTable) → ((t : GroupTable) → y ≡ Some t → R t) → R (unwrap_or y p)
+    of_group : (y : Option SlotTable) → ((t : SlotTable) → y ≡ Some t → R t) → R (unwrap_or y p)
     of_group None gives = own
     of_group (Some t) gives = gives t refl
 
@@ -112,7 +112,7 @@ module _ (g : ℕ) (p : GroupTable) where
     fits : (plans : List PlanTable) → AllByRecursion Gives plans → R (table_of g p plans)
     fits plans all = of_last (last_of plans) (λ x is. all_at Gives plans (length plans - 1) x all is)
 
-    all_fit : (rest : List Call) (s : Standing) (calls : List Call) → AreLawful g p s (calls ++ rest) → AllByRecursion Gives (standing_after g p s (calls ++ rest)).seen → AllByRecursion R (frames_in calls)
+    all_fit : (rest : List Call) (s : GroupState) (calls : List Call) → AreLawful g p s (calls ++ rest) → AllByRecursion Gives (state_after g p s (calls ++ rest)).seen → AllByRecursion R (frames_in calls)
     all_fit rest s [] law seen = tt
     all_fit rest s (Asks None ∷ calls) law seen = all_fit rest s calls law.1 seen
     all_fit rest s (Asks (Some c) ∷ calls) law seen = all_fit rest (after g p s (Asks (Some c))) calls law.1 seen
@@ -121,16 +121,16 @@ module _ (g : ℕ) (p : GroupTable) where
     all_fit rest s (Turns plans StaysSpent ∷ calls) law seen = all_fit rest (after g p s (Turns plans StaysSpent)) calls law.1 seen
     all_fit rest s (Turns plans (Takes n) ∷ calls) law seen =
         let next = after g p s (Turns plans (Takes n)) in
-        let end = standing_after g p next (calls ++ rest) in
+        let end = state_after g p next (calls ++ rest) in
         (fits plans (all_beginning Gives plans end.seen (seen_on g p next (calls ++ rest) law.1) seen), all_fit rest next calls law.1 seen)
 
 -- ---- the plans that were published meanwhile
 
-module _ (t : TableRecord) (g : ℕ) (R : GroupTable → Type 0) where
+module _ (t : TableRecord) (g : ℕ) (R : SlotTable → Type 0) where
   abbrev Given : PlanTable → Type 0
-  Given x = (p : GroupTable) → slice_get (groups_of x) g ≡ Some p → R p
+  Given x = (p : SlotTable) → slice_get (groups_of x) g ≡ Some p → R p
 
-  all_given : (v w : Running) (tables : List (List ℕ)) (answers : List (Option ℕ)) → v.station ≡ t → ((p : GroupTable) → HasTableOf t g p tables → R p) → AreAnswers v tables answers w
+  all_given : (v w : Running) (tables : List (List ℕ)) (answers : List (Option ℕ)) → v.station ≡ t → ((p : SlotTable) → HasTableOf t g p tables → R p) → AreAnswers v tables answers w
       → AllByRecursion Given v.planner.list → AllByRecursion Given w.planner.list
   all_given v w [] [] here each is all = subst (λ (x : Running). AllByRecursion Given x.planner.list) (sym is) all
   all_given v w [] (a ∷ answers) here each is all = absurd is
@@ -144,7 +144,7 @@ module _ (t : TableRecord) (g : ℕ) (R : GroupTable → Type 0) where
 
 -- ---- a group of a run
 
-whole_by : (frames : ℕ) (first : GroupTable) (taken : List GroupTable) (t : TableRecord) (q : PlanTable) (further : List (List ℕ)) (g : ℕ) (totals : SendTotals) (calls : List Call) (end : Sending)
+whole_by : (frames : ℕ) (first : SlotTable) (taken : List SlotTable) (t : TableRecord) (q : PlanTable) (further : List (List ℕ)) (g : ℕ) (totals : SendTotals) (calls : List Call) (end : FrameState)
     → slice_get (groups_of q) g ≡ Some first → AreWhole frames calls end → length taken ≡ count_by is_taken calls → AllByRecursion (IsTableOf t q further g) taken
     → totals.cells ≡ length (sent_in calls) → length (sent_in calls) + 0 + cells_of end.table ≡ cells_of first + sum_by cells_of taken + end.sent
     → IsSentWhole t q further frames g totals
@@ -158,8 +158,8 @@ sent_whole taken frames t c further g before after totals given S =
     let R = IsTableOf t c.opened further g in
     let rest = meetings t c in
     let own : R S.table = inl S.works.opens in
-    let seen = all_beginning (Given t g R) (standing_after g S.table start (S.calls ++ rest)).seen (c.opened ∷ map (λ (q : Proposed). q.plan) c.later) S.works.seen given in
-    whole_by frames S.table (frames_in g S.table S.calls) t c.opened further g totals S.calls (standing_after g S.table start S.calls).frame S.works.opens S.whole (as_many g S.table S.calls)
+    let seen = all_beginning (Given t g R) (state_after g S.table start (S.calls ++ rest)).seen (c.opened ∷ map (λ (q : Proposed). q.plan) c.later) S.works.seen given in
+    whole_by frames S.table (frames_in g S.table S.calls) t c.opened further g totals S.calls (state_after g S.table start S.calls).frame S.works.opens S.whole (as_many g S.table S.calls)
     (all_fit g S.table R own rest start S.calls S.works.lawful seen) (ap (λ (x : SendTotals). x.cells) S.counted) (counted g S.table rest start S.calls (omega arith) S.works.lawful S.only)
 
 all_of : {X Y Z : Type 0} (P : ℕ → X → Y → Z → Type 0) (Q : ℕ → Z → Type 0) → ((k : ℕ) (x : X) (y : Y) (z : Z) → P k x y z → Q k z) → (xs : List X) (ys : List Y) (zs : List Z) → AllOfThree P xs ys zs → AllNumbered Q zs

@@ -10,7 +10,7 @@ use Rattle.a429_equipment.specs.declared.rows.ReceiverRow.{ReceiverRow}
 use Rattle.a429_equipment.specs.declared.rows.GroupRow.{GroupRow}
 use Rattle.a429_slots.specs.Planned.{IsPlanOf}
 use Rattle.a429_slots.specs.Proposed.{Proposed}
-use Rattle.a429_slots.specs.Tables.{GroupTable, PlanTable, cells_of, groups_of}
+use Rattle.a429_slots.specs.Tables.{SlotTable, PlanTable, cells_of, groups_of}
 use Rattle.a429_values.specs.Ends as ends
 use Rattle.a429_workers.specs.Receives as receives
 use Rattle.a429_workers.specs.Receives.{answers_to}
@@ -141,20 +141,20 @@ IsHeard t arrivals r totals =
     (hub : ends.Place) × (hub.station ≡ t) × (totals ≡ receives.totals_of (answers_to (fresh hub r) (words_for arrivals r))) × (length (words_for arrivals r) ≤ 1000000)
 
 -- one of these tables is of the station, and this is the slot table of group g by its plan
-abbrev pub HasTableOf : TableRecord → ℕ → GroupTable → List (List ℕ) → Type 0
+abbrev pub HasTableOf : TableRecord → ℕ → SlotTable → List (List ℕ) → Type 0
 HasTableOf t g p [] = ⊥
 HasTableOf t g p (table ∷ tables) =
     ((q : Proposed) × IsProposedBy table q × (same_station t q.station ≡ true) × (slice_get (groups_of q.plan) g ≡ Some p)) ⊎ HasTableOf t g p tables
 
 -- the slot table of group g by the plan of the station, or by that of a further table
-abbrev pub IsTableOf : TableRecord → PlanTable → List (List ℕ) → ℕ → GroupTable → Type 0
+abbrev pub IsTableOf : TableRecord → PlanTable → List (List ℕ) → ℕ → SlotTable → Type 0
 IsTableOf t plan further g p = (slice_get (groups_of plan) g ≡ Some p) ⊎ HasTableOf t g p further
 
 -- group g sent so many frames, whole: the first by the plan of the station, each later one by it or by that of a further table
 abbrev pub IsSentWhole : TableRecord → PlanTable → List (List ℕ) → ℕ → ℕ → SendTotals → Type 0
 IsSentWhole t plan further zero g sent = sent.cells ≡ 0
 IsSentWhole t plan further (suc n) g sent =
-    (first : GroupTable) × (slice_get (groups_of plan) g ≡ Some first) × (later : List GroupTable) × (length later ≡ n) × AllByRecursion (IsTableOf t plan further g) later
+    (first : SlotTable) × (slice_get (groups_of plan) g ≡ Some first) × (later : List SlotTable) × (length later ≡ n) × AllByRecursion (IsTableOf t plan further g) later
     × (sent.cells ≡ cells_of first + sum_by cells_of later)
 
 -- so did each group

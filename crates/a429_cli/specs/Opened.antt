@@ -3,7 +3,7 @@ use Rattle.std.specs.Prelude.{◌≡◌, ◌∷◌, [], ℕ, List, Option, Resul
 use Rattle.std.specs.declared.vec.Vec.{Vec}
 use Rattle.std.specs.declared.alloc.Global.{Global}
 use Rattle.a429_slots.specs.Proposed.{Proposed}
-use Rattle.a429_core.specs.Standing.{StandsFor}
+use Rattle.a429_core.specs.MachineStates.{StandsForHistory}
 use Rattle.a429_console.specs.FileReadings.{AreRead, IsFirstUnread}
 use Rattle.a429_console.specs.Names.{naming_of}
 use Rattle.a429_console.specs.Outputs.{IsPut}
@@ -13,14 +13,14 @@ use Rattle.a429_console.specs.Tables.{IsProposedBy}
 use Rattle.a429_console.specs.declared.refusals.CommandRefusal.{CommandRefusal}
 use Rattle.a429_cli.specs.declared.replay.Input.{Input}
 use Rattle.a429_cli.specs.declared.replay.script.ScriptEvent.{ScriptEvent}
-use Rattle.a429_cli.specs.declared.replay.station.Station.{Station}
+use Rattle.a429_cli.specs.declared.replay.station.ReplayStation.{ReplayStation}
 
 -- it has the names of the proposed station, and nothing happened to it since it was opened at slot 0
-abbrev pub IsOpened : Proposed → Station → Type 0
-IsOpened q s = (s.names ≡ naming_of q.station) × StandsFor 41 (record { proposal = q; first = 0 }) [] s.state
+abbrev pub IsOpened : Proposed → ReplayStation → Type 0
+IsOpened q s = (s.names ≡ naming_of q.station) × StandsForHistory 41 (record { proposal = q; first = 0 }) [] s.state
 
 -- the station of a table's bytes, just opened
-abbrev pub IsOpenedFrom : List ℕ → Station → Type 0
+abbrev pub IsOpenedFrom : List ℕ → ReplayStation → Type 0
 IsOpenedFrom table s = (q : Proposed) × IsProposedBy table q × IsOpened q s
 
 abbrev pub input_of : Input → ReplayInput
@@ -36,10 +36,10 @@ IsInputReading file table script further result =
     MatchResult result (λ i. IsInput file table script further (input_of i)) (OrMemory (IsFirstUnread file (table ∷ script ∷ further)))
 
 -- the station, just opened, from which a replay of these bytes starts, whose script has no faulty line
-abbrev pub IsPreparedFor : ReplayInput → Station → Type 0
+abbrev pub IsPreparedFor : ReplayInput → ReplayStation → Type 0
 IsPreparedFor i s = (q : Proposed) × (events : List ScriptEvent) × IsStart i q events × IsOpened q s
 
 -- of a station just opened: what the events of the script come to was put
-abbrev pub IsOutcomePut : ReplayInput → Station → Option (List ℕ) → Option (List ℕ) → ℕ → Type 0
+abbrev pub IsOutcomePut : ReplayInput → ReplayStation → Option (List ℕ) → Option (List ℕ) → ℕ → Type 0
 IsOutcomePut i s old new status =
     (q : Proposed) (events : List ScriptEvent) → IsStart i q events → IsOpened q s → IsPut (IsOutcome i q events) old new status

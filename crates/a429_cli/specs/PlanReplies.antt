@@ -7,7 +7,7 @@ use Rattle.a429_table.specs.Reading.{reading}
 use Rattle.a429_slots.specs.Proposed.{Proposed}
 use Rattle.a429_slots.specs.Tables.{PlanTable}
 use Rattle.a429_cert.specs.PlanText.{plan_text_of}
-use Rattle.a429_documents.specs.Aligned.{aligned}
+use Rattle.a429_documents.specs.Aligned.{aligned_text}
 use Rattle.a429_documents.specs.Document.{csv_text_of, icd_rows}
 use Rattle.a429_documents.specs.Margins.{IsMarginText}
 use Rattle.a429_cli.specs.declared.plan_texts.PlanText.{PlanText}
@@ -30,7 +30,7 @@ use Rattle.a429_console.specs.declared.refusals.CommandRefusal.TheVariants as re
 -- the text tells this of a station's plan
 abbrev pub IsTextOf : PlanText → TableRecord → PlanTable → List ℕ → Type 0
 IsTextOf Plan e p text = text ≡ plan_text_of e p
-IsTextOf Document e p text = text ≡ aligned (icd_rows e p)
+IsTextOf Document e p text = text ≡ aligned_text (icd_rows e p)
 IsTextOf Sheet e p text = text ≡ csv_text_of (icd_rows e p)
 IsTextOf Margin e p text = IsMarginText e p text
 

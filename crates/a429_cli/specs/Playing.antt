@@ -5,7 +5,7 @@ use Rattle.a429_slots.specs.Events as machine
 use Rattle.a429_slots.specs.Proposed.{Proposed}
 use Rattle.a429_slots.specs.History.{Opening}
 use Rattle.a429_slots.specs.Answers.{answer}
-use Rattle.a429_core.specs.Standing.{Standing, StandsFor}
+use Rattle.a429_core.specs.MachineStates.{MachineState, StandsForHistory}
 use Rattle.a429_cli.specs.AnswerLines.{answer_line}
 use Rattle.a429_console.specs.Names.{Naming}
 use Rattle.a429_console.specs.RefusalText.{refusal_line}
@@ -49,14 +49,14 @@ Played o names further E (event ∷ events) E' bytes =
     (M : List Event) × (line : List ℕ) × (rest : List ℕ) × Happens o names further E event M line × Played o names further M events E' rest × (bytes ≡ line ++ rest)
 
 -- an event of a script happens to a state, whatever history the state stands for, and the line that is printed is appended to a text
-abbrev pub PlaysOne : List (List ℕ) → List (List ℕ) → ScriptEvent → Standing → Standing → List ℕ → List ℕ → Type 0
+abbrev pub PlaysOne : List (List ℕ) → List (List ℕ) → ScriptEvent → MachineState → MachineState → List ℕ → List ℕ → Type 0
 PlaysOne names further event old new before after =
-    (o : Opening) (E : List Event) → StandsFor 41 o E old
-    → (E' : List Event) × (line : List ℕ) × Happens o names further E event E' line × StandsFor 41 o E' new × (after ≡ before ++ line)
+    (o : Opening) (E : List Event) → StandsForHistory 41 o E old
+    → (E' : List Event) × (line : List ℕ) × Happens o names further E event E' line × StandsForHistory 41 o E' new × (after ≡ before ++ line)
 
 -- the first of a script's events happen to a state, whatever history the state stands for, and the bytes that are printed are put as Puts says;
 -- where memory sufficed, all of them happen
-abbrev pub PlaysScript : Naming → List (List ℕ) → List ℕ → Standing → (List ℕ → Type 0) → Bool → Type 0
+abbrev pub PlaysScript : Naming → List (List ℕ) → List ℕ → MachineState → (List ℕ → Type 0) → Bool → Type 0
 PlaysScript names further script old Puts sufficed =
-    (events : List ScriptEvent) → script_events names (length further) script ≡ Ok events → (o : Opening) (E : List Event) → StandsFor 41 o E old
+    (events : List ScriptEvent) → script_events names (length further) script ≡ Ok events → (o : Opening) (E : List Event) → StandsForHistory 41 o E old
     → (n : ℕ) × (E' : List Event) × (bytes : List ℕ) × Played o names.sources further E (take n events) E' bytes × Puts bytes × (IsTrue sufficed → n ≡ length events)

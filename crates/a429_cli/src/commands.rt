@@ -15,7 +15,7 @@ use crate::plan_texts::{PlanText, document_kind, print_plan, print_verdict};
 use crate::replay::replay;
 use crate::word::tell_word;
 use a429_console::arguments::replies::explain;
-use a429_console::arguments::requests::{CommandRequest, Request, not_here, parse};
+use a429_console::arguments::requests::{CommandRequest, Request, other_call_error, parse};
 use a429_console::files::FileReader;
 use a429_console::hints::{Hints, tell_hint};
 use a429_console::output::endings::tell_fault;
@@ -94,7 +94,7 @@ fn answer_here<H: Hints, F: FileReader, O: Output, V: Output>(
     match request {
         Request::Command(asked) => answer_with_hint(alloc, request, asked, hints, files, out, err),
         Request::Live(_) => {
-            let error = not_here(alloc, "this call runs no station");
+            let error = other_call_error(alloc, "this call runs no station");
             explain(alloc, &error, out, err)
         }
     }
@@ -144,7 +144,9 @@ fn answer<F: FileReader, O: Output>(
         CommandRequest::Word { text } => tell_word(alloc, text, out),
         CommandRequest::Lines { file, filters } => tell_lines(alloc, files, file, filters, out),
         CommandRequest::Plan { table } => print_plan(alloc, files, table, PlanText::Plan, out),
-        CommandRequest::Icd { table, csv } => { print_plan(alloc, files, table, document_kind(*csv), out) }
+        CommandRequest::Icd { table, csv } => {
+            print_plan(alloc, files, table, document_kind(*csv), out)
+        }
         CommandRequest::Margin { table } => print_plan(alloc, files, table, PlanText::Margin, out),
         CommandRequest::Draw {
             table,

@@ -6,13 +6,13 @@ ghost use Rattle.a429_console.specs.RefusalText.{OrMemory};
 ghost use Rattle.a429_cli.specs.Drawings.{IsDrawReply, IsDrawing, IsImage, IsNoGroup, group_asked, group_numbered};
 
 use a429_console::files::FileReader;
+use a429_console::files::reading::read_file;
 use a429_console::output::endings::finish;
 use a429_console::output::{Output, OutputFault};
+use a429_console::refusals::tables::{no_group, propose};
+use a429_console::refusals::{CommandRefusal, refuse};
 use a429_documents::draw_text;
 use a429_equipment::GroupRow;
-use a429_console::files::reading::read_file;
-use a429_console::refusals::{CommandRefusal, refuse};
-use a429_console::refusals::tables::{no_group, propose};
 use a429_slots::{OUTPUTS, Proposal};
 use std::alloc::Global;
 
@@ -60,7 +60,7 @@ fn image_of(
 
 /// The image of the plan of the table in a file, of the group of this name or of all. Refused is the file, then the table,
 /// then its plan, then the name.
-fn drawn<F: FileReader>(
+fn image_of_file<F: FileReader>(
     alloc: Global,
     files: &mut F,
     name: &str,
@@ -91,7 +91,7 @@ pub fn print_drawing<F: FileReader, O: Output>(
     ensures flushed { OnOk result (IsTrue (O.is_flushed out.new)) }
     ensures faults { CountsFault result (O.failures out.old) (O.failures out.new) }
 {
-    match drawn(alloc, files, name, group, slots) {
+    match image_of_file(alloc, files, name, group, slots) {
         Ok(text) => finish(&text, true, out),
         Err(refusal) => refuse(alloc, &refusal, out),
     }

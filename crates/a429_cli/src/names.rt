@@ -90,7 +90,7 @@ impl Names {
     }
 
     /// The line of an accepted word of the source of this number, whose name is nothing where there is none.
-    pub fn accepted(&self, source: usize) -> &[u8]
+    pub fn accepted_line(&self, source: usize) -> &[u8]
         ensures { result.now ≡ answer_line self.now.sources (Accepted source) }
     {
         match self.sources.get(source) {

@@ -7,12 +7,12 @@ ghost use Rattle.a429_console.specs.Outputs.{AppendsPending, CountsFault};
 ghost use Rattle.a429_console.specs.RefusalText.{refusal_line};
 
 use crate::lines::reports::push_found;
+use crate::names::Names;
 use crate::replay::answers::push_answer;
 use a429_console::output::from_end::push_number;
 use a429_console::output::{Output, OutputFault};
-use a429_core::Answer;
-use crate::names::Names;
 use a429_console::refusals::CommandRefusal;
+use a429_core::Answer;
 use a429_line::Found;
 use std::alloc::{AllocError, Global};
 use std::io::Write;

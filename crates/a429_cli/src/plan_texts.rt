@@ -9,12 +9,12 @@ ghost use Rattle.a429_console.specs.RefusalText.{OrMemory};
 
 use a429_cert::{NoVerdict, Verdict, judge, plan_text};
 use a429_console::files::FileReader;
+use a429_console::files::reading::read_file;
 use a429_console::output::endings::{finish, refuse_memory};
 use a429_console::output::{Output, OutputFault};
-use a429_documents::{icd_csv, icd_text, margin_text};
-use a429_console::files::reading::read_file;
-use a429_console::refusals::{CommandRefusal, refuse};
 use a429_console::refusals::tables::{propose, read_table, unfit};
+use a429_console::refusals::{CommandRefusal, refuse};
+use a429_documents::{icd_csv, icd_text, margin_text};
 use a429_slots::{OUTPUTS, Proposal};
 use std::alloc::{AllocError, Global};
 use std::io;
@@ -61,7 +61,7 @@ fn text_of(
 }
 
 /// The text that tells this of the plan of the table in a file. Refused is the file, then the table, then its plan.
-fn planned<F: FileReader>(
+fn text_of_file<F: FileReader>(
     alloc: Global,
     files: &mut F,
     name: &str,
@@ -89,7 +89,7 @@ pub fn print_plan<F: FileReader, O: Output>(
     ensures flushed { OnOk result (IsTrue (O.is_flushed out.new)) }
     ensures faults { CountsFault result (O.failures out.old) (O.failures out.new) }
 {
-    match planned(alloc, files, name, kind) {
+    match text_of_file(alloc, files, name, kind) {
         Ok(text) => finish(&text, true, out),
         Err(refusal) => refuse(alloc, &refusal, out),
     }
@@ -97,7 +97,7 @@ pub fn print_plan<F: FileReader, O: Output>(
 
 /// The verdict on a text by a table's bytes. Refused is the table's fault, then the first output in table order
 /// whose interval admits no period of the grid.
-fn judged(alloc: Global, table: &[u8], text: &[u8]) -> Result<Verdict, CommandRefusal>
+fn verdict_on(alloc: Global, table: &[u8], text: &[u8]) -> Result<Verdict, CommandRefusal>
     ensures { MatchResult result (IsJudged table.now text.now) (OrMemory (IsUnjudged table.now)) }
 {
     let equipment = read_table(alloc, table)?;
@@ -110,7 +110,7 @@ fn judged(alloc: Global, table: &[u8], text: &[u8]) -> Result<Verdict, CommandRe
 
 /// The verdict on the text in a file by the table in another. Refused is the first file, then the second, then
 /// the table.
-fn judged_files<F: FileReader>(
+fn verdict_on_files<F: FileReader>(
     alloc: Global,
     files: &mut F,
     table: &str,
@@ -120,7 +120,7 @@ fn judged_files<F: FileReader>(
 {
     let table = read_file(alloc, files, table)?;
     let text = read_file(alloc, files, plan)?;
-    judged(alloc, &table, &text)
+    verdict_on(alloc, &table, &text)
 }
 
 /// Writes the line of a verdict.
@@ -171,7 +171,7 @@ pub fn print_verdict<F: FileReader, O: Output>(
     ensures flushed { OnOk result (IsTrue (O.is_flushed out.new)) }
     ensures faults { CountsFault result (O.failures out.old) (O.failures out.new) }
 {
-    match judged_files(alloc, files, table, plan) {
+    match verdict_on_files(alloc, files, table, plan) {
         Ok(verdict) => tell_verdict(alloc, verdict, out),
         Err(refusal) => refuse(alloc, &refusal, out),
     }

@@ -42,7 +42,7 @@ fn is_live(words: &[&str]) -> bool
 }
 
 /// Puts the line that says that memory was refused. The status is 1.
-fn without_memory<O: Output, V: Output>(out: &mut O, err: &mut V) -> u8
+fn refuse_without_memory<O: Output, V: Output>(out: &mut O, err: &mut V) -> u8
     ensures { IsMemoryRefused (writing O.contents O.failures O.is_flushed out.old out.new)
         (writing V.contents V.failures V.is_flushed err.old err.new) result }
 {
@@ -64,7 +64,15 @@ fn answer_live<
     O: Output,
     V: Output,
     P: Progress + Sync,
->(rt: &R, words: &'a [&'a str], hints: &H, files: &mut F, out: &mut O, err: &mut V, progress: &P) -> u8
+>(
+    rt: &R,
+    words: &'a [&'a str],
+    hints: &H,
+    files: &mut F,
+    out: &mut O,
+    err: &mut V,
+    progress: &P,
+) -> u8
     ensures { IsLiveDone (texts_of words.entry.now) (record { tells = F.tells files.old; file = F.file files.old })
         (λ Says. HasReadFrom F.answers Says files.old)
         (writing O.contents O.failures O.is_flushed out.old out.new) (writing V.contents V.failures V.is_flushed err.old err.new) result }
@@ -103,7 +111,7 @@ fn run_words<
         (writing O.contents O.failures O.is_flushed out.old out.new) (writing V.contents V.failures V.is_flushed err.old err.new) result }
 {
     let Ok(words) = texts(rt.alloc(), words) else {
-        return without_memory(out, err);
+        return refuse_without_memory(out, err);
     };
     if is_live(&words) {
         answer_live(rt, &words, hints, files, out, err, progress)
@@ -124,15 +132,7 @@ pub fn run_program<
     O: Output,
     V: Output,
     P: Progress + Sync,
->(
-    rt: &R,
-    arguments: &A,
-    hints: &H,
-    files: &mut F,
-    out: &mut O,
-    err: &mut V,
-    progress: &P,
-) -> u8
+>(rt: &R, arguments: &A, hints: &H, files: &mut F, out: &mut O, err: &mut V, progress: &P) -> u8
     ensures { HasRun (A.gives arguments.now) (A.ends arguments.now) (record { tells = F.tells files.old; file = F.file files.old })
         (λ Says. HasReadFrom F.answers Says files.old)
         (writing O.contents O.failures O.is_flushed out.old out.new) (writing V.contents V.failures V.is_flushed err.old err.new) result }
@@ -140,6 +140,6 @@ pub fn run_program<
     match given_words(rt.alloc(), arguments) {
         Ok(words) => run_words(rt, &words, hints, files, out, err, progress),
         Err(WordsFault::NotText) => warn(NOT_TEXT, err),
-        Err(WordsFault::NoMemory) => without_memory(out, err),
+        Err(WordsFault::NoMemory) => refuse_without_memory(out, err),
     }
 }

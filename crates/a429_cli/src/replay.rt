@@ -17,11 +17,11 @@ use crate::pending::Pending;
 use crate::replay::further::{FurtherTable, plan_tables};
 use crate::replay::playing::play_all;
 use crate::replay::script::{ScriptForm, check_script};
-use crate::replay::station::Station;
+use crate::replay::station::ReplayStation;
 use a429_console::files::FileReader;
+use a429_console::files::reading::{read_file, read_files};
 use a429_console::output::endings::finish;
 use a429_console::output::{Output, OutputFault};
-use a429_console::files::reading::{read_file, read_files};
 use a429_console::refusals::{CommandRefusal, refuse};
 use std::alloc::Global;
 
@@ -66,10 +66,10 @@ fn read_input<F: FileReader>(
 }
 
 /// The station that is given, where the script is one of it. Refused is the table, its plan, or the script.
-fn prepare(alloc: Global, input: &Input) -> Result<Station, CommandRefusal>
+fn prepare(alloc: Global, input: &Input) -> Result<ReplayStation, CommandRefusal>
     ensures { MatchResult result (IsPreparedFor (input_of input.now)) (OrMemory (IsNoStart (input_of input.now))) }
 {
-    let station = Station::open(alloc, &input.table)?;
+    let station = ReplayStation::open(alloc, &input.table)?;
     let form = ScriptForm {
         names: &station.names,
         further: input.further.len(),
@@ -82,7 +82,7 @@ fn prepare(alloc: Global, input: &Input) -> Result<Station, CommandRefusal>
 /// midst, these lines end with the one that says so.
 fn play_prepared<O: Output>(
     alloc: Global,
-    station: Station,
+    station: ReplayStation,
     input: &Input,
     out: &mut O,
 ) -> Result<u8, OutputFault>
@@ -91,7 +91,7 @@ fn play_prepared<O: Output>(
     ensures flushed { OnOk result (IsTrue (O.is_flushed out.new)) }
     ensures faults { CountsFault result (O.failures out.old) (O.failures out.new) }
 {
-    let Station { names, mut state } = station;
+    let ReplayStation { names, mut state } = station;
     let mut lines = Pending::new(alloc);
     let (further, script) = (&input.further, &input.script);
     let sufficed = play_all(alloc, &mut state, &names, further, script, &mut lines, out)?;

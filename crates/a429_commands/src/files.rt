@@ -1,6 +1,6 @@
 //! Readers that refuse a file, and writers that fail.
 
-use crate::support::{ONE, memory_files, repeated};
+use crate::support::{ONE, memory_files, repeat_text};
 use a429_cli::{CountedWriter, FileFault, FileReader, command};
 use a429_hints::HintLines;
 use std::alloc::Global;
@@ -185,7 +185,7 @@ fn cut_short_by(
 }
 
 /// Does a command whose two writers each fail after so many calls.
-fn cut_short(
+fn run_cut_short(
     rt: &impl Abort,
     alloc: Global,
     words: &[&str],
@@ -222,7 +222,7 @@ const WRITTEN: &[(&[&str], &str, usize, &str)] = &[
 #[test]
 fn a_writer_may_fail_at_any_call(rt: HostRuntime) {
     for (words, script, piece, lines) in WRITTEN {
-        let whole = cut_short(&rt, rt.alloc(), words, script, *piece, usize::MAX);
+        let whole = run_cut_short(&rt, rt.alloc(), words, script, *piece, usize::MAX);
         assert!(rt; whole.status == 0 || lines.starts_with("refused "));
         assert!(rt;
             whole.out.taken.as_slice() == lines.as_bytes(),
@@ -230,7 +230,7 @@ fn a_writer_may_fail_at_any_call(rt: HostRuntime) {
         );
         assert!(rt; whole.failures == 0, "for {words:?}");
         for good_calls in 0..whole.out.calls {
-            let cut = cut_short(&rt, rt.alloc(), words, script, *piece, good_calls);
+            let cut = run_cut_short(&rt, rt.alloc(), words, script, *piece, good_calls);
             assert!(rt; cut.status == 1, "for {words:?}, {good_calls}");
             assert!(rt;
                 OUTPUT_FAILED.starts_with(&cut.err.taken),
@@ -251,10 +251,10 @@ fn a_writer_may_fail_at_any_call(rt: HostRuntime) {
 
 #[test]
 fn help_ends_where_the_output_fails(rt: HostRuntime) {
-    let whole = cut_short(&rt, rt.alloc(), &["--help"], "", 64, usize::MAX);
+    let whole = run_cut_short(&rt, rt.alloc(), &["--help"], "", 64, usize::MAX);
     assert!(rt; whole.status == 0 && whole.err.calls == 0);
     for good_calls in 0..whole.out.calls {
-        let cut = cut_short(&rt, rt.alloc(), &["--help"], "", 64, good_calls);
+        let cut = run_cut_short(&rt, rt.alloc(), &["--help"], "", 64, good_calls);
         assert!(rt; cut.status == 1, "{good_calls}");
         assert!(rt; OUTPUT_FAILED.starts_with(&cut.err.taken), "{good_calls}");
         assert!(rt; cut.out.calls == good_calls + 1, "{good_calls}");
@@ -263,10 +263,10 @@ fn help_ends_where_the_output_fails(rt: HostRuntime) {
 
 #[test]
 fn a_mistake_that_cannot_be_told_has_status_1(rt: HostRuntime) {
-    let whole = cut_short(&rt, rt.alloc(), &["odd"], "", 64, usize::MAX);
+    let whole = run_cut_short(&rt, rt.alloc(), &["odd"], "", 64, usize::MAX);
     assert!(rt; whole.status == 2 && whole.out.calls == 0);
     for good_calls in 0..whole.err.calls {
-        let cut = cut_short(&rt, rt.alloc(), &["odd"], "", 64, good_calls);
+        let cut = run_cut_short(&rt, rt.alloc(), &["odd"], "", 64, good_calls);
         assert!(rt; cut.status == 1 && cut.out.calls == 0, "{good_calls}");
         assert!(rt;
             cut.err.calls == good_calls + 1 && cut.untold == 1,
@@ -288,7 +288,7 @@ fn a_refusal_stays_where_its_hint_cannot_be_told(rt: HostRuntime) {
 #[test]
 fn nobody_is_told_of_an_output_that_its_reader_closed(rt: HostRuntime) {
     for (words, script, piece, _) in WRITTEN {
-        let whole = cut_short(&rt, rt.alloc(), words, script, *piece, usize::MAX);
+        let whole = run_cut_short(&rt, rt.alloc(), words, script, *piece, usize::MAX);
         for good_calls in 0..whole.out.calls {
             let mut out = Failing::new(rt.alloc(), *piece, good_calls);
             out.kind = ErrorKind::BrokenPipe;
@@ -308,18 +308,18 @@ fn nobody_is_told_of_an_output_that_its_reader_closed(rt: HostRuntime) {
 
 #[test]
 fn an_output_that_failed_is_told(rt: HostRuntime) {
-    let cut = cut_short(&rt, rt.alloc(), &["word", "600000c1"], "", usize::MAX, 1);
+    let cut = run_cut_short(&rt, rt.alloc(), &["word", "600000c1"], "", usize::MAX, 1);
     assert!(rt; cut.status == 1 && cut.failures == 1);
     assert!(rt; cut.err.taken.as_slice() == OUTPUT_FAILED);
     // a flush that fails is an output that failed
-    let cut = cut_short(&rt, rt.alloc(), &["--version"], "", usize::MAX, 1);
+    let cut = run_cut_short(&rt, rt.alloc(), &["--version"], "", usize::MAX, 1);
     assert!(rt; cut.status == 1 && cut.failures == 1 && cut.out.calls == 2);
 }
 
 #[test]
 fn a_refusal_is_one_line_whatever_the_name(rt: HostRuntime) {
     let words = ["plan", "a\nb\u{1b}[2J\u{7f}\u{85}\u{e9} ?\r"];
-    let whole = cut_short(&rt, rt.alloc(), &words, "", usize::MAX, usize::MAX);
+    let whole = run_cut_short(&rt, rt.alloc(), &words, "", usize::MAX, usize::MAX);
     assert!(rt; whole.status == 1);
     let line = "refused file a?b?[2J??\u{e9} ??\n".as_bytes();
     assert!(rt; whole.out.taken.as_slice() == line);
@@ -327,15 +327,15 @@ fn a_refusal_is_one_line_whatever_the_name(rt: HostRuntime) {
 
 #[test]
 fn many_answers_are_written_in_pieces(rt: HostRuntime) {
-    let script = repeated(&rt, rt.alloc(), "cell g\nframe g\n", 20000);
+    let script = repeat_text(&rt, rt.alloc(), "cell g\nframe g\n", 20000);
     let words = ["replay", "t", "s"];
-    let whole = cut_short(&rt, rt.alloc(), &words, &script, usize::MAX, usize::MAX);
+    let whole = run_cut_short(&rt, rt.alloc(), &words, &script, usize::MAX, usize::MAX);
     let lines = whole.out.taken.as_slice();
     assert!(rt; whole.status == 0 && whole.out.calls > 3);
     assert!(rt; lines.starts_with(b"sent 0 0 none\nchanged 0\nsent 0 1 none\n"));
     assert!(rt; lines.ends_with(b"\nsent 0 19999 none\nchanged 0\n"));
     for good_calls in 0..whole.out.calls {
-        let cut = cut_short(&rt, rt.alloc(), &words, &script, usize::MAX, good_calls);
+        let cut = run_cut_short(&rt, rt.alloc(), &words, &script, usize::MAX, good_calls);
         assert!(rt;
             cut.status == 1 && cut.out.calls == good_calls + 1,
             "{good_calls}"

@@ -1,9 +1,8 @@
 //! How far a run of a station is, as it is told while it works.
 
-use crate::support::{ONE, memory_files, repeated};
-use a429_cli::CountedWriter;
+use crate::support::{ONE, memory_files, repeat_text};
+use a429_cli::{CountedWriter, Progress, ProgressLine, command_live};
 use a429_hints::HintLines;
-use a429_cli::{Progress, ProgressLine, command_live};
 use std::io;
 use std::io::Write;
 use std::sync::atomic::{AtomicU64, Ordering};
@@ -18,19 +17,19 @@ struct Sums {
 }
 
 impl Progress for Sums {
-    fn begins(&self, cells: u64) {
+    fn begin(&self, cells: u64) {
         self.all.fetch_add(cells, Ordering::SeqCst);
     }
 
-    fn sent(&self, cells: u64) {
+    fn tell_sent(&self, cells: u64) {
         self.cells.fetch_add(cells, Ordering::SeqCst);
     }
 
-    fn accepted(&self, words: u64) {
+    fn tell_accepted(&self, words: u64) {
         self.words.fetch_add(words, Ordering::SeqCst);
     }
 
-    fn ends(&self) {
+    fn end(&self) {
         self.ends.fetch_add(1, Ordering::SeqCst);
     }
 }
@@ -38,7 +37,7 @@ impl Progress for Sums {
 #[test]
 fn a_run_tells_cells_and_accepted_words_by_4096(rt: HostRuntime) {
     // each word twice, the second time with a false parity
-    let text = repeated(&rt, rt.alloc(), "r 600000c1\nr e00000c1\n", 9000);
+    let text = repeat_text(&rt, rt.alloc(), "r 600000c1\nr e00000c1\n", 9000);
     let mut files = memory_files(&rt, rt.alloc(), ONE, &text);
     let mut out = CountedWriter::new(Vec::new(rt.alloc()));
     let mut err = CountedWriter::new(Vec::new(rt.alloc()));
@@ -93,15 +92,15 @@ fn a_line_is_written_at_the_beginning_now_and_then_and_wiped(rt: HostRuntime) {
         bytes: &bytes,
     };
     let line = ProgressLine::new(rt.alloc(), screen);
-    line.begins(8388608);
+    line.begin(8388608);
     // "\rcells sent 0 of 8388608, words accepted 0"
     assert!(rt; pieces.load(Ordering::SeqCst) == 1 && bytes.load(Ordering::SeqCst) == 42);
-    line.accepted(4096);
-    line.sent(4194303);
+    line.tell_accepted(4096);
+    line.tell_sent(4194303);
     assert!(rt; pieces.load(Ordering::SeqCst) == 1);
-    line.sent(1);
+    line.tell_sent(1);
     // "\rcells sent 4194304 of 8388608, words accepted 4096"
     assert!(rt; pieces.load(Ordering::SeqCst) == 2 && bytes.load(Ordering::SeqCst) == 93);
-    line.ends();
+    line.end();
     assert!(rt; pieces.load(Ordering::SeqCst) == 3 && bytes.load(Ordering::SeqCst) == 97);
 }

@@ -23,7 +23,7 @@ max_us = 360
 "#;
 
 /// A text so many times.
-pub fn repeated(rt: &impl Abort, alloc: Global, text: &str, times: usize) -> String {
+pub fn repeat_text(rt: &impl Abort, alloc: Global, text: &str, times: usize) -> String {
     let mut all = String::new(alloc);
     for _ in 0..times {
         all.push_str(text).expect(rt, "memory");

@@ -19,16 +19,16 @@ abbrev pub AreRead : (List ℕ → Option (List ℕ)) → List (List ℕ) → Li
 AreRead file names contents = AllZip (λ name bytes. readable (file name) ≡ Some bytes) names contents
 
 -- a character as a refusal tells it: a control character, such as a line feed, as `?`
-abbrev pub shown_char : ℕ → ℕ
-shown_char c = if is_control c then 63 else c
+abbrev pub printable_char : ℕ → ℕ
+printable_char c = if is_control c then 63 else c
 
 -- a name as a refusal tells it, in one line
-unfoldable pub shown_name : List ℕ → List ℕ
-shown_name name = encode_utf8_all (map shown_char (chars name))
+unfoldable pub printable_name : List ℕ → List ℕ
+printable_name name = encode_utf8_all (map printable_char (chars name))
 
 -- the file of this name cannot be read
 abbrev pub IsFileRefusal : (List ℕ → Option (List ℕ)) → List ℕ → CommandRefusal → Type 0
-IsFileRefusal file name (refused.File told) = (string_bytes told ≡ shown_name name) × (readable (file name) ≡ None)
+IsFileRefusal file name (refused.File told) = (string_bytes told ≡ printable_name name) × (readable (file name) ≡ None)
 IsFileRefusal file name _ = ⊥
 
 -- of these files the first that cannot be read

@@ -6,7 +6,7 @@ use Rattle.a429_slots.specs.Planned.{IsPlanOf}
 use Rattle.a429_slots.specs.Proposed.{Proposed}
 use Rattle.a429_slots.specs.Faults.{IsFaultOf}
 use Rattle.a429_slots.specs.declared.planner.PlanFault.TheVariants as plan
-use Rattle.a429_console.specs.FileReadings.{shown_name}
+use Rattle.a429_console.specs.FileReadings.{printable_name}
 use Rattle.a429_console.specs.Names.{group_name, output_name}
 use Rattle.a429_console.specs.RefusalText.{OrMemory}
 use Rattle.a429_console.specs.declared.refusals.CommandRefusal.{CommandRefusal}
@@ -44,5 +44,5 @@ IsProposing table result = MatchResult result (IsProposedBy table) (OrMemory (Is
 
 -- the refusal of a group that is not there tells its name, in one line
 abbrev pub IsGroupRefusal : List ℕ → CommandRefusal → Type 0
-IsGroupRefusal name (refused.Group told) = string_bytes told ≡ shown_name name
+IsGroupRefusal name (refused.Group told) = string_bytes told ≡ printable_name name
 IsGroupRefusal name _ = ⊥

@@ -13,7 +13,7 @@ use Rattle.a429_equipment.specs.declared.arrivals.ArrivalRefusal.{ArrivalRefusal
 use Rattle.a429_equipment.specs.declared.arrivals.ArrivalRefusal.TheVariants as arrival
 use Rattle.a429_equipment.specs.Arrivals.{AreApart, passes_at, is_for, sorted}
 use Rattle.a429_equipment.specs.SameStation.{same_station}
-use Rattle.a429_slots.specs.Tables.{GroupTable, groups_of}
+use Rattle.a429_slots.specs.Tables.{SlotTable, groups_of}
 use Rattle.a429_slots.specs.Proposed.{Proposed}
 use Rattle.a429_slots.specs.Events.{Event, Arrive, Cell, Frame, Publish}
 use Rattle.a429_slots.specs.History.{Opening, Current, current, accepted_in, accepted_by, last_of, newest_number, newest_table, cell_due, answered_cells, is_over, has_room, word_sent}
@@ -47,7 +47,7 @@ cell_accepts_none C o E g = go (slice_get (groups_of o.proposal.plan) g)
     due E f None w = refl
     due E f (Some c) w = refl
 
-    go : (x : Option GroupTable) → source_in (option_map_or (λ p. cell_answer C o E g (answered_cells C o g p E) (current o g p E)) x (Refused NoSuch)) ≡ None
+    go : (x : Option SlotTable) → source_in (option_map_or (λ p. cell_answer C o E g (answered_cells C o g p E) (current o g p E)) x (Refused NoSuch)) ≡ None
     go None = refl
     go (Some p) = due E (current o g p E) (cell_due g (current o g p E)) (λ c. word_sent C o E (answered_cells C o g p E) (current o g p E) c)
 
@@ -59,7 +59,7 @@ frame_accepts_none C o E g = go (slice_get (groups_of o.proposal.plan) g)
     by n true false = refl
     by n false room = refl
 
-    go : (x : Option GroupTable) → source_in (option_map_or (λ p. frame_answer g (newest_number o E) (newest_table o g p E) (current o g p E)) x (Refused NoSuch)) ≡ None
+    go : (x : Option SlotTable) → source_in (option_map_or (λ p. frame_answer g (newest_number o E) (newest_table o g p E) (current o g p E)) x (Refused NoSuch)) ≡ None
     go None = refl
     go (Some p) = by (newest_number o E) (is_over g (current o g p E)) (has_room (current o g p E) (newest_table o g p E))
 

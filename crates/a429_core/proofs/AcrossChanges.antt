@@ -8,11 +8,11 @@ use Rattle.std.proofs.lemmas.Bool.{cases_Bool, cases_eq, cases_lt, le-ltb}
 use Rattle.std.proofs.lemmas.Option.{same_Some}
 use Rattle.a429_word.proofs.Lists.{clash}
 use Rattle.a429_slots.specs.declared.group_plan.SlotPlace.{SlotPlace}
-use Rattle.a429_slots.specs.Tables.{Placed, GroupTable, groups_of, buses_of}
+use Rattle.a429_slots.specs.Tables.{Placed, SlotTable, groups_of, buses_of}
 use Rattle.a429_slots.specs.Events.{Event, Cell}
 use Rattle.a429_slots.specs.History.{Opening, Current, accepted_by, answered_cells, current, is_too_close, last_of, newest_number, newest_table, next_frame}
 use Rattle.a429_slots.specs.TakenFrames.{is_taken_after, is_taken_at}
-use Rattle.a429_slots.specs.Sending.{sending_of}
+use Rattle.a429_slots.specs.FrameStates.{frame_state_of}
 use Rattle.a429_slots.specs.Spacing.{IsOutputCell, IsSentWithin}
 use Rattle.a429_slots.proofs.Answered.{event_at}
 use Rattle.a429_slots.proofs.Histories.{new_frame, take_following}
@@ -27,11 +27,11 @@ use Rattle.a429_core.proofs.GoingOut.{comes_from, far_after, far_on, fits_cell, 
 -- ---- where a frame begins
 
 -- the group sends no cell where it takes a Frame
-no_cell : (o : Opening) (g : ℕ) (p : GroupTable) (E : List Event) (c : ℕ) → is_taken_at o g p E c ≡ true → slice_get E c ≡ Some (Cell g) → ⊥
+no_cell : (o : Opening) (g : ℕ) (p : SlotTable) (E : List Event) (c : ℕ) → is_taken_at o g p E c ≡ true → slice_get E c ≡ Some (Cell g) → ⊥
 no_cell o g p E c taken asked = clash (sym (ap (λ (x : Option Event). option_map_or (is_taken_after o g p (take c E)) x false) asked) ∙ taken)
 
 -- from the first slot of the frame on, each slot is next, on each bus
-pub begins : (o : Opening) (g : ℕ) (p : GroupTable) (E : List Event) (c bus : ℕ) → c < length E → is_taken_at o g p E c ≡ true → next_slot_on o g p E (suc c) bus ≡ (current o g p (take (suc c) E)).first
+pub begins : (o : Opening) (g : ℕ) (p : SlotTable) (E : List Event) (c bus : ℕ) → c < length E → is_taken_at o g p E c ≡ true → next_slot_on o g p E (suc c) bus ≡ (current o g p (take (suc c) E)).first
 begins o g p E c bus below taken =
     let (e, there) = event_at E c below in
     let F = take c E in
@@ -40,23 +40,23 @@ begins o g p E c bus below taken =
     ap (current o g p) (take_following E c e there) ∙ new_frame o g p F e now in
     at_start (newest_number o F) (newest_table o g p F) (current o g p F) (current o g p (take (suc c) E)) is
   where
-    at_start : (n : ℕ) (t : GroupTable) (f h : Current) → h ≡ next_frame n t f → next_on (sending_of g h) bus ≡ h.first
+    at_start : (n : ℕ) (t : SlotTable) (f h : Current) → h ≡ next_frame n t f → next_on (frame_state_of g h) bus ≡ h.first
     at_start n t f h is =
         let rest : 0 % buses_of t ≡ 0 = zero-mod (buses_of t) in
         let row : 0 / buses_of t ≡ 0 = zero-div (buses_of t) in
         let start : (0 / buses_of t + (if nat_lt bus (0 % buses_of t) then 1 else 0)) ≡ 0 = rw (rest, row, le-ltb bus 0 (omega arith)) refl in
         let first : (next_frame n t f).first ≡ h.first = ap (λ (x : Current). x.first) (sym is) in
-        let fresh : next_on (sending_of g (next_frame n t f)) bus ≡ (next_frame n t f).first = by_sent n t f start in
-        ap (λ (x : Current). next_on (sending_of g x) bus) is ∙ (fresh ∙ first)
+        let fresh : next_on (frame_state_of g (next_frame n t f)) bus ≡ (next_frame n t f).first = by_sent n t f start in
+        ap (λ (x : Current). next_on (frame_state_of g x) bus) is ∙ (fresh ∙ first)
       where
-        by_sent : (n : ℕ) (t : GroupTable) (f : Current) → (0 / buses_of t + (if nat_lt bus (0 % buses_of t) then 1 else 0)) ≡ 0 → next_on (sending_of g (next_frame n t f)) bus ≡ (next_frame n t f).first
+        by_sent : (n : ℕ) (t : SlotTable) (f : Current) → (0 / buses_of t + (if nat_lt bus (0 % buses_of t) then 1 else 0)) ≡ 0 → next_on (frame_state_of g (next_frame n t f)) bus ≡ (next_frame n t f).first
         by_sent n t f start =
-            let none : (sending_of g (next_frame n t f)).sent ≡ 0 = omega arith in
+            let none : (frame_state_of g (next_frame n t f)).sent ≡ 0 = omega arith in
             ap (λ (m : ℕ). (next_frame n t f).first + (m / buses_of t + (if nat_lt bus (m % buses_of t) then 1 else 0))) none
             ∙ omega (arith, start)
 
 -- the slots of the old frame are all past there
-pub turns : (o : Opening) (g : ℕ) (p : GroupTable) (E : List Event) (c bus other : ℕ) → c < length E → is_taken_at o g p E c ≡ true → bus < buses_of (current o g p (take c E)).table
+pub turns : (o : Opening) (g : ℕ) (p : SlotTable) (E : List Event) (c bus other : ℕ) → c < length E → is_taken_at o g p E c ≡ true → bus < buses_of (current o g p (take c E)).table
     → next_slot_on o g p E (suc c) other ≡ next_slot_on o g p E c bus
 turns o g p E c bus other below taken inside =
     begins o g p E c other below taken ∙ (sym (begins o g p E c bus below taken) ∙ elim (goes o g p E c bus below inside) [
@@ -67,7 +67,7 @@ turns o g p E c bus other below taken inside =
 -- ---- cells in order
 
 -- a cell of no later place has no later slot
-no_later : (o : Opening) (g : ℕ) (p : GroupTable) (E : List Event) (a b : ℕ) (y x : Placed) (v s : ℕ) → slice_get (groups_of o.proposal.plan) g ≡ Some p → a ≤ b → IsOutputCell o g p E a y v → IsOutputCell o g p E b x s → v ≤ s
+no_later : (o : Opening) (g : ℕ) (p : SlotTable) (E : List Event) (a b : ℕ) (y x : Placed) (v s : ℕ) → slice_get (groups_of o.proposal.plan) g ≡ Some p → a ≤ b → IsOutputCell o g p E a y v → IsOutputCell o g p E b x s → v ≤ s
 no_later o g p E a b y x v s there before A B = elim (cases_lt a b) [
   | inl lt ↦ in_order o g p E a b y x v s there lt A B
   | inr ge ↦
@@ -81,7 +81,7 @@ no_later o g p E a b y x v s there before A B = elim (cases_lt a b) [
 
 -- ---- one change
 
-module _ (o : Opening) (g : ℕ) (p : GroupTable) (E : List Event) (spaced : AreSpacedTables o g p E) where
+module _ (o : Opening) (g : ℕ) (p : SlotTable) (E : List Event) (spaced : AreSpacedTables o g p E) where
   -- the slot that is next by the old plan at the change is next by the new one
   turns_to : (c source : ℕ) (old : SlotPlace) (bus : ℕ) → c < length E → is_taken_at o g p E c ≡ true → HasOutput (current o g p (take c E)).table source old → next_slot_on o g p E (c + 1) bus ≡ next_slot_on o g p E c old.bus
   turns_to c source old bus below taken here =
@@ -116,7 +116,7 @@ module _ (o : Opening) (g : ℕ) (p : GroupTable) (E : List Event) (spaced : Are
             sooner o g p E (j + 1) (c + 1) k k source _ _ (omega (arith, from)) (omega arith) (omega (arith, turn, short)) R
       ]
 
-module _ (law : AreSpaced) (C : ℕ) (o : Opening) (g : ℕ) (p : GroupTable) (E : List Event) (H : IsPlannedHistory o g p E) (spaced : AreSpacedTables o g p E) where
+module _ (law : AreSpaced) (C : ℕ) (o : Opening) (g : ℕ) (p : SlotTable) (E : List Event) (H : IsPlannedHistory o g p E) (spaced : AreSpacedTables o g p E) where
   -- the last word of the source where one was sent
   last_at : (j source slot w : ℕ) (x : Placed) → IsAnswered C o g p E j x slot (Some w) → x.source ≡ source → last_of (accepted_by C o source (take j E)) ≡ Some w
   last_at j source slot w x A same =

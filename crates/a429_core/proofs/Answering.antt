@@ -8,11 +8,11 @@ use Rattle.std.proofs.lemmas.List.{length-take, length-append}
 use Rattle.std.proofs.lemmas.Bool.{cases_Bool, cases_eq, eq-eqb, ne_eqb}
 use Rattle.std.proofs.lemmas.Option.{same_Some}
 use Rattle.a429_equipment.specs.declared.rows.SourceRow.{SourceRow}
-use Rattle.a429_slots.specs.Tables.{GroupTable, groups_of, frame_of, buses_of}
+use Rattle.a429_slots.specs.Tables.{SlotTable, groups_of, frame_of, buses_of}
 use Rattle.a429_slots.specs.Events.{Event, Cell}
 use Rattle.a429_slots.specs.History.{Opening, Current, AnsweredCell, current, is_cell, is_taken, cells_since, accepted_in, accepted_by, newest_number, newest_table, answered_cells, next_answered, has_sent}
 use Rattle.a429_slots.specs.Recalling.{Recalls, Recent, RecentCountsSends, RecentDecides, RecentPassesOtherCells, never, sent_again}
-use Rattle.a429_core.specs.Standing.{Remembers, recent_at}
+use Rattle.a429_core.specs.MachineStates.{Remembers, recent_at}
 use Rattle.a429_core.proofs.Words.{words_in, words_append}
 use Rattle.a429_core.proofs.Frames.{gone_on, goes_on}
 use Rattle.a429_slots.proofs.Answered.{answered_push}
@@ -30,13 +30,13 @@ pub record AreRecalled : Type 0 where
 abbrev pub more_cells : List AnsweredCell → Option AnsweredCell → List AnsweredCell
 more_cells earlier next = earlier ++ option_map_or (λ c. c ∷ []) next []
 
-abbrev pub next_of : ℕ → Opening → ℕ → GroupTable → List Event → Option AnsweredCell
+abbrev pub next_of : ℕ → Opening → ℕ → SlotTable → List Event → Option AnsweredCell
 next_of C o g p E = next_answered C o E g (current o g p E) (answered_cells C o g p E)
 
-pub answered_stay : (C : ℕ) (o : Opening) (g : ℕ) (p : GroupTable) (E : List Event) (e : Event) → is_cell g e ≡ false → answered_cells C o g p (E ++ e ∷ []) ≡ answered_cells C o g p E
+pub answered_stay : (C : ℕ) (o : Opening) (g : ℕ) (p : SlotTable) (E : List Event) (e : Event) → is_cell g e ≡ false → answered_cells C o g p (E ++ e ∷ []) ≡ answered_cells C o g p E
 answered_stay C o g p E e quiet = answered_push C o g p E e ∙ rw quiet refl
 
-pub answered_next : (C : ℕ) (o : Opening) (g : ℕ) (p : GroupTable) (E : List Event) → answered_cells C o g p (E ++ Cell g ∷ []) ≡ more_cells (answered_cells C o g p E) (next_of C o g p E)
+pub answered_next : (C : ℕ) (o : Opening) (g : ℕ) (p : SlotTable) (E : List Event) → answered_cells C o g p (E ++ Cell g ∷ []) ≡ more_cells (answered_cells C o g p E) (next_of C o g p E)
 answered_next C o g p E = answered_push C o g p E (Cell g) ∙ rw (eq-eqb g g refl) refl
 
 -- ---- words and slots go on
@@ -74,7 +74,7 @@ reached_on g f e slot R =
           record { passed = subst (λ (n : ℕ). slot ≤ f.first + n / m) (sym same) R.passed; in_frame = R.in_frame }
     ]
 
-reached_next : (g n : ℕ) (now : GroupTable) (f : Current) (e : Event) (slot : ℕ) → IsReached g f slot → IsReached g (gone_on g n now f e) slot
+reached_next : (g n : ℕ) (now : SlotTable) (f : Current) (e : Event) (slot : ℕ) → IsReached g f slot → IsReached g (gone_on g n now f e) slot
 reached_next g n now f e slot R = elim (cases_Bool (is_taken g now f e)) [
   | inl taken ↦
       let past : slot ≤ f.first + frame_of f.table = R.in_frame in
@@ -82,30 +82,30 @@ reached_next g n now f e slot R = elim (cases_Bool (is_taken g now f e)) [
   | inr left ↦ rw left (reached_on g f e slot R)
 ]
 
-pub reached_push : (o : Opening) (g : ℕ) (p : GroupTable) (E : List Event) (e : Event) (slot : ℕ) → IsReached g (current o g p E) slot → IsReached g (current o g p (E ++ e ∷ [])) slot
+pub reached_push : (o : Opening) (g : ℕ) (p : SlotTable) (E : List Event) (e : Event) (slot : ℕ) → IsReached g (current o g p E) slot → IsReached g (current o g p (E ++ e ∷ [])) slot
 reached_push o g p E e slot R =
     subst (λ (f : Current). IsReached g f slot) (sym (current_next o g p E e)) (reached_next g (newest_number o E) (newest_table o g p E) (current o g p E) e slot R)
 
 -- ---- what is kept
 
 -- what is kept of a source by this number of words and this slot
-remembers_by : (C : ℕ) (o : Opening) (E : List Event) (e : Event) (g : ℕ) (p : GroupTable) (i : ℕ) (x : Option Recent) (r : Recent) → x ≡ Some r → Recalls (answered_cells C o g p (E ++ e ∷ [])) i r
+remembers_by : (C : ℕ) (o : Opening) (E : List Event) (e : Event) (g : ℕ) (p : SlotTable) (i : ℕ) (x : Option Recent) (r : Recent) → x ≡ Some r → Recalls (answered_cells C o g p (E ++ e ∷ [])) i r
     → r.count ≤ length (accepted_by C o i E) → IsReached g (current o g p E) r.slot → Remembers C o (E ++ e ∷ []) g p i x
 remembers_by C o E e g p i x r there recalls counted reached =
     let on = reached_push o g p E e r.slot reached in
     record { recent = r; there = there; recalls = recalls; counted = omega (arith, counted, counts_grow C o i E e); passed = on.passed; in_frame = on.in_frame }
 
-pub reached_by : (C : ℕ) (o : Opening) (E : List Event) (g : ℕ) (p : GroupTable) (i : ℕ) (x : Option Recent) (R : Remembers C o E g p i x) → IsReached g (current o g p E) R.recent.slot
+pub reached_by : (C : ℕ) (o : Opening) (E : List Event) (g : ℕ) (p : SlotTable) (i : ℕ) (x : Option Recent) (R : Remembers C o E g p i x) → IsReached g (current o g p E) R.recent.slot
 reached_by C o E g p i x R = record { passed = R.passed; in_frame = R.in_frame }
 
-pub remembers_stay : (C : ℕ) (o : Opening) (E : List Event) (e : Event) (g : ℕ) (p : GroupTable) (i : ℕ) (x : Option Recent) → is_cell g e ≡ false → Remembers C o E g p i x → Remembers C o (E ++ e ∷ []) g p i x
+pub remembers_stay : (C : ℕ) (o : Opening) (E : List Event) (e : Event) (g : ℕ) (p : SlotTable) (i : ℕ) (x : Option Recent) → is_cell g e ≡ false → Remembers C o E g p i x → Remembers C o (E ++ e ∷ []) g p i x
 remembers_stay C o E e g p i x quiet R =
     remembers_by C o E e g p i x R.recent R.there
     (subst (λ (cs : List AnsweredCell). Recalls cs i R.recent) (sym (answered_stay C o g p E e quiet)) R.recalls) R.counted (reached_by C o E g p i x R)
 
 -- of every group and source
 abbrev pub AllRemember : ℕ → Opening → List Event → List (List Recent) → Type 0
-AllRemember C o E ss = (g : ℕ) (p : GroupTable) → slice_get (groups_of o.proposal.plan) g ≡ Some p → (i : ℕ) (s : SourceRow) → slice_get o.proposal.station.sources i ≡ Some s
+AllRemember C o E ss = (g : ℕ) (p : SlotTable) → slice_get (groups_of o.proposal.plan) g ≡ Some p → (i : ℕ) (s : SourceRow) → slice_get o.proposal.station.sources i ≡ Some s
     → Remembers C o E g p i (recent_at ss g i)
 
 -- ---- a cell of the group itself
@@ -115,7 +115,7 @@ recalls_more earlier i r None law R unsent = subst (λ (cs : List AnsweredCell).
 recalls_more earlier i r (Some c) law R unsent = law.other earlier i r c R (unsent c refl)
 
 -- the group's own next cell sends no word of the source
-pub remembers_unsent : (C : ℕ) (o : Opening) (E : List Event) (k : ℕ) (p : GroupTable) (i : ℕ) (x : Option Recent) → AreRecalled → Remembers C o E k p i x
+pub remembers_unsent : (C : ℕ) (o : Opening) (E : List Event) (k : ℕ) (p : SlotTable) (i : ℕ) (x : Option Recent) → AreRecalled → Remembers C o E k p i x
     → ((c : AnsweredCell) → next_of C o k p E ≡ Some c → has_sent i c ≡ false) → Remembers C o (E ++ Cell k ∷ []) k p i x
 remembers_unsent C o E k p i x law R unsent =
     remembers_by C o E (Cell k) k p i x R.recent R.there
@@ -123,7 +123,7 @@ remembers_unsent C o E k p i x law R unsent =
     R.counted (reached_by C o E k p i x R)
 
 -- it sends the newest one
-pub remembers_sent : (C : ℕ) (o : Opening) (E : List Event) (k : ℕ) (p : GroupTable) (i slot word : ℕ) (x y : Option Recent) → AreRecalled → (R : Remembers C o E k p i x) → IsReached k (current o k p E) slot → R.recent.slot ≤ slot
+pub remembers_sent : (C : ℕ) (o : Opening) (E : List Event) (k : ℕ) (p : SlotTable) (i slot word : ℕ) (x y : Option Recent) → AreRecalled → (R : Remembers C o E k p i x) → IsReached k (current o k p E) slot → R.recent.slot ≤ slot
     → next_of C o k p E ≡ Some (record { slot = slot; source = i; count = length (accepted_by C o i E); word = Some word }) → y ≡ Some (sent_again R.recent slot (length (accepted_by C o i E)))
     → Remembers C o (E ++ Cell k ∷ []) k p i y
 remembers_sent C o E k p i slot word x y law R reached after next there =
@@ -137,14 +137,14 @@ remembers_sent C o E k p i slot word x y law R reached after next there =
     most reached
 
 -- for the other groups nothing changes, so it is enough to look at the group's own sources
-pub all_from_own : (C : ℕ) (o : Opening) (E : List Event) (k : ℕ) (p : GroupTable) (ss ts : List (List Recent)) → slice_get (groups_of o.proposal.plan) k ≡ Some p → AllRemember C o E ss
+pub all_from_own : (C : ℕ) (o : Opening) (E : List Event) (k : ℕ) (p : SlotTable) (ss ts : List (List Recent)) → slice_get (groups_of o.proposal.plan) k ≡ Some p → AllRemember C o E ss
     → ((g i : ℕ) → (k ≡ g → ⊥) → recent_at ts g i ≡ recent_at ss g i)
     → ((i : ℕ) (s : SourceRow) → slice_get o.proposal.station.sources i ≡ Some s → Remembers C o (E ++ Cell k ∷ []) k p i (recent_at ts k i))
     → AllRemember C o (E ++ Cell k ∷ []) ts
 all_from_own C o E k p ss ts here all same own g q there i s known = elim (cases_eq k g) [
   | inl is ↦
       let table : p ≡ q = same_Some p q (sym here ∙ (ap (slice_get (groups_of o.proposal.plan)) is ∙ there)) in
-      subst (λ (h : ℕ). Remembers C o (E ++ Cell k ∷ []) h q i (recent_at ts h i)) is (subst (λ (u : GroupTable). Remembers C o (E ++ Cell k ∷ []) k u i (recent_at ts k i)) table (own i s known))
+      subst (λ (h : ℕ). Remembers C o (E ++ Cell k ∷ []) h q i (recent_at ts h i)) is (subst (λ (u : SlotTable). Remembers C o (E ++ Cell k ∷ []) k u i (recent_at ts k i)) table (own i s known))
   | inr other ↦
       subst (λ (x : Option Recent). Remembers C o (E ++ Cell k ∷ []) g q i x) (sym (same g i other))
       (remembers_stay C o E (Cell k) g q i (recent_at ss g i) (ne_eqb k g other) (all g q there i s known))

@@ -6,7 +6,7 @@ use Rattle.std.proofs.lemmas.Bool.{cases_lt, lt-ltb, le-ltb}
 use Rattle.std.proofs.lemmas.Option.{none-some, same_Some}
 use Rattle.a429_word.proofs.Lists.{in_frame}
 use Rattle.a429_equipment.specs.Arrivals.{AreApart}
-use Rattle.a429_slots.specs.Tables.{Placed, GroupTable, groups_of, outputs_of, frame_of, buses_of, cells_of, cell_at, output_in, source_of, source_at}
+use Rattle.a429_slots.specs.Tables.{Placed, SlotTable, groups_of, outputs_of, frame_of, buses_of, cells_of, cell_at, output_in, source_of, source_at}
 use Rattle.a429_slots.specs.Events.{Event, Cell}
 use Rattle.a429_slots.specs.History.{Opening, Current, AnsweredCell, current, accepted_by, last_of, cells_since, answered_cells, answered_cell, is_held, is_too_close, word_sent}
 use Rattle.a429_slots.specs.declared.answers.Answer.{Answer}
@@ -31,7 +31,7 @@ last_where_sent true x word h = absurd (none-some word h)
 last_where_sent false x word h = h
 
 -- the source of the output that stands there
-source_there : (t : GroupTable) (bus slot : ℕ) (out : Placed) → output_in t bus slot ≡ Some out → source_at t bus slot ≡ Some out.source
+source_there : (t : SlotTable) (bus slot : ℕ) (out : Placed) → output_in t bus slot ≡ Some out → source_at t bus slot ≡ Some out.source
 source_there t bus slot out h = go (cell_at t bus slot) h
   where
     go : (x : Option ℕ) → option_and_then (λ n. slice_get (outputs_of t) n) x ≡ Some out → option_and_then (source_of t) x ≡ Some out.source
@@ -78,8 +78,8 @@ carried C o E g earlier f bus slot word apart h =
           absurd (none-some (bus, slot, Some word) (ap sent_in (sym none ∙ h)))
     ]
 
-pub carries_latest : (C : ℕ) (o : Opening) (E : List Event) (g : ℕ) (p : GroupTable) (bus slot word : ℕ) → AreApart o.proposal.station.sources → slice_get (groups_of o.proposal.plan) g ≡ Some p
+pub carries_latest : (C : ℕ) (o : Opening) (E : List Event) (g : ℕ) (p : SlotTable) (bus slot word : ℕ) → AreApart o.proposal.station.sources → slice_get (groups_of o.proposal.plan) g ≡ Some p
     → answer C o E (Cell g) ≡ Sent bus slot (Some word) → CarriesLatest C o E (current o g p E) bus slot word
 carries_latest C o E g p bus slot word apart there h =
     carried C o E g (answered_cells C o g p E) (current o g p E) bus slot word apart
-    (sym (ap (λ (x : Option GroupTable). option_map_or (λ t. cell_answer C o E g (answered_cells C o g t E) (current o g t E)) x (Refused NoSuch)) there) ∙ h)
+    (sym (ap (λ (x : Option SlotTable). option_map_or (λ t. cell_answer C o E g (answered_cells C o g t E) (current o g t E)) x (Refused NoSuch)) there) ∙ h)

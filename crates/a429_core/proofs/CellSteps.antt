@@ -7,7 +7,7 @@ use Rattle.std.proofs.lemmas.List.{length-set}
 use Rattle.std.proofs.lemmas.Bool.{cases_eq, cases_lt, cases_Bool, lt-ltb, le-ltb, eq-eqb, ne_eqb}
 use Rattle.a429_word.proofs.Lists.{and_false, either_none, get_set_other, get_set_same, in_frame}
 use Rattle.a429_equipment.specs.declared.rows.SourceRow.{SourceRow}
-use Rattle.a429_slots.specs.Tables.{Placed, GroupTable, groups_of, cells_of, frame_of, buses_of, output_in}
+use Rattle.a429_slots.specs.Tables.{Placed, SlotTable, groups_of, cells_of, frame_of, buses_of, output_in}
 use Rattle.a429_slots.specs.Events.{Event, Cell}
 use Rattle.a429_slots.specs.History.{Opening, AnsweredCell, current, cells_since, accepted_in, accepted_by, last_of, proposal_for, numbers_left, newest_table, newest_number, answered_cells, answered_cell, has_sent, is_held, is_too_close}
 use Rattle.a429_slots.specs.Recalling.{Recent, may_send, sent_again, recent_after}
@@ -17,8 +17,8 @@ use Rattle.a429_slots.specs.declared.answers.Answer.{Answer}
 use Rattle.a429_slots.specs.declared.answers.Answer.TheVariants.{Sent, Refused}
 use Rattle.a429_slots.specs.declared.answers.Refusal.TheVariants.{NoSuch}
 use Rattle.a429_slots.specs.Answers.{cell_answer}
-use Rattle.a429_slots.specs.Sending.{due_of, Sending, sending_of, next_cell, after_cell}
-use Rattle.a429_core.specs.Standing.{Standing, StandsFor, Remembers, recent_at, kept_of, placed_cell, asked_cell, after_asked, group_sends, group_after, send_last, send_kept, word_at, sent_due, sent_in, cell_asked}
+use Rattle.a429_slots.specs.FrameStates.{due_of, FrameState, frame_state_of, next_cell, after_cell}
+use Rattle.a429_core.specs.MachineStates.{MachineState, StandsForHistory, Remembers, recent_at, kept_of, placed_cell, asked_cell, after_asked, group_sends, group_after, send_last, send_kept, word_at, sent_due, sent_in, cell_asked}
 use Rattle.a429_core.proofs.Places.{inside, outside}
 use Rattle.a429_core.proofs.Words.{accepted_none, kept_none}
 use Rattle.a429_core.proofs.Frames.{cell_push}
@@ -27,7 +27,7 @@ use Rattle.a429_core.proofs.Leaving.{IsGroup, NoneCame, group_stays, with_groups
 use Rattle.a429_slots.proofs.Histories.{current_next}
 
 -- what a group does in a cell, where v already counts the cell as asked for
-pub record CellDone (C : ℕ) (o : Opening) (E : List Event) (k : ℕ) (p : GroupTable) (v : Standing) (x : Answer × Standing) : Type 0 where
+pub record CellDone (C : ℕ) (o : Opening) (E : List Event) (k : ℕ) (p : SlotTable) (v : MachineState) (x : Answer × MachineState) : Type 0 where
   pub sends : List (List Recent)
   pub answer : x.0 ≡ cell_answer C o E k (answered_cells C o k p E) (current o k p E)
   pub after : x.1 ≡ record v { sends = sends }
@@ -39,10 +39,10 @@ unsent_by : (i : ℕ) (c : AnsweredCell) → c.word ≡ None → has_sent i c �
 unsent_by i c none = rw none refl
 
 -- the next cell has no word
-abbrev IsUnsent : ℕ → Opening → List Event → ℕ → GroupTable → Type 0
+abbrev IsUnsent : ℕ → Opening → List Event → ℕ → SlotTable → Type 0
 IsUnsent C o E k p = (c : AnsweredCell) → next_of C o k p E ≡ Some c → c.word ≡ None
 
-quiet : (C : ℕ) (o : Opening) (E : List Event) (k : ℕ) (p : GroupTable) (ss : List (List Recent)) → AreRecalled → slice_get (groups_of o.proposal.plan) k ≡ Some p → AllRemember C o E ss → IsUnsent C o E k p
+quiet : (C : ℕ) (o : Opening) (E : List Event) (k : ℕ) (p : SlotTable) (ss : List (List Recent)) → AreRecalled → slice_get (groups_of o.proposal.plan) k ≡ Some p → AllRemember C o E ss → IsUnsent C o E k p
     → AllRemember C o (E ++ Cell k ∷ []) ss
 quiet C o E k p ss law here all unsent =
     all_from_own C o E k p ss ss here all (λ g i other. refl) (λ i s known.
@@ -80,17 +80,17 @@ put ss g i r new G =
 -- ---- an output stands in the cell
 
 -- the answered cell of the output
-abbrev cell_of : ℕ → Opening → List Event → ℕ → GroupTable → ℕ → Placed → AnsweredCell
+abbrev cell_of : ℕ → Opening → List Event → ℕ → SlotTable → ℕ → Placed → AnsweredCell
 cell_of C o E k p slot out = answered_cell C o E (answered_cells C o k p E) slot out
 
-record IsWord (C : ℕ) (o : Opening) (E : List Event) (k : ℕ) (p : GroupTable) (v : Standing) (slot : ℕ) (out : Placed) (x : Option ℕ × Standing) : Type 0 where
+record IsWord (C : ℕ) (o : Opening) (E : List Event) (k : ℕ) (p : SlotTable) (v : MachineState) (slot : ℕ) (out : Placed) (x : Option ℕ × MachineState) : Type 0 where
   pub sends : List (List Recent)
   pub word : x.0 ≡ (cell_of C o E k p slot out).word
   pub after : x.1 ≡ record v { sends = sends }
   pub kept : AllRemember C o (E ++ Cell k ∷ []) sends
 
 -- the last word of a source that accepted some, for which r is kept
-word_sends : (C : ℕ) (o : Opening) (E : List Event) (k : ℕ) (p : GroupTable) (v : Standing) (slot w : ℕ) (out : Placed) (s : SourceRow) → AreRecalled → slice_get (groups_of o.proposal.plan) k ≡ Some p
+word_sends : (C : ℕ) (o : Opening) (E : List Event) (k : ℕ) (p : SlotTable) (v : MachineState) (slot w : ℕ) (out : Placed) (s : SourceRow) → AreRecalled → slice_get (groups_of o.proposal.plan) k ≡ Some p
     → slice_get o.proposal.station.sources out.source ≡ Some s → AllRemember C o E v.sends → IsReached k (current o k p E) slot
     → ((r : Recent) → IsReached k (current o k p E) r.slot → r.slot ≤ slot)
     → next_of C o k p E ≡ Some (cell_of C o E k p slot out) → last_of (accepted_by C o out.source E) ≡ Some w
@@ -142,14 +142,14 @@ word_sends C o E k p v slot w out s law here known all reached after next last =
       ]);
     }
 
-last_none : (C : ℕ) (o : Opening) (E : List Event) (k : ℕ) (p : GroupTable) (slot : ℕ) (out : Placed) → last_of (accepted_by C o out.source E) ≡ None → (cell_of C o E k p slot out).word ≡ None
+last_none : (C : ℕ) (o : Opening) (E : List Event) (k : ℕ) (p : SlotTable) (slot : ℕ) (out : Placed) → last_of (accepted_by C o out.source E) ≡ None → (cell_of C o E k p slot out).word ≡ None
 last_none C o E k p slot out none =
     let earlier = answered_cells C o k p E in
     let b = is_held earlier out.source out.limits.hold (length (accepted_by C o out.source E)) || is_too_close earlier slot out.source out.limits.spacing in
     ap (λ (x : Option ℕ). if b then None else x) none ∙ either_none b
 
 -- no word was accepted
-no_word : (C : ℕ) (o : Opening) (E : List Event) (k : ℕ) (p : GroupTable) (v : Standing) (slot : ℕ) (out : Placed) → AreRecalled → slice_get (groups_of o.proposal.plan) k ≡ Some p → AllRemember C o E v.sends
+no_word : (C : ℕ) (o : Opening) (E : List Event) (k : ℕ) (p : SlotTable) (v : MachineState) (slot : ℕ) (out : Placed) → AreRecalled → slice_get (groups_of o.proposal.plan) k ≡ Some p → AllRemember C o E v.sends
     → next_of C o k p E ≡ Some (cell_of C o E k p slot out) → last_of (accepted_by C o out.source E) ≡ None → IsWord C o E k p v slot out (None, v)
 no_word C o E k p v slot out law here all next none =
     let empty = last_none C o E k p slot out none in
@@ -164,7 +164,7 @@ no_word C o E k p v slot out law here all next none =
 abbrev AreHeard : ℕ → Opening → List Event → List Kept → Type 0
 AreHeard C o E sources = (i : ℕ) → slice_get sources i ≡ option_map (λ s. kept_of (accepted_in C o s E)) (slice_get o.proposal.station.sources i)
 
-output_word : (C : ℕ) (o : Opening) (E : List Event) (k : ℕ) (p : GroupTable) (v : Standing) (slot : ℕ) (out : Placed) → AreRecalled → slice_get (groups_of o.proposal.plan) k ≡ Some p → AreHeard C o E v.sources
+output_word : (C : ℕ) (o : Opening) (E : List Event) (k : ℕ) (p : SlotTable) (v : MachineState) (slot : ℕ) (out : Placed) → AreRecalled → slice_get (groups_of o.proposal.plan) k ≡ Some p → AreHeard C o E v.sources
     → AllRemember C o E v.sends → IsReached k (current o k p E) slot → ((r : Recent) → IsReached k (current o k p E) r.slot → r.slot ≤ slot) → next_of C o k p E ≡ Some (cell_of C o E k p slot out)
     → IsWord C o E k p v slot out (word_at v k slot (due_of out))
 output_word C o E k p v slot out law here heard all reached after next = by_row (slice_get o.proposal.station.sources out.source) refl
@@ -189,8 +189,8 @@ output_word C o E k p v slot out law here heard all reached after next = by_row 
 
 -- ---- the cell
 
-cell_done : (C : ℕ) (o : Opening) (E : List Event) (k : ℕ) (p : GroupTable) (v : Standing) → AreRecalled → slice_get (groups_of o.proposal.plan) k ≡ Some p → AreHeard C o E v.sources → AllRemember C o E v.sends
-    → CellDone C o E k p v (sent_in v k (placed_cell (sending_of k (current o k p E)) (next_cell (sending_of k (current o k p E)))))
+cell_done : (C : ℕ) (o : Opening) (E : List Event) (k : ℕ) (p : SlotTable) (v : MachineState) → AreRecalled → slice_get (groups_of o.proposal.plan) k ≡ Some p → AreHeard C o E v.sources → AllRemember C o E v.sends
+    → CellDone C o E k p v (sent_in v k (placed_cell (frame_state_of k (current o k p E)) (next_cell (frame_state_of k (current o k p E)))))
 cell_done C o E k p v law here heard all = elim (cases_lt (cells_since k (current o k p E)) (cells_of (current o k p E).table)) [
   | inl lt ↦
       let f = current o k p E in
@@ -198,14 +198,14 @@ cell_done C o E k p v law here heard all = elim (cases_lt (cells_since k (curren
       let n = cells_of f.table in
       let m = buses_of f.table in
       let whole : min c n ≡ c = omega arith in
-      let placed : placed_cell (sending_of k f) (next_cell (sending_of k f)) ≡ Some (c % m, f.first + c / m, option_map due_of (output_in f.table (c % m) (c / m))) = rw (whole, lt-ltb c n lt) refl in
+      let placed : placed_cell (frame_state_of k f) (next_cell (frame_state_of k f)) ≡ Some (c % m, f.first + c / m, option_map due_of (output_in f.table (c % m) (c / m))) = rw (whole, lt-ltb c n lt) refl in
       subst (λ (y : Option (ℕ × ℕ × Option Due)). CellDone C o E k p v (sent_in v k y)) (sym placed) (due lt (output_in f.table (c % m) (c / m)) refl)
   | inr ge ↦
       let f = current o k p E in
       let c = cells_since k f in
       let n = cells_of f.table in
       let spent : min c n ≡ n = omega arith in
-      let none : placed_cell (sending_of k f) (next_cell (sending_of k f)) ≡ None = rw (spent, le-ltb n n (omega arith)) refl in
+      let none : placed_cell (frame_state_of k f) (next_cell (frame_state_of k f)) ≡ None = rw (spent, le-ltb n n (omega arith)) refl in
       let nothing : next_of C o k p E ≡ None = rw (le-ltb c n ge) refl in
       subst (λ (y : Option (ℕ × ℕ × Option Due)). CellDone C o E k p v (sent_in v k y)) (sym none) (record {
         sends = v.sends;
@@ -243,12 +243,12 @@ cell_done C o E k p v law here heard all = elim (cases_lt (cells_since k (curren
           kept = W.kept;
         }
 
-pub cell_step : AreRecalled → (C : ℕ) (o : Opening) (E : List Event) (k : ℕ) (v : Standing) → StandsFor C o E v → (x : Option GroupTable) → slice_get (groups_of o.proposal.plan) k ≡ x → Stepped C o E (Cell k) v
+pub cell_step : AreRecalled → (C : ℕ) (o : Opening) (E : List Event) (k : ℕ) (v : MachineState) → StandsForHistory C o E v → (x : Option SlotTable) → slice_get (groups_of o.proposal.plan) k ≡ x → Stepped C o E (Cell k) v
 cell_step law C o E k v S None h =
     let got : slice_get v.groups k ≡ None = S.groups k ∙ rw h refl in
     let none : NoneCame C o E (Cell k) = record { same = λ i s q. accepted_none C o s E (Cell k) refl } in
     let here : IsGroup o (E ++ Cell k ∷ []) v.groups k = got ∙ rw h refl in
-    let others : (g : ℕ) (p : GroupTable) → slice_get (groups_of o.proposal.plan) g ≡ Some p → (k == g) ≡ false =
+    let others : (g : ℕ) (p : SlotTable) → slice_get (groups_of o.proposal.plan) g ≡ Some p → (k == g) ≡ false =
     λ g p there. ne_eqb k g (λ same. none-some p (sym h ∙ (ap (slice_get (groups_of o.proposal.plan)) same ∙ there))) in
     step_from C o E (Cell k) v (Refused NoSuch, v) (rw (outside v.groups k got) refl) (rw h refl)
     (with_groups C o E (Cell k) v v.groups S none (kept_none (proposal_for o) (numbers_left o) E (Cell k) refl) refl (λ g. elim (cases_eq k g) [
@@ -257,23 +257,23 @@ cell_step law C o E k v S None h =
     ]) others)
 cell_step law C o E k v S (Some p) h =
     let f = current o k p E in
-    let got : slice_get v.groups k ≡ Some (sending_of k f) = S.groups k ∙ rw h refl in
-    let next : sending_of k (current o k p (E ++ Cell k ∷ [])) ≡ after_cell (sending_of k f) =
-    ap (sending_of k) (current_next o k p E (Cell k)) ∙ cell_push k (newest_number o E) (newest_table o k p E) f (Cell k) refl (eq-eqb k k refl) in
-    let groups = slice_set v.groups k (after_cell (sending_of k f)) in
+    let got : slice_get v.groups k ≡ Some (frame_state_of k f) = S.groups k ∙ rw h refl in
+    let next : frame_state_of k (current o k p (E ++ Cell k ∷ [])) ≡ after_cell (frame_state_of k f) =
+    ap (frame_state_of k) (current_next o k p E (Cell k)) ∙ cell_push k (newest_number o E) (newest_table o k p E) f (Cell k) refl (eq-eqb k k refl) in
+    let groups = slice_set v.groups k (after_cell (frame_state_of k f)) in
     let here : IsGroup o (E ++ Cell k ∷ []) groups k =
-    get_set_same v.groups k (after_cell (sending_of k f)) (slice_get_within v.groups k (sending_of k f) got) ∙ rw h (ap (λ (s : Sending). Some s) (sym next)) in
-    let on : Standing = record v { groups = groups } in
-    let due = placed_cell (sending_of k f) (next_cell (sending_of k f)) in
+    get_set_same v.groups k (after_cell (frame_state_of k f)) (slice_get_within v.groups k (frame_state_of k f) got) ∙ rw h (ap (λ (s : FrameState). Some s) (sym next)) in
+    let on : MachineState = record v { groups = groups } in
+    let due = placed_cell (frame_state_of k f) (next_cell (frame_state_of k f)) in
     let asked : asked_cell v.groups k ≡ due = rw got refl in
     let later : after_asked v.groups k ≡ groups = rw got refl in
     let made : cell_asked v k ≡ sent_in on k due =
-    rw (inside v.groups k (sending_of k f) got) refl
-    ∙ (ap (λ (c : Option (ℕ × ℕ × Option Due)). sent_in (record v { groups = after_asked v.groups k }) k c) asked ∙ ap (λ (gs : List Sending). sent_in (record v { groups = gs }) k due) later) in
+    rw (inside v.groups k (frame_state_of k f) got) refl
+    ∙ (ap (λ (c : Option (ℕ × ℕ × Option Due)). sent_in (record v { groups = after_asked v.groups k }) k c) asked ∙ ap (λ (gs : List FrameState). sent_in (record v { groups = gs }) k due) later) in
     let D = cell_done C o E k p on law h S.sources S.sends in
-    let stands : StandsFor C o (E ++ Cell k ∷ []) (record v { groups = groups; sends = D.sends }) =
-    with_cell C o E k v groups D.sends S (length-set v.groups k (after_cell (sending_of k f))) (λ g. elim (cases_eq k g) [
+    let stands : StandsForHistory C o (E ++ Cell k ∷ []) (record v { groups = groups; sends = D.sends }) =
+    with_cell C o E k v groups D.sends S (length-set v.groups k (after_cell (frame_state_of k f))) (λ g. elim (cases_eq k g) [
       | inl e ↦ subst (IsGroup o (E ++ Cell k ∷ []) groups) e here
-      | inr n ↦ get_set_other v.groups k g (after_cell (sending_of k f)) (λ q. n (sym q)) ∙ group_stays C o E (Cell k) v S g refl (ne_eqb k g n)
+      | inr n ↦ get_set_other v.groups k g (after_cell (frame_state_of k f)) (λ q. n (sym q)) ∙ group_stays C o E (Cell k) v S g refl (ne_eqb k g n)
     ]) D.kept in
-    step_from C o E (Cell k) v (sent_in on k due) made (rw h D.answer) (subst (StandsFor C o (E ++ Cell k ∷ [])) (sym D.after) stands)
+    step_from C o E (Cell k) v (sent_in on k due) made (rw h D.answer) (subst (StandsForHistory C o (E ++ Cell k ∷ [])) (sym D.after) stands)

@@ -2,12 +2,12 @@
 use Rattle.std.proofs.Common.{◌≡◌, ℕ, ◌+◌, true, false, ◌∷◌, ◌∙◌, ap, refl, inl, inr, arith}
 use Rattle.std.specs.Prelude.{if◌then◌else◌, min, nat_lt, nat_le}
 use Rattle.std.proofs.lemmas.Bool.{cases_lt, cases_Bool, lt-ltb, le-ltb, lt-leb, le-leb}
-use Rattle.a429_slots.specs.Tables.{GroupTable, cells_of}
+use Rattle.a429_slots.specs.Tables.{SlotTable, cells_of}
 use Rattle.a429_slots.specs.Events.{Event}
 use Rattle.a429_slots.specs.History.{Current, is_taken, next_frame, is_cell, is_frame, cells_since, has_room}
 use Rattle.a429_slots.specs.Answers.{frame_answer}
-use Rattle.a429_slots.specs.Sending.{Sending, after_cell, sending_of}
-use Rattle.a429_core.specs.Standing.{framed}
+use Rattle.a429_slots.specs.FrameStates.{FrameState, after_cell, frame_state_of}
+use Rattle.a429_core.specs.MachineStates.{framed}
 use Rattle.a429_slots.proofs.Histories.{cells_next}
 use Rattle.a429_slots.proofs.GoingOn.{still}
 
@@ -15,16 +15,16 @@ abbrev pub goes_on : Current → Event → Current
 goes_on f e = record f { since = e ∷ f.since }
 
 -- the frame after one more event, where this is the newest table
-abbrev pub gone_on : ℕ → ℕ → GroupTable → Current → Event → Current
+abbrev pub gone_on : ℕ → ℕ → SlotTable → Current → Event → Current
 gone_on g n now f e = if is_taken g now f e then next_frame n now f else goes_on f e
 
-abbrev sent_at : ℕ → Current → ℕ → Sending
+abbrev sent_at : ℕ → Current → ℕ → FrameState
 sent_at g f n = record { table = f.table; first = f.first; sent = n }
 
-pub not_taken : (g n : ℕ) (now : GroupTable) (f : Current) (e : Event) → is_frame g e ≡ false → is_cell g e ≡ false → sending_of g (gone_on g n now f e) ≡ sending_of g f
+pub not_taken : (g n : ℕ) (now : SlotTable) (f : Current) (e : Event) → is_frame g e ≡ false → is_cell g e ≡ false → frame_state_of g (gone_on g n now f e) ≡ frame_state_of g f
 not_taken g n now f e h k = rw h (still g f e k)
 
-pub cell_goes_on : (g : ℕ) (f : Current) (e : Event) → is_cell g e ≡ true → sending_of g (goes_on f e) ≡ after_cell (sending_of g f)
+pub cell_goes_on : (g : ℕ) (f : Current) (e : Event) → is_cell g e ≡ true → frame_state_of g (goes_on f e) ≡ after_cell (frame_state_of g f)
 cell_goes_on g f e k =
     let more : cells_since g (goes_on f e) ≡ 1 + cells_since g f = cells_next g f e ∙ rw k refl in
     let c = cells_since g f in
@@ -40,15 +40,15 @@ cell_goes_on g f e k =
           rw (all, next, le-ltb n n (omega arith)) refl
     ]
 
-pub cell_push : (g n : ℕ) (now : GroupTable) (f : Current) (e : Event) → is_frame g e ≡ false → is_cell g e ≡ true → sending_of g (gone_on g n now f e) ≡ after_cell (sending_of g f)
+pub cell_push : (g n : ℕ) (now : SlotTable) (f : Current) (e : Event) → is_frame g e ≡ false → is_cell g e ≡ true → frame_state_of g (gone_on g n now f e) ≡ after_cell (frame_state_of g f)
 cell_push g n now f e h k = rw h (cell_goes_on g f e k)
 
 -- what a Frame does and is answered
-pub record Turned (g n : ℕ) (now : GroupTable) (f : Current) (e : Event) : Type 0 where
-  pub answer : (framed (sending_of g f) n now).0 ≡ frame_answer g n now f
-  pub after : sending_of g (gone_on g n now f e) ≡ (framed (sending_of g f) n now).1
+pub record Turned (g n : ℕ) (now : SlotTable) (f : Current) (e : Event) : Type 0 where
+  pub answer : (framed (frame_state_of g f) n now).0 ≡ frame_answer g n now f
+  pub after : frame_state_of g (gone_on g n now f e) ≡ (framed (frame_state_of g f) n now).1
 
-pub frame_push : (g n : ℕ) (now : GroupTable) (f : Current) (e : Event) → is_frame g e ≡ true → is_cell g e ≡ false → Turned g n now f e
+pub frame_push : (g n : ℕ) (now : SlotTable) (f : Current) (e : Event) → is_frame g e ≡ true → is_cell g e ≡ false → Turned g n now f e
 frame_push g n now f e h k =
     let c = cells_since g f in
     let m = cells_of f.table in

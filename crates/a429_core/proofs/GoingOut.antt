@@ -10,7 +10,7 @@ use Rattle.std.proofs.lemmas.List.Sums.{sum_by-cons}
 use Rattle.std.proofs.lemmas.Option.{none-some, same_Some, slice_get_within}
 use Rattle.a429_word.proofs.Lists.{clash, some_word}
 use Rattle.a429_slots.specs.declared.group_plan.SlotPlace.{SlotPlace}
-use Rattle.a429_slots.specs.Tables.{Placed, GroupTable}
+use Rattle.a429_slots.specs.Tables.{Placed, SlotTable}
 use Rattle.a429_slots.specs.Events.{Event, Arrive, Cell}
 use Rattle.a429_slots.specs.History.{Opening, AnsweredCell, accepted_by, answered_cells, current, has_sent, is_cell, is_held, is_too_close, last_of, times_sent}
 use Rattle.a429_slots.specs.Spacing.{IsOutputCell, IsSentWithin, IsTooClose, Sends, answered_at}
@@ -27,13 +27,13 @@ use Rattle.a429_core.proofs.Latest.{HasLatest, count_above, count_at, count_grow
 -- ---- cells
 
 -- what is said of each output of the source holds of the one that stands in a cell
-pub fits_cell : (o : Opening) (g : ℕ) (p : GroupTable) (E : List Event) (i k source l : ℕ) (Is : Placed → Type 0) (x : Placed) (s : ℕ) → EachOutput o g p E i k source Is → i ≤ l → l < k → IsOutputCell o g p E l x s → x.source ≡ source → Is x
+pub fits_cell : (o : Opening) (g : ℕ) (p : SlotTable) (E : List Event) (i k source l : ℕ) (Is : Placed → Type 0) (x : Placed) (s : ℕ) → EachOutput o g p E i k source Is → i ≤ l → l < k → IsOutputCell o g p E l x s → x.source ≡ source → Is x
 fits_cell o g p E i k source l Is x s each from before I same =
     let A = is_at (current o g p (take l E)).table I.cell.0 I.cell.1 x I.stands in
     each l from before A.number x A.row same
 
 -- a cell comes after the word that was accepted before it
-pub arrived_before : (C : ℕ) (o : Opening) (g : ℕ) (p : GroupTable) (E : List Event) (i l source : ℕ) (x : Placed) (s : ℕ) → IsAcceptedAt C o E i source → i ≤ l → IsOutputCell o g p E l x s → i < l
+pub arrived_before : (C : ℕ) (o : Opening) (g : ℕ) (p : SlotTable) (E : List Event) (i l source : ℕ) (x : Placed) (s : ℕ) → IsAcceptedAt C o E i source → i ≤ l → IsOutputCell o g p E l x s → i < l
 arrived_before C o g p E i l source x s A from I = elim (cases_eq i l) [
   | inr differs ↦ omega (arith, from, differs)
   | inl same ↦
@@ -56,7 +56,7 @@ free_where_unsent : (hold : Option ℕ) (times : ℕ) → ((most : ℕ) → hold
 free_where_unsent None times some none = refl
 free_where_unsent (Some most) times some none = let low : 0 < most = some most refl in lt-leb most times (omega (arith, low, none))
 
-pub unheld : (C : ℕ) (o : Opening) (g : ℕ) (p : GroupTable) (E : List Event) (l : ℕ) (x : Placed) → x.limits.hold ≡ None → is_held_at C o g p E l x ≡ false
+pub unheld : (C : ℕ) (o : Opening) (g : ℕ) (p : SlotTable) (E : List Event) (l : ℕ) (x : Placed) → x.limits.hold ≡ None → is_held_at C o g p E l x ≡ false
 unheld C o g p E l x none = ap (λ (h : Option ℕ). is_held (answered_cells C o g p (take l E)) x.source h (length (accepted_by C o x.source (take l E)))) none
 
 emptied_where_close : (held close : Bool) (x : Option ℕ) → held ≡ false → close ≡ true → (if held || close then None else x) ≡ None
@@ -69,7 +69,7 @@ last_sent false x w h = h
 
 -- ---- in a planned history
 
-module _ (law : AreSpaced) (C : ℕ) (o : Opening) (g : ℕ) (p : GroupTable) (E : List Event) (H : IsPlannedHistory o g p E) (spaced : AreSpacedTables o g p E) where
+module _ (law : AreSpaced) (C : ℕ) (o : Opening) (g : ℕ) (p : SlotTable) (E : List Event) (H : IsPlannedHistory o g p E) (spaced : AreSpacedTables o g p E) where
   -- from place i on and before place l the group sends a word of the source
   record SendsSince (i l source : ℕ) : Type 0 where
     pub place : ℕ

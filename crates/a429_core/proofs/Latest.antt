@@ -23,8 +23,8 @@ pub record HasLatest (C : ℕ) (o : Opening) (E : List Event) (source n : ℕ) :
   pub last : last_of (accepted_by C o source E) ≡ Some word
   pub fresh : IsFresh C o E source word n
 
-grown : (C : ℕ) (o : Opening) (E : List Event) (source n : ℕ) (e : Event) → n ≤ length E → Grew C o E source e (answer C o E e) → HasLatest C o (E ++ e ∷ []) source n
-grown C o E source n e few G = record {
+HasLatest-grown : (C : ℕ) (o : Opening) (E : List Event) (source n : ℕ) (e : Event) → n ≤ length E → Grew C o E source e (answer C o E e) → HasLatest C o (E ++ e ∷ []) source n
+HasLatest-grown C o E source n e few G = record {
   word = G.word;
   last = ap (λ (ws : List ℕ). last_of ws) G.more ∙ last_push (accepted_by C o source E) G.word;
   fresh = record {
@@ -40,8 +40,8 @@ grown C o E source n e few G = record {
   };
 }
 
-stayed : (C : ℕ) (o : Opening) (E : List Event) (source n : ℕ) (e : Event) → HasLatest C o E source n → Stayed C o E source e (answer C o E e) → HasLatest C o (E ++ e ∷ []) source n
-stayed C o E source n e H S =
+HasLatest-stayed : (C : ℕ) (o : Opening) (E : List Event) (source n : ℕ) (e : Event) → HasLatest C o E source n → Stayed C o E source e (answer C o E e) → HasLatest C o (E ++ e ∷ []) source n
+HasLatest-stayed C o E source n e H S =
     let L = H.fresh.latest in
     let w = H.word in
     let start = L.before ++ Arrive L.receiver w ∷ [] in
@@ -66,12 +66,12 @@ stayed C o E source n e H S =
 
 next : (C : ℕ) (o : Opening) (E : List Event) (source n : ℕ) (e : Event) → n ≤ length E → HasLatest C o E source n → Does C o E source e (answer C o E e) → HasLatest C o (E ++ e ∷ []) source n
 unfolding Does
-next C o E source n e few H (inl G) = grown C o E source n e few G
-next C o E source n e few H (inr S) = stayed C o E source n e H S
+next C o E source n e few H (inl G) = HasLatest-grown C o E source n e few G
+next C o E source n e few H (inr S) = HasLatest-stayed C o E source n e H S
 
 first : (C : ℕ) (o : Opening) (E : List Event) (source : ℕ) (e : Event) → answer C o E e ≡ Accepted source → Does C o E source e (answer C o E e) → HasLatest C o (E ++ e ∷ []) source (length E)
 unfolding Does
-first C o E source e accepted (inl G) = grown C o E source (length E) e (omega arith) G
+first C o E source e accepted (inl G) = HasLatest-grown C o E source (length E) e (omega arith) G
 first C o E source e accepted (inr S) = absurd (S.other accepted)
 
 -- it stays so

@@ -6,7 +6,7 @@ use Rattle.std.proofs.Math.Nat.{pow-le-pow_right}
 use Rattle.std.proofs.lemmas.Nat.{pow_pos}
 use Rattle.std.proofs.lemmas.Bool.{cases_Bool, cases_eq, cases_lt}
 use Rattle.a429_slots.specs.declared.group_plan.SlotPlace.{SlotPlace}
-use Rattle.a429_slots.specs.Tables.{Placed, GroupTable, frame_of}
+use Rattle.a429_slots.specs.Tables.{Placed, SlotTable, frame_of}
 use Rattle.a429_slots.specs.Events.{Event}
 use Rattle.a429_slots.specs.History.{Opening, Current, current}
 use Rattle.a429_slots.specs.TakenFrames.{is_taken_after, is_taken_at}
@@ -21,23 +21,23 @@ use Rattle.a429_core.proofs.Rounds.{AreSpacedTables, HasCellFrom, cell_here, com
 use Rattle.a429_core.proofs.GoingOut.{ends_in_time, far_on, fits_cell, out_by}
 use Rattle.a429_core.proofs.AcrossChanges.{begins, far_from, sent_by, turns}
 
-abbrev table_at : Opening → ℕ → GroupTable → List Event → ℕ → GroupTable
+abbrev table_at : Opening → ℕ → SlotTable → List Event → ℕ → SlotTable
 table_at o g p E k = (frame_at_place o g p E k).table
 
 -- ---- frames between taken Frames
 
 -- the next taken Frame
-record IsTurn (o : Opening) (g : ℕ) (p : GroupTable) (E : List Event) (a k : ℕ) : Type 0 where
+record IsTurn (o : Opening) (g : ℕ) (p : SlotTable) (E : List Event) (a k : ℕ) : Type 0 where
   pub place : ℕ
   pub from : a ≤ place
   pub before : place < k
   pub taken : is_taken_at o g p E place ≡ true
   pub none : (j : ℕ) → a ≤ j → j < place → is_taken_at o g p E j ≡ false
 
-abbrev NoneTaken : Opening → ℕ → GroupTable → List Event → ℕ → ℕ → Type 0
+abbrev NoneTaken : Opening → ℕ → SlotTable → List Event → ℕ → ℕ → Type 0
 NoneTaken o g p E a k = (j : ℕ) → a ≤ j → j < k → is_taken_at o g p E j ≡ false
 
-next_turn_by : (o : Opening) (g : ℕ) (p : GroupTable) (E : List Event) (a d : ℕ) → IsTurn o g p E a (d + a) ⊎ NoneTaken o g p E a (d + a)
+next_turn_by : (o : Opening) (g : ℕ) (p : SlotTable) (E : List Event) (a d : ℕ) → IsTurn o g p E a (d + a) ⊎ NoneTaken o g p E a (d + a)
 next_turn_by o g p E a zero = inr (λ j from below. absurd (omega (arith, from, below)))
 next_turn_by o g p E a (suc d) = elim (next_turn_by o g p E a d) [
   | inl T ↦ let before : T.place < d + a = T.before in inl (record { place = T.place; from = T.from; before = omega (arith, before); taken = T.taken; none = T.none })
@@ -50,7 +50,7 @@ next_turn_by o g p E a (suc d) = elim (next_turn_by o g p E a d) [
   ]
 ]
 
-next_turn : (o : Opening) (g : ℕ) (p : GroupTable) (E : List Event) (a k : ℕ) → a ≤ k → IsTurn o g p E a k ⊎ NoneTaken o g p E a k
+next_turn : (o : Opening) (g : ℕ) (p : SlotTable) (E : List Event) (a k : ℕ) → a ≤ k → IsTurn o g p E a k ⊎ NoneTaken o g p E a k
 next_turn o g p E a k after =
     let rest : (k - a) + a ≡ k = omega (arith, after) in
     subst (λ (z : ℕ). IsTurn o g p E a z ⊎ NoneTaken o g p E a z) rest (next_turn_by o g p E a (k - a))
@@ -60,7 +60,7 @@ record IsSameFrame (f h : Current) : Type 0 where
   pub table : h.table ≡ f.table
   pub first : h.first ≡ f.first
 
-frame_step : (o : Opening) (g : ℕ) (p : GroupTable) (E : List Event) (k : ℕ) → k < length E → is_taken_at o g p E k ≡ false → IsSameFrame (frame_at_place o g p E k) (frame_at_place o g p E (suc k))
+frame_step : (o : Opening) (g : ℕ) (p : SlotTable) (E : List Event) (k : ℕ) → k < length E → is_taken_at o g p E k ≡ false → IsSameFrame (frame_at_place o g p E k) (frame_at_place o g p E (suc k))
 frame_step o g p E k below left =
     let (e, there) = event_at E k below in
     let untaken : is_taken_after o g p (take k E) e ≡ false = sym (ap (λ (x : Option Event). option_map_or (is_taken_after o g p (take k E)) x false) there) ∙ left in
@@ -68,7 +68,7 @@ frame_step o g p E k below left =
     let same = on ∙ same_frame o g p (take k E) e untaken in
     record { table = ap (λ (c : Current). c.table) same; first = ap (λ (c : Current). c.first) same }
 
-lasts_by : (o : Opening) (g : ℕ) (p : GroupTable) (E : List Event) (a d : ℕ) → d + a ≤ length E → NoneTaken o g p E a (d + a) → IsSameFrame (frame_at_place o g p E a) (frame_at_place o g p E (d + a))
+lasts_by : (o : Opening) (g : ℕ) (p : SlotTable) (E : List Event) (a d : ℕ) → d + a ≤ length E → NoneTaken o g p E a (d + a) → IsSameFrame (frame_at_place o g p E a) (frame_at_place o g p E (d + a))
 lasts_by o g p E a zero few none =
     let same : zero + a ≡ a = omega arith in
     subst (λ (k : ℕ). IsSameFrame (frame_at_place o g p E a) (frame_at_place o g p E k)) (sym same) (record { table = refl; first = refl })
@@ -78,17 +78,17 @@ lasts_by o g p E a (suc d) few none =
     let step = frame_step o g p E (d + a) (omega (arith, few)) (none (d + a) (omega arith) (omega arith)) in
     subst (λ (k : ℕ). IsSameFrame (frame_at_place o g p E a) (frame_at_place o g p E k)) (sym on) (record { table = step.table ∙ before.table; first = step.first ∙ before.first })
 
-lasts : (o : Opening) (g : ℕ) (p : GroupTable) (E : List Event) (a k : ℕ) → a ≤ k → k ≤ length E → NoneTaken o g p E a k → IsSameFrame (frame_at_place o g p E a) (frame_at_place o g p E k)
+lasts : (o : Opening) (g : ℕ) (p : SlotTable) (E : List Event) (a k : ℕ) → a ≤ k → k ≤ length E → NoneTaken o g p E a k → IsSameFrame (frame_at_place o g p E a) (frame_at_place o g p E k)
 lasts o g p E a k after few none =
     let rest : (k - a) + a ≡ k = omega (arith, after) in
     subst (λ (z : ℕ). IsSameFrame (frame_at_place o g p E a) (frame_at_place o g p E z)) rest (lasts_by o g p E a (k - a) (omega (arith, few, rest)) (λ j from below. none j from (omega (arith, below, rest))))
 
-module _ (o : Opening) (g : ℕ) (p : GroupTable) (E : List Event) (spaced : AreSpacedTables o g p E) where
+module _ (o : Opening) (g : ℕ) (p : SlotTable) (E : List Event) (spaced : AreSpacedTables o g p E) where
   -- so do its outputs
   keeps_to : (a k source : ℕ) (at : SlotPlace) → k ≤ length E → NoneTaken o g p E a k → HasOutput (table_at o g p E a) source at → KeepsOutput o g p E a (k + 1) source at
   keeps_to a k source at few none here j from below =
       let F = lasts o g p E a j from (omega (arith, below, few)) (λ i low high. none i low (omega (arith, high, below))) in
-      subst (λ (t : GroupTable). HasOutput t source at) (sym F.table) here
+      subst (λ (t : SlotTable). HasOutput t source at) (sym F.table) here
 
   -- where a Frame is taken, the slots of the frame before it are past
   past_frame : (d bus : ℕ) → d < length E → is_taken_at o g p E d ≡ true → (source : ℕ) (at : SlotPlace) → HasOutput (table_at o g p E d) source at
@@ -186,7 +186,7 @@ module _ (o : Opening) (g : ℕ) (p : GroupTable) (E : List Event) (spaced : Are
         | inl taken ↦ omega (arith, turns o g p E j now.at.bus after.at.bus below taken inside)
         | inr left ↦
             let F = frame_step o g p E j below left in
-            let here : HasOutput (table_at o g p E j) source after.at = subst (λ (t : GroupTable). HasOutput t source after.at) F.table after.output in
+            let here : HasOutput (table_at o g p E j) source after.at = subst (λ (t : SlotTable). HasOutput t source after.at) F.table after.output in
             let same : next_slot_on o g p E (suc j) after.at.bus ≡ next_slot_on o g p E (suc j) now.at.bus = ap (λ (q : SlotPlace). next_slot_on o g p E (suc j) q.bus) (same_place (table_at o g p E j) source after.at now.at (spaced j) here now.output) in
             elim (goes o g p E j now.at.bus below inside) [
               | inl still ↦ omega (arith, same, still)
@@ -242,7 +242,7 @@ module _ (o : Opening) (g : ℕ) (p : GroupTable) (E : List Event) (spaced : Are
 
 -- ---- words
 
-module _ (law : AreSpaced) (C : ℕ) (o : Opening) (g : ℕ) (p : GroupTable) (E : List Event) (H : IsPlannedHistory o g p E) (spaced : AreSpacedTables o g p E) where
+module _ (law : AreSpaced) (C : ℕ) (o : Opening) (g : ℕ) (p : SlotTable) (E : List Event) (H : IsPlannedHistory o g p E) (spaced : AreSpacedTables o g p E) where
   pub out_often : (i k source most q n : ℕ) → IsAcceptedBefore C o E i k source → (P : ChangesOften o g p E i k source most n) → EachOutput o g p E i k source (MaySend q) → 2 * most ≤ n + 1 → q + 2 * most ≤ n + 2
       → GoesOut C o g p E i k source (next_slot_on o g p E i P.first.at.bus + n)
   out_often i k source most q n A P may short wide =

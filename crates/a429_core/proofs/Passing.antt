@@ -4,10 +4,10 @@ use Rattle.std.specs.Prelude.{Some, slice_get, if◌then◌else◌, nat_lt}
 use Rattle.std.proofs.Math.Nat.{mod-add-div', mod-lt, zero-div, zero-mod, mul_comm}
 use Rattle.std.proofs.lemmas.Nat.{div-mul-add, mod-mul-add}
 use Rattle.std.proofs.lemmas.Bool.{cases_Bool, cases_eq, cases_lt, lt-ltb, le-ltb, eqb-true}
-use Rattle.a429_slots.specs.Tables.{GroupTable, buses_of, frame_of, cells_of}
+use Rattle.a429_slots.specs.Tables.{SlotTable, buses_of, frame_of, cells_of}
 use Rattle.a429_slots.specs.Events.{Event, Arrive, Cell, Frame, Publish}
 use Rattle.a429_slots.specs.History.{Opening, current, cell_due, cells_since, is_cell, is_frame, newest_table}
-use Rattle.a429_slots.specs.Sending.{Sending, after_cell, fits_next, next_cell}
+use Rattle.a429_slots.specs.FrameStates.{FrameState, after_cell, fits_next, next_cell}
 use Rattle.a429_slots.specs.GoingOn.{after_frame, stands_after}
 use Rattle.a429_slots.proofs.Answered.{cell_event, due_is, event_at}
 use Rattle.a429_slots.proofs.GoingOn.{cells_count, frames_turn, others_pass, next_cell_is}
@@ -109,12 +109,12 @@ waits n m bus below other = elim (cases_lt bus (n % m)) [
 -- ---- one event
 
 -- the next cell is on this bus
-record IsOn (s : Sending) (bus : ℕ) : Type 0 where
+record IsOn (s : FrameState) (bus : ℕ) : Type 0 where
   pub due : next_cell s ≡ Some (bus, s.sent / buses_of s.table)
   pub now : next_on s bus ≡ s.first + s.sent / buses_of s.table
   pub next : next_on (after_cell s) bus ≡ next_on s bus + 1
 
-cell_step : (s : Sending) (bus : ℕ) → bus < buses_of s.table → (next_on (after_cell s) bus ≡ next_on s bus) ⊎ IsOn s bus
+cell_step : (s : FrameState) (bus : ℕ) → bus < buses_of s.table → (next_on (after_cell s) bus ≡ next_on s bus) ⊎ IsOn s bus
 cell_step s bus inside =
     let n = s.sent in
     let m = buses_of s.table in
@@ -138,7 +138,7 @@ cell_step s bus inside =
           ]
     ]
 
-frame_step : (s : Sending) (now : GroupTable) (bus : ℕ) → s.sent ≤ cells_of s.table → bus < buses_of s.table → next_on (after_frame s now) bus ≡ next_on s bus
+frame_step : (s : FrameState) (now : SlotTable) (bus : ℕ) → s.sent ≤ cells_of s.table → bus < buses_of s.table → next_on (after_frame s now) bus ≡ next_on s bus
 frame_step s now bus few inside =
     let n = s.sent in
     let m = buses_of s.table in
@@ -156,7 +156,7 @@ frame_step s now bus few inside =
             let none : 0 % buses_of now ≡ 0 = zero-mod (buses_of now) in
             let start : tock (0 / buses_of now) (0 % buses_of now) bus ≡ 0 = tock_low (0 / buses_of now) (0 % buses_of now) bus (omega (arith, none)) ∙ zero-div (buses_of now) in
             let turns : after_frame s now ≡ record { table = now; first = s.first + H; sent = 0 } = rw (le-ltb n (cells_of s.table) over, fits) refl in
-            ap (λ (z : Sending). next_on z bus) turns ∙ (ap (λ (k : ℕ). s.first + H + k) start ∙ (omega arith ∙ sym before))
+            ap (λ (z : FrameState). next_on z bus) turns ∙ (ap (λ (k : ℕ). s.first + H + k) start ∙ (omega arith ∙ sym before))
       ]
     ]
 
@@ -167,17 +167,17 @@ frame_event g (Cell k) h = absurd (true≢false (sym h))
 frame_event g (Publish q) h = absurd (true≢false (sym h))
 
 -- the group answers its next cell on the bus
-pub record IsTick (o : Opening) (g : ℕ) (p : GroupTable) (E : List Event) (k bus : ℕ) : Type 0 where
+pub record IsTick (o : Opening) (g : ℕ) (p : SlotTable) (E : List Event) (k bus : ℕ) : Type 0 where
   pub asked : slice_get E k ≡ Some (Cell g)
   pub in_frame : ℕ
   pub due : cell_due g (current o g p (take k E)) ≡ Some (bus, in_frame)
   pub now : next_slot_on o g p E k bus ≡ (current o g p (take k E)).first + in_frame
   pub next : next_slot_on o g p E (suc k) bus ≡ next_slot_on o g p E k bus + 1
 
-abbrev pub Goes : Opening → ℕ → GroupTable → List Event → ℕ → ℕ → Type 0
+abbrev pub Goes : Opening → ℕ → SlotTable → List Event → ℕ → ℕ → Type 0
 Goes o g p E k bus = (next_slot_on o g p E (suc k) bus ≡ next_slot_on o g p E k bus) ⊎ IsTick o g p E k bus
 
-pub goes : (o : Opening) (g : ℕ) (p : GroupTable) (E : List Event) (k bus : ℕ) → k < length E → bus < buses_of (current o g p (take k E)).table → Goes o g p E k bus
+pub goes : (o : Opening) (g : ℕ) (p : SlotTable) (E : List Event) (k bus : ℕ) → k < length E → bus < buses_of (current o g p (take k E)).table → Goes o g p E k bus
 goes o g p E k bus below inside =
     let (e, there) = event_at E k below in
     let F = take k E in
@@ -187,7 +187,7 @@ goes o g p E k bus below inside =
       | inl cell ↦
           let is : e ≡ Cell g = cell_event g e cell in
           let after : next_on (stands_after o g p (F ++ e ∷ [])) bus ≡ next_on (after_cell s) bus =
-          ap (λ (x : Event). next_on (stands_after o g p (F ++ x ∷ [])) bus) is ∙ ap (λ (z : Sending). next_on z bus) (cells_count o g p F) in
+          ap (λ (x : Event). next_on (stands_after o g p (F ++ x ∷ [])) bus) is ∙ ap (λ (z : FrameState). next_on z bus) (cells_count o g p F) in
           elim (cell_step s bus inside) [
             | inl same ↦ inl (on ∙ (after ∙ same))
             | inr T ↦
@@ -206,26 +206,26 @@ goes o g p E k bus below inside =
             let is : e ≡ Frame g = frame_event g e frame in
             let few : s.sent ≤ cells_of s.table = omega arith in
             inl (on ∙ (ap (λ (x : Event). next_on (stands_after o g p (F ++ x ∷ [])) bus) is
-            ∙ (ap (λ (z : Sending). next_on z bus) (frames_turn o g p F) ∙ frame_step s (newest_table o g p F) bus few inside)))
-        | inr none ↦ inl (on ∙ ap (λ (z : Sending). next_on z bus) (others_pass o g p F e none other))
+            ∙ (ap (λ (z : FrameState). next_on z bus) (frames_turn o g p F) ∙ frame_step s (newest_table o g p F) bus few inside)))
+        | inr none ↦ inl (on ∙ ap (λ (z : FrameState). next_on z bus) (others_pass o g p F e none other))
       ]
     ]
 
 -- where a cell on this bus is due
-record IsDueOn (o : Opening) (g : ℕ) (p : GroupTable) (E : List Event) (k bus in_frame : ℕ) : Type 0 where
+record IsDueOn (o : Opening) (g : ℕ) (p : SlotTable) (E : List Event) (k bus in_frame : ℕ) : Type 0 where
   pub sent : (stands_after o g p (take k E)).sent ≡ cells_since g (current o g p (take k E))
   pub due : cells_since g (current o g p (take k E)) < cells_of (current o g p (take k E)).table
   pub rest : cells_since g (current o g p (take k E)) % buses_of (current o g p (take k E)).table ≡ bus
   pub row : cells_since g (current o g p (take k E)) / buses_of (current o g p (take k E)).table ≡ in_frame
 
-due_on : (o : Opening) (g : ℕ) (p : GroupTable) (E : List Event) (k bus in_frame : ℕ) → cell_due g (current o g p (take k E)) ≡ Some (bus, in_frame) → IsDueOn o g p E k bus in_frame
+due_on : (o : Opening) (g : ℕ) (p : SlotTable) (E : List Event) (k bus in_frame : ℕ) → cell_due g (current o g p (take k E)) ≡ Some (bus, in_frame) → IsDueOn o g p E k bus in_frame
 due_on o g p E k bus in_frame due =
     let D = due_is g (current o g p (take k E)) (bus, in_frame) due in
     let below : cells_since g (current o g p (take k E)) < cells_of (current o g p (take k E)).table = D.due in
     record { sent = omega (arith, below); due = below; rest = sym D.bus; row = sym D.slot }
 
 -- its slot is the next one on the bus
-pub next_is : (o : Opening) (g : ℕ) (p : GroupTable) (E : List Event) (k bus in_frame : ℕ) → cell_due g (current o g p (take k E)) ≡ Some (bus, in_frame)
+pub next_is : (o : Opening) (g : ℕ) (p : SlotTable) (E : List Event) (k bus in_frame : ℕ) → cell_due g (current o g p (take k E)) ≡ Some (bus, in_frame)
     → next_slot_on o g p E k bus ≡ (current o g p (take k E)).first + in_frame
 next_is o g p E k bus in_frame due =
     let f = current o g p (take k E) in
@@ -236,7 +236,7 @@ next_is o g p E k bus in_frame due =
     ap (λ (n : ℕ). f.first + tock (n / m) (n % m) bus) D.sent ∙ ap (λ (n : ℕ). f.first + n) (tock_low (c / m) (c % m) bus (omega (arith, rest)) ∙ D.row)
 
 -- and when it is answered, the slot after it is
-pub next_after : (o : Opening) (g : ℕ) (p : GroupTable) (E : List Event) (k bus in_frame : ℕ) → slice_get E k ≡ Some (Cell g) → bus < buses_of (current o g p (take k E)).table
+pub next_after : (o : Opening) (g : ℕ) (p : SlotTable) (E : List Event) (k bus in_frame : ℕ) → slice_get E k ≡ Some (Cell g) → bus < buses_of (current o g p (take k E)).table
     → cell_due g (current o g p (take k E)) ≡ Some (bus, in_frame) → next_slot_on o g p E (suc k) bus ≡ (current o g p (take k E)).first + in_frame + 1
 next_after o g p E k bus in_frame asked inside due =
     let F = take k E in
@@ -250,22 +250,22 @@ next_after o g p E k bus in_frame asked inside due =
     let next : tock ((c + 1) / m) ((c + 1) % m) bus ≡ c / m + 1 = T.next in
     let row : c / m ≡ in_frame = D.row in
     ap (λ (G : List Event). next_on (stands_after o g p G) bus) (take_following E k (Cell g) asked)
-    ∙ (ap (λ (z : Sending). next_on z bus) (cells_count o g p F ∙ more)
+    ∙ (ap (λ (z : FrameState). next_on z bus) (cells_count o g p F ∙ more)
     ∙ (ap (λ (n : ℕ). f.first + tock ((n + 1) / m) ((n + 1) % m) bus) D.sent ∙ omega (arith, next, row)))
 
 -- ---- many events
 
 -- slots do not go back, and each that passes was answered
-pub record Passed (o : Opening) (g : ℕ) (p : GroupTable) (E : List Event) (i k bus : ℕ) : Type 0 where
+pub record Passed (o : Opening) (g : ℕ) (p : SlotTable) (E : List Event) (i k bus : ℕ) : Type 0 where
   pub later : next_slot_on o g p E i bus ≤ next_slot_on o g p E k bus
   pub all : (slot : ℕ) → next_slot_on o g p E i bus ≤ slot → slot < next_slot_on o g p E k bus → AnswersOn o g p E i k bus slot
 
-sooner : (o : Opening) (g : ℕ) (p : GroupTable) (E : List Event) (i k bus slot : ℕ) → AnswersOn o g p E i k bus slot → AnswersOn o g p E i (suc k) bus slot
+sooner : (o : Opening) (g : ℕ) (p : SlotTable) (E : List Event) (i k bus slot : ℕ) → AnswersOn o g p E i k bus slot → AnswersOn o g p E i (suc k) bus slot
 sooner o g p E i k bus slot A =
     let early : A.place < k = A.before in
     record { place = A.place; from = A.from; before = omega (arith, early); asked = A.asked; in_frame = A.in_frame; due = A.due; counted = A.counted }
 
-passed_next : (o : Opening) (g : ℕ) (p : GroupTable) (E : List Event) (i k bus : ℕ) → i ≤ k → Passed o g p E i k bus → Goes o g p E k bus → Passed o g p E i (suc k) bus
+passed_next : (o : Opening) (g : ℕ) (p : SlotTable) (E : List Event) (i k bus : ℕ) → i ≤ k → Passed o g p E i k bus → Goes o g p E k bus → Passed o g p E i (suc k) bus
 passed_next o g p E i k bus after P (inl same) =
     let later : next_slot_on o g p E i bus ≤ next_slot_on o g p E k bus = P.later in
     record {
@@ -292,7 +292,7 @@ passed_next o g p E i k bus after P (inr T) =
       ];
     }
 
-passed_by : (o : Opening) (g : ℕ) (p : GroupTable) (E : List Event) (i d bus : ℕ) → d + i ≤ length E → KeepsBus o g p E i (d + i) bus → Passed o g p E i (d + i) bus
+passed_by : (o : Opening) (g : ℕ) (p : SlotTable) (E : List Event) (i d bus : ℕ) → d + i ≤ length E → KeepsBus o g p E i (d + i) bus → Passed o g p E i (d + i) bus
 passed_by o g p E i zero bus few keeps =
     let same : zero + i ≡ i = omega arith in
     subst (λ (k : ℕ). Passed o g p E i k bus) (sym same) (record { later = omega arith; all = λ slot low high. absurd (omega (arith, low, high)) })
@@ -303,7 +303,7 @@ passed_by o g p E i (suc d) bus few keeps =
     subst (λ (k : ℕ). Passed o g p E i k bus) (sym on)
     (passed_next o g p E i (d + i) bus (omega arith) before (goes o g p E (d + i) bus (omega (arith, few)) inside))
 
-pub passed : (o : Opening) (g : ℕ) (p : GroupTable) (E : List Event) (i k bus : ℕ) → i ≤ k → k ≤ length E → KeepsBus o g p E i k bus → Passed o g p E i k bus
+pub passed : (o : Opening) (g : ℕ) (p : SlotTable) (E : List Event) (i k bus : ℕ) → i ≤ k → k ≤ length E → KeepsBus o g p E i k bus → Passed o g p E i k bus
 passed o g p E i k bus after few keeps =
     let rest : (k - i) + i ≡ k = omega (arith, after) in
     subst (λ (n : ℕ). Passed o g p E i n bus) rest

@@ -7,7 +7,7 @@ use Rattle.std.proofs.lemmas.Bool.{cases_Bool, cases_lt}
 use Rattle.std.proofs.lemmas.Option.{same_Some, slice_get_within}
 use Rattle.a429_word.proofs.Lists.{in_frame, positive}
 use Rattle.a429_slots.specs.declared.group_plan.SlotPlace.{SlotPlace}
-use Rattle.a429_slots.specs.Tables.{Placed, GroupTable, groups_of, outputs_of, frame_of, buses_of, cells_of, cell_at, output_in}
+use Rattle.a429_slots.specs.Tables.{Placed, SlotTable, groups_of, outputs_of, frame_of, buses_of, cells_of, cell_at, output_in}
 use Rattle.a429_slots.specs.Events.{Event, Cell}
 use Rattle.a429_slots.specs.Kept.{StandsJustAt}
 use Rattle.a429_slots.specs.History.{Opening, Current, current, cells_since, cell_due}
@@ -57,13 +57,13 @@ whole h e few =
     let digits : (h - e) + e ≡ h = omega (arith, few) in
     (2 ^ (h - e), ap (λ z. 2 ^ z) (sym digits) ∙ pow-add 2 (h - e) e)
 
-abbrev pub AreSpacedTables : Opening → ℕ → GroupTable → List Event → Type 0
+abbrev pub AreSpacedTables : Opening → ℕ → SlotTable → List Event → Type 0
 AreSpacedTables o g p E = (k : ℕ) → HasSpacedTable o g p E k
 
-abbrev first_at : Opening → ℕ → GroupTable → List Event → ℕ → ℕ
+abbrev first_at : Opening → ℕ → SlotTable → List Event → ℕ → ℕ
 first_at o g p E k = (frame_at_place o g p E k).first
 
-aligned_next : (o : Opening) (g : ℕ) (p : GroupTable) (E : List Event) (k first e : ℕ) → k < length E → e ≤ (frame_at_place o g p E k).table.frame
+aligned_next : (o : Opening) (g : ℕ) (p : SlotTable) (E : List Event) (k first e : ℕ) → k < length E → e ≤ (frame_at_place o g p E k).table.frame
     → IsAligned first (2 ^ e) (first_at o g p E k) → IsAligned first (2 ^ e) (first_at o g p E (suc k))
 aligned_next o g p E k first e below fits A =
     let (event, there) = event_at E k below in
@@ -81,7 +81,7 @@ aligned_next o g p E k first e below fits A =
           record { times = A.times; is = now ∙ old }
     ]
 
-aligned_by : (o : Opening) (g : ℕ) (p : GroupTable) (E : List Event) (i d e : ℕ) → d + i ≤ length E → ((j : ℕ) → i ≤ j → j < d + i → e ≤ (frame_at_place o g p E j).table.frame)
+aligned_by : (o : Opening) (g : ℕ) (p : SlotTable) (E : List Event) (i d e : ℕ) → d + i ≤ length E → ((j : ℕ) → i ≤ j → j < d + i → e ≤ (frame_at_place o g p E j).table.frame)
     → IsAligned (first_at o g p E i) (2 ^ e) (first_at o g p E (d + i))
 aligned_by o g p E i zero e few fits =
     let same : zero + i ≡ i = omega arith in
@@ -96,12 +96,12 @@ aligned_by o g p E i (suc d) e few fits =
 -- ---- an output of a table
 
 -- what holds of an output of a spaced table
-pub record IsSet (t : GroupTable) (at : SlotPlace) (number : ℕ) : Type 0 where
+pub record IsSet (t : SlotTable) (at : SlotPlace) (number : ℕ) : Type 0 where
   pub on_a_bus : at.bus < buses_of t
   pub fits : at.period ≤ t.frame
   pub periodic : StandsJustAt t number at.bus at.offset (period_of at)
 
-pub set_of : (t : GroupTable) (source : ℕ) (at : SlotPlace) → IsSpacedTable t → (O : HasOutput t source at) → IsSet t at O.number
+pub set_of : (t : SlotTable) (source : ℕ) (at : SlotPlace) → IsSpacedTable t → (O : HasOutput t source at) → IsSet t at O.number
 set_of t source at S O = subst (λ (q : SlotPlace). IsSet t q O.number) O.at_place (record {
   on_a_bus = S.on_a_bus O.number O.output O.there;
   fits = S.fits O.number O.output O.there;
@@ -109,13 +109,13 @@ set_of t source at S O = subst (λ (q : SlotPlace). IsSet t q O.number) O.at_pla
 })
 
 -- it stands just where its place says
-stands_just : (t : GroupTable) (source : ℕ) (at : SlotPlace) (slot : ℕ) → IsSpacedTable t → (O : HasOutput t source at) → slot % period_of at ≡ at.offset → output_in t at.bus slot ≡ Some O.output
+stands_just : (t : SlotTable) (source : ℕ) (at : SlotPlace) (slot : ℕ) → IsSpacedTable t → (O : HasOutput t source at) → slot % period_of at ≡ at.offset → output_in t at.bus slot ≡ Some O.output
 stands_just t source at slot S O rest =
     let there : cell_at t at.bus slot ≡ Some O.number = ((set_of t source at S O).periodic.cells at.bus slot).1 (refl, rest) in
     ap (option_and_then (λ n. slice_get (outputs_of t) n)) there ∙ O.there
 
 -- a cell of the source is a cell of this output
-pub record IsCellOf (t : GroupTable) (bus slot : ℕ) (at : SlotPlace) (x : Placed) : Type 0 where
+pub record IsCellOf (t : SlotTable) (bus slot : ℕ) (at : SlotPlace) (x : Placed) : Type 0 where
   pub number : ℕ
   pub row : slice_get (outputs_of t) number ≡ Some x
   pub place : x.place ≡ at
@@ -123,7 +123,7 @@ pub record IsCellOf (t : GroupTable) (bus slot : ℕ) (at : SlotPlace) (x : Plac
   pub rest : slot % period_of at ≡ at.offset
   pub spaced : x.limits.spacing ≤ period_of at
 
-pub cell_of : (t : GroupTable) (bus slot source : ℕ) (at : SlotPlace) (x : Placed) → IsSpacedTable t → HasOutput t source at → output_in t bus slot ≡ Some x → x.source ≡ source → IsCellOf t bus slot at x
+pub cell_of : (t : SlotTable) (bus slot source : ℕ) (at : SlotPlace) (x : Placed) → IsSpacedTable t → HasOutput t source at → output_in t bus slot ≡ Some x → x.source ≡ source → IsCellOf t bus slot at x
 cell_of t bus slot source at x S O stands same =
     let A = is_at t bus slot x stands in
     let own : A.number ≡ O.number = S.own A.number O.number x O.output A.row O.there (same ∙ sym O.of_source) in
@@ -134,7 +134,7 @@ cell_of t bus slot source at x S O stands same =
     record { number = A.number; row = A.row; place = place; on = both.0; rest = both.1; spaced = subst (λ (q : SlotPlace). x.limits.spacing ≤ period_of q) place spaced }
 
 -- the outputs of one source have one place
-pub same_place : (t : GroupTable) (source : ℕ) (a b : SlotPlace) → IsSpacedTable t → HasOutput t source a → HasOutput t source b → a ≡ b
+pub same_place : (t : SlotTable) (source : ℕ) (a b : SlotPlace) → IsSpacedTable t → HasOutput t source a → HasOutput t source b → a ≡ b
 same_place t source a b S A B =
     let own : A.number ≡ B.number = S.own A.number B.number A.output B.output A.there B.there (A.of_source ∙ sym B.of_source) in
     let row : slice_get (outputs_of t) B.number ≡ Some A.output = subst (λ (n : ℕ). slice_get (outputs_of t) n ≡ Some A.output) own A.there in
@@ -142,11 +142,11 @@ same_place t source a b S A B =
 
 -- ---- outputs that stay
 
-pub fewer : (o : Opening) (g : ℕ) (p : GroupTable) (E : List Event) (i j l k source : ℕ) (at : SlotPlace) → i ≤ j → l ≤ k → KeepsOutput o g p E i k source at → KeepsOutput o g p E j l source at
+pub fewer : (o : Opening) (g : ℕ) (p : SlotTable) (E : List Event) (i j l k source : ℕ) (at : SlotPlace) → i ≤ j → l ≤ k → KeepsOutput o g p E i k source at → KeepsOutput o g p E j l source at
 fewer o g p E i j l k source at low high keeps a from below = keeps a (omega (arith, low, from)) (omega (arith, high, below))
 
 -- cells are answered in the order of their slots
-pub in_order : (o : Opening) (g : ℕ) (p : GroupTable) (E : List Event) (a b : ℕ) (y x : Placed) (v s : ℕ) → slice_get (groups_of o.proposal.plan) g ≡ Some p → a < b
+pub in_order : (o : Opening) (g : ℕ) (p : SlotTable) (E : List Event) (a b : ℕ) (y x : Placed) (v s : ℕ) → slice_get (groups_of o.proposal.plan) g ≡ Some p → a < b
     → IsOutputCell o g p E a y v → IsOutputCell o g p E b x s → v ≤ s
 in_order o g p E a b y x v s there after A B =
     let f = frame_at_place o g p E a in
@@ -161,7 +161,7 @@ in_order o g p E a b y x v s there after A B =
         let c = cells_since g f in
         let d = cells_since g h in
         let m = buses_of f.table in
-        let same : buses_of h.table ≡ m = ap (λ (t : GroupTable). buses_of t) S.table in
+        let same : buses_of h.table ≡ m = ap (λ (t : SlotTable). buses_of t) S.table in
         let more : cells_since g (goes_on f (Cell g)) ≤ d = S.cells in
         let some : 0 < m = positive c m (frame_of f.table) due in
         let parts : c % m + c / m * m ≡ c = mod-add-div' c m in
@@ -175,19 +175,19 @@ in_order o g p E a b y x v s there after A B =
         omega (arith, inside, past, row, at, at_b)
 
 -- a cell of the source comes, in a slot that is not before `least`
-pub record HasCellFrom (o : Opening) (g : ℕ) (p : GroupTable) (E : List Event) (i k source least end : ℕ) : Type 0 where
+pub record HasCellFrom (o : Opening) (g : ℕ) (p : SlotTable) (E : List Event) (i k source least end : ℕ) : Type 0 where
   pub cell : HasCell o g p E i k source end
   pub low : least ≤ cell.slot
 
 -- a cell that comes so soon comes sooner than later
-abbrev pub sooner : (o : Opening) (g : ℕ) (p : GroupTable) (E : List Event) (i j l k source end last : ℕ) → i ≤ j → l ≤ k → end ≤ last → HasCell o g p E j l source end → HasCell o g p E i k source last
+abbrev pub sooner : (o : Opening) (g : ℕ) (p : SlotTable) (E : List Event) (i j l k source end last : ℕ) → i ≤ j → l ≤ k → end ≤ last → HasCell o g p E j l source end → HasCell o g p E i k source last
 sooner o g p E i j l k source end last low late more R =
     let from : j ≤ R.place = R.from in
     let before : R.place < l = R.before in
     let high : R.slot < end = R.high in
     record { place = R.place; from = omega (arith, low, from); before = omega (arith, before, late); output = R.output; same = R.same; slot = R.slot; cell = R.cell; high = omega (arith, high, more) }
 
-module _ (o : Opening) (g : ℕ) (p : GroupTable) (E : List Event) (spaced : AreSpacedTables o g p E) where
+module _ (o : Opening) (g : ℕ) (p : SlotTable) (E : List Event) (spaced : AreSpacedTables o g p E) where
   -- the slots that pass on the bus of an output that stays
   pub passes_on : (i k source : ℕ) (at : SlotPlace) → i ≤ k → k ≤ length E → KeepsOutput o g p E i k source at → Passed o g p E i k at.bus
   passes_on i k source at after few keeps = passed o g p E i k at.bus after few (λ j from below. (set_of (frame_at_place o g p E j).table source at (spaced j) (keeps j from below)).on_a_bus)
@@ -333,7 +333,7 @@ number_later : (g : ℕ) (f h : Current) → IsLater g f h → f.number ≤ h.nu
 number_later g f h (inl S) = let same : h.number ≡ f.number = S.number in omega (arith, same)
 number_later g f h (inr M) = M.number
 
-pub one_plan_keeps : (o : Opening) (g : ℕ) (p : GroupTable) (E : List Event) (i k source : ℕ) (at : SlotPlace) → slice_get (groups_of o.proposal.plan) g ≡ Some p → i ≤ k → k ≤ length E → number_at o g p E i ≡ number_at o g p E k
+pub one_plan_keeps : (o : Opening) (g : ℕ) (p : SlotTable) (E : List Event) (i k source : ℕ) (at : SlotPlace) → slice_get (groups_of o.proposal.plan) g ≡ Some p → i ≤ k → k ≤ length E → number_at o g p E i ≡ number_at o g p E k
     → HasOutput (frame_at_place o g p E i).table source at → KeepsOutput o g p E i k source at
 one_plan_keeps o g p E i k source at there after few same here j from below =
     let L = later_at o g p E i j there from (omega (arith, below, few)) in
@@ -341,10 +341,10 @@ one_plan_keeps o g p E i k source at there after few same here j from below =
     let low = number_later g (frame_at_place o g p E i) (frame_at_place o g p E j) L in
     let high = number_later g (frame_at_place o g p E j) (frame_at_place o g p E k) M in
     let number : number_at o g p E j ≡ number_at o g p E i = omega (arith, low, high, same) in
-    subst (λ (t : GroupTable). HasOutput t source at) (sym (table_stays g (frame_at_place o g p E i) (frame_at_place o g p E j) L number)) here
+    subst (λ (t : SlotTable). HasOutput t source at) (sym (table_stays g (frame_at_place o g p E i) (frame_at_place o g p E j) L number)) here
 
 -- a cell of the source of an output of the table in force is in a slot before the next one on the output's bus
-pub before_next : (o : Opening) (g : ℕ) (p : GroupTable) (E : List Event) → AreSpacedTables o g p E → (b i source : ℕ) (at : SlotPlace) (x : Placed) (s : ℕ) → slice_get (groups_of o.proposal.plan) g ≡ Some p → i ≤ length E → b < i
+pub before_next : (o : Opening) (g : ℕ) (p : SlotTable) (E : List Event) → AreSpacedTables o g p E → (b i source : ℕ) (at : SlotPlace) (x : Placed) (s : ℕ) → slice_get (groups_of o.proposal.plan) g ≡ Some p → i ≤ length E → b < i
     → HasOutput (frame_at_place o g p E i).table source at → IsOutputCell o g p E b x s → x.source ≡ source → s < next_slot_on o g p E i at.bus
 before_next o g p E spaced b i source at x s there few early O B same =
     let f = frame_at_place o g p E b in
@@ -355,7 +355,7 @@ before_next o g p E spaced b i source at x s there few early O B same =
     let begin : first_at o g p E i ≤ next_slot_on o g p E i at.bus = omega arith in
     elim later [
       | inl S ↦
-          let here : HasOutput f.table source at = subst (λ (t : GroupTable). HasOutput t source at) S.table O in
+          let here : HasOutput f.table source at = subst (λ (t : SlotTable). HasOutput t source at) S.table O in
           let keeps = one_plan_keeps o g p E b i source at there (omega (arith, early)) few (sym S.number) here in
           let X = cell_here o g p E spaced b source at x s here B same in
           let on = later_on o g p E spaced (suc b) i source at (omega (arith, early)) few (fewer o g p E b (suc b) i i source at (omega arith) (omega arith) keeps) in

@@ -3,7 +3,7 @@ use Rattle.std.proofs.Common.{◌≡◌, ℕ, ◌+◌, ◌<◌, ◌≤◌, Bool,
 use Rattle.std.specs.Prelude.{Option, Some, None, ◌||◌, slice_get, if◌then◌else◌}
 use Rattle.std.specs.Option.{option_map_or}
 use Rattle.std.proofs.lemmas.Option.{none-some, same_Some, slice_get_within}
-use Rattle.a429_slots.specs.Tables.{Placed, GroupTable, groups_of}
+use Rattle.a429_slots.specs.Tables.{Placed, SlotTable, groups_of}
 use Rattle.a429_slots.specs.Events.{Event, Cell}
 use Rattle.a429_slots.specs.History.{Opening, current, accepted_by, answered_cells, last_of, is_too_close}
 use Rattle.a429_slots.specs.Spacing.{IsOutputCell, IsSpacedTable, IsTooClose, Sends, answered_at, number_at}
@@ -15,14 +15,14 @@ use Rattle.a429_core.proofs.Carrying.{sent_in}
 
 -- ---- the answer to an output's cell
 
-pub answer_is : (C : ℕ) (o : Opening) (g : ℕ) (p : GroupTable) (E : List Event) (k : ℕ) (output : Placed) (slot : ℕ) → slice_get (groups_of o.proposal.plan) g ≡ Some p → (I : IsOutputCell o g p E k output slot)
+pub answer_is : (C : ℕ) (o : Opening) (g : ℕ) (p : SlotTable) (E : List Event) (k : ℕ) (output : Placed) (slot : ℕ) → slice_get (groups_of o.proposal.plan) g ≡ Some p → (I : IsOutputCell o g p E k output slot)
     → answer C o (take k E) (Cell g) ≡ Sent I.cell.0 slot (answered_at C o g p E k output slot).word
 answer_is C o g p E k output slot there I =
     let F = take k E in
-    ap (λ (x : Option GroupTable). option_map_or (λ t. cell_answer C o F g (answered_cells C o g t F) (current o g t F)) x (Refused NoSuch)) there
+    ap (λ (x : Option SlotTable). option_map_or (λ t. cell_answer C o F g (answered_cells C o g t F) (current o g t F)) x (Refused NoSuch)) there
     ∙ (rw (I.due, I.stands) refl ∙ ap (λ (s : ℕ). Sent I.cell.0 s (answered_at C o g p E k output s).word) (sym I.counted))
 
-pub word_of : (C : ℕ) (o : Opening) (g : ℕ) (p : GroupTable) (E : List Event) (k : ℕ) (output : Placed) (slot : ℕ) (word : Option ℕ) → slice_get (groups_of o.proposal.plan) g ≡ Some p → IsAnswered C o g p E k output slot word
+pub word_of : (C : ℕ) (o : Opening) (g : ℕ) (p : SlotTable) (E : List Event) (k : ℕ) (output : Placed) (slot : ℕ) (word : Option ℕ) → slice_get (groups_of o.proposal.plan) g ≡ Some p → IsAnswered C o g p E k output slot word
     → (answered_at C o g p E k output slot).word ≡ word
 word_of C o g p E k output slot word there A =
     let w = (answered_at C o g p E k output slot).word in
@@ -30,7 +30,7 @@ word_of C o g p E k output slot word there A =
     let all = same_Some (bus, slot, w) (bus, slot, word) (ap sent_in (sym (answer_is C o g p E k output slot there A.cell) ∙ A.answered)) in
     ap (λ (c : ℕ × ℕ × Option ℕ). c.2) all
 
-pub answered_by : (C : ℕ) (o : Opening) (g : ℕ) (p : GroupTable) (E : List Event) (k : ℕ) (output : Placed) (slot word : ℕ) → slice_get (groups_of o.proposal.plan) g ≡ Some p → Sends C o g p E k output slot word
+pub answered_by : (C : ℕ) (o : Opening) (g : ℕ) (p : SlotTable) (E : List Event) (k : ℕ) (output : Placed) (slot word : ℕ) → slice_get (groups_of o.proposal.plan) g ≡ Some p → Sends C o g p E k output slot word
     → IsAnswered C o g p E k output slot (Some word)
 answered_by C o g p E k output slot word there S = record {
   cell = S.cell;
@@ -39,7 +39,7 @@ answered_by C o g p E k output slot word there S = record {
 
 -- ---- words are apart
 
-pub apart : AreSpaced → (C : ℕ) (o : Opening) (g : ℕ) (p : GroupTable) (E : List Event) (j k : ℕ) (earlier now : Placed) (u t w x : ℕ) → slice_get (groups_of o.proposal.plan) g ≡ Some p → j < k
+pub apart : AreSpaced → (C : ℕ) (o : Opening) (g : ℕ) (p : SlotTable) (E : List Event) (j k : ℕ) (earlier now : Placed) (u t w x : ℕ) → slice_get (groups_of o.proposal.plan) g ≡ Some p → j < k
     → IsAnswered C o g p E j earlier u (Some w) → IsAnswered C o g p E k now t (Some x) → earlier.source ≡ now.source → u + now.limits.spacing ≤ t
 apart law C o g p E j k earlier now u t w x there after A B same =
     law.apart C o g p E j k earlier now u t w x after (record { cell = A.cell; sent = word_of C o g p E j earlier u (Some w) there A })
@@ -51,7 +51,7 @@ close_where_none true close x word free some none = absurd (cc)
 close_where_none false true x word free some none = refl
 close_where_none false false x word free some none = absurd (none-some word (sym none ∙ some))
 
-pub emptied : AreSpaced → (C : ℕ) (o : Opening) (g : ℕ) (p : GroupTable) (E : List Event) (k : ℕ) (now : Placed) (t word : ℕ) → slice_get (groups_of o.proposal.plan) g ≡ Some p → IsSpacedTable (current o g p (take k E)).table
+pub emptied : AreSpaced → (C : ℕ) (o : Opening) (g : ℕ) (p : SlotTable) (E : List Event) (k : ℕ) (now : Placed) (t word : ℕ) → slice_get (groups_of o.proposal.plan) g ≡ Some p → IsSpacedTable (current o g p (take k E)).table
     → IsAnswered C o g p E k now t None → last_of (accepted_by C o now.source (take k E)) ≡ Some word → is_held_at C o g p E k now ≡ false → IsFirstCell C o g p E k now t
 emptied law C o g p E k now t word there S A last free =
     let earlier = answered_cells C o g p (take k E) in
@@ -77,7 +77,7 @@ sent_where_open true close x free far = absurd (cc)
 sent_where_open false true x free far = absurd (far refl)
 sent_where_open false false x free far = refl
 
-pub sends_last : (C : ℕ) (o : Opening) (g : ℕ) (p : GroupTable) (E : List Event) (k : ℕ) (now : Placed) (t : ℕ) → slice_get (groups_of o.proposal.plan) g ≡ Some p → IsOutputCell o g p E k now t → is_held_at C o g p E k now ≡ false
+pub sends_last : (C : ℕ) (o : Opening) (g : ℕ) (p : SlotTable) (E : List Event) (k : ℕ) (now : Placed) (t : ℕ) → slice_get (groups_of o.proposal.plan) g ≡ Some p → IsOutputCell o g p E k now t → is_held_at C o g p E k now ≡ false
     → (IsTooClose C o g p E k now t → ⊥) → IsAnswered C o g p E k now t (last_of (accepted_by C o now.source (take k E)))
 sends_last C o g p E k now t there I free far =
     let earlier = answered_cells C o g p (take k E) in
@@ -88,11 +88,11 @@ sends_last C o g p E k now t there I free far =
           ∙ ap (λ (x : Option ℕ). Sent I.cell.0 t x) (sent_where_open (is_held_at C o g p E k now) near (last_of (accepted_by C o now.source (take k E))) free far);
     }
 
-pub recurs : AreSpaced → (C : ℕ) (o : Opening) (g : ℕ) (p : GroupTable) (E : List Event) (i k : ℕ) (x now : Placed) (s t : ℕ) → slice_get (groups_of o.proposal.plan) g ≡ Some p → IsSpacedTable (current o g p (take k E)).table
+pub recurs : AreSpaced → (C : ℕ) (o : Opening) (g : ℕ) (p : SlotTable) (E : List Event) (i k : ℕ) (x now : Placed) (s t : ℕ) → slice_get (groups_of o.proposal.plan) g ≡ Some p → IsSpacedTable (current o g p (take k E)).table
     → i < k → IsOutputCell o g p E i x s → x.source ≡ now.source → number_at o g p E i ≡ number_at o g p E k → IsOutputCell o g p E k now t → is_held_at C o g p E k now ≡ false
     → IsAnswered C o g p E k now t (last_of (accepted_by C o now.source (take k E)))
 recurs law C o g p E i k x now s t there S before I same number K free = sends_last C o g p E k now t there K free (λ close. law.first C o g p E i k x now s t there S before I K same close number)
 
-pub opens : AreSpaced → (C : ℕ) (o : Opening) (g : ℕ) (p : GroupTable) (E : List Event) (k : ℕ) (now : Placed) (t : ℕ) → slice_get (groups_of o.proposal.plan) g ≡ Some p → IsSpacedTable (current o g p (take k E)).table
+pub opens : AreSpaced → (C : ℕ) (o : Opening) (g : ℕ) (p : SlotTable) (E : List Event) (k : ℕ) (now : Placed) (t : ℕ) → slice_get (groups_of o.proposal.plan) g ≡ Some p → IsSpacedTable (current o g p (take k E)).table
     → IsOutputCell o g p E k now t → number_at o g p E k ≡ o.proposal.plan.number → is_held_at C o g p E k now ≡ false → IsAnswered C o g p E k now t (last_of (accepted_by C o now.source (take k E)))
 opens law C o g p E k now t there S K number free = sends_last C o g p E k now t there K free (law.opening C o g p E k now t there S K number)

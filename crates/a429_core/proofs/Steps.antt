@@ -14,7 +14,7 @@ use Rattle.a429_equipment.specs.declared.arrivals.ArrivalRefusal.TheVariants as 
 use Rattle.a429_equipment.specs.TableRecord.{TableRecord}
 use Rattle.a429_equipment.specs.Arrivals.{AreApart, passes_at, is_for, sorted}
 use Rattle.a429_equipment.specs.SameStation.{same_station, all_agree, same_receiver, same_source, same_group}
-use Rattle.a429_slots.specs.Tables.{GroupTable, PlanTable, groups_of}
+use Rattle.a429_slots.specs.Tables.{SlotTable, PlanTable, groups_of}
 use Rattle.a429_slots.specs.Proposed.{Proposed}
 use Rattle.a429_slots.specs.Events.{Event, Arrive, Cell, Frame, Publish}
 use Rattle.a429_slots.specs.History.{Opening, current, accepted_in, accepted_by, last_of, proposal_for, published, numbers_left, newest_plan, newest_table, newest_number}
@@ -24,8 +24,8 @@ use Rattle.a429_slots.specs.declared.answers.Answer.TheVariants.{Published, Refu
 use Rattle.a429_slots.specs.declared.answers.Refusal.TheVariants.{NoSuch, CountSpent, StationDiffers}
 use Rattle.a429_slots.specs.Answers
 use Rattle.a429_slots.specs.Answers.{answer, answers, source_answer}
-use Rattle.a429_slots.specs.Sending.{Sending, sending_of}
-use Rattle.a429_core.specs.Standing.{Standing, StandsFor, IsWhole, IsWholeEvent, kept_of, count_at, kept_at, put_word, arrived, recent_at, framed, frame_at, frame_asked}
+use Rattle.a429_slots.specs.FrameStates.{FrameState, frame_state_of}
+use Rattle.a429_core.specs.MachineStates.{MachineState, StandsForHistory, IsWhole, IsWholeEvent, kept_of, count_at, kept_at, put_word, arrived, recent_at, framed, frame_at, frame_asked}
 use Rattle.a429_core.proofs.Places.{inside, outside, first_passes, map_same}
 use Rattle.a429_core.proofs.Words.{words_in, accepted_none, accepted_some, accepted_full, kept_none, kept_some, kept_full, word_accepted, word_even, word_filtered, word_unheard, nobody_hears}
 use Rattle.a429_core.proofs.Leaving.{IsSource, IsGroup, NoneCame, sources_stay, group_stays, with_groups, with_sources, Stepped, step_from}
@@ -37,7 +37,7 @@ use Rattle.a429_slots.proofs.Histories.{current_next}
 
 -- ---- frames
 
-frame_step : (C : ℕ) (o : Opening) (E : List Event) (k : ℕ) (v : Standing) → StandsFor C o E v → (x : Option GroupTable) → slice_get (groups_of o.proposal.plan) k ≡ x → Stepped C o E (Frame k) v
+frame_step : (C : ℕ) (o : Opening) (E : List Event) (k : ℕ) (v : MachineState) → StandsForHistory C o E v → (x : Option SlotTable) → slice_get (groups_of o.proposal.plan) k ≡ x → Stepped C o E (Frame k) v
 frame_step C o E k v S None h =
     let got : slice_get v.groups k ≡ None = S.groups k ∙ rw h refl in
     let none : NoneCame C o E (Frame k) = record { same = λ i s q. accepted_none C o s E (Frame k) refl } in
@@ -52,22 +52,22 @@ frame_step C o E k v S (Some p) h =
     let n = newest_number o E in
     let now = newest_table o k p E in
     let tables = groups_of (newest_plan o E) in
-    let low : k < length tables = omega (arith, slice_get_within (groups_of o.proposal.plan) k p h, S.as_many, ap (λ (ts : List GroupTable). length ts) S.newest) in
+    let low : k < length tables = omega (arith, slice_get_within (groups_of o.proposal.plan) k p h, S.as_many, ap (λ (ts : List SlotTable). length ts) S.newest) in
     let there : slice_get tables k ≡ Some (get_or tables k p) = slice_get-get_or tables k p low in
     let now_is : now ≡ get_or tables k p = rw there refl in
-    let has : slice_get (groups_of v.newest) k ≡ Some now = ap (λ (ts : List GroupTable). slice_get ts k) S.newest ∙ (there ∙ ap (λ (t : GroupTable). Some t) (sym now_is)) in
-    let got : slice_get v.groups k ≡ Some (sending_of k f) = S.groups k ∙ rw h refl in
+    let has : slice_get (groups_of v.newest) k ≡ Some now = ap (λ (ts : List SlotTable). slice_get ts k) S.newest ∙ (there ∙ ap (λ (t : SlotTable). Some t) (sym now_is)) in
+    let got : slice_get v.groups k ≡ Some (frame_state_of k f) = S.groups k ∙ rw h refl in
     let none : NoneCame C o E (Frame k) = record { same = λ i s q. accepted_none C o s E (Frame k) refl } in
-    let R = framed (sending_of k f) n now in
+    let R = framed (frame_state_of k f) n now in
     let turn : Turned k n now f (Frame k) = frame_push k n now f (Frame k) (eq-eqb k k refl) refl in
     let at_k : frame_at v.groups v.newest k ≡ (R.0, slice_set v.groups k R.1) =
-    rw (got, has) (ap (λ (m : ℕ). ((framed (sending_of k f) m now).0, slice_set v.groups k (framed (sending_of k f) m now).1)) S.number) in
-    let put : frame_asked v k ≡ ((frame_at v.groups v.newest k).0, record v { groups = (frame_at v.groups v.newest k).1 }) = rw (inside v.groups k (sending_of k f) got) refl in
+    rw (got, has) (ap (λ (m : ℕ). ((framed (frame_state_of k f) m now).0, slice_set v.groups k (framed (frame_state_of k f) m now).1)) S.number) in
+    let put : frame_asked v k ≡ ((frame_at v.groups v.newest k).0, record v { groups = (frame_at v.groups v.newest k).1 }) = rw (inside v.groups k (frame_state_of k f) got) refl in
     let groups = slice_set v.groups k R.1 in
-    let made : frame_asked v k ≡ (R.0, record v { groups = groups }) = put ∙ ap (λ (x : Answer × List Sending). (x.0, record v { groups = x.1 })) at_k in
-    let next : sending_of k (current o k p (E ++ Frame k ∷ [])) ≡ R.1 = ap (sending_of k) (current_next o k p E (Frame k)) ∙ turn.after in
+    let made : frame_asked v k ≡ (R.0, record v { groups = groups }) = put ∙ ap (λ (x : Answer × List FrameState). (x.0, record v { groups = x.1 })) at_k in
+    let next : frame_state_of k (current o k p (E ++ Frame k ∷ [])) ≡ R.1 = ap (frame_state_of k) (current_next o k p E (Frame k)) ∙ turn.after in
     let here : IsGroup o (E ++ Frame k ∷ []) groups k =
-    get_set_same v.groups k R.1 (slice_get_within v.groups k (sending_of k f) got) ∙ rw h (ap (λ (s : Sending). Some s) (sym next)) in
+    get_set_same v.groups k R.1 (slice_get_within v.groups k (frame_state_of k f) got) ∙ rw h (ap (λ (s : FrameState). Some s) (sym next)) in
     step_from C o E (Frame k) v (R.0, record v { groups = groups }) made (rw h turn.answer)
     (with_groups C o E (Frame k) v groups S none (kept_none (proposal_for o) (numbers_left o) E (Frame k) refl) (length-set v.groups k R.1) (λ g. elim (cases_eq k g) [
       | inl e ↦ subst (IsGroup o (E ++ Frame k ∷ []) groups) e here
@@ -84,17 +84,17 @@ other_unheard o r raw i s apart hs heard j t ht n = elim (cases_Bool (is_for r r
   | inr miss ↦ miss
 ]
 
-stays : (C : ℕ) (o : Opening) (E : List Event) (r raw : ℕ) (v : Standing) → StandsFor C o E v → NoneCame C o E (Arrive r raw) → StandsFor C o (E ++ Arrive r raw ∷ []) v
+stays : (C : ℕ) (o : Opening) (E : List Event) (r raw : ℕ) (v : MachineState) → StandsForHistory C o E v → NoneCame C o E (Arrive r raw) → StandsForHistory C o (E ++ Arrive r raw ∷ []) v
 stays C o E r raw v S none = with_sources C o E r raw v v.sources S (sources_stay C o E (Arrive r raw) v S none)
 
-kept_is : (C : ℕ) (o : Opening) (E : List Event) (v : Standing) (i : ℕ) (s : SourceRow) → StandsFor C o E v → slice_get o.proposal.station.sources i ≡ Some s → slice_get v.sources i ≡ Some (kept_of (accepted_in C o s E))
+kept_is : (C : ℕ) (o : Opening) (E : List Event) (v : MachineState) (i : ℕ) (s : SourceRow) → StandsForHistory C o E v → slice_get o.proposal.station.sources i ≡ Some s → slice_get v.sources i ≡ Some (kept_of (accepted_in C o s E))
 kept_is C o E v i s S hs = S.sources i ∙ rw hs refl
 
-count_is : (C : ℕ) (o : Opening) (E : List Event) (v : Standing) (i : ℕ) (s : SourceRow) → StandsFor C o E v → slice_get o.proposal.station.sources i ≡ Some s → count_at v.sources i ≡ length (accepted_in C o s E)
+count_is : (C : ℕ) (o : Opening) (E : List Event) (v : MachineState) (i : ℕ) (s : SourceRow) → StandsForHistory C o E v → slice_get o.proposal.station.sources i ≡ Some s → count_at v.sources i ≡ length (accepted_in C o s E)
 count_is C o E v i s S hs = rw (kept_is C o E v i s S hs) refl
 
-put_step : (C : ℕ) (o : Opening) (E : List Event) (r raw i : ℕ) (v : Standing) (s : SourceRow) → StandsFor C o E v → slice_get o.proposal.station.sources i ≡ Some s → is_for r raw s ≡ true
-    → words_in o s (Arrive r raw ∷ []) ≡ raw ∷ [] → length (accepted_in C o s E) < 2 ^ C - 1 → StandsFor C o (E ++ Arrive r raw ∷ []) (record v { sources = kept_at v.sources i raw })
+put_step : (C : ℕ) (o : Opening) (E : List Event) (r raw i : ℕ) (v : MachineState) (s : SourceRow) → StandsForHistory C o E v → slice_get o.proposal.station.sources i ≡ Some s → is_for r raw s ≡ true
+    → words_in o s (Arrive r raw ∷ []) ≡ raw ∷ [] → length (accepted_in C o s E) < 2 ^ C - 1 → StandsForHistory C o (E ++ Arrive r raw ∷ []) (record v { sources = kept_at v.sources i raw })
 put_step C o E r raw i v s S hs heard came room =
     let grown : accepted_in C o s (E ++ Arrive r raw ∷ []) ≡ accepted_in C o s E ++ raw ∷ [] = accepted_some C o s E (Arrive r raw) raw came room in
     let longer : length (accepted_in C o s (E ++ Arrive r raw ∷ [])) ≡ count_at v.sources i + 1 =
@@ -125,11 +125,11 @@ spent C o E r raw i s apart hs heard came full = record {
   ];
 }
 
-pub record Put (C : ℕ) (o : Opening) (E : List Event) (r raw : ℕ) (v : Standing) (x : Result ℕ ArrivalRefusal) : Type 0 where
+pub record Put (C : ℕ) (o : Opening) (E : List Event) (r raw : ℕ) (v : MachineState) (x : Result ℕ ArrivalRefusal) : Type 0 where
   pub answer : (put_word C v raw x).0 ≡ source_answer C o E x
-  pub after : StandsFor C o (E ++ Arrive r raw ∷ []) (put_word C v raw x).1
+  pub after : StandsForHistory C o (E ++ Arrive r raw ∷ []) (put_word C v raw x).1
 
-found_step : (C : ℕ) (o : Opening) (E : List Event) (r raw : ℕ) (v : Standing) → StandsFor C o E v → has_odd_parity raw ≡ true → passes_at o.proposal.station r raw ≡ true
+found_step : (C : ℕ) (o : Opening) (E : List Event) (r raw : ℕ) (v : MachineState) → StandsForHistory C o E v → has_odd_parity raw ≡ true → passes_at o.proposal.station r raw ≡ true
     → (x : Option ℕ) → position (is_for r raw) o.proposal.station.sources ≡ x → Put C o E r raw v (option_map_or (λ i. Ok i) x (Err arrival.NoSource))
 found_step C o E r raw v S odd pass None h = record {
   answer = refl;
@@ -165,7 +165,7 @@ found_step C o E r raw v S odd pass (Some i) h = elim (slice_get_cases o.proposa
       absurd (omega arith)
 ]
 
-sorted_step : (C : ℕ) (o : Opening) (E : List Event) (r raw : ℕ) (v : Standing) → StandsFor C o E v → Put C o E r raw v (sorted o.proposal.station r raw)
+sorted_step : (C : ℕ) (o : Opening) (E : List Event) (r raw : ℕ) (v : MachineState) → StandsForHistory C o E v → Put C o E r raw v (sorted o.proposal.station r raw)
 sorted_step C o E r raw v S = elim (cases_Bool (has_odd_parity raw)) [
   | inl odd ↦ elim (cases_Bool (passes_at o.proposal.station r raw)) [
     | inl pass ↦
@@ -187,10 +187,10 @@ sorted_step C o E r raw v S = elim (cases_Bool (has_odd_parity raw)) [
       })
 ]
 
-abbrev arrived_at : ℕ → Standing → ℕ → ℕ → TableRecord → Answer × Standing
+abbrev arrived_at : ℕ → MachineState → ℕ → ℕ → TableRecord → Answer × MachineState
 arrived_at C v r raw t = if nat_le (length t.receivers) r then (Refused NoSuch, v) else put_word C v raw (sorted t r raw)
 
-arrive_step : (C : ℕ) (o : Opening) (E : List Event) (r raw : ℕ) (v : Standing) → StandsFor C o E v → Stepped C o E (Arrive r raw) v
+arrive_step : (C : ℕ) (o : Opening) (E : List Event) (r raw : ℕ) (v : MachineState) → StandsForHistory C o E v → Stepped C o E (Arrive r raw) v
 arrive_step C o E r raw v S =
     let t = o.proposal.station in
     let here : arrived C v r raw ≡ arrived_at C v r raw t = ap (arrived_at C v r raw) S.station in
@@ -215,7 +215,7 @@ same_count a b h =
     let groups = (and_parts (all_agree same_source a.sources b.sources) (all_agree same_group a.groups b.groups) more).1 in
     eqb-true (length a.groups) (length b.groups) (and_parts (length a.groups == length b.groups) _ groups).0
 
-publish_step : (C : ℕ) (o : Opening) (E : List Event) (q : Proposed) (v : Standing) → IsWhole q → StandsFor C o E v → Stepped C o E (Publish q) v
+publish_step : (C : ℕ) (o : Opening) (E : List Event) (q : Proposed) (v : MachineState) → IsWhole q → StandsForHistory C o E v → Stepped C o E (Publish q) v
 publish_step C o E q v whole S =
     let e = Publish q in
     let none : NoneCame C o E (Publish q) = record { same = λ i s x. accepted_none C o s E (Publish q) refl } in
@@ -259,7 +259,7 @@ publish_step C o E q v whole S =
 
 -- ---- every event
 
-pub step_is : AreRecalled → (C : ℕ) (o : Opening) (E : List Event) (e : Event) (v : Standing) → IsWholeEvent e → StandsFor C o E v → Stepped C o E e v
+pub step_is : AreRecalled → (C : ℕ) (o : Opening) (E : List Event) (e : Event) (v : MachineState) → IsWholeEvent e → StandsForHistory C o E v → Stepped C o E e v
 step_is law C o E (Arrive r raw) v w S = arrive_step C o E r raw v S
 step_is law C o E (Cell g) v w S = cell_step law C o E g v S (slice_get (groups_of o.proposal.plan) g) refl
 step_is law C o E (Frame g) v w S = frame_step C o E g v S (slice_get (groups_of o.proposal.plan) g) refl

@@ -2,11 +2,11 @@
 use Rattle.std.specs.Prelude.{◌≡◌, ◌⊎◌, ◌+◌, ◌*◌, ◌<◌, ◌≤◌, ◌/◌, ◌%◌, ◌^◌, ℕ, false, IsTrue, List, Some, None, if◌then◌else◌, nat_lt, length, take, slice_get}
 use Rattle.a429_equipment.specs.Arrivals.{AreApart}
 use Rattle.a429_slots.specs.declared.group_plan.SlotPlace.{SlotPlace}
-use Rattle.a429_slots.specs.Tables.{Placed, GroupTable, outputs_of, buses_of}
+use Rattle.a429_slots.specs.Tables.{Placed, SlotTable, outputs_of, buses_of}
 use Rattle.a429_slots.specs.Events.{Event, Arrive, Cell}
 use Rattle.a429_slots.specs.History.{Opening, OpensWith, current, cell_due}
 use Rattle.a429_slots.specs.TakenFrames.{is_taken_at}
-use Rattle.a429_slots.specs.Sending.{Sending}
+use Rattle.a429_slots.specs.FrameStates.{FrameState}
 use Rattle.a429_slots.specs.GoingOn.{stands_after}
 use Rattle.a429_slots.specs.Spacing.{HaveOwnPlans, IsOutputCell, number_at}
 use Rattle.a429_slots.specs.declared.answers.Answer.TheVariants.{Accepted}
@@ -17,15 +17,15 @@ use Rattle.a429_core.specs.Spaced.{IsAnswered, IsFirstCell, is_held_at, last_wor
 -- ---- slots that pass
 
 -- the slot of a group's next cell on a bus: the slot that the group is in, or the one after it where that slot's cell on this bus was sent
-abbrev pub next_on : Sending → ℕ → ℕ
+abbrev pub next_on : FrameState → ℕ → ℕ
 next_on s bus = s.first + (s.sent / buses_of s.table + (if nat_lt bus (s.sent % buses_of s.table) then 1 else 0))
 
 -- before place k
-abbrev pub next_slot_on : Opening → ℕ → GroupTable → List Event → ℕ → ℕ → ℕ
+abbrev pub next_slot_on : Opening → ℕ → SlotTable → List Event → ℕ → ℕ → ℕ
 next_slot_on o g p E k bus = next_on (stands_after o g p (take k E)) bus
 
 -- from place i on and before place k, the group answers its cell on this bus in this slot
-pub record AnswersOn (o : Opening) (g : ℕ) (p : GroupTable) (E : List Event) (i k bus slot : ℕ) : Type 0 where
+pub record AnswersOn (o : Opening) (g : ℕ) (p : SlotTable) (E : List Event) (i k bus slot : ℕ) : Type 0 where
   pub place : ℕ
   pub from : i ≤ place
   pub before : place < k
@@ -35,7 +35,7 @@ pub record AnswersOn (o : Opening) (g : ℕ) (p : GroupTable) (E : List Event) (
   pub counted : slot ≡ (current o g p (take place E)).first + in_frame
 
 -- from place i on and before place k, each slot table in force has the bus
-abbrev pub KeepsBus : Opening → ℕ → GroupTable → List Event → ℕ → ℕ → ℕ → Type 0
+abbrev pub KeepsBus : Opening → ℕ → SlotTable → List Event → ℕ → ℕ → ℕ → Type 0
 KeepsBus o g p E i k bus = (j : ℕ) → i ≤ j → j < k → bus < buses_of (current o g p (take j E)).table
 
 -- ---- outputs
@@ -45,7 +45,7 @@ abbrev pub period_of : SlotPlace → ℕ
 period_of at = 2 ^ at.period
 
 -- the slot table has an output of this source at this place
-pub record HasOutput (t : GroupTable) (source : ℕ) (at : SlotPlace) : Type 0 where
+pub record HasOutput (t : SlotTable) (source : ℕ) (at : SlotPlace) : Type 0 where
   pub number : ℕ
   pub output : Placed
   pub there : slice_get (outputs_of t) number ≡ Some output
@@ -54,20 +54,20 @@ pub record HasOutput (t : GroupTable) (source : ℕ) (at : SlotPlace) : Type 0 w
 
 -- The output stays: from place i on and before place k, each plan in force has an output of this source at this place. The limits of its sends
 -- may change.
-abbrev pub KeepsOutput : Opening → ℕ → GroupTable → List Event → ℕ → ℕ → ℕ → SlotPlace → Type 0
+abbrev pub KeepsOutput : Opening → ℕ → SlotTable → List Event → ℕ → ℕ → ℕ → SlotPlace → Type 0
 KeepsOutput o g p E i k source at = (j : ℕ) → i ≤ j → j < k → HasOutput (current o g p (take j E)).table source at
 
 -- from place i on and up to place k, each plan in force has an output of this source whose period has no more than this many slots
-pub record HasOutputWithin (t : GroupTable) (source most : ℕ) : Type 0 where
+pub record HasOutputWithin (t : SlotTable) (source most : ℕ) : Type 0 where
   pub at : SlotPlace
   pub output : HasOutput t source at
   pub short : period_of at ≤ most
 
-abbrev pub KeepsSource : Opening → ℕ → GroupTable → List Event → ℕ → ℕ → ℕ → ℕ → Type 0
+abbrev pub KeepsSource : Opening → ℕ → SlotTable → List Event → ℕ → ℕ → ℕ → ℕ → Type 0
 KeepsSource o g p E i k source most = (j : ℕ) → i ≤ j → j ≤ k → HasOutputWithin (current o g p (take j E)).table source most
 
 -- an output of a source by a plan that is in force from place i on and before place k
-abbrev pub EachOutput : Opening → ℕ → GroupTable → List Event → ℕ → ℕ → ℕ → (Placed → Type 0) → Type 0
+abbrev pub EachOutput : Opening → ℕ → SlotTable → List Event → ℕ → ℕ → ℕ → (Placed → Type 0) → Type 0
 EachOutput o g p E i k source Is =
     (j : ℕ) → i ≤ j → j < k → (n : ℕ) (x : Placed) → slice_get (outputs_of (current o g p (take j E)).table) n ≡ Some x → x.source ≡ source → Is x
 
@@ -82,11 +82,11 @@ pub record IsUnheld (q : ℕ) (x : Placed) : Type 0 where
   pub spacing : x.limits.spacing ≤ q
 
 -- from place i to place k, n slots pass on the output's bus
-abbrev pub Passes : Opening → ℕ → GroupTable → List Event → ℕ → ℕ → SlotPlace → ℕ → Type 0
+abbrev pub Passes : Opening → ℕ → SlotTable → List Event → ℕ → ℕ → SlotPlace → ℕ → Type 0
 Passes o g p E i k at n = next_slot_on o g p E i at.bus + n ≤ next_slot_on o g p E k at.bus
 
 -- from place i on and before place k, in a slot before `end`, the group answers a cell of the source
-pub record HasCell (o : Opening) (g : ℕ) (p : GroupTable) (E : List Event) (i k source end : ℕ) : Type 0 where
+pub record HasCell (o : Opening) (g : ℕ) (p : SlotTable) (E : List Event) (i k source end : ℕ) : Type 0 where
   pub place : ℕ
   pub from : i ≤ place
   pub before : place < k
@@ -97,7 +97,7 @@ pub record HasCell (o : Opening) (g : ℕ) (p : GroupTable) (E : List Event) (i 
   pub high : slot < end
 
 -- after place j and before place k, the group answers a cell of the source in this slot, and none of it in between
-pub record HasNextCell (o : Opening) (g : ℕ) (p : GroupTable) (E : List Event) (j k source slot : ℕ) : Type 0 where
+pub record HasNextCell (o : Opening) (g : ℕ) (p : SlotTable) (E : List Event) (j k source slot : ℕ) : Type 0 where
   pub place : ℕ
   pub after : j < place
   pub before : place < k
@@ -122,40 +122,40 @@ pub record IsFresh (C : ℕ) (o : Opening) (E : List Event) (source word i : ℕ
 
 -- from place i on and before place k, in a slot before `end`, the group sends a word of the source: the latest that the source accepted, which
 -- came in at place i or later
-pub record GoesOut (C : ℕ) (o : Opening) (g : ℕ) (p : GroupTable) (E : List Event) (i k source end : ℕ) : Type 0 where
+pub record GoesOut (C : ℕ) (o : Opening) (g : ℕ) (p : SlotTable) (E : List Event) (i k source end : ℕ) : Type 0 where
   pub cell : HasCell o g p E i k source end
   pub word : ℕ
   pub sent : IsAnswered C o g p E cell.place cell.output cell.slot (Some word)
   pub fresh : IsFresh C o (take cell.place E) source word i
 
 -- from place i on and before place k, in a slot before `end`, the group sends a word of the source
-pub record SendsOne (C : ℕ) (o : Opening) (g : ℕ) (p : GroupTable) (E : List Event) (i k source end : ℕ) : Type 0 where
+pub record SendsOne (C : ℕ) (o : Opening) (g : ℕ) (p : SlotTable) (E : List Event) (i k source end : ℕ) : Type 0 where
   pub cell : HasCell o g p E i k source end
   pub word : ℕ
   pub sent : IsAnswered C o g p E cell.place cell.output cell.slot (Some word)
 
 -- the cell that comes is without a word, as a word of the source was sent within the least spacing: it is the first of its source since the
 -- plan came into force
-pub record IsEmptiedFirst (C : ℕ) (o : Opening) (g : ℕ) (p : GroupTable) (E : List Event) (i k source end : ℕ) : Type 0 where
+pub record IsEmptiedFirst (C : ℕ) (o : Opening) (g : ℕ) (p : SlotTable) (E : List Event) (i k source end : ℕ) : Type 0 where
   pub cell : HasCell o g p E i k source end
   pub empty : IsAnswered C o g p E cell.place cell.output cell.slot None
   pub only : IsFirstCell C o g p E cell.place cell.output cell.slot
 
 -- Times of the places of a history, where each slot lasts as long as any other and slot n begins n slots after time 0: time does not go back,
 -- and the group is asked for no cell before its slot begins.
-pub record KeepsTime (o : Opening) (g : ℕ) (p : GroupTable) (E : List Event) (time : ℕ → ℕ) (slot_time : ℕ) : Type 0 where
+pub record KeepsTime (o : Opening) (g : ℕ) (p : SlotTable) (E : List Event) (time : ℕ → ℕ) (slot_time : ℕ) : Type 0 where
   pub onward : (j k : ℕ) → j ≤ k → time j ≤ time k
   pub begun : (i k bus slot : ℕ) (cell : AnswersOn o g p E i k bus slot) → slot * slot_time ≤ time cell.place
 
 -- it goes out, and the slot of its cell ends no more than this time after place i
-pub record GoesOutWithin (C : ℕ) (o : Opening) (g : ℕ) (p : GroupTable) (E : List Event) (i k source end : ℕ) (time : ℕ → ℕ) (slot_time most : ℕ) : Type 0 where
+pub record GoesOutWithin (C : ℕ) (o : Opening) (g : ℕ) (p : SlotTable) (E : List Event) (i k source end : ℕ) (time : ℕ → ℕ) (slot_time most : ℕ) : Type 0 where
   pub out : GoesOut C o g p E i k source end
   pub soon : (out.cell.slot + 1) * slot_time ≤ time i + most
 
 -- ---- what the laws suppose
 
 -- a history of a group: its station's sources are apart, and each plan is that of its own table
-pub record IsPlannedHistory (o : Opening) (g : ℕ) (p : GroupTable) (E : List Event) : Type 0 where
+pub record IsPlannedHistory (o : Opening) (g : ℕ) (p : SlotTable) (E : List Event) : Type 0 where
   pub apart : AreApart o.proposal.station.sources
   pub opens : OpensWith o g p
   pub own : HaveOwnPlans o E
@@ -167,7 +167,7 @@ pub record IsAcceptedBefore (C : ℕ) (o : Opening) (E : List Event) (i k source
   pub few : k ≤ length E
 
 -- from place j on the source's output stays, at place c a Frame is taken, and from then on up to place k its output is at another place
-pub record Changes (o : Opening) (g : ℕ) (p : GroupTable) (E : List Event) (j c k source : ℕ) (old new : SlotPlace) : Type 0 where
+pub record Changes (o : Opening) (g : ℕ) (p : SlotTable) (E : List Event) (j c k source : ℕ) (old new : SlotPlace) : Type 0 where
   pub from : j ≤ c
   pub before : c < k
   pub few : k ≤ length E
@@ -177,7 +177,7 @@ pub record Changes (o : Opening) (g : ℕ) (p : GroupTable) (E : List Event) (j 
 
 -- from place i up to place k each plan in force has an output of the source, whose period is no more than `most` slots, and n slots pass from
 -- where that of the first plan is next to where that of the last one is
-pub record ChangesOften (o : Opening) (g : ℕ) (p : GroupTable) (E : List Event) (i k source most n : ℕ) : Type 0 where
+pub record ChangesOften (o : Opening) (g : ℕ) (p : SlotTable) (E : List Event) (i k source most n : ℕ) : Type 0 where
   pub after : i ≤ k
   pub few : k ≤ length E
   pub keeps : KeepsSource o g p E i k source most
@@ -190,26 +190,26 @@ pub record ChangesOften (o : Opening) (g : ℕ) (p : GroupTable) (E : List Event
 -- a group answers its cells on a bus slot by slot, and leaves none out
 abbrev pub SlotsPassOneByOne : Type 0
 SlotsPassOneByOne =
-    (o : Opening) (g : ℕ) (p : GroupTable) (E : List Event) (i k bus slot : ℕ) → i ≤ k → k ≤ length E → KeepsBus o g p E i k bus
+    (o : Opening) (g : ℕ) (p : SlotTable) (E : List Event) (i k bus slot : ℕ) → i ≤ k → k ≤ length E → KeepsBus o g p E i k bus
     → next_slot_on o g p E i bus ≤ slot → slot < next_slot_on o g p E k bus → AnswersOn o g p E i k bus slot
 
 -- as long as one plan is in force its outputs stay
 abbrev pub OnePlanKeepsOutputs : Type 0
 OnePlanKeepsOutputs =
-    (o : Opening) (g : ℕ) (p : GroupTable) (E : List Event) (i k source : ℕ) (at : SlotPlace) → OpensWith o g p → i ≤ k → k ≤ length E
+    (o : Opening) (g : ℕ) (p : SlotTable) (E : List Event) (i k source : ℕ) (at : SlotPlace) → OpensWith o g p → i ≤ k → k ≤ length E
     → number_at o g p E i ≡ number_at o g p E k → HasOutput (current o g p (take i E)).table source at → KeepsOutput o g p E i k source at
 
 -- an output that stays has a cell in each period of slots, in whatever frames and by whatever plans they pass
 abbrev pub OutputsComeRound : Type 0
 OutputsComeRound =
-    (o : Opening) (g : ℕ) (p : GroupTable) (E : List Event) (i k source : ℕ) (at : SlotPlace) → OpensWith o g p → HaveOwnPlans o E → i ≤ k → k ≤ length E
+    (o : Opening) (g : ℕ) (p : SlotTable) (E : List Event) (i k source : ℕ) (at : SlotPlace) → OpensWith o g p → HaveOwnPlans o E → i ≤ k → k ≤ length E
     → KeepsOutput o g p E i k source at → Passes o g p E i k at (period_of at)
     → HasCell o g p E i k source (next_slot_on o g p E i at.bus + period_of at)
 
 -- as long as it stays, its next cell is just a period on, also where the plan changes
 abbrev pub OutputsRecurExactly : Type 0
 OutputsRecurExactly =
-    (o : Opening) (g : ℕ) (p : GroupTable) (E : List Event) (j k source : ℕ) (at : SlotPlace) (x : Placed) (slot : ℕ)
+    (o : Opening) (g : ℕ) (p : SlotTable) (E : List Event) (j k source : ℕ) (at : SlotPlace) (x : Placed) (slot : ℕ)
     → OpensWith o g p → HaveOwnPlans o E → j < k → k ≤ length E → KeepsOutput o g p E j k source at
     → IsOutputCell o g p E j x slot → x.source ≡ source → slot + period_of at < next_slot_on o g p E k at.bus
     → HasNextCell o g p E j k source (slot + period_of at)
@@ -217,7 +217,7 @@ OutputsRecurExactly =
 -- and from its second cell on each has the last word that was accepted, unless that is held
 abbrev pub StayingCellsAreFull : Type 0
 StayingCellsAreFull =
-    (C : ℕ) (o : Opening) (g : ℕ) (p : GroupTable) (E : List Event) (j k source : ℕ) (at : SlotPlace) (x now : Placed) (s t : ℕ)
+    (C : ℕ) (o : Opening) (g : ℕ) (p : SlotTable) (E : List Event) (j k source : ℕ) (at : SlotPlace) (x now : Placed) (s t : ℕ)
     → IsPlannedHistory o g p E → j < k → KeepsOutput o g p E j (k + 1) source at
     → IsOutputCell o g p E j x s → x.source ≡ source → IsOutputCell o g p E k now t → now.source ≡ source
     → is_held_at C o g p E k now ≡ false → IsAnswered C o g p E k now t (last_word_at C o E k now)
@@ -225,7 +225,7 @@ StayingCellsAreFull =
 -- where one plan follows another, and both have an output of one source, its cells go on within fewer slots than both periods together
 abbrev pub CellsRecurAcrossAChange : Type 0
 CellsRecurAcrossAChange =
-    (o : Opening) (g : ℕ) (p : GroupTable) (E : List Event) (j c k source : ℕ) (old new : SlotPlace) (x : Placed) (slot : ℕ)
+    (o : Opening) (g : ℕ) (p : SlotTable) (E : List Event) (j c k source : ℕ) (old new : SlotPlace) (x : Placed) (slot : ℕ)
     → OpensWith o g p → HaveOwnPlans o E → Changes o g p E j c k source old new → IsOutputCell o g p E j x slot → x.source ≡ source
     → slot + (period_of old + period_of new) ≤ next_slot_on o g p E k new.bus
     → HasCell o g p E (j + 1) k source (slot + (period_of old + period_of new))
@@ -233,7 +233,7 @@ CellsRecurAcrossAChange =
 -- whatever plans follow one another, each with an output of the source: within fewer slots than twice the longest period
 abbrev pub CellsRecurAcrossChanges : Type 0
 CellsRecurAcrossChanges =
-    (o : Opening) (g : ℕ) (p : GroupTable) (E : List Event) (i k source most n : ℕ)
+    (o : Opening) (g : ℕ) (p : SlotTable) (E : List Event) (i k source most n : ℕ)
     → OpensWith o g p → HaveOwnPlans o E → (P : ChangesOften o g p E i k source most n) → 2 * most ≤ n + 1
     → HasCell o g p E i k source (next_slot_on o g p E i P.first.at.bus + n)
 
@@ -243,7 +243,7 @@ CellsRecurAcrossChanges =
 -- the source went out within the least spacing before, and this cell is the first of the source since the plan came into force.
 abbrev pub WordsGoOutOrAreFirst : Type 0
 WordsGoOutOrAreFirst =
-    (C : ℕ) (o : Opening) (g : ℕ) (p : GroupTable) (E : List Event) (i k source : ℕ) (at : SlotPlace) (q : ℕ)
+    (C : ℕ) (o : Opening) (g : ℕ) (p : SlotTable) (E : List Event) (i k source : ℕ) (at : SlotPlace) (q : ℕ)
     → IsPlannedHistory o g p E → IsAcceptedBefore C o E i k source → KeepsOutput o g p E i k source at
     → EachOutput o g p E i k source (MaySend q) → Passes o g p E i k at (period_of at)
     → GoesOut C o g p E i k source (next_slot_on o g p E i at.bus + period_of at)
@@ -253,7 +253,7 @@ WordsGoOutOrAreFirst =
 -- period of slots has passed from there on
 abbrev pub AcceptedWordsGoOutInTime : Type 0
 AcceptedWordsGoOutInTime =
-    (C : ℕ) (o : Opening) (g : ℕ) (p : GroupTable) (E : List Event) (h a i k source : ℕ) (at : SlotPlace) (q : ℕ)
+    (C : ℕ) (o : Opening) (g : ℕ) (p : SlotTable) (E : List Event) (h a i k source : ℕ) (at : SlotPlace) (q : ℕ)
     → IsPlannedHistory o g p E → IsAcceptedBefore C o E a k source → a ≤ i → i ≤ k → h ≤ i → KeepsOutput o g p E h k source at
     → EachOutput o g p E i k source (MaySend q) → Passes o g p E h i at (period_of at) → Passes o g p E i k at (period_of at)
     → GoesOut C o g p E a k source (next_slot_on o g p E i at.bus + period_of at)
@@ -261,7 +261,7 @@ AcceptedWordsGoOutInTime =
 -- So the latency is one period and one slot at most, from when the word is accepted until the slot of its cell ends.
 abbrev pub LatencyIsBounded : Type 0
 LatencyIsBounded =
-    (C : ℕ) (o : Opening) (g : ℕ) (p : GroupTable) (E : List Event) (h i k source : ℕ) (at : SlotPlace) (q : ℕ) (time : ℕ → ℕ) (slot_time : ℕ)
+    (C : ℕ) (o : Opening) (g : ℕ) (p : SlotTable) (E : List Event) (h i k source : ℕ) (at : SlotPlace) (q : ℕ) (time : ℕ → ℕ) (slot_time : ℕ)
     → IsPlannedHistory o g p E → IsAcceptedBefore C o E i k source → h ≤ i → KeepsOutput o g p E h k source at
     → EachOutput o g p E i k source (MaySend q) → Passes o g p E h i at (period_of at) → Passes o g p E i k at (period_of at)
     → KeepsTime o g p E time slot_time
@@ -270,7 +270,7 @@ LatencyIsBounded =
 -- where the output has been there from the opening on, the word always goes out in one period of slots
 abbrev pub OpeningWordsGoOutInTime : Type 0
 OpeningWordsGoOutInTime =
-    (C : ℕ) (o : Opening) (g : ℕ) (p : GroupTable) (E : List Event) (i k source : ℕ) (at : SlotPlace) (q : ℕ)
+    (C : ℕ) (o : Opening) (g : ℕ) (p : SlotTable) (E : List Event) (i k source : ℕ) (at : SlotPlace) (q : ℕ)
     → IsPlannedHistory o g p E → IsAcceptedBefore C o E i k source → KeepsOutput o g p E 0 k source at
     → EachOutput o g p E i k source (MaySend q) → Passes o g p E i k at (period_of at)
     → GoesOut C o g p E i k source (next_slot_on o g p E i at.bus + period_of at)
@@ -278,7 +278,7 @@ OpeningWordsGoOutInTime =
 -- Whatever was sent before, an accepted word goes out, or a later one of its source, in one period and the least spacing of slots, less one.
 abbrev pub AcceptedWordsGoOutAnyway : Type 0
 AcceptedWordsGoOutAnyway =
-    (C : ℕ) (o : Opening) (g : ℕ) (p : GroupTable) (E : List Event) (i k source : ℕ) (at : SlotPlace) (q n : ℕ)
+    (C : ℕ) (o : Opening) (g : ℕ) (p : SlotTable) (E : List Event) (i k source : ℕ) (at : SlotPlace) (q n : ℕ)
     → IsPlannedHistory o g p E → IsAcceptedBefore C o E i k source → KeepsOutput o g p E i k source at
     → EachOutput o g p E i k source (MaySend q) → period_of at ≤ n → period_of at + q ≤ n + 1 → Passes o g p E i k at n
     → GoesOut C o g p E i k source (next_slot_on o g p E i at.bus + n)
@@ -287,7 +287,7 @@ AcceptedWordsGoOutAnyway =
 -- followed by another within fewer slots than the second period and the first, or the second and the least spacing, whichever is more.
 abbrev pub SendsRecurAcrossAChange : Type 0
 SendsRecurAcrossAChange =
-    (C : ℕ) (o : Opening) (g : ℕ) (p : GroupTable) (E : List Event) (j c k source : ℕ) (old new : SlotPlace) (x : Placed) (slot w q span : ℕ)
+    (C : ℕ) (o : Opening) (g : ℕ) (p : SlotTable) (E : List Event) (j c k source : ℕ) (old new : SlotPlace) (x : Placed) (slot w q span : ℕ)
     → IsPlannedHistory o g p E → Changes o g p E j c k source old new → EachOutput o g p E j k source (IsUnheld q)
     → IsAnswered C o g p E j x slot (Some w) → x.source ≡ source
     → period_of old + period_of new ≤ span → q + period_of new ≤ span → slot + span ≤ next_slot_on o g p E k new.bus
@@ -297,7 +297,7 @@ SendsRecurAcrossAChange =
 -- later one of the source, by the one or by the other, within fewer slots than that.
 abbrev pub WordsGoOutAcrossAChange : Type 0
 WordsGoOutAcrossAChange =
-    (C : ℕ) (o : Opening) (g : ℕ) (p : GroupTable) (E : List Event) (h i c k source : ℕ) (old new : SlotPlace) (q n : ℕ)
+    (C : ℕ) (o : Opening) (g : ℕ) (p : SlotTable) (E : List Event) (h i c k source : ℕ) (old new : SlotPlace) (q n : ℕ)
     → IsPlannedHistory o g p E → IsAcceptedBefore C o E i c source → h ≤ i → Changes o g p E h c k source old new
     → EachOutput o g p E i k source (MaySend q) → Passes o g p E h i old (period_of old)
     → period_of old + period_of new ≤ n + 1 → q + period_of new ≤ n + 1
@@ -307,7 +307,7 @@ WordsGoOutAcrossAChange =
 -- then the latency is so many slots and one at most
 abbrev pub LatencyIsBoundedAcrossAChange : Type 0
 LatencyIsBoundedAcrossAChange =
-    (C : ℕ) (o : Opening) (g : ℕ) (p : GroupTable) (E : List Event) (h i c k source : ℕ) (old new : SlotPlace) (q n : ℕ) (time : ℕ → ℕ) (slot_time : ℕ)
+    (C : ℕ) (o : Opening) (g : ℕ) (p : SlotTable) (E : List Event) (h i c k source : ℕ) (old new : SlotPlace) (q n : ℕ) (time : ℕ → ℕ) (slot_time : ℕ)
     → IsPlannedHistory o g p E → IsAcceptedBefore C o E i c source → h ≤ i → Changes o g p E h c k source old new
     → EachOutput o g p E i k source (MaySend q) → Passes o g p E h i old (period_of old)
     → period_of old + period_of new ≤ n + 1 → q + period_of new ≤ n + 1
@@ -318,7 +318,7 @@ LatencyIsBoundedAcrossAChange =
 -- within fewer slots than twice the longest period and the greatest of the least spacings.
 abbrev pub SendsRecurAcrossChanges : Type 0
 SendsRecurAcrossChanges =
-    (C : ℕ) (o : Opening) (g : ℕ) (p : GroupTable) (E : List Event) (j k source most : ℕ) (x : Placed) (slot w q span : ℕ)
+    (C : ℕ) (o : Opening) (g : ℕ) (p : SlotTable) (E : List Event) (j k source most : ℕ) (x : Placed) (slot w q span : ℕ)
     → IsPlannedHistory o g p E → ChangesOften o g p E j k source most span → EachOutput o g p E j k source (IsUnheld q)
     → IsAnswered C o g p E j x slot (Some w) → x.source ≡ source → 2 * most ≤ span → q + 2 * most ≤ span + 1
     → SendsOne C o g p E (j + 1) k source (slot + span)
@@ -326,7 +326,7 @@ SendsRecurAcrossChanges =
 -- and a word that is accepted goes out, or a later one of the source, within fewer slots than that
 abbrev pub WordsGoOutAcrossChanges : Type 0
 WordsGoOutAcrossChanges =
-    (C : ℕ) (o : Opening) (g : ℕ) (p : GroupTable) (E : List Event) (i k source most q n : ℕ)
+    (C : ℕ) (o : Opening) (g : ℕ) (p : SlotTable) (E : List Event) (i k source most q n : ℕ)
     → IsPlannedHistory o g p E → IsAcceptedBefore C o E i k source → (P : ChangesOften o g p E i k source most n)
     → EachOutput o g p E i k source (MaySend q) → 2 * most ≤ n + 1 → q + 2 * most ≤ n + 2
     → GoesOut C o g p E i k source (next_slot_on o g p E i P.first.at.bus + n)
@@ -334,7 +334,7 @@ WordsGoOutAcrossChanges =
 -- then, where the slot before the next one was answered before the word was accepted, the latency is so many slots and one at most
 abbrev pub LatencyIsBoundedAcrossChanges : Type 0
 LatencyIsBoundedAcrossChanges =
-    (C : ℕ) (o : Opening) (g : ℕ) (p : GroupTable) (E : List Event) (i k source most q n bus slot : ℕ) (time : ℕ → ℕ) (slot_time : ℕ)
+    (C : ℕ) (o : Opening) (g : ℕ) (p : SlotTable) (E : List Event) (i k source most q n bus slot : ℕ) (time : ℕ → ℕ) (slot_time : ℕ)
     → IsPlannedHistory o g p E → IsAcceptedBefore C o E i k source → (P : ChangesOften o g p E i k source most n)
     → EachOutput o g p E i k source (MaySend q) → 2 * most ≤ n + 1 → q + 2 * most ≤ n + 2
     → AnswersOn o g p E 0 i bus slot → next_slot_on o g p E i P.first.at.bus ≤ slot + 1 → KeepsTime o g p E time slot_time

@@ -4,7 +4,7 @@ use Rattle.std.specs.Prelude.{◌∷◌, [], ℕ, List, None}
 use Rattle.a429_equipment.specs.declared.rows.SourceRow.{SourceRow}
 use Rattle.a429_equipment.specs.TableRecord.{TableRecord}
 use Rattle.a429_slots.specs.declared.group_plan.SlotPlace.{SlotPlace}
-use Rattle.a429_slots.specs.Tables.{GroupTable}
+use Rattle.a429_slots.specs.Tables.{SlotTable}
 use Rattle.a429_slots.specs.Events.{Event, Arrive, Cell, Frame}
 use Rattle.a429_slots.specs.History.{Opening}
 use Rattle.a429_core.specs.Latency.{EachOutput, IsAcceptedBefore, IsPlannedHistory, KeepsOutput, KeepsTime, MaySend, Passes, period_of}
@@ -27,7 +27,7 @@ station = record {
 abbrev pub at : SlotPlace
 at = record { bus = 0; offset = 0; period = 1 }
 
-abbrev pub table : GroupTable
+abbrev pub table : SlotTable
 table = record {
   frame = 1;
   buses = 1;

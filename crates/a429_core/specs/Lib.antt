@@ -1,5 +1,5 @@
 pub mod Happened
-pub mod Standing
+pub mod MachineStates
 pub mod Sends
 pub mod Spaced
 pub mod Latency

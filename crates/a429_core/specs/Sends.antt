@@ -2,7 +2,7 @@
 use Rattle.std.specs.Prelude.{◌≡◌, ◌↔◌, ◌⊎◌, ◌+◌, ◌<◌, ◌++◌, ◌∷◌, [], ℕ, List, Some, None, IsTrue, map, filter, take, replicate, count_by, flat_map}
 use Rattle.std.specs.List.{AllByRecursion, range_with_len, zip}
 use Rattle.a429_equipment.specs.Arrivals.{AreApart}
-use Rattle.a429_slots.specs.Tables.{GroupTable, cells_of, frame_of, buses_of, source_at}
+use Rattle.a429_slots.specs.Tables.{SlotTable, cells_of, frame_of, buses_of, source_at}
 use Rattle.a429_slots.specs.Events.{Event, Arrive, Cell, Frame}
 use Rattle.a429_slots.specs.History.{Opening, OpensWith, Current, accepted_by, current, is_cell, newest_number}
 use Rattle.a429_slots.specs.TakenFrames.{BeginsFrame, NoneTaken, is_taken_after}
@@ -84,26 +84,26 @@ WordsAreAcceptedOneByOne =
 -- a word that is sent is the latest that was accepted for the source of the output that stands in its slot
 abbrev pub SentWordsWereAccepted : Type 0
 SentWordsWereAccepted =
-    (C : ℕ) (o : Opening) (E : List Event) (g : ℕ) (p : GroupTable) (bus slot word : ℕ)
+    (C : ℕ) (o : Opening) (E : List Event) (g : ℕ) (p : SlotTable) (bus slot word : ℕ)
     → AreApart o.proposal.station.sources → OpensWith o g p
     → answer C o E (Cell g) ≡ Sent bus slot (Some word) → CarriesLatest C o E (current o g p E) bus slot word
 
 -- from where a frame begins, and as long as none is taken, its cells are answered in turn, the words set aside
 abbrev pub CellsAreAnsweredInTurn : Type 0
 CellsAreAnsweredInTurn =
-    (C : ℕ) (o : Opening) (g : ℕ) (p : GroupTable) (E stretch : List Event)
+    (C : ℕ) (o : Opening) (g : ℕ) (p : SlotTable) (E stretch : List Event)
     → OpensWith o g p → BeginsFrame o g p E → NoneTaken o g p E stretch
     → map without_word (cell_answers C o g E stretch) ≡ in_turn (current o g p E) (count_by (is_cell g) stretch)
 
 -- where a Frame is taken, all cells of the frame before it were answered
 abbrev pub TakenFramesFollowAllCells : Type 0
 TakenFramesFollowAllCells =
-    (C : ℕ) (o : Opening) (g : ℕ) (p : GroupTable) (E stretch : List Event) (e : Event)
+    (C : ℕ) (o : Opening) (g : ℕ) (p : SlotTable) (E stretch : List Event) (e : Event)
     → OpensWith o g p → BeginsFrame o g p E → NoneTaken o g p E stretch → IsTrue (is_taken_after o g p (E ++ stretch) e)
     → take (cells_of (current o g p E).table) (map without_word (cell_answers C o g E stretch)) ≡ map cell_sent (cells_in_order (current o g p E))
 
 -- a Frame is answered by the number of the newest plan just where it is taken
 abbrev pub TakenFramesAreAnswered : Type 0
 TakenFramesAreAnswered =
-    (C : ℕ) (o : Opening) (E : List Event) (g : ℕ) (p : GroupTable) → OpensWith o g p
+    (C : ℕ) (o : Opening) (E : List Event) (g : ℕ) (p : SlotTable) → OpensWith o g p
     → (answer C o E (Frame g) ≡ Changed (newest_number o E)) ↔ IsTrue (is_taken_after o g p E (Frame g))

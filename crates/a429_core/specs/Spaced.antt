@@ -1,6 +1,6 @@
 -- What the answers of a history say of how far apart a group sends words of one source.
 use Rattle.std.specs.Prelude.{◌≡◌, ◌+◌, ◌<◌, ◌≤◌, ℕ, Bool, false, List, Option, Some, None, length, take}
-use Rattle.a429_slots.specs.Tables.{Placed, GroupTable}
+use Rattle.a429_slots.specs.Tables.{Placed, SlotTable}
 use Rattle.a429_slots.specs.Events.{Event, Cell}
 use Rattle.a429_slots.specs.History.{Opening, OpensWith, accepted_by, answered_cells, is_held, last_of}
 use Rattle.a429_slots.specs.Spacing.{EmptyCellsAreFirst, EmptyCellsFollowWords, HasSpacedTable, IsOutputCell, OpeningPlanEmptiesNone, WordsAreApart, number_at}
@@ -8,12 +8,12 @@ use Rattle.a429_slots.specs.declared.answers.Answer.TheVariants.{Sent}
 use Rattle.a429_slots.specs.Answers.{answer}
 
 -- at place k of the history the group is asked for a cell, this output stands there, and the answer has this word, or none
-pub record IsAnswered (C : ℕ) (o : Opening) (g : ℕ) (p : GroupTable) (E : List Event) (k : ℕ) (output : Placed) (slot : ℕ) (word : Option ℕ) : Type 0 where
+pub record IsAnswered (C : ℕ) (o : Opening) (g : ℕ) (p : SlotTable) (E : List Event) (k : ℕ) (output : Placed) (slot : ℕ) (word : Option ℕ) : Type 0 where
   pub cell : IsOutputCell o g p E k output slot
   pub answered : answer C o (take k E) (Cell g) ≡ Sent cell.cell.0 slot word
 
 -- the last accepted word of the output's source was sent there as often as the output may send one word
-abbrev pub is_held_at : ℕ → Opening → ℕ → GroupTable → List Event → ℕ → Placed → Bool
+abbrev pub is_held_at : ℕ → Opening → ℕ → SlotTable → List Event → ℕ → Placed → Bool
 is_held_at C o g p E k output =
     is_held (answered_cells C o g p (take k E)) output.source output.limits.hold (length (accepted_by C o output.source (take k E)))
 
@@ -23,7 +23,7 @@ last_word_at C o E k output = last_of (accepted_by C o output.source (take k E))
 
 -- Before place k the group sent a word of the output's source, fewer slots before than words of the output are apart; and since its plan
 -- came into force it had no cell of that source.
-pub record IsFirstCell (C : ℕ) (o : Opening) (g : ℕ) (p : GroupTable) (E : List Event) (k : ℕ) (output : Placed) (slot : ℕ) : Type 0 where
+pub record IsFirstCell (C : ℕ) (o : Opening) (g : ℕ) (p : SlotTable) (E : List Event) (k : ℕ) (output : Placed) (slot : ℕ) : Type 0 where
   pub place : ℕ
   pub before : place < k
   pub earlier : Placed
@@ -46,26 +46,26 @@ pub record AreSpaced : Type 0 where
 -- two words of one source that are answered are as far apart as the plan in force at the second asks
 abbrev pub SentWordsAreApart : Type 0
 SentWordsAreApart =
-    (C : ℕ) (o : Opening) (g : ℕ) (p : GroupTable) (E : List Event) (j k : ℕ) (earlier now : Placed) (u t w x : ℕ) → OpensWith o g p → j < k
+    (C : ℕ) (o : Opening) (g : ℕ) (p : SlotTable) (E : List Event) (j k : ℕ) (earlier now : Placed) (u t w x : ℕ) → OpensWith o g p → j < k
     → IsAnswered C o g p E j earlier u (Some w) → IsAnswered C o g p E k now t (Some x) → earlier.source ≡ now.source → u + now.limits.spacing ≤ t
 
 -- a word that was accepted and is not held is missing only in the first cell of its output since the plan came into force
 abbrev pub OnlyFirstCellsAreEmpty : Type 0
 OnlyFirstCellsAreEmpty =
-    (C : ℕ) (o : Opening) (g : ℕ) (p : GroupTable) (E : List Event) (k : ℕ) (now : Placed) (t word : ℕ) → OpensWith o g p
+    (C : ℕ) (o : Opening) (g : ℕ) (p : SlotTable) (E : List Event) (k : ℕ) (now : Placed) (t word : ℕ) → OpensWith o g p
     → HasSpacedTable o g p E k → IsAnswered C o g p E k now t None → last_word_at C o E k now ≡ Some word
     → is_held_at C o g p E k now ≡ false → IsFirstCell C o g p E k now t
 
 -- by one plan each later cell of a source has its last accepted word, unless that is held
 abbrev pub LaterCellsAreFull : Type 0
 LaterCellsAreFull =
-    (C : ℕ) (o : Opening) (g : ℕ) (p : GroupTable) (E : List Event) (i k : ℕ) (x now : Placed) (s t : ℕ) → OpensWith o g p
+    (C : ℕ) (o : Opening) (g : ℕ) (p : SlotTable) (E : List Event) (i k : ℕ) (x now : Placed) (s t : ℕ) → OpensWith o g p
     → HasSpacedTable o g p E k → i < k → IsOutputCell o g p E i x s → x.source ≡ now.source → number_at o g p E i ≡ number_at o g p E k
     → IsOutputCell o g p E k now t → is_held_at C o g p E k now ≡ false → IsAnswered C o g p E k now t (last_word_at C o E k now)
 
 -- by the opening plan every cell has the last accepted word of its source, unless that is held
 abbrev pub OpeningCellsAreFull : Type 0
 OpeningCellsAreFull =
-    (C : ℕ) (o : Opening) (g : ℕ) (p : GroupTable) (E : List Event) (k : ℕ) (now : Placed) (t : ℕ) → OpensWith o g p
+    (C : ℕ) (o : Opening) (g : ℕ) (p : SlotTable) (E : List Event) (k : ℕ) (now : Placed) (t : ℕ) → OpensWith o g p
     → HasSpacedTable o g p E k → IsOutputCell o g p E k now t → number_at o g p E k ≡ o.proposal.plan.number
     → is_held_at C o g p E k now ≡ false → IsAnswered C o g p E k now t (last_word_at C o E k now)

@@ -6,8 +6,8 @@ ghost use Rattle.a429_slots.specs.History.{Opening};
 ghost use Rattle.a429_slots.specs.Answers.{answer};
 ghost use Rattle.a429_core.specs.Happened.{event_of};
 ghost use Rattle.a429_slots.specs.declared.answers.Refusal.{Refusal as Why};
-ghost use Rattle.a429_slots.specs.Sending.{begun, all_fit};
-ghost use Rattle.a429_core.specs.Standing.{AnswerEvents, GoesOnBy, StandsFor, IsWhole, IsWholeEvent, word_at, arrived, cell_asked, frame_asked, publish_asked, asked_cell, after_asked, frame_at, stepped};
+ghost use Rattle.a429_slots.specs.FrameStates.{begun, all_fit};
+ghost use Rattle.a429_core.specs.MachineStates.{AnswerEvents, GoesOnByEvents, StandsForHistory, IsWhole, IsWholeEvent, word_at, arrived, cell_asked, frame_asked, publish_asked, asked_cell, after_asked, frame_at, stepped};
 
 use crate::events::Event;
 use crate::sends::{send_word, sends_of};
@@ -62,9 +62,9 @@ pub struct State<const C: u32> {
 }
 
 impl<const C: u32> Model for State<C> {
-    ghost use Rattle.a429_core.specs.Standing.{KeepsAll, Standing};
+    ghost use Rattle.a429_core.specs.MachineStates.{KeepsAll, MachineState};
 
-    ghost Value = { Standing };
+    ghost Value = { MachineState };
 
     ghost view = { λ s. record {
       station = s.equipment;
@@ -145,7 +145,7 @@ impl<const C: u32> State<C> {
         first_slot: u64,
     ) -> Result<State<C>, OpenFault>
         requires { (1 ≤ C) × (C ≤ 41) }
-        ensures stands { IfOk result (StandsFor C (record { proposal = proposal; first = first_slot }) []) }
+        ensures stands { IfOk result (StandsForHistory C (record { proposal = proposal; first = first_slot }) []) }
         ensures spent { IsErrOf result OpenFault.SlotsSpent ↔ (all_fit first_slot (groups_of proposal.plan) ≡ false) }
     {
         sends_are_recalled();
@@ -280,8 +280,8 @@ impl<const C: u32> State<C> {
     // For every history that the state stands for, the answer is the one of the definition.
     pub fn step(&mut self, event: Event) -> Result<Answer, AllocError>
         ensures ok { IsOk result }
-        ensures answer { (o : Opening) (E : List History_Event) → StandsFor C o E self.old → result ≡ Ok (answer C o E (event_of event)) }
-        ensures stands { GoesOnBy C self.old (event_of event ∷ []) self.new }
+        ensures answer { (o : Opening) (E : List History_Event) → StandsForHistory C o E self.old → result ≡ Ok (answer C o E (event_of event)) }
+        ensures stands { GoesOnByEvents C self.old (event_of event ∷ []) self.new }
         ensures refused { (why : Why) → result ≡ Ok (Answer.Refused why) → self.new ≡ self.old }
     {
         sends_are_recalled();
@@ -292,7 +292,7 @@ impl<const C: u32> State<C> {
     /// nothing happened.
     pub fn run(&mut self, alloc: Global, events: Vec<Event>) -> Result<Vec<Answer>, AllocError>
         ensures answers { IfOk result (λ all. AnswerEvents C self.old (map event_of events.items) all.items) }
-        ensures stands { OnOk result (GoesOnBy C self.old (map event_of events.items) self.new) }
+        ensures stands { OnOk result (GoesOnByEvents C self.old (map event_of events.items) self.new) }
         ensures err { OnErr result (self.new ≡ self.old) }
     {
         sends_are_recalled();

@@ -13,7 +13,7 @@ use Rattle.a429_equipment.specs.declared.rows.ReceiverRow.{ReceiverRow}
 use Rattle.a429_equipment.specs.declared.rows.SourceRow.{SourceRow}
 use Rattle.a429_slots.specs.declared.group_plan.SlotPlace.{SlotPlace}
 use Rattle.a429_slots.specs.declared.group_plan.SendLimits.{SendLimits}
-use Rattle.a429_slots.specs.Tables.{Placed, GroupTable, PlanTable, placed_at, outputs_of, place_of, limits_of, groups_of}
+use Rattle.a429_slots.specs.Tables.{Placed, SlotTable, PlanTable, placed_at, outputs_of, place_of, limits_of, groups_of}
 use Rattle.a429_slots.specs.Planned.{IsServed, IsPlannedAt, IsPlanOf}
 use Rattle.a429_documents.specs.Document.{receiver_name, icd_row, output_row, output_rows, groups_rows}
 use Rattle.a429_cert.proofs.PlanLines.{output_is}
@@ -24,7 +24,7 @@ pub receiver_is : (receivers : List ReceiverRow) (number : ℕ) (receiver : Rece
 receiver_is receivers number receiver below is =
     sym (ap (λ (r : Option ReceiverRow). option_map_or (λ (r : ReceiverRow). r.name) r []) (read_is receivers number receiver below is))
 
-pub output_row_is : (e : TableRecord) (g : GroupRow) (row : OutputRow) (t : GroupTable) (o : ℕ) (place : SlotPlace) (limits : SendLimits) (source : SourceRow) → o < length (outputs_of t) → place_of t o ≡ Some place
+pub output_row_is : (e : TableRecord) (g : GroupRow) (row : OutputRow) (t : SlotTable) (o : ℕ) (place : SlotPlace) (limits : SendLimits) (source : SourceRow) → o < length (outputs_of t) → place_of t o ≡ Some place
     → limits_of t o ≡ Some limits → slice_get e.sources row.source ≡ Some source → icd_row e.receivers g source row place limits ≡ output_row e g row (placed_at t o)
 unfolding output_row
 output_row_is e g row t o place limits source below at limited there =
@@ -38,7 +38,7 @@ output_row_is e g row t o place limits source below at limited there =
 -- ---- the outputs of a group
 
 -- one more row, of the output of number n
-pub outputs_more : (e : TableRecord) (g : GroupRow) (rows : List OutputRow) (t : GroupTable) (k n : ℕ) (row : OutputRow) (one : List (List ℕ)) (old new whole : List (List (List ℕ))) → slice_get rows k ≡ Some row → k < length (outputs_of t)
+pub outputs_more : (e : TableRecord) (g : GroupRow) (rows : List OutputRow) (t : SlotTable) (k n : ℕ) (row : OutputRow) (one : List (List ℕ)) (old new whole : List (List (List ℕ))) → slice_get rows k ≡ Some row → k < length (outputs_of t)
     → n ≡ k → old ++ output_rows e g (drop k rows) (drop k (outputs_of t)) ≡ whole → one ≡ output_row e g row (placed_at t n) → new ≡ old ++ one ∷ []
     → new ++ output_rows e g (drop (k + 1) rows) (drop (k + 1) (outputs_of t)) ≡ whole
 unfolding output_rows
@@ -61,7 +61,7 @@ outputs_whole e g rows placed k old whole past so =
 -- ---- the groups
 
 -- one more group
-pub groups_more : (e : TableRecord) (groups : List GroupRow) (outputs : List (List OutputRow)) (ts : List GroupTable) (i : ℕ) (g : GroupRow) (rows : List OutputRow) (t : GroupTable) (old new whole : List (List (List ℕ)))
+pub groups_more : (e : TableRecord) (groups : List GroupRow) (outputs : List (List OutputRow)) (ts : List SlotTable) (i : ℕ) (g : GroupRow) (rows : List OutputRow) (t : SlotTable) (old new whole : List (List (List ℕ)))
     → slice_get groups i ≡ Some g → slice_get outputs i ≡ Some rows → slice_get ts i ≡ Some t
     → old ++ groups_rows e (drop i groups) (drop i outputs) (drop i ts) ≡ whole → new ≡ old ++ output_rows e g rows (outputs_of t)
     → new ++ groups_rows e (drop (i + 1) groups) (drop (i + 1) outputs) (drop (i + 1) ts) ≡ whole
@@ -73,11 +73,11 @@ groups_more e groups outputs ts i g rows t old new whole here listed there so no
     ∙ append_assoc old (output_rows e g rows (outputs_of t)) (groups_rows e (drop (i + 1) groups) (drop (i + 1) outputs) (drop (i + 1) ts))
     ∙ ap (λ (x : List (List (List ℕ))). old ++ x) (sym left) ∙ so
 
-pub groups_none : (e : TableRecord) (outputs : List (List OutputRow)) (ts : List GroupTable) → groups_rows e [] outputs ts ≡ []
+pub groups_none : (e : TableRecord) (outputs : List (List OutputRow)) (ts : List SlotTable) → groups_rows e [] outputs ts ≡ []
 unfolding groups_rows
 groups_none e outputs ts = refl
 
-pub groups_whole : (e : TableRecord) (groups : List GroupRow) (outputs : List (List OutputRow)) (ts : List GroupTable) (i : ℕ) (old whole : List (List (List ℕ))) → length groups ≤ i
+pub groups_whole : (e : TableRecord) (groups : List GroupRow) (outputs : List (List OutputRow)) (ts : List SlotTable) (i : ℕ) (old whole : List (List (List ℕ))) → length groups ≤ i
     → old ++ groups_rows e (drop i groups) (drop i outputs) (drop i ts) ≡ whole → old ≡ whole
 groups_whole e groups outputs ts i old whole past so =
     sym (ap (λ (gs : List GroupRow). old ++ groups_rows e gs (drop i outputs) (drop i ts)) (drop_all i groups past) ∙ ap (λ (x : List (List (List ℕ))). old ++ x) (groups_none e (drop i outputs) (drop i ts)) ∙ append-nil old) ∙ so
@@ -90,7 +90,7 @@ served_length rate [] (p ∷ placed) served = absurd served
 served_length rate (row ∷ rows) [] served = absurd served
 served_length rate (row ∷ rows) (p ∷ placed) served = ap suc (served_length rate rows placed served.1)
 
-length_in_group : (sources : List SourceRow) (i : ℕ) (rates : List ℕ) (rowss : List (List OutputRow)) (ts : List GroupTable) (rows : List OutputRow) (t : GroupTable) → AllZip (IsPlannedAt sources) (zip rates rowss) ts
+length_in_group : (sources : List SourceRow) (i : ℕ) (rates : List ℕ) (rowss : List (List OutputRow)) (ts : List SlotTable) (rows : List OutputRow) (t : SlotTable) → AllZip (IsPlannedAt sources) (zip rates rowss) ts
     → slice_get rowss i ≡ Some rows → slice_get ts i ≡ Some t → length rows ≡ length (outputs_of t)
 length_in_group sources i rates rowss [] rows t planned listed there = absurd cc
 length_in_group sources i [] rowss (u ∷ ts) rows t planned listed there = absurd planned
@@ -98,9 +98,9 @@ length_in_group sources i (rate ∷ rates) [] (u ∷ ts) rows t planned listed t
 length_in_group sources zero (rate ∷ rates) (those ∷ rowss) (u ∷ ts) rows t planned listed there =
     let same : u ≡ t = cc in
     let as_many : length those ≡ length (outputs_of u) = served_length rate those (outputs_of u) planned.0.served in
-    ap length (same_Some _ _ (sym listed)) ∙ as_many ∙ ap (λ (t : GroupTable). length (outputs_of t)) same
+    ap length (same_Some _ _ (sym listed)) ∙ as_many ∙ ap (λ (t : SlotTable). length (outputs_of t)) same
 length_in_group sources (suc i) (rate ∷ rates) (those ∷ rowss) (u ∷ ts) rows t planned listed there = length_in_group sources i rates rowss ts rows t planned.1 listed there
 
-pub planned_length : (e : TableRecord) (p : PlanTable) (i : ℕ) (rows : List OutputRow) (t : GroupTable) → IsPlanOf e p → slice_get e.outputs i ≡ Some rows → slice_get (groups_of p) i ≡ Some t → length rows ≡ length (outputs_of t)
+pub planned_length : (e : TableRecord) (p : PlanTable) (i : ℕ) (rows : List OutputRow) (t : SlotTable) → IsPlanOf e p → slice_get e.outputs i ≡ Some rows → slice_get (groups_of p) i ≡ Some t → length rows ≡ length (outputs_of t)
 planned_length e p i rows t planned listed there =
     length_in_group e.sources i (map (λ (g : GroupRow). g.rate) e.groups) e.outputs (groups_of p) rows t planned.groups listed there

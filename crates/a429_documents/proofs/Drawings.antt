@@ -9,7 +9,7 @@ use Rattle.a429_word.proofs.Lists.{range_next}
 use Rattle.a429_equipment.specs.TableRecord.{TableRecord}
 use Rattle.a429_equipment.specs.declared.rows.GroupRow.{GroupRow}
 use Rattle.a429_equipment.specs.declared.rows.SourceRow.{SourceRow}
-use Rattle.a429_slots.specs.Tables.{Placed, GroupTable, PlanTable, buses_of, frame_of, groups_of, outputs_of, placed_at, source_of}
+use Rattle.a429_slots.specs.Tables.{Placed, SlotTable, PlanTable, buses_of, frame_of, groups_of, outputs_of, placed_at, source_of}
 use Rattle.a429_cert.proofs.PlanLines.{output_is}
 use Rattle.a429_documents.specs.Drawing.{drawn_group, group_drawing, group_height, height_at, height_of, output_legend, output_shape, legend_text, legend_top, shape_text, slots_drawn}
 
@@ -30,7 +30,7 @@ five t0 t1 t2 t3 t4 t5 a b c d e h1 h2 h3 h4 h5 =
 
 -- ---- the shape and the legend of an output
 
-module _ (sources : List SourceRow) (g : ℕ) (t : GroupTable) (o n : ℕ) (row : SourceRow) (below : o < length (outputs_of t)) (from : source_of t o ≡ Some n) (there : slice_get sources n ≡ Some row) where
+module _ (sources : List SourceRow) (g : ℕ) (t : SlotTable) (o n : ℕ) (row : SourceRow) (below : o < length (outputs_of t)) (from : source_of t o ≡ Some n) (there : slice_get sources n ≡ Some row) where
   named : slice_get sources (placed_at t o).source ≡ Some row
   named =
       let source : (placed_at t o).source ≡ n = same_Some _ _ (sym (ap (option_map (λ (p : Placed). p.source)) (output_is t o below)) ∙ from) in
@@ -71,12 +71,12 @@ counted_no p k here =
 
 -- ---- the groups
 
-pub height_is : (slots : Option ℕ) (p : PlanTable) (g : ℕ) (t : GroupTable) → slice_get (groups_of p) g ≡ Some t → group_height (slots_drawn slots (frame_of t)) t ≡ height_at slots p g
-height_is slots p g t there = sym (ap (λ (t : Option GroupTable). option_map_or (λ (t : GroupTable). group_height (slots_drawn slots (frame_of t)) t) t 0) there)
+pub height_is : (slots : Option ℕ) (p : PlanTable) (g : ℕ) (t : SlotTable) → slice_get (groups_of p) g ≡ Some t → group_height (slots_drawn slots (frame_of t)) t ≡ height_at slots p g
+height_is slots p g t there = sym (ap (λ (t : Option SlotTable). option_map_or (λ (t : SlotTable). group_height (slots_drawn slots (frame_of t)) t) t 0) there)
 
-pub drawn_is : (e : TableRecord) (p : PlanTable) (slots : Option ℕ) (first k : ℕ) (row : GroupRow) (t : GroupTable) → slice_get e.groups (first + k) ≡ Some row → slice_get (groups_of p) (first + k) ≡ Some t
+pub drawn_is : (e : TableRecord) (p : PlanTable) (slots : Option ℕ) (first k : ℕ) (row : GroupRow) (t : SlotTable) → slice_get e.groups (first + k) ≡ Some row → slice_get (groups_of p) (first + k) ≡ Some t
     → group_drawing e.sources row t (first + k) (slots_drawn slots (frame_of t)) (height_of slots p first k) ≡ drawn_group e p slots first k
 drawn_is e p slots first k row t here there =
-    let image : GroupRow → GroupTable → List ℕ = λ row t. group_drawing e.sources row t (first + k) (slots_drawn slots (frame_of t)) (height_of slots p first k) in
+    let image : GroupRow → SlotTable → List ℕ = λ row t. group_drawing e.sources row t (first + k) (slots_drawn slots (frame_of t)) (height_of slots p first k) in
     sym (ap (λ (r : Option GroupRow). option_map_or (λ (row : GroupRow). option_map_or (image row) (slice_get (groups_of p) (first + k)) []) r []) here
-    ∙ ap (λ (t : Option GroupTable). option_map_or (image row) t []) there)
+    ∙ ap (λ (t : Option SlotTable). option_map_or (image row) t []) there)

@@ -11,7 +11,7 @@ use Rattle.a429_equipment.specs.declared.rows.OutputRow.{OutputRow}
 use Rattle.a429_equipment.specs.declared.rows.SourceRow.{SourceRow}
 use Rattle.a429_pack.specs.Demanded.{IsBusCount, demand_of}
 use Rattle.a429_pack.specs.Demands.{greatest}
-use Rattle.a429_slots.specs.Tables.{Placed, GroupTable, PlanTable, outputs_of, frame_of, buses_of, groups_of}
+use Rattle.a429_slots.specs.Tables.{Placed, SlotTable, PlanTable, outputs_of, frame_of, buses_of, groups_of}
 use Rattle.a429_slots.specs.Planned.{HaveSources, IsPlannedAt, IsPlannedFor, IsPlanOf, IsServed}
 use Rattle.a429_slots.proofs.Known.{served_known}
 use Rattle.a429_documents.specs.Margins.{AreMargins, IsGroupMargin, periods_of, window_of}
@@ -39,7 +39,7 @@ pub all_mapped : {X : Type 0} (f : X → ℕ) (xs : List X) → AllByRecursion (
 all_mapped f [] all = tt
 all_mapped f (x ∷ xs) all = (all.0, all_mapped f xs all.1)
 
-module _ (rate : ℕ) (sources : List SourceRow) (rows : List OutputRow) (t : GroupTable) (p : IsPlannedFor rate sources rows t) where
+module _ (rate : ℕ) (sources : List SourceRow) (rows : List OutputRow) (t : SlotTable) (p : IsPlannedFor rate sources rows t) where
   pub known_sources : HaveSources sources rows → HasSources sources t
   known_sources known = served_known (length sources) rate rows (outputs_of t) p.served known
 
@@ -76,22 +76,22 @@ pieces t0 t1 t2 t3 t4 t5 a b c n o r h1 h2 h3 h4 h5 =
 
 -- ---- the groups
 
-planned_in_group : (sources : List SourceRow) (i : ℕ) (groups : List GroupRow) (rowss : List (List OutputRow)) (ts : List GroupTable) (g : GroupRow) (rows : List OutputRow) (t : GroupTable) → AllZip (IsPlannedAt sources) (zip (map (λ (g : GroupRow). g.rate) groups) rowss) ts
+planned_in_group : (sources : List SourceRow) (i : ℕ) (groups : List GroupRow) (rowss : List (List OutputRow)) (ts : List SlotTable) (g : GroupRow) (rows : List OutputRow) (t : SlotTable) → AllZip (IsPlannedAt sources) (zip (map (λ (g : GroupRow). g.rate) groups) rowss) ts
     → slice_get groups i ≡ Some g → slice_get rowss i ≡ Some rows → slice_get ts i ≡ Some t → IsPlannedFor g.rate sources rows t
 planned_in_group sources i groups rowss [] g rows t planned named listed there = absurd cc
 planned_in_group sources i [] rowss (u ∷ ts) g rows t planned named listed there = absurd planned
 planned_in_group sources i (h ∷ groups) [] (u ∷ ts) g rows t planned named listed there = absurd planned
 planned_in_group sources zero (h ∷ groups) (those ∷ rowss) (u ∷ ts) g rows t planned named listed there =
     subst (λ (h : GroupRow). IsPlannedFor h.rate sources rows t) (same_Some _ _ named)
-    (subst (λ (those : List OutputRow). IsPlannedFor h.rate sources those t) (same_Some _ _ listed) (subst (λ (u : GroupTable). IsPlannedFor h.rate sources those u) (same_Some _ _ there) planned.0))
+    (subst (λ (those : List OutputRow). IsPlannedFor h.rate sources those t) (same_Some _ _ listed) (subst (λ (u : SlotTable). IsPlannedFor h.rate sources those u) (same_Some _ _ there) planned.0))
 planned_in_group sources (suc i) (h ∷ groups) (those ∷ rowss) (u ∷ ts) g rows t planned named listed there = planned_in_group sources i groups rowss ts g rows t planned.1 named listed there
 
-pub planned_group : (e : TableRecord) (p : PlanTable) (i : ℕ) (g : GroupRow) (rows : List OutputRow) (t : GroupTable) → IsPlanOf e p → slice_get e.groups i ≡ Some g → slice_get e.outputs i ≡ Some rows → slice_get (groups_of p) i ≡ Some t
+pub planned_group : (e : TableRecord) (p : PlanTable) (i : ℕ) (g : GroupRow) (rows : List OutputRow) (t : SlotTable) → IsPlanOf e p → slice_get e.groups i ≡ Some g → slice_get e.outputs i ≡ Some rows → slice_get (groups_of p) i ≡ Some t
     → IsPlannedFor g.rate e.sources rows t
 planned_group e p i g rows t planned named listed there = planned_in_group e.sources i e.groups e.outputs (groups_of p) g rows t planned.groups named listed there
 
 -- the margin of one more group before those of the others
-pub margins_from : (sources : List SourceRow) (groups : List GroupRow) (rowss : List (List OutputRow)) (ts : List GroupTable) (i : ℕ) (g : GroupRow) (rows : List OutputRow) (t : GroupTable) (part rest : List ℕ)
+pub margins_from : (sources : List SourceRow) (groups : List GroupRow) (rowss : List (List OutputRow)) (ts : List SlotTable) (i : ℕ) (g : GroupRow) (rows : List OutputRow) (t : SlotTable) (part rest : List ℕ)
     → slice_get groups i ≡ Some g → slice_get rowss i ≡ Some rows → slice_get ts i ≡ Some t → IsGroupMargin sources g rows t part
     → AreMargins sources (drop (i + 1) groups) (drop (i + 1) rowss) (drop (i + 1) ts) rest → AreMargins sources (drop i groups) (drop i rowss) (drop i ts) (part ++ rest)
 margins_from sources groups rowss ts i g rows t part rest named listed there one more =

@@ -9,18 +9,18 @@ use Rattle.std.proofs.lemmas.Option.{same_Some}
 use Rattle.a429_word.proofs.Lists.{range_next, take_next}
 use Rattle.a429_equipment.specs.declared.rows.SourceRow.{SourceRow}
 use Rattle.a429_slots.specs.declared.group_plan.SlotPlace.{SlotPlace}
-use Rattle.a429_slots.specs.Tables.{Placed, GroupTable, placed_at, outputs_of, place_of, source_of, frame_of}
+use Rattle.a429_slots.specs.Tables.{Placed, SlotTable, placed_at, outputs_of, place_of, source_of, frame_of}
 use Rattle.a429_documents.specs.Margins.{is_chosen, output_margin, wider_text}
 use Rattle.a429_cert.specs.PlanText.{source_name}
 use Rattle.a429_cert.proofs.PlanLines.{output_is}
 
 -- where an output stands
-pub stands_at : (t : GroupTable) (o : ℕ) (place : SlotPlace) → o < length (outputs_of t) → place_of t o ≡ Some place → (placed_at t o).place ≡ place
+pub stands_at : (t : SlotTable) (o : ℕ) (place : SlotPlace) → o < length (outputs_of t) → place_of t o ≡ Some place → (placed_at t o).place ≡ place
 stands_at t o place below at =
     same_Some _ _ (sym (ap (option_map (λ (p : Placed). p.place)) (output_is t o below)) ∙ at)
 
 -- one more period
-pub period_more : (t : GroupTable) (ps new : List ℕ) (k : ℕ) (place : SlotPlace) → k < length (outputs_of t) → place_of t k ≡ Some place → ps ≡ map (λ o. o.place.period) (take k (outputs_of t))
+pub period_more : (t : SlotTable) (ps new : List ℕ) (k : ℕ) (place : SlotPlace) → k < length (outputs_of t) → place_of t k ≡ Some place → ps ≡ map (λ o. o.place.period) (take k (outputs_of t))
     → new ≡ ps ++ place.period ∷ [] → new ≡ map (λ o. o.place.period) (take (k + 1) (outputs_of t))
 period_more t ps new k place below at so now =
     let f : Placed → ℕ = λ o. o.place.period in
@@ -30,7 +30,7 @@ period_more t ps new k place below at so now =
 
 -- ---- the line of an output
 
-module _ (sources : List SourceRow) (rate : ℕ) (t : GroupTable) (chosen : Option (List Bool)) (o : ℕ) (place : SlotPlace) (below : o < length (outputs_of t)) (at : place_of t o ≡ Some place) where
+module _ (sources : List SourceRow) (rate : ℕ) (t : SlotTable) (chosen : Option (List Bool)) (o : ℕ) (place : SlotPlace) (below : o < length (outputs_of t)) (at : place_of t o ≡ Some place) where
   same_period : (placed_at t o).place.period ≡ place.period
   same_period = ap (λ (x : SlotPlace). x.period) (stands_at t o place below at)
 

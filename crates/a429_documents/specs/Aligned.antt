@@ -40,5 +40,5 @@ abbrev pub aligned_row : List ℕ → List (List ℕ) → List ℕ
 aligned_row widths row = flat_map (column_text widths row) (range_with_len 0 (length row)) ++ codes "\n"
 
 -- a line for each row, each column as wide as its widest field
-unfoldable pub aligned : List (List (List ℕ)) → List ℕ
-aligned rows = flat_map (aligned_row (widths_of rows)) rows
+unfoldable pub aligned_text : List (List (List ℕ)) → List ℕ
+aligned_text rows = flat_map (aligned_row (widths_of rows)) rows

@@ -13,7 +13,7 @@ use Rattle.a429_equipment.specs.declared.rows.ReceiverRow.{ReceiverRow}
 use Rattle.a429_equipment.specs.declared.rows.SourceRow.{SourceRow}
 use Rattle.a429_slots.specs.declared.group_plan.SendLimits.{SendLimits}
 use Rattle.a429_slots.specs.declared.group_plan.SlotPlace.{SlotPlace}
-use Rattle.a429_slots.specs.Tables.{Placed, GroupTable, PlanTable, groups_of, outputs_of}
+use Rattle.a429_slots.specs.Tables.{Placed, SlotTable, PlanTable, groups_of, outputs_of}
 use Rattle.a429_cert.specs.Spelling.{limit_text}
 use Rattle.csv.specs.Writing.{default_writer, row_text}
 
@@ -97,7 +97,7 @@ output_rows e group (row ∷ rows) [] = []
 output_rows e group (row ∷ rows) (placed ∷ others) = output_row e group row placed ∷ output_rows e group rows others
 
 -- those of each group, in table order
-unfoldable pub groups_rows : TableRecord → List GroupRow → List (List OutputRow) → List GroupTable → List (List (List ℕ))
+unfoldable pub groups_rows : TableRecord → List GroupRow → List (List OutputRow) → List SlotTable → List (List (List ℕ))
 groups_rows e [] outputs ts = []
 groups_rows e (group ∷ groups) [] ts = []
 groups_rows e (group ∷ groups) (rows ∷ outputs) [] = []

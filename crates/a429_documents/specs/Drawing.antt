@@ -8,7 +8,7 @@ use Rattle.a429_word.specs.Texts.{octal}
 use Rattle.a429_equipment.specs.TableRecord.{TableRecord}
 use Rattle.a429_equipment.specs.declared.rows.GroupRow.{GroupRow}
 use Rattle.a429_equipment.specs.declared.rows.SourceRow.{SourceRow}
-use Rattle.a429_slots.specs.Tables.{GroupTable, PlanTable, buses_of, cell_at, frame_of, groups_of, outputs_of, placed_at}
+use Rattle.a429_slots.specs.Tables.{SlotTable, PlanTable, buses_of, cell_at, frame_of, groups_of, outputs_of, placed_at}
 
 -- ---- where things stand
 
@@ -38,7 +38,7 @@ abbrev pub legend_top : ℕ → ℕ → ℕ
 legend_top buses slots = fold_top buses (folds_of slots) + 4
 
 -- the height of a group: with its legend, which has four outputs in a line
-abbrev pub group_height : ℕ → GroupTable → ℕ
+abbrev pub group_height : ℕ → SlotTable → ℕ
 group_height slots t = legend_top (buses_of t) slots + 20 * div_ceil (length (outputs_of t)) 4 + 24
 
 -- ---- the outputs of a group, which are drawn once for all their cells
@@ -77,18 +77,18 @@ legend_text g o top source slots =
     used_text g o left line ++ entry_text (left + 22) (line + 13) source slots
 
 -- the numbers of a group's outputs, in table order
-abbrev pub numbers_of : GroupTable → List ℕ
+abbrev pub numbers_of : SlotTable → List ℕ
 numbers_of t = range_with_len 0 (length (outputs_of t))
 
 -- by the source that the output sends; behind the last source, nothing
-abbrev pub output_shape : List SourceRow → ℕ → GroupTable → ℕ → List ℕ
+abbrev pub output_shape : List SourceRow → ℕ → SlotTable → ℕ → List ℕ
 output_shape sources g t o = option_map_or (shape_text g o) (slice_get sources (placed_at t o).source) []
 
 -- the shapes of a group's outputs, in table order
-abbrev pub shapes_text : List SourceRow → ℕ → GroupTable → List ℕ
+abbrev pub shapes_text : List SourceRow → ℕ → SlotTable → List ℕ
 shapes_text sources g t = codes "<defs>\n" ++ (flat_map (output_shape sources g t) (numbers_of t) ++ codes "</defs>\n")
 
-abbrev pub output_legend : List SourceRow → ℕ → ℕ → GroupTable → ℕ → List ℕ
+abbrev pub output_legend : List SourceRow → ℕ → ℕ → SlotTable → ℕ → List ℕ
 output_legend sources slots g t o =
     let placed = placed_at t o in
     option_map_or (λ source. legend_text g o (legend_top (buses_of t) slots) source (2 ^ placed.place.period)) (slice_get sources placed.source) []
@@ -102,11 +102,11 @@ mark_text buses mark =
     ++ (codes "' font-size='8' fill='#666'>" ++ (decimal (8 * mark) ++ codes "</text>\n")))))
 
 -- how many slots of a frame have an output on this bus
-abbrev pub filled_on : GroupTable → ℕ → ℕ
+abbrev pub filled_on : SlotTable → ℕ → ℕ
 filled_on t bus = count_by (λ slot. is_some (cell_at t bus slot)) (range_with_len 0 (frame_of t))
 
 -- the same in per cent of the frame, rounded down
-abbrev pub load_of : GroupTable → ℕ → ℕ
+abbrev pub load_of : SlotTable → ℕ → ℕ
 load_of t bus = 100 * filled_on t bus / frame_of t
 
 -- a bus and its load
@@ -124,12 +124,12 @@ row_text buses slots bus load fold =
     load_text (row_top buses fold bus + 13) bus load ++ stripe_text (row_top buses fold bus) (16 * min 64 (slots - 64 * fold))
 
 -- a cell: the shape of the output that stands there; an empty cell, nothing
-abbrev pub cell_text : ℕ → GroupTable → ℕ → ℕ → List ℕ
+abbrev pub cell_text : ℕ → SlotTable → ℕ → ℕ → List ℕ
 cell_text g t bus slot =
     option_map_or (λ o. used_text g o (slot_left slot) (row_top (buses_of t) (slot / 64) bus)) (cell_at t bus slot) []
 
 -- the rows of a bus, and its cells in these slots
-abbrev pub bus_text : ℕ → GroupTable → ℕ → ℕ → List ℕ
+abbrev pub bus_text : ℕ → SlotTable → ℕ → ℕ → List ℕ
 bus_text g t slots bus =
     flat_map (row_text (buses_of t) slots bus (load_of t bus)) (range_with_len 0 (folds_of slots)) ++ flat_map (cell_text g t bus) (range_with_len 0 slots)
 
@@ -145,12 +145,12 @@ title_text name rate frame buses =
     ++ (codes " buses " ++ (decimal buses ++ codes "</text>\n")))))))
 
 -- the beginning of a group: its title, and the shapes of its outputs
-abbrev pub head_text : List SourceRow → GroupRow → GroupTable → ℕ → ℕ → List ℕ
+abbrev pub head_text : List SourceRow → GroupRow → SlotTable → ℕ → ℕ → List ℕ
 head_text sources row t g top =
     place_text top ++ (title_text row.name row.rate (frame_of t) (buses_of t) ++ shapes_text sources g t)
 
 -- a group of which so many slots are drawn, with its upper edge here
-abbrev pub group_drawing : List SourceRow → GroupRow → GroupTable → ℕ → ℕ → ℕ → List ℕ
+abbrev pub group_drawing : List SourceRow → GroupRow → SlotTable → ℕ → ℕ → ℕ → List ℕ
 group_drawing sources row t g slots top =
     head_text sources row t g top ++ (flat_map (mark_text (buses_of t)) (range_with_len 0 (div_ceil slots 8))
     ++ (flat_map (bus_text g t slots) (range_with_len 0 (buses_of t)) ++ (flat_map (output_legend sources slots g t) (numbers_of t) ++ codes "</g>\n")))

@@ -9,7 +9,7 @@ use Rattle.a429_equipment.specs.declared.rows.SourceRow.{SourceRow}
 use Rattle.a429_grid.specs.Grid.{IsGridPeriod, IsPeriod, slot_time}
 use Rattle.a429_pack.specs.Widening.{IsLeastSaving, NoneSaves}
 use Rattle.a429_pack.specs.Windows.{raw_bound}
-use Rattle.a429_slots.specs.Tables.{GroupTable, PlanTable, placed_at, outputs_of, frame_of, buses_of, cells_of, groups_of}
+use Rattle.a429_slots.specs.Tables.{SlotTable, PlanTable, placed_at, outputs_of, frame_of, buses_of, cells_of, groups_of}
 use Rattle.a429_cert.specs.Spelling.{group_text}
 use Rattle.a429_cert.specs.PlanText.{heading_of, source_name}
 use Rattle.a429_documents.specs.Document.{slots_us}
@@ -19,7 +19,7 @@ abbrev pub window_of : ℕ → OutputRow → ℕ
 window_of rate row = row.max_us * rate / slot_time
 
 -- the exponents of the periods of a group's outputs, in table order
-abbrev pub periods_of : GroupTable → List ℕ
+abbrev pub periods_of : SlotTable → List ℕ
 periods_of t = map (λ o. o.place.period) (outputs_of t)
 
 -- ---- the choice
@@ -61,7 +61,7 @@ wider_text rate frame chosen name period =
     ++ (codes " cells " ++ (decimal (frame / (2 * 2 ^ period)) ++ (codes " max_us " ++ (decimal (slots_us rate (2 * 2 ^ period)) ++ codes "\n")))))))))
 
 -- the line of an output whose period is shorter than the frame; the others have none
-abbrev pub output_margin : List SourceRow → ℕ → GroupTable → Option (List Bool) → ℕ → List ℕ
+abbrev pub output_margin : List SourceRow → ℕ → SlotTable → Option (List Bool) → ℕ → List ℕ
 output_margin sources rate t chosen o =
     let placed = placed_at t o in
     if nat_lt (2 ^ placed.place.period) (frame_of t) then wider_text rate (frame_of t) (is_chosen chosen o) (source_name sources placed.source) placed.place.period else []
@@ -73,22 +73,22 @@ raw_text bound buses = codes "raw bound " ++ (decimal bound ++ (codes " of " ++ 
 -- ---- the text
 
 -- the lines of a group's outputs, in table order
-abbrev pub outputs_margin : List SourceRow → ℕ → GroupTable → Option (List Bool) → List ℕ
+abbrev pub outputs_margin : List SourceRow → ℕ → SlotTable → Option (List Bool) → List ℕ
 outputs_margin sources rate t chosen = flat_map (output_margin sources rate t chosen) (range_with_len 0 (length (outputs_of t)))
 
 -- a group: its frame and buses, its cells, what is too much for one bus fewer and who could make room for it, and the raw bound of its intervals
-abbrev pub group_margin : List SourceRow → GroupRow → List OutputRow → GroupTable → Option (List Bool) → List ℕ
+abbrev pub group_margin : List SourceRow → GroupRow → List OutputRow → SlotTable → Option (List Bool) → List ℕ
 group_margin sources g rows t chosen =
     group_text (heading_of 1 g t) ++ (cells_text (sum t.demands) (cells_of t) ++ (excess_text (sum t.demands - (buses_of t - 1) * frame_of t)
     ++ (no_choice_text chosen ++ (outputs_margin sources g.rate t chosen ++ raw_text (raw_bound (map (window_of g.rate) rows)) (buses_of t)))))
 
 -- a group's text with a right choice
-abbrev pub IsGroupMargin : List SourceRow → GroupRow → List OutputRow → GroupTable → List ℕ → Type 0
+abbrev pub IsGroupMargin : List SourceRow → GroupRow → List OutputRow → SlotTable → List ℕ → Type 0
 IsGroupMargin sources g rows t text =
     (chosen : Option (List Bool)) × IsChoice (periods_of t) (buses_of t) chosen × (text ≡ group_margin sources g rows t chosen)
 
 -- that of each group, in table order
-abbrev pub AreMargins : List SourceRow → List GroupRow → List (List OutputRow) → List GroupTable → List ℕ → Type 0
+abbrev pub AreMargins : List SourceRow → List GroupRow → List (List OutputRow) → List SlotTable → List ℕ → Type 0
 AreMargins sources [] rowss ts text = text ≡ []
 AreMargins sources (g ∷ gs) [] ts text = text ≡ []
 AreMargins sources (g ∷ gs) (rows ∷ rowss) [] text = text ≡ []

@@ -1,7 +1,7 @@
 //! A document in columns, for people.
 ghost use Rattle.std.specs.Prelude.{◌≡◌, ◌++◌, ◌<◌, length, slice_index, IfOk, OnOk};
 ghost use Rattle.std.specs.List.{flat_map};
-ghost use Rattle.a429_documents.specs.Aligned.{width_of, columns_of, widths_of, spaces, padded, column_text, aligned_row, aligned};
+ghost use Rattle.a429_documents.specs.Aligned.{width_of, columns_of, widths_of, spaces, padded, column_text, aligned_row, aligned_text};
 ghost use Rattle.a429_documents.specs.Document.{icd_rows};
 
 use crate::document::icd_rows;
@@ -102,9 +102,9 @@ fn write_rows(text: &mut Vec<u8>, widths: &[usize], rows: &[Row]) -> Result<(), 
 }
 
 /// Rows in columns, each as wide as its widest field.
-#[tactic(auto, unfolding(crate::specs::Aligned::aligned))]
-fn aligned(alloc: Global, rows: &[Row]) -> Result<Vec<u8>, AllocError>
-    ensures { IfOk result (λ text. text.items ≡ aligned rows.now) }
+#[tactic(auto, unfolding(crate::specs::Aligned::aligned_text))]
+fn aligned_text(alloc: Global, rows: &[Row]) -> Result<Vec<u8>, AllocError>
+    ensures { IfOk result (λ text. text.items ≡ aligned_text rows.now) }
 {
     let widths = widths(alloc, rows)?;
     let mut text = Vec::new(alloc);
@@ -119,8 +119,8 @@ fn aligned(alloc: Global, rows: &[Row]) -> Result<Vec<u8>, AllocError>
 /// plan, from the acceptance of a word until it, or a later word of its source, has gone out whole: a period and one
 /// slot, in whole microseconds, rounded up. The error is that memory was refused.
 pub fn icd_text(alloc: Global, proposal: &Proposal<OUTPUTS>) -> Result<Vec<u8>, AllocError>
-    ensures { IfOk result (λ text. text.items ≡ aligned (icd_rows proposal.now.station proposal.now.plan)) }
+    ensures { IfOk result (λ text. text.items ≡ aligned_text (icd_rows proposal.now.station proposal.now.plan)) }
 {
     let rows = icd_rows(alloc, proposal)?;
-    aligned(alloc, &rows)
+    aligned_text(alloc, &rows)
 }

@@ -122,7 +122,7 @@ fn write_sheet(text: &mut String, height: u32) -> Result<(), AllocError>
 }
 
 /// The first group that is drawn, and how many are: the one of this number, or all.
-fn drawn(group: Option<usize>, plan: &Plan<OUTPUTS>) -> (usize, usize)
+fn group_range(group: Option<usize>, plan: &Plan<OUTPUTS>) -> (usize, usize)
     requires { IfSome group (λ group. group < length (groups_of plan.now)) }
     ensures first { result.0 ≡ first_drawn group }
     ensures count { result.1 ≡ groups_drawn group plan.now }
@@ -147,7 +147,7 @@ fn write_drawing(
     ensures { OnOk result (string_bytes text.new ≡ string_bytes text.old ++ drawing_of proposal.now.station proposal.now.plan group slots) }
 {
     let plan = proposal.plan();
-    let (first, count) = drawn(group, plan);
+    let (first, count) = group_range(group, plan);
     let height = height_of(plan, slots, first, count);
     write_svg(text, height)?;
     write_sheet(text, height)?;

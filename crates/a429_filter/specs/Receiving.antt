@@ -53,6 +53,6 @@ failures_since n (Err Failed) = min (n + 1) (2 ^ 64 - 1)
 failures_since n (Err Skipped) = n
 
 -- a line with the filters of its receiver
-pub record Standing (L : Type 0) : Type 0 where
+pub record SocketState (L : Type 0) : Type 0 where
   pub source : L
   pub filters : Option (List Filter)

@@ -19,15 +19,15 @@ pub struct Socket<L> {
 }
 
 impl<L> Model for Socket<L> {
-    ghost use Rattle.a429_filter.specs.Receiving.{Standing};
+    ghost use Rattle.a429_filter.specs.Receiving.{SocketState};
 
-    ghost Value = { Standing L };
+    ghost Value = { SocketState L };
 
     ghost view = { λ s. record { source = s.source; filters = s.filters } };
 }
 
 /// The word of a raw number, where it has odd parity and its label passes.
-fn accepted(filters: &FilterSet, raw: u32) -> Option<Word>
+fn accepted_word(filters: &FilterSet, raw: u32) -> Option<Word>
     ensures { result ≡ (if accepts filters.now raw then Some raw else None) }
 {
     let word = Word::from_raw(raw).ok()?;
@@ -63,7 +63,7 @@ impl<L: LineSource> Socket<L> {
                 Err(_) => return Err(SourceFault::Failed),
                 Ok(None) => return Ok(None),
                 Ok(Some(raw)) => {
-                    if let Some(word) = accepted(&self.filters, raw) {
+                    if let Some(word) = accepted_word(&self.filters, raw) {
                         return Ok(Some(word));
                     }
                 }

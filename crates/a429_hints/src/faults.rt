@@ -1,7 +1,7 @@
 //! Hints about tables with a fault.
 
 use crate::keys::keys_of;
-use crate::rows::{Row, Shown, rows_at, shortened, text_at};
+use crate::rows::{Row, Shown, rows_at, short_text, text_at};
 use crate::twins::twin_of;
 use a429_table::{FaultKind, TablePlace, filter_of_text};
 use std::alloc::Global;
@@ -113,7 +113,7 @@ fn is_faulty_filter(kind: FaultKind, filter: &Value) -> bool {
 type Near<'a> = (usize, &'a str);
 
 /// The nearer one of two names. The first one where memory is refused.
-fn nearer<'a>(alloc: Global, text: &str, best: Near<'a>, name: &'a str) -> Near<'a> {
+fn nearer_name<'a>(alloc: Global, text: &str, best: Near<'a>, name: &'a str) -> Near<'a> {
     match levenshtein(alloc, text, name) {
         Ok(edits) if edits < best.0 => (edits, name),
         _ => best,
@@ -126,7 +126,7 @@ fn tell_unknown_key<V: Write>(alloc: Global, row: Row, err: &mut V) -> io::Resul
     let Some(unknown) = unknown_key(version, row) else {
         return Ok(());
     };
-    let shown = shortened(unknown);
+    let shown = short_text(unknown);
     let mut best = (usize::MAX, "");
     write!(
         err,
@@ -136,7 +136,7 @@ fn tell_unknown_key<V: Write>(alloc: Global, row: Row, err: &mut V) -> io::Resul
     for key in keys_of(version, row.place) {
         let text = key.text();
         write!(err, " `{text}`")?;
-        best = nearer(alloc, shown.as_str(), best, text);
+        best = nearer_name(alloc, shown.as_str(), best, text);
     }
     writeln!(err, ", of which `{}` is the nearest", best.1)
 }
@@ -169,10 +169,10 @@ fn tell_unknown_name<V: Write>(alloc: Global, row: Row, err: &mut V) -> io::Resu
         TablePlace::Source(_) => "receiver",
         _ => "source",
     };
-    let name = shortened(text_at(row.value, key));
+    let name = short_text(text_at(row.value, key));
     let mut best = (usize::MAX, "none");
     for other in rows_at(row.root, key) {
-        best = nearer(alloc, name.as_str(), best, text_at(other, "name"));
+        best = nearer_name(alloc, name.as_str(), best, text_at(other, "name"));
     }
     let (name, near) = (name.as_str(), best.1);
     writeln!(

@@ -1,7 +1,7 @@
 //! Hints about files that cannot be read.
 
+use a429_console::files::reading::printable_name;
 use a429_console::files::{FileReader, FileTrouble};
-use a429_console::files::reading::shown_name;
 use std::alloc::Global;
 use std::io;
 use std::io::Write;
@@ -16,7 +16,7 @@ pub fn look_at<F: FileReader, V: Write>(
     match files.look(name) {
         Ok(bytes) => Ok(Some(bytes)),
         Err(trouble) => {
-            let shown = shown_name(alloc, name)?;
+            let shown = printable_name(alloc, name)?;
             tell_trouble(trouble, shown.as_str(), err)?;
             Ok(None)
         }

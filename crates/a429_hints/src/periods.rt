@@ -62,6 +62,8 @@ fn tell_period_above<V: Write>(longest: u64, rate: u32, err: &mut V) -> io::Resu
     let Some(slots) = PERIODS.iter().find(is_longer) else {
         return Ok(());
     };
-    let us = slots.saturating_mul(SLOT_TIME).div_ceil(u64::from(rate.max(1)));
+    let us = slots
+        .saturating_mul(SLOT_TIME)
+        .div_ceil(u64::from(rate.max(1)));
     writeln!(err, "a429: max_us = {us} would admit period {slots}")
 }

@@ -52,7 +52,7 @@ pub struct Shown<'a>(pub Option<&'a Value>);
 impl fmt::Display for Shown<'_> {
     fn fmt<W: fmt::Write>(&self, f: &mut fmt::Formatter<W>) -> fmt::Result {
         match self.0 {
-            Some(Value::String(text)) => write!(f, "{:?}", shortened(text.as_str()).as_str()),
+            Some(Value::String(text)) => write!(f, "{:?}", short_text(text.as_str()).as_str()),
             Some(Value::Integer(number)) => write!(f, "{number}"),
             Some(Value::Float(number)) => write!(f, "{number:?}"),
             Some(Value::Boolean(is_so)) => write!(f, "{is_so}"),
@@ -65,7 +65,7 @@ impl fmt::Display for Shown<'_> {
 }
 
 /// The first 48 bytes of a text, or less where a character would be cut. A longer text ends in dots.
-pub fn shortened(text: &str) -> InlineText<48> {
+pub fn short_text(text: &str) -> InlineText<48> {
     InlineText::of(text)
 }
 

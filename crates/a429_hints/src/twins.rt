@@ -7,7 +7,7 @@ use toml::Value;
 /// The first earlier row of the same array with which a row clashes, by a fault of this kind.
 pub fn twin_of(row: Row<'_>, kind: FaultKind) -> Option<Row<'_>> {
     for number in 0..usize::MAX {
-        let place = numbered(row.place, number);
+        let place = place_of_row(row.place, number);
         if place == row.place {
             return None;
         }
@@ -20,7 +20,7 @@ pub fn twin_of(row: Row<'_>, kind: FaultKind) -> Option<Row<'_>> {
 }
 
 /// The place of a row of the same array.
-fn numbered(place: TablePlace, row: usize) -> TablePlace {
+fn place_of_row(place: TablePlace, row: usize) -> TablePlace {
     match place {
         TablePlace::Root => TablePlace::Root,
         TablePlace::Receiver(_) => TablePlace::Receiver(row),

@@ -9,7 +9,7 @@ use Rattle.a429_word.specs.Bits.{bit, number_from, has_odd_parity}
 use Rattle.a429_line.specs.Reports.{reports}
 use Rattle.a429_line.specs.Slots.{symbol_of, bits_from, slot, reports_of_slot}
 use Rattle.a429_line.specs.Stages.{due, after, due_in}
-use Rattle.a429_line.specs.Standing.{kept_of}
+use Rattle.a429_line.specs.KeptLines.{kept_of}
 use Rattle.a429_line.specs.declared.found.Symbol.{Symbol}
 use Rattle.a429_line.specs.declared.found.Symbol.TheVariants.{Null}
 use Rattle.a429_line.specs.declared.found.Found.{Found}

@@ -10,7 +10,7 @@ use Rattle.std.proofs.lemmas.Nat.{one_shl, or_comm, or_shifted}
 use Rattle.std.specs.Int.Bits.{or_zero_r}
 use Rattle.a429_line.specs.Reports.{report, reports, number, gap_after, first_piece, later_pieces, run_of, runs_from, runs, rest, is_waiting}
 use Rattle.a429_line.specs.Stages.{due, after, due_in, after_all}
-use Rattle.a429_line.specs.Standing.{kept, kept_from, kept_of, left, StandsFor}
+use Rattle.a429_line.specs.KeptLines.{kept, kept_from, kept_of, left, StandsForLine}
 use Rattle.a429_line.specs.declared.found.Symbol.{Symbol}
 use Rattle.a429_line.specs.declared.found.Symbol.TheVariants.{Hi, Null, Lo}
 use Rattle.a429_line.specs.declared.found.Found.{Found}
@@ -166,16 +166,16 @@ pub rest_is : (x : List Symbol) → rest x ≡ left (kept_of x)
 unfolding rest runs
 rest_is x = rest_from 0 (first_piece x) (later_pieces x)
 
-pub rest_of : (x : List Symbol) (stage : Stage) → StandsFor x stage → rest x ≡ left stage
-unfolding StandsFor
+pub rest_of : (x : List Symbol) (stage : Stage) → StandsForLine x stage → rest x ≡ left stage
+unfolding StandsForLine
 rest_of x stage S = rest_is x ∙ ap left (sym S)
 
-pub stands_more : (x y : List Symbol) (stage : Stage) → StandsFor x stage → StandsFor (x ++ y) (after_all stage y)
-unfolding StandsFor
+pub stands_more : (x y : List Symbol) (stage : Stage) → StandsForLine x stage → StandsForLine (x ++ y) (after_all stage y)
+unfolding StandsForLine
 stands_more x y stage S = ap (λ (st : Stage). after_all st y) S ∙ sym (kept_more x y)
 
-pub reports_of : (x y : List Symbol) (stage : Stage) → StandsFor x stage → reports (x ++ y) ≡ reports x ++ due_in stage y
-unfolding StandsFor
+pub reports_of : (x y : List Symbol) (stage : Stage) → StandsForLine x stage → reports (x ++ y) ≡ reports x ++ due_in stage y
+unfolding StandsForLine
 reports_of x y stage S = reports_more x y ∙ ap (λ (st : Stage). reports x ++ due_in st y) (sym S)
 
 -- the next of the symbols that are left
@@ -250,6 +250,6 @@ due_some out old stage begun piece i d h more some e none =
     omega (arith, long, one, short, more, length-append out (option_to_list (due stage s) ++ left), length-append (option_to_list (due stage s)) left, length-append old (due_in begun piece))
 
 -- symbols with a report that is due bring one behind every line
-pub some_of : (x y : List Symbol) (stage : Stage) (due : List Found) → due ≡ due_in stage y → due ≢ [] → StandsFor x stage → (found : Found) × (later : List Found) × (reports (x ++ y) ≡ reports x ++ found ∷ later)
+pub some_of : (x y : List Symbol) (stage : Stage) (due : List Found) → due ≡ due_in stage y → due ≢ [] → StandsForLine x stage → (found : Found) × (later : List Found) × (reports (x ++ y) ≡ reports x ++ found ∷ later)
 some_of x y stage [] is some S = absurd (some refl)
 some_of x y stage (f ∷ fs) is some S = (f, fs, reports_of x y stage S ∙ ap (λ (l : List Found). reports x ++ l) (sym is))

@@ -3,5 +3,5 @@ pub mod LineBytes
 pub mod Reports
 pub mod Slots
 pub mod Stages
-pub mod Standing
+pub mod KeptLines
 pub mod Stretches

@@ -4,7 +4,7 @@ ghost use Rattle.std.specs.Option.{option_to_list};
 ghost use Rattle.a429_line.specs.LineBytes.{symbols_of};
 ghost use Rattle.a429_line.specs.Reports.{rest};
 ghost use Rattle.a429_line.specs.Stages.{after_all, due_in};
-ghost use Rattle.a429_line.specs.Standing.{AddsReports, BringReports, BringSome, GoesOnBy, StandsFor};
+ghost use Rattle.a429_line.specs.KeptLines.{AddsReports, BringReports, BringSome, GoesOnBySymbols, StandsForLine};
 ghost use Rattle.a429_line.specs.declared.found.Symbol.{Symbol};
 
 use crate::found::{Found, Symbol};
@@ -59,9 +59,9 @@ fn take_all(mut stage: Stage, piece: &[Symbol], out: &mut Vec<Found>) -> Result<
 
 impl LineReader {
     /// A reader at the start of its line.
-    #[tactic(auto, unfolding(crate::specs::Standing::StandsFor, crate::specs::Standing::kept_from, crate::specs::Reports::first_piece, crate::specs::Reports::later_pieces))]
+    #[tactic(auto, unfolding(crate::specs::KeptLines::StandsForLine, crate::specs::KeptLines::kept_from, crate::specs::Reports::first_piece, crate::specs::Reports::later_pieces))]
     pub fn new() -> Self
-        ensures { StandsFor [] result }
+        ensures { StandsForLine [] result }
     {
         LineReader {
             stage: Stage::Between(0),
@@ -74,7 +74,7 @@ impl LineReader {
     // For every line that the reader stands for, it then stands for that line with the piece behind it,
     // and the reports added are those that the longer line has beyond the shorter one's.
     pub fn feed(&mut self, piece: &[Symbol], out: &mut Vec<Found>) -> Result<(), AllocError>
-        ensures stands { OnOk result (GoesOnBy self.old piece.now self.new) }
+        ensures stands { OnOk result (GoesOnBySymbols self.old piece.now self.new) }
         ensures reports { OnOk result (AddsReports self.old piece.now out.old.items out.new.items) }
         ensures err { OnErr result ((self.new ≡ self.old) × (out.new.items ≡ out.old.items)) }
         ensures memory { OnErr result (BringSome self.old piece.now) }
@@ -90,7 +90,7 @@ impl LineReader {
     // taken behind it, and the report is the one that the longer line has beyond the shorter one's.
     pub fn next(&mut self, bytes: &[u8], from: &mut usize) -> Option<Found>
         requires { from.old ≤ length bytes.now }
-        ensures stands { GoesOnBy self.old (symbols_of (slice_range bytes.now from.old from.new)) self.new }
+        ensures stands { GoesOnBySymbols self.old (symbols_of (slice_range bytes.now from.old from.new)) self.new }
         ensures reports { BringReports self.old (symbols_of (slice_range bytes.now from.old from.new)) (option_to_list result) }
         ensures forward { (from.old ≤ from.new) × (from.new ≤ length bytes.now) }
         ensures goes_on { IfSome result (λ _. from.old < from.new) }
@@ -104,7 +104,7 @@ impl LineReader {
 
     /// The length in bits of a run that has not ended and has no report, 0 where there is none.
     pub fn rest(&self) -> u32
-        ensures { (x : List Symbol) → StandsFor x self.now → result ≡ rest x }
+        ensures { (x : List Symbol) → StandsForLine x self.now → result ≡ rest x }
     {
         match self.stage {
             Stage::Within(len, _) => len,

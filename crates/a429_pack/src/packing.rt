@@ -49,7 +49,7 @@ fn entries(alloc: Global, demands: &[Demand]) -> Result<Vec<Entry>, PackFault>
 }
 
 /// The outputs of a group in layout order, or the first one that is unfit.
-fn in_order(alloc: Global, demands: &[Demand]) -> Result<Vec<Entry>, PackFault>
+fn sorted_entries(alloc: Global, demands: &[Demand]) -> Result<Vec<Entry>, PackFault>
     ensures { MatchResult result (λ v. AreInOrder demands.now v.items) (IsFaultOf demands.now) }
 {
     let mut sorted = entries(alloc, demands)?;
@@ -121,7 +121,7 @@ fn inputs_in<const N: usize>(entries: &[Entry]) -> [usize; N]
 }
 
 /// The layout of the outputs of a group in layout order, on the buses that they need, at most 16.
-fn laid_out<const N: usize>(
+fn lay_out<const N: usize>(
     demands: &[Demand],
     entries: &[Entry],
     frame: Period,
@@ -164,11 +164,11 @@ pub fn pack<const N: usize>(alloc: Global, demands: &[Demand]) -> Result<Packed<
     ensures few { IfOk result (λ p. p.buses ≤ 16) }
     ensures fault { IfErr result (IsFaultOf demands.now) }
 {
-    let entries = in_order(alloc, demands)?;
+    let entries = sorted_entries(alloc, demands)?;
     let frame = greatest_period(demands);
     let needed = fewest_buses(demands, &entries, frame);
     if needed > BUSES {
         return Err(PackFault::TooManyBuses(needed));
     }
-    Ok(laid_out(demands, &entries, frame, needed))
+    Ok(lay_out(demands, &entries, frame, needed))
 }

@@ -30,7 +30,7 @@ fn three<R: Abort>(rt: &R, alloc: Global, table: &str) -> Equipment
 }
 
 /// The receiver and the transmitter of such a station, and the planner of its board.
-fn opened<R: Wait + Abort>(
+fn open_workers<R: Wait + Abort>(
     rt: &R,
     alloc: Global,
     equipment: &Equipment,
@@ -100,7 +100,7 @@ fn workers_one_after_another_are_held_by_the_gate(rt: HostRuntime) {
         rt: &rt,
         made: &made,
     };
-    let (mut receiver, mut transmit, planner) = opened(&rt, rt.alloc(), &equipment);
+    let (mut receiver, mut transmit, planner) = open_workers(&rt, rt.alloc(), &equipment);
     let mut sink = MemorySink::new(rt.alloc());
     let heard = receive_all(&mut line, &mut receiver, 0, &gate);
     let sent = send_frames(&mut transmit, &mut sink, 0, 1, &gate);

@@ -1,7 +1,7 @@
 //! The machine at its last slots and counts, and by pieces.
 ghost use Rattle.std.specs.Prelude.{◌≤◌};
 
-use crate::support::{ONE, edited, standard};
+use crate::support::{ONE, replace_once, standard};
 use a429_core::{Answer, Event, OpenFault, Refusal, State};
 use a429_slots::{OUTPUTS, Proposal};
 use a429_table::read_equipment;
@@ -16,7 +16,7 @@ pub fn proposal(rt: &impl Abort, alloc: Global, table: &str) -> Proposal<OUTPUTS
 }
 
 /// The machine of a table, from this slot on.
-fn opened<const C: u32>(rt: &impl Abort, alloc: Global, table: &str, first: u64) -> State<C>
+fn open_machine<const C: u32>(rt: &impl Abort, alloc: Global, table: &str, first: u64) -> State<C>
     requires { (1 ≤ C) × (C ≤ 41) }
 {
     State::<C>::open(alloc, proposal(rt, alloc, table), first).expect(rt, "a machine")
@@ -40,7 +40,7 @@ const FRAME: Event = Event::Frame { group: 0 };
 fn is_last_frame(rt: &impl Abort, alloc: Global, table: &str, first: u64)
     requires { first ≤ 18446744073709551614 }
 {
-    let mut state = opened::<41>(rt, alloc, table, first);
+    let mut state = open_machine::<41>(rt, alloc, table, first);
     for slot in first..=18446744073709551614 {
         assert_eq!(rt; answer(rt, &mut state, CELL), cell(slot, None));
     }
@@ -62,7 +62,7 @@ fn slots_end_with_their_numbers(rt: HostRuntime) {
 
 #[test]
 fn words_are_counted_to_the_last(rt: HostRuntime) {
-    let mut state = opened::<2>(&rt, rt.alloc(), ONE, 0);
+    let mut state = open_machine::<2>(&rt, rt.alloc(), ONE, 0);
     for raw in [0x600000c1, 0x000000c1, 0x600000c1] {
         let kept = answer(&rt, &mut state, Event::Arrive { receiver: 0, raw });
         assert_eq!(rt; kept, Answer::Accepted { source: 0 });
@@ -79,7 +79,7 @@ fn words_are_counted_to_the_last(rt: HostRuntime) {
 
 #[test]
 fn numbers_that_stand_for_nothing_are_refused(rt: HostRuntime) {
-    let mut state = opened::<41>(&rt, rt.alloc(), ONE, 0);
+    let mut state = open_machine::<41>(&rt, rt.alloc(), ONE, 0);
     let arrival = Event::Arrive {
         receiver: 1,
         raw: 0x800000c1,
@@ -122,7 +122,7 @@ fn event(rt: &impl Abort, alloc: Global, happening: Happening) -> Event {
         Happening::Cell => CELL,
         Happening::Frame => FRAME,
         Happening::Slower => {
-            let slower = edited(rt, alloc, ONE, "max_us = 360", "max_us = 720");
+            let slower = replace_once(rt, alloc, ONE, "max_us = 360", "max_us = 720");
             Event::Publish {
                 proposal: proposal(rt, alloc, &slower),
             }
@@ -147,7 +147,7 @@ fn take(
 }
 
 /// What the script is answered, where this is its word.
-fn expected(word: Word) -> [Answer; 9] {
+fn expected_answers(word: Word) -> [Answer; 9] {
     [
         cell(0, None),
         Answer::Accepted { source: 0 },
@@ -163,7 +163,7 @@ fn expected(word: Word) -> [Answer; 9] {
 
 /// Whether the script is answered so in pieces: one ends after each event whose binary digit in `cuts` is one.
 fn holds_in_pieces(rt: &impl Abort, alloc: Global, word: Word, cuts: u32, by_step: bool) -> bool {
-    let mut state = opened::<41>(rt, alloc, ONE, 0);
+    let mut state = open_machine::<41>(rt, alloc, ONE, 0);
     let mut answers = Vec::new(alloc);
     let mut piece = Vec::new(alloc);
     let mut digits = cuts;
@@ -180,7 +180,7 @@ fn holds_in_pieces(rt: &impl Abort, alloc: Global, word: Word, cuts: u32, by_ste
     }
     let answered = take(rt, alloc, &mut state, piece, by_step);
     answers.extend_from_slice(&answered).expect(rt, "memory");
-    answers.as_slice() == expected(word).as_slice()
+    answers.as_slice() == expected_answers(word).as_slice()
 }
 
 #[test]

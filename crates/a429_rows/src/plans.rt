@@ -56,11 +56,14 @@ fn outputs_have_their_places(rt: HostRuntime) {
     };
     assert_eq!(rt; group.place(b), place);
     assert_eq!(rt; (group.source(a), group.source(b)), (0, 1));
-    assert_eq!(rt; (group.ordered(0), group.ordered(1)), (a, b));
+    assert_eq!(rt;
+        (group.output_at_place(0), group.output_at_place(1)),
+        (a, b)
+    );
 }
 
 /// The number of the output in a cell, and whether it was found in at most two probes.
-fn found_in(group: &GroupPlan<OUTPUTS>, bus: u32, slot: u64) -> (Option<usize>, bool) {
+fn output_found(group: &GroupPlan<OUTPUTS>, bus: u32, slot: u64) -> (Option<usize>, bool) {
     let (output, probes) = group.at_counted(bus, slot);
     let same = group.at(bus, slot) == output;
     (output.map(|output| output.number()), same && probes <= 2)
@@ -81,7 +84,7 @@ fn cells_have_their_outputs(rt: HostRuntime) {
     ];
     for (bus, slot, output) in cells {
         assert!(rt;
-            found_in(&group, bus, slot) == (output, true),
+            output_found(&group, bus, slot) == (output, true),
             "{bus} {slot}"
         );
     }
@@ -124,7 +127,10 @@ fn places_do_not_follow_the_order_of_the_outputs(rt: HostRuntime) {
         [(0, 1, 4), (0, 3, 4), (0, 0, 2)].as_slice()
     );
     for (slot, output) in [(0, 2), (1, 0), (2, 2), (3, 1)] {
-        assert!(rt; found_in(&group, 0, slot) == (Some(output), true), "{slot}");
+        assert!(rt;
+            output_found(&group, 0, slot) == (Some(output), true),
+            "{slot}"
+        );
     }
 }
 

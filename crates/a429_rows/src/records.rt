@@ -1,6 +1,6 @@
 //! The rows that tables without faults state.
 
-use crate::support::{LIMITED, ONE, edited};
+use crate::support::{LIMITED, ONE, replace_once};
 use a429_equipment::{Equipment, OutputRow};
 use a429_slots::{OUTPUTS, PlanFault, plan};
 use a429_table::read_equipment;
@@ -29,7 +29,7 @@ fn has_source(rt: &impl Abort, equipment: &Equipment) {
 #[test]
 fn gives_the_rows(rt: HostRuntime) {
     let filters = "name = \"r\"\nfilters = [\"200/370\"]";
-    let table = edited(&rt, rt.alloc(), ONE, "name = \"r\"", filters);
+    let table = replace_once(&rt, rt.alloc(), ONE, "name = \"r\"", filters);
     let equipment = read_equipment(rt.alloc(), table.as_bytes()).expect(&rt, "a table");
     assert_eq!(rt; (equipment.version(), equipment.rate()), (1, Some(100000)));
     has_receiver(&rt, &equipment);

@@ -33,7 +33,7 @@ output = [{ source = "s", min_us = 2881, max_us = 5760, hold = 7 }]
 "#;
 
 /// A text with one piece of it replaced, where it first stands.
-pub fn edited(rt: &impl Abort, alloc: Global, text: &str, old: &str, new: &str) -> String {
+pub fn replace_once(rt: &impl Abort, alloc: Global, text: &str, old: &str, new: &str) -> String {
     let (front, back) = text.split_once(old).expect(rt, "such a text");
     format!(in alloc; "{front}{new}{back}").expect(rt, "memory")
 }

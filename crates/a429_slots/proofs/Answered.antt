@@ -8,7 +8,7 @@ use Rattle.std.proofs.lemmas.List.Folds.{list_any-append}
 use Rattle.std.proofs.lemmas.Bool.{cases_eq, cases_lt, eq-eqb, eqb-true, lt-ltb, ltb-true, and_parts}
 use Rattle.std.proofs.lemmas.Option.{none-some, same_Some, slice_get_cases, slice_get_within}
 use Rattle.a429_word.proofs.Lists.{or_parts, some_word}
-use Rattle.a429_slots.specs.Tables.{Placed, GroupTable, buses_of, cells_of, output_in}
+use Rattle.a429_slots.specs.Tables.{Placed, SlotTable, buses_of, cells_of, output_in}
 use Rattle.a429_slots.specs.Events.{Event, Arrive, Cell, Frame, Publish}
 use Rattle.a429_slots.specs.History.{Opening, Current, AnsweredCell, current, is_cell, cells_since, cell_due, answered_after, answered_cells, answered_cell, next_answered, has_sent, is_held, is_too_close}
 use Rattle.a429_slots.specs.Spacing.{IsOutputCell, Sends, IsTooClose, IsSentWithin, answered_at}
@@ -19,10 +19,10 @@ use Rattle.a429_slots.proofs.Histories.{take_following}
 abbrev more_cells : List AnsweredCell → Option AnsweredCell → List AnsweredCell
 more_cells earlier next = earlier ++ option_map_or (λ c. c ∷ []) next []
 
-abbrev next_of : ℕ → Opening → ℕ → GroupTable → List Event → Option AnsweredCell
+abbrev next_of : ℕ → Opening → ℕ → SlotTable → List Event → Option AnsweredCell
 next_of C o g p E = next_answered C o E g (current o g p E) (answered_cells C o g p E)
 
-pub answered_push : (C : ℕ) (o : Opening) (g : ℕ) (p : GroupTable) (E : List Event) (e : Event)
+pub answered_push : (C : ℕ) (o : Opening) (g : ℕ) (p : SlotTable) (E : List Event) (e : Event)
     → answered_cells C o g p (E ++ e ∷ []) ≡ (if is_cell g e then more_cells (answered_cells C o g p E) (next_of C o g p E) else answered_cells C o g p E)
 answered_push C o g p E e = ap (answered_after C o g p) (reverse-append E (e ∷ []))
     ∙ ap (λ (F : List Event). if is_cell g e then more_cells (answered_cells C o g p E) (next_answered C o F g (current o g p E) (answered_cells C o g p E)) else answered_cells C o g p E) (reverse-reverse E)
@@ -49,20 +49,20 @@ due_is g f cell h = go (nat_lt (cells_since g f) (cells_of f.table)) refl h
         record { due = ltb-true (cells_since g f) (cells_of f.table) lt; bus = sym (ap (λ (c : ℕ × ℕ). c.0) same); slot = sym (ap (λ (c : ℕ × ℕ). c.1) same) }
     go false ge is = absurd (none-some cell is)
 
-next_is : (C : ℕ) (o : Opening) (g : ℕ) (p : GroupTable) (E : List Event) (k : ℕ) (output : Placed) (slot : ℕ) → IsOutputCell o g p E k output slot → next_of C o g p (take k E) ≡ Some (answered_at C o g p E k output slot)
+next_is : (C : ℕ) (o : Opening) (g : ℕ) (p : SlotTable) (E : List Event) (k : ℕ) (output : Placed) (slot : ℕ) → IsOutputCell o g p E k output slot → next_of C o g p (take k E) ≡ Some (answered_at C o g p E k output slot)
 next_is C o g p E k output slot I =
     let f = current o g p (take k E) in
     rw (I.due, I.stands) (ap (λ (s : ℕ). Some (answered_cell C o (take k E) (answered_cells C o g p (take k E)) s output)) (sym I.counted))
 
 -- a cell that is answered next is one of an output
-record IsNext (C : ℕ) (o : Opening) (g : ℕ) (p : GroupTable) (E : List Event) (c : AnsweredCell) : Type 0 where
+record IsNext (C : ℕ) (o : Opening) (g : ℕ) (p : SlotTable) (E : List Event) (c : AnsweredCell) : Type 0 where
   pub cell : ℕ × ℕ
   pub output : Placed
   pub due : cell_due g (current o g p E) ≡ Some cell
   pub stands : output_in (current o g p E).table cell.0 cell.1 ≡ Some output
   pub is : c ≡ answered_cell C o E (answered_cells C o g p E) ((current o g p E).first + cell.1) output
 
-from_next : (C : ℕ) (o : Opening) (g : ℕ) (p : GroupTable) (E : List Event) (c : AnsweredCell) → next_of C o g p E ≡ Some c → IsNext C o g p E c
+from_next : (C : ℕ) (o : Opening) (g : ℕ) (p : SlotTable) (E : List Event) (c : AnsweredCell) → next_of C o g p E ≡ Some c → IsNext C o g p E c
 from_next C o g p E c h = by_due (cell_due g (current o g p E)) refl h
   where
     by_output : (cell : ℕ × ℕ) → cell_due g (current o g p E) ≡ Some cell → (x : Option Placed) → output_in (current o g p E).table cell.0 cell.1 ≡ x
@@ -84,7 +84,7 @@ from_next C o g p E c h = by_due (cell_due g (current o g p E)) refl h
 -- ---- a test that some answered cell passes
 
 -- it passes at an earlier place
-pub record Passes (C : ℕ) (o : Opening) (g : ℕ) (p : GroupTable) (E : List Event) (k : ℕ) (test : AnsweredCell → Bool) : Type 0 where
+pub record Passes (C : ℕ) (o : Opening) (g : ℕ) (p : SlotTable) (E : List Event) (k : ℕ) (test : AnsweredCell → Bool) : Type 0 where
   pub place : ℕ
   pub before : place < k
   pub output : Placed
@@ -92,7 +92,7 @@ pub record Passes (C : ℕ) (o : Opening) (g : ℕ) (p : GroupTable) (E : List E
   pub cell : IsOutputCell o g p E place output slot
   pub passes : test (answered_at C o g p E place output slot) ≡ true
 
-sooner : (C : ℕ) (o : Opening) (g : ℕ) (p : GroupTable) (E : List Event) (k : ℕ) (test : AnsweredCell → Bool) → Passes C o g p E k test → Passes C o g p E (suc k) test
+sooner : (C : ℕ) (o : Opening) (g : ℕ) (p : SlotTable) (E : List Event) (k : ℕ) (test : AnsweredCell → Bool) → Passes C o g p E k test → Passes C o g p E (suc k) test
 sooner C o g p E k test P = record { place = P.place; before = omega (arith, P.before); output = P.output; slot = P.slot; cell = P.cell; passes = P.passes }
 
 or_right : (a : Bool) → (a || true) ≡ true
@@ -105,7 +105,7 @@ event_at E k below = elim (slice_get_cases E k).1 [
   | inr miss ↦ absurd (omega (arith, below, miss.0))
 ]
 
-pub some_place : (C : ℕ) (o : Opening) (g : ℕ) (p : GroupTable) (E : List Event) (test : AnsweredCell → Bool) (k : ℕ) → k ≤ length E → list_any test (answered_cells C o g p (take k E)) ≡ true → Passes C o g p E k test
+pub some_place : (C : ℕ) (o : Opening) (g : ℕ) (p : SlotTable) (E : List Event) (test : AnsweredCell → Bool) (k : ℕ) → k ≤ length E → list_any test (answered_cells C o g p (take k E)) ≡ true → Passes C o g p E k test
 some_place C o g p E test zero few h = absurd (true≢false (sym h))
 some_place C o g p E test (suc k) few h =
     let (e, there) = event_at E k (omega (arith, few)) in
@@ -137,7 +137,7 @@ some_place C o g p E test (suc k) few h =
     by_event before e there true own any = by_next before (there ∙ ap (λ (x : Event). Some x) (cell_event g e own)) (next_of C o g p (take k E)) refl any
 
 -- and the other way round
-pub passes_later : (C : ℕ) (o : Opening) (g : ℕ) (p : GroupTable) (E : List Event) (test : AnsweredCell → Bool) (j : ℕ) (output : Placed) (slot : ℕ) → IsOutputCell o g p E j output slot
+pub passes_later : (C : ℕ) (o : Opening) (g : ℕ) (p : SlotTable) (E : List Event) (test : AnsweredCell → Bool) (j : ℕ) (output : Placed) (slot : ℕ) → IsOutputCell o g p E j output slot
     → test (answered_at C o g p E j output slot) ≡ true → (k : ℕ) → j < k → k ≤ length E → list_any test (answered_cells C o g p (take k E)) ≡ true
 passes_later C o g p E test j output slot I passes zero after few = absurd (omega (arith, after))
 passes_later C o g p E test j output slot I passes (suc k) after few =
@@ -168,7 +168,7 @@ open_where_sent true close x word h = absurd (none-some word h)
 open_where_sent false true x word h = absurd (none-some word h)
 open_where_sent false false x word h = refl
 
-pub words_apart : (C : ℕ) (o : Opening) (g : ℕ) (p : GroupTable) (E : List Event) (j k : ℕ) (earlier now : Placed) (u t w x : ℕ) → j < k → Sends C o g p E j earlier u w → Sends C o g p E k now t x → earlier.source ≡ now.source
+pub words_apart : (C : ℕ) (o : Opening) (g : ℕ) (p : SlotTable) (E : List Event) (j k : ℕ) (earlier now : Placed) (u t w x : ℕ) → j < k → Sends C o g p E j earlier u w → Sends C o g p E k now t x → earlier.source ≡ now.source
     → u + now.limits.spacing ≤ t
 words_apart C o g p E j k earlier now u t w x after A B same =
     let q = now.limits.spacing in
@@ -184,7 +184,7 @@ words_apart C o g p E j k earlier now u t w x after A B same =
           absurd (true≢false (sym close ∙ apart))
     ]
 
-pub sent_within : (C : ℕ) (o : Opening) (g : ℕ) (p : GroupTable) (E : List Event) (k : ℕ) (now : Placed) (t : ℕ) → k < length E → IsTooClose C o g p E k now t → IsSentWithin C o g p E k now t
+pub sent_within : (C : ℕ) (o : Opening) (g : ℕ) (p : SlotTable) (E : List Event) (k : ℕ) (now : Placed) (t : ℕ) → k < length E → IsTooClose C o g p E k now t → IsSentWithin C o g p E k now t
 sent_within C o g p E k now t inside close =
     let q = now.limits.spacing in
     let test = λ (c : AnsweredCell). has_sent now.source c && nat_lt t (c.slot + q) in

@@ -8,21 +8,21 @@ use Rattle.std.proofs.lemmas.Slice.Eq.{slice_eq-Decides}
 use Rattle.std.specs.Cmp.{unsigned_Decides}
 use Rattle.std.specs.Cmp.Lexicographic.{pointwise}
 use Rattle.std.proofs.lemmas.List.Sums.{position_or_len_is, fails_before_first, passes_at_first, prefix_len-le-length}
-use Rattle.a429_slots.specs.Tables.{Placed, GroupTable, placed_at, outputs_of, stands_in, cell_at}
+use Rattle.a429_slots.specs.Tables.{Placed, SlotTable, placed_at, outputs_of, stands_in, cell_at}
 use Rattle.a429_slots.specs.Cached.{AreCached, IsForgotten, cached}
 use Rattle.a429_slots.proofs.Cells.{length-outputs, output_at}
 
 -- the outputs of two tables stand in the same cells
-pub record StandAlike (t u : GroupTable) : Type 0 where
+pub record StandAlike (t u : SlotTable) : Type 0 where
   pub count : length t.demands ≡ length u.demands
   pub on_bus : t.on_bus ≡ u.on_bus
   pub offsets : t.offsets ≡ u.offsets
   pub periods : t.periods ≡ u.periods
 
-stands_alike : (t u : GroupTable) → StandAlike t u → (bus slot o : ℕ) → stands_in bus slot (placed_at t o) ≡ stands_in bus slot (placed_at u o)
+stands_alike : (t u : SlotTable) → StandAlike t u → (bus slot o : ℕ) → stands_in bus slot (placed_at t o) ≡ stands_in bus slot (placed_at u o)
 stands_alike t u same bus slot o = rw (same.on_bus, same.offsets, same.periods) refl
 
-pub same_cells : (t u : GroupTable) → StandAlike t u → (bus slot : ℕ) → cell_at t bus slot ≡ cell_at u bus slot
+pub same_cells : (t u : SlotTable) → StandAlike t u → (bus slot : ℕ) → cell_at t bus slot ≡ cell_at u bus slot
 unfolding cell_at
 same_cells t u same bus slot =
     let p : Placed → Bool = stands_in bus slot in
@@ -40,11 +40,11 @@ same_cells t u same bus slot =
     rw (first, as_long) refl
 
 -- nothing kept is kept rightly of any table
-pub forgotten_cached : (t : GroupTable) (cells : List ℕ) → IsForgotten cells → AreCached t cells
+pub forgotten_cached : (t : SlotTable) (cells : List ℕ) → IsForgotten cells → AreCached t cells
 forgotten_cached t cells none i = inl (none i)
 
 -- what is kept of one table is kept of another, whose outputs stand in the same cells
-pub cached_alike : (t u : GroupTable) (cells : List ℕ) → ((bus slot : ℕ) → cell_at t bus slot ≡ cell_at u bus slot) → AreCached t cells → AreCached u cells
+pub cached_alike : (t u : SlotTable) (cells : List ℕ) → ((bus slot : ℕ) → cell_at t bus slot ≡ cell_at u bus slot) → AreCached t cells → AreCached u cells
 cached_alike t u cells same kept i = ⊎_elim (λ none. inl none) (λ is. inr (is ∙ ap cached (same (i % 16) (i / 16)))) (kept i)
 
 pub none_kept : (n : ℕ) → IsForgotten (replicate n 0)

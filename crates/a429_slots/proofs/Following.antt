@@ -2,7 +2,7 @@
 use Rattle.std.proofs.Common.{◌≡◌, ℕ, zero, suc, ◌+◌, ◌*◌, ◌≤◌, List, [], ◌∷◌, ◌++◌, length, take, ◌∙◌, sym, ap, subst, refl, inl, inr, ◌⊎◌, arith, ◌-◌}
 use Rattle.std.specs.Prelude.{Some, slice_get}
 use Rattle.std.proofs.lemmas.Bool.{cases_Bool, eq-eqb}
-use Rattle.a429_slots.specs.Tables.{GroupTable, groups_of, frame_of}
+use Rattle.a429_slots.specs.Tables.{SlotTable, groups_of, frame_of}
 use Rattle.a429_slots.specs.Events.{Event, Cell}
 use Rattle.a429_slots.specs.History.{Opening, Current, current, cells_since, next_frame, newest_number, newest_table}
 use Rattle.a429_slots.specs.TakenFrames.{is_taken_after}
@@ -38,9 +38,9 @@ goes_later g f h e (inl S) =
     inl (record { table = S.table; number = S.number; first = S.first; cells = omega (arith, more, cells_next g h e) })
 goes_later g f h e (inr M) = inr (record { past = M.past; number = M.number; again = λ same. let A = M.again same in record { table = A.table; frames = A.frames; first = A.first } })
 
-turns_later : (g n : ℕ) (now : GroupTable) (f h : Current) → h.number ≤ n → (n ≡ h.number → now ≡ h.table) → IsLater g f h → IsLater g f (next_frame n now h)
+turns_later : (g n : ℕ) (now : SlotTable) (f h : Current) → h.number ≤ n → (n ≡ h.number → now ≡ h.table) → IsLater g f h → IsLater g f (next_frame n now h)
 turns_later g n now f h newer same (inl S) =
-    let slots : frame_of h.table ≡ frame_of f.table = ap (λ (t : GroupTable). frame_of t) S.table in
+    let slots : frame_of h.table ≡ frame_of f.table = ap (λ (t : SlotTable). frame_of t) S.table in
     inr (record {
       past = omega (arith, S.first, slots);
       number = omega (arith, S.number, newer);
@@ -57,12 +57,12 @@ turns_later g n now f h newer same (inr M) = inr (record {
       let older : f.number ≤ h.number = M.number in
       let own : h.number ≡ f.number = omega (arith, older, newer, is) in
       let A = M.again own in
-      let slots : frame_of h.table ≡ frame_of f.table = ap (λ (t : GroupTable). frame_of t) A.table in
+      let slots : frame_of h.table ≡ frame_of f.table = ap (λ (t : SlotTable). frame_of t) A.table in
       let more : (A.frames + 1) * frame_of f.table ≡ A.frames * frame_of f.table + frame_of f.table = omega arith in
       record { table = same (is ∙ sym own) ∙ A.table; frames = A.frames + 1; first = omega (arith, A.first, slots, more) };
 })
 
-later_push : (o : Opening) (g : ℕ) (p : GroupTable) (E : List Event) (e : Event) (f : Current) → slice_get (groups_of o.proposal.plan) g ≡ Some p → IsLater g f (current o g p E) → IsLater g f (current o g p (E ++ e ∷ []))
+later_push : (o : Opening) (g : ℕ) (p : SlotTable) (E : List Event) (e : Event) (f : Current) → slice_get (groups_of o.proposal.plan) g ≡ Some p → IsLater g f (current o g p E) → IsLater g f (current o g p (E ++ e ∷ []))
 later_push o g p E e f there L = elim (cases_Bool (is_taken_after o g p E e)) [
   | inl taken ↦
       let N = is_numbered o g p there E in
@@ -70,10 +70,10 @@ later_push o g p E e f there L = elim (cases_Bool (is_taken_after o g p E e)) [
   | inr left ↦ subst (IsLater g f) (sym (same_frame o g p E e left)) (goes_later g f (current o g p E) e L)
 ]
 
-abbrev pub frame_at_place : Opening → ℕ → GroupTable → List Event → ℕ → Current
+abbrev pub frame_at_place : Opening → ℕ → SlotTable → List Event → ℕ → Current
 frame_at_place o g p E k = current o g p (take k E)
 
-later_by : (o : Opening) (g : ℕ) (p : GroupTable) (E : List Event) → slice_get (groups_of o.proposal.plan) g ≡ Some p → (j d : ℕ) → d + j ≤ length E → IsLater g (frame_at_place o g p E j) (frame_at_place o g p E (d + j))
+later_by : (o : Opening) (g : ℕ) (p : SlotTable) (E : List Event) → slice_get (groups_of o.proposal.plan) g ≡ Some p → (j d : ℕ) → d + j ≤ length E → IsLater g (frame_at_place o g p E j) (frame_at_place o g p E (d + j))
 later_by o g p E there j zero few =
     let same : zero + j ≡ j = omega arith in
     subst (λ (k : ℕ). IsLater g (frame_at_place o g p E j) (frame_at_place o g p E k)) (sym same) (inl (record { table = refl; number = refl; first = refl; cells = omega arith }))
@@ -84,13 +84,13 @@ later_by o g p E there j (suc d) few =
     subst (λ (k : ℕ). IsLater g (frame_at_place o g p E j) (frame_at_place o g p E k)) (sym on)
     (subst (λ (F : List Event). IsLater g (frame_at_place o g p E j) (current o g p F)) (sym (take_following E (d + j) e is)) L)
 
-pub later_at : (o : Opening) (g : ℕ) (p : GroupTable) (E : List Event) (j k : ℕ) → slice_get (groups_of o.proposal.plan) g ≡ Some p → j ≤ k → k ≤ length E → IsLater g (frame_at_place o g p E j) (frame_at_place o g p E k)
+pub later_at : (o : Opening) (g : ℕ) (p : SlotTable) (E : List Event) (j k : ℕ) → slice_get (groups_of o.proposal.plan) g ≡ Some p → j ≤ k → k ≤ length E → IsLater g (frame_at_place o g p E j) (frame_at_place o g p E k)
 later_at o g p E j k there after few =
     let rest : (k - j) + j ≡ k = omega (arith, after) in
     subst (λ (n : ℕ). IsLater g (frame_at_place o g p E j) (frame_at_place o g p E n)) rest (later_by o g p E there j (k - j) (omega (arith, few, rest)))
 
 -- behind a cell the frame is the same
-pub behind_cell : (o : Opening) (g : ℕ) (p : GroupTable) (E : List Event) (j : ℕ) → slice_get E j ≡ Some (Cell g) → frame_at_place o g p E (suc j) ≡ goes_on (frame_at_place o g p E j) (Cell g)
+pub behind_cell : (o : Opening) (g : ℕ) (p : SlotTable) (E : List Event) (j : ℕ) → slice_get E j ≡ Some (Cell g) → frame_at_place o g p E (suc j) ≡ goes_on (frame_at_place o g p E j) (Cell g)
 behind_cell o g p E j asked = ap (current o g p) (take_following E j (Cell g) asked) ∙ same_frame o g p (take j E) (Cell g) refl
 
 -- and one more cell was asked for

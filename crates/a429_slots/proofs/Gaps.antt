@@ -3,7 +3,7 @@ use Rattle.std.proofs.Common.{◌≡◌, ℕ, zero, suc, ◌+◌, ◌-◌, ◌*�
 use Rattle.std.proofs.lemmas.Bool.{cases_lt}
 use Rattle.std.proofs.lemmas.Nat.{pow-add, pow_pos, pow_below, mod-mul-add}
 use Rattle.std.proofs.Math.Nat.{mod-eq_of_lt}
-use Rattle.a429_slots.specs.Tables.{GroupTable, frame_of}
+use Rattle.a429_slots.specs.Tables.{SlotTable, frame_of}
 use Rattle.a429_slots.specs.Kept.{StandsJustAt}
 use Rattle.a429_slots.specs.Changes.{IsFirstSlot, IsLastSlot, IsGap}
 
@@ -22,7 +22,7 @@ exponents : (e h : ℕ) → 2 ^ e ≤ 2 ^ h → e ≤ h
 exponents e h few = elim (cases_lt h e) [ inl above ↦ absurd (omega (arith, pow_below h e above)) | inr below ↦ below ]
 
 -- where an output first stands
-first_is : (t : GroupTable) (o bus offset e : ℕ) → StandsJustAt t o bus offset (2 ^ e) → 2 ^ e ≤ frame_of t → IsFirstSlot t o offset
+first_is : (t : SlotTable) (o bus offset e : ℕ) → StandsJustAt t o bus offset (2 ^ e) → 2 ^ e ≤ frame_of t → IsFirstSlot t o offset
 first_is t o bus offset e at few = record {
   within = omega (arith, at.within);
   stands = (bus, (at.cells bus offset).1 (refl, mod-eq_of_lt {n = offset} {m = 2 ^ e} at.within));
@@ -33,7 +33,7 @@ first_is t o bus offset e at few = record {
 }
 
 -- where it last stands
-last_is : (t : GroupTable) (o bus offset e : ℕ) → StandsJustAt t o bus offset (2 ^ e) → 2 ^ e ≤ frame_of t → IsLastSlot t o (frame_of t - 2 ^ e + offset)
+last_is : (t : SlotTable) (o bus offset e : ℕ) → StandsJustAt t o bus offset (2 ^ e) → 2 ^ e ≤ frame_of t → IsLastSlot t o (frame_of t - 2 ^ e + offset)
 last_is t o bus offset e at few =
     let (m, whole) = multiple t.frame e (exponents e t.frame few) in
     let back : frame_of t - 2 ^ e + offset ≡ m * 2 ^ e + offset = omega (arith, whole) in
@@ -49,7 +49,7 @@ last_is t o bus offset e at few =
           omega (arith, both.1, same, split, back);
     }
 
-pub gap_is : (t u : GroupTable) (o p bus row x y d e gap : ℕ) → StandsJustAt t o bus x (2 ^ d) → 2 ^ d ≤ frame_of t → StandsJustAt u p row y (2 ^ e) → 2 ^ e ≤ frame_of u
+pub gap_is : (t u : SlotTable) (o p bus row x y d e gap : ℕ) → StandsJustAt t o bus x (2 ^ d) → 2 ^ d ≤ frame_of t → StandsJustAt u p row y (2 ^ e) → 2 ^ e ≤ frame_of u
     → gap ≡ 2 ^ d - x + y → IsGap t o u p gap
 gap_is t u o p bus row x y d e gap old few new less is = record {
   from = frame_of t - 2 ^ d + x;

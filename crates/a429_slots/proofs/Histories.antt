@@ -4,7 +4,7 @@ use Rattle.std.specs.Prelude.{Some, cond, slice_get, if◌then◌else◌}
 use Rattle.std.proofs.lemmas.List.{reverse-append, reverse-reverse}
 use Rattle.std.proofs.lemmas.List.Sums.{sum_by-cons}
 use Rattle.std.proofs.lemmas.Option.{none-some, same_Some}
-use Rattle.a429_slots.specs.Tables.{GroupTable}
+use Rattle.a429_slots.specs.Tables.{SlotTable}
 use Rattle.a429_slots.specs.Events.{Event}
 use Rattle.a429_slots.specs.History.{Opening, Current, current, frame_after, is_cell, is_taken, next_frame, cells_since, newest_number, newest_table}
 use Rattle.a429_slots.specs.TakenFrames.{is_taken_after}
@@ -28,10 +28,10 @@ abbrev pub goes_on : Current → Event → Current
 goes_on f e = record f { since = e ∷ f.since }
 
 -- the frame after one more event, where this is the newest table
-abbrev pub gone_on : ℕ → ℕ → GroupTable → Current → Event → Current
+abbrev pub gone_on : ℕ → ℕ → SlotTable → Current → Event → Current
 gone_on g n now f e = if is_taken g now f e then next_frame n now f else goes_on f e
 
-pub current_next : (o : Opening) (g : ℕ) (p : GroupTable) (E : List Event) (e : Event) → current o g p (E ++ e ∷ []) ≡ gone_on g (newest_number o E) (newest_table o g p E) (current o g p E) e
+pub current_next : (o : Opening) (g : ℕ) (p : SlotTable) (E : List Event) (e : Event) → current o g p (E ++ e ∷ []) ≡ gone_on g (newest_number o E) (newest_table o g p E) (current o g p E) e
 current_next o g p E e = ap (frame_after o g p) (reverse-append E (e ∷ []))
     ∙ ap (λ (F : List Event). gone_on g (newest_number o F) (newest_table o g p F) (current o g p E) e) (reverse-reverse E)
 
@@ -39,8 +39,8 @@ pub cells_next : (g : ℕ) (f : Current) (e : Event) → cells_since g (goes_on 
 cells_next g f e = sum_by-cons (λ x. cond (is_cell g x) 1 0) e f.since
 
 -- only a taken Frame gives the group another plan
-pub same_frame : (o : Opening) (g : ℕ) (p : GroupTable) (E : List Event) (e : Event) → is_taken_after o g p E e ≡ false → current o g p (E ++ e ∷ []) ≡ goes_on (current o g p E) e
+pub same_frame : (o : Opening) (g : ℕ) (p : SlotTable) (E : List Event) (e : Event) → is_taken_after o g p E e ≡ false → current o g p (E ++ e ∷ []) ≡ goes_on (current o g p E) e
 same_frame o g p E e h = current_next o g p E e ∙ rw h refl
 
-pub new_frame : (o : Opening) (g : ℕ) (p : GroupTable) (E : List Event) (e : Event) → is_taken_after o g p E e ≡ true → current o g p (E ++ e ∷ []) ≡ next_frame (newest_number o E) (newest_table o g p E) (current o g p E)
+pub new_frame : (o : Opening) (g : ℕ) (p : SlotTable) (E : List Event) (e : Event) → is_taken_after o g p E e ≡ true → current o g p (E ++ e ∷ []) ≡ next_frame (newest_number o E) (newest_table o g p E) (current o g p E)
 new_frame o g p E e h = current_next o g p E e ∙ rw h refl

@@ -3,8 +3,8 @@ use Rattle.std.proofs.Common.{◌≡◌, ℕ, suc, ◌+◌, ◌*◌, ◌/◌, �
 use Rattle.std.proofs.Math.Nat.{mul-le-mul_right}
 use Rattle.std.proofs.lemmas.Nat.{mod-mul-add, div-mul-add}
 use Rattle.std.proofs.lemmas.Bool.{lt-ltb, le-ltb, ltb-true, cases_lt}
-use Rattle.a429_slots.specs.Tables.{GroupTable, buses_of, cells_of, frame_of}
-use Rattle.a429_slots.specs.Sending.{Sending, cells_before, next_cell, IsNextCell}
+use Rattle.a429_slots.specs.Tables.{SlotTable, buses_of, cells_of, frame_of}
+use Rattle.a429_slots.specs.FrameStates.{FrameState, cells_before, next_cell, IsNextCell}
 
 -- cells of slots before the frame's end are cells of the frame
 inside : (n f bus slot : ℕ) → bus < n → slot < f → slot * n + bus < n * f
@@ -14,7 +14,7 @@ inside n f bus slot below before =
     omega (arith, next, turned)
 
 -- whether a cell is left
-pub mid_frame : (t : GroupTable) (bus slot : ℕ) → IsNextCell t bus slot → (ltb bus (buses_of t) && ltb slot (frame_of t)) ≡ ltb (cells_before t bus slot) (cells_of t)
+pub mid_frame : (t : SlotTable) (bus slot : ℕ) → IsNextCell t bus slot → (ltb bus (buses_of t) && ltb slot (frame_of t)) ≡ ltb (cells_before t bus slot) (cells_of t)
 mid_frame t bus slot h =
     let n : ℕ = buses_of t in
     let f : ℕ = frame_of t in
@@ -35,7 +35,7 @@ mid_frame t bus slot h =
     ]
 
 -- a cell that is left has a bus
-pub has_bus : (t : GroupTable) (bus slot : ℕ) → IsNextCell t bus slot → ltb (cells_before t bus slot) (cells_of t) ≡ true → bus < buses_of t
+pub has_bus : (t : SlotTable) (bus slot : ℕ) → IsNextCell t bus slot → ltb (cells_before t bus slot) (cells_of t) ≡ true → bus < buses_of t
 has_bus t bus slot h mid =
     let n : ℕ = buses_of t in
     elim (cases_lt bus n) [
@@ -60,7 +60,7 @@ next_slot n bus slot last =
     let more : (slot + 1) * n ≡ slot * n + n = omega arith in
     omega (arith, more, last)
 
-pub next_is : (s : Sending) (bus slot : ℕ) → bus < buses_of s.table → s.sent ≡ slot * buses_of s.table + bus → ltb s.sent (cells_of s.table) ≡ true → Some (bus, slot) ≡ next_cell s
+pub next_is : (s : FrameState) (bus slot : ℕ) → bus < buses_of s.table → s.sent ≡ slot * buses_of s.table + bus → ltb s.sent (cells_of s.table) ≡ true → Some (bus, slot) ≡ next_cell s
 next_is s bus slot below is mid =
     let n : ℕ = buses_of s.table in
     let its_bus : s.sent % n ≡ bus = ap (λ k. k % n) is ∙ bus_of_cell n bus slot below in

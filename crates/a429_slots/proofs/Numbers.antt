@@ -6,7 +6,7 @@ use Rattle.std.proofs.Math.Seq.{take-append-add}
 use Rattle.std.proofs.lemmas.List.{length-append, take-append-le, take_all}
 use Rattle.std.proofs.lemmas.List.Elements.{filter_map-append}
 use Rattle.std.proofs.lemmas.Bool.{cases_Bool, cases_lt}
-use Rattle.a429_slots.specs.Tables.{GroupTable, groups_of}
+use Rattle.a429_slots.specs.Tables.{SlotTable, groups_of}
 use Rattle.a429_slots.specs.Proposed.{Proposed}
 use Rattle.a429_slots.specs.Events.{Event}
 use Rattle.a429_slots.specs.History.{Opening, Current, current, last_of, proposal_for, published, numbers_left, newest_number, newest_table}
@@ -36,15 +36,15 @@ grows o E e =
     ]
 
 -- the group's table in the plan of this number
-pub numbered : Opening → ℕ → GroupTable → List Event → ℕ → GroupTable
+pub numbered : Opening → ℕ → SlotTable → List Event → ℕ → SlotTable
 numbered o g p E n = unwrap_or (slice_get (groups_of (option_map_or (λ q. q.plan) (last_of (take (n - o.proposal.plan.number) (published o E))) o.proposal.plan)) g) p
 
-newest_numbered : (o : Opening) (g : ℕ) (p : GroupTable) (E : List Event) → newest_table o g p E ≡ numbered o g p E (newest_number o E)
+newest_numbered : (o : Opening) (g : ℕ) (p : SlotTable) (E : List Event) → newest_table o g p E ≡ numbered o g p E (newest_number o E)
 unfolding numbered
 newest_numbered o g p E =
     ap (λ (qs : List Proposed). unwrap_or (slice_get (groups_of (option_map_or (λ q. q.plan) (last_of qs) o.proposal.plan)) g) p) (sym (take_all (newest_number o E - o.proposal.plan.number) (published o E) (omega arith)))
 
-numbered_on : (o : Opening) (g : ℕ) (p : GroupTable) (E : List Event) (e : Event) (n : ℕ) → n ≤ newest_number o E → numbered o g p (E ++ e ∷ []) n ≡ numbered o g p E n
+numbered_on : (o : Opening) (g : ℕ) (p : SlotTable) (E : List Event) (e : Event) (n : ℕ) → n ≤ newest_number o E → numbered o g p (E ++ e ∷ []) n ≡ numbered o g p E n
 unfolding numbered
 numbered_on o g p E e n low =
     let G = grows o E e in
@@ -56,16 +56,16 @@ number_on o E e =
     let G = grows o E e in
     omega (arith, ap (λ (qs : List Proposed). length qs) G.is, length-append (published o E) G.more)
 
-pub record IsNumbered (o : Opening) (g : ℕ) (p : GroupTable) (E : List Event) (f : Current) : Type 0 where
+pub record IsNumbered (o : Opening) (g : ℕ) (p : SlotTable) (E : List Event) (f : Current) : Type 0 where
   pub least : o.proposal.plan.number ≤ f.number
   pub low : f.number ≤ newest_number o E
   pub table : f.table ≡ numbered o g p E f.number
 
 -- a plan with the number of the one in force has its table
-pub same_number : (o : Opening) (g : ℕ) (p : GroupTable) (E : List Event) (f : Current) → IsNumbered o g p E f → newest_number o E ≡ f.number → newest_table o g p E ≡ f.table
+pub same_number : (o : Opening) (g : ℕ) (p : SlotTable) (E : List Event) (f : Current) → IsNumbered o g p E f → newest_number o E ≡ f.number → newest_table o g p E ≡ f.table
 same_number o g p E f N same = newest_numbered o g p E ∙ (ap (numbered o g p E) same ∙ sym N.table)
 
-pub is_numbered : (o : Opening) (g : ℕ) (p : GroupTable) → slice_get (groups_of o.proposal.plan) g ≡ Some p → (E : List Event) → IsNumbered o g p E (current o g p E)
+pub is_numbered : (o : Opening) (g : ℕ) (p : SlotTable) → slice_get (groups_of o.proposal.plan) g ≡ Some p → (E : List Event) → IsNumbered o g p E (current o g p E)
 unfolding numbered
 is_numbered o g p there E = by_ends (λ F. IsNumbered o g p F (current o g p F)) (record {
   least = omega arith;
@@ -93,4 +93,4 @@ is_numbered o g p there E = by_ends (λ F. IsNumbered o g p F (current o g p F))
     first =
         let none : o.proposal.plan.number - o.proposal.plan.number ≡ 0 = omega arith in
         sym (ap (λ (n : ℕ). unwrap_or (slice_get (groups_of (option_map_or (λ q. q.plan) (last_of (take n (published o []))) o.proposal.plan)) g) p) none
-        ∙ ap (λ (x : Option GroupTable). unwrap_or x p) there)
+        ∙ ap (λ (x : Option SlotTable). unwrap_or x p) there)

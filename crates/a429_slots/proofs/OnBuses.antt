@@ -16,7 +16,7 @@ use Rattle.a429_pack.specs.Sums.{Holds, start_of}
 use Rattle.a429_equipment.specs.declared.rows.OutputRow.{OutputRow}
 use Rattle.a429_equipment.specs.declared.rows.SourceRow.{SourceRow}
 use Rattle.a429_slots.specs.Planned.{HasPeriod, IsPlannedFor, IsServed, asked_by, asked_of}
-use Rattle.a429_slots.specs.Tables.{GroupTable, Placed, buses_of, frame_of, order_of, outputs_of, placed_at}
+use Rattle.a429_slots.specs.Tables.{SlotTable, Placed, buses_of, frame_of, order_of, outputs_of, placed_at}
 use Rattle.a429_slots.proofs.Cells.{length-outputs}
 use Rattle.a429_slots.proofs.OnePlan.{NameEach, same_exponents}
 
@@ -34,20 +34,20 @@ periods_of rate sources [] (x ∷ xs) all = absurd all
 periods_of rate sources (row ∷ rows) [] all = absurd all
 periods_of rate sources (row ∷ rows) (x ∷ xs) all = (all.0.1, periods_of rate sources rows xs all.1)
 
-exponents_are : (sources : List SourceRow) (t : GroupTable) → exponents_of (asked_of sources t) ≡ map (λ o. slice_index t.periods o) (range_with_len 0 (length t.demands))
+exponents_are : (sources : List SourceRow) (t : SlotTable) → exponents_of (asked_of sources t) ≡ map (λ o. slice_index t.periods o) (range_with_len 0 (length t.demands))
 exponents_are sources t =
     ap (map exponent_of) (map-map (asked_by sources) (placed_at t) (range_with_len 0 (length t.demands)))
     ∙ map-map exponent_of (λ o. asked_by sources (placed_at t o)) (range_with_len 0 (length t.demands))
 
-count_of : (sources : List SourceRow) (t : GroupTable) → length (asked_of sources t) ≡ length t.demands
+count_of : (sources : List SourceRow) (t : SlotTable) → length (asked_of sources t) ≡ length t.demands
 count_of sources t = length-map (outputs_of t) (asked_by sources) ∙ length-outputs t
 
 -- how many slots of a frame of 2^h an output has
-abbrev share : GroupTable → ℕ → ℕ → ℕ
+abbrev share : SlotTable → ℕ → ℕ → ℕ
 share t h o = 2 ^ h / 2 ^ slice_index t.periods o
 
 -- together they are what is asked for
-total : (rate : ℕ) (sources : List SourceRow) (rows : List OutputRow) (t : GroupTable) → IsPlannedFor rate sources rows t → sum t.demands ≡ demand_of (exponents_of (asked_of sources t))
+total : (rate : ℕ) (sources : List SourceRow) (rows : List OutputRow) (t : SlotTable) → IsPlannedFor rate sources rows t → sum t.demands ≡ demand_of (exponents_of (asked_of sources t))
 total rate sources rows t P =
     let h : ℕ = greatest (exponents_of (asked_of sources t)) in
     let range : List ℕ = range_with_len 0 (length t.demands) in
@@ -61,7 +61,7 @@ total rate sources rows t P =
     ∙ (ap sum (map-map (λ k. 2 ^ h / 2 ^ k) (λ o. slice_index t.periods o) range) ∙ sum-map (share t h) range) in
     laid ∙ (same ∙ sym asked)
 
-pub on_a_bus : IsPacked → (rate : ℕ) (sources : List SourceRow) (rows : List OutputRow) (t : GroupTable) → IsPlannedFor rate sources rows t → (n : ℕ) → n < length t.demands → slice_index t.on_bus n < buses_of t
+pub on_a_bus : IsPacked → (rate : ℕ) (sources : List SourceRow) (rows : List OutputRow) (t : SlotTable) → IsPlannedFor rate sources rows t → (n : ℕ) → n < length t.demands → slice_index t.on_bus n < buses_of t
 on_a_bus law rate sources rows t P n below =
     let exponents : List ℕ = exponents_of (asked_of sources t) in
     let many : length (asked_of sources t) ≡ length t.demands = count_of sources t in

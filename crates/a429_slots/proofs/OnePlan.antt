@@ -17,7 +17,7 @@ use Rattle.a429_pack.specs.Orders.{NamesEachOnce}
 use Rattle.a429_pack.specs.Sums.{start_of}
 use Rattle.a429_slots.specs.OnePlan.{IsSameTable, PlansAreUnique}
 use Rattle.a429_slots.specs.Planned.{HasPeriod, IsPlannedAt, IsPlannedFor, IsServed, asked_by, asked_of, rated_outputs}
-use Rattle.a429_slots.specs.Tables.{GroupTable, Placed, cell_at, frame_of, groups_of, order_of, outputs_of, placed_at, stands_in}
+use Rattle.a429_slots.specs.Tables.{SlotTable, Placed, cell_at, frame_of, groups_of, order_of, outputs_of, placed_at, stands_in}
 use Rattle.a429_slots.proofs.Cells.{length-outputs, output_at}
 use Rattle.a429_slots.proofs.Planned.{map_where, same_lists}
 use Rattle.a429_slots.proofs.Rows.{blank}
@@ -65,43 +65,43 @@ OneCount = (exponents : List ℕ) (m n : ℕ) → AreFewestBuses exponents m →
 abbrev pub NameEach : Type 0
 NameEach = (n : ℕ) (xs : List ℕ) → IsPermutation (range_with_len 0 n) xs → NamesEachOnce n xs
 
-record AreFor (rate : ℕ) (sources : List SourceRow) (rows : List OutputRow) (t u : GroupTable) : Type 0 where
+record AreFor (rate : ℕ) (sources : List SourceRow) (rows : List OutputRow) (t u : SlotTable) : Type 0 where
   pub first : IsPlannedFor rate sources rows t
   pub second : IsPlannedFor rate sources rows u
   pub one_order : OneOrder
   pub one_count : OneCount
   pub names : NameEach
 
-asked_alike : (rate : ℕ) (sources : List SourceRow) (rows : List OutputRow) (t u : GroupTable) → AreFor rate sources rows t u → asked_of sources t ≡ asked_of sources u
+asked_alike : (rate : ℕ) (sources : List SourceRow) (rows : List OutputRow) (t u : SlotTable) → AreFor rate sources rows t u → asked_of sources t ≡ asked_of sources u
 asked_alike rate sources rows t u a = same_asked rate sources rows (outputs_of t) (outputs_of u) a.first.served a.second.served
 
-counts : (rate : ℕ) (sources : List SourceRow) (rows : List OutputRow) (t u : GroupTable) → AreFor rate sources rows t u → (length t.demands ≡ length rows) × (length u.demands ≡ length rows)
+counts : (rate : ℕ) (sources : List SourceRow) (rows : List OutputRow) (t u : SlotTable) → AreFor rate sources rows t u → (length t.demands ≡ length rows) × (length u.demands ≡ length rows)
 counts rate sources rows t u a =
     (sym (length-outputs t) ∙ AllZip-long (IsServed rate) rows (outputs_of t) a.first.served, sym (length-outputs u) ∙ AllZip-long (IsServed rate) rows (outputs_of u) a.second.served)
 
-frames : (rate : ℕ) (sources : List SourceRow) (rows : List OutputRow) (t u : GroupTable) → AreFor rate sources rows t u → t.frame ≡ u.frame
+frames : (rate : ℕ) (sources : List SourceRow) (rows : List OutputRow) (t u : SlotTable) → AreFor rate sources rows t u → t.frame ≡ u.frame
 frames rate sources rows t u a =
     a.first.layout.frame ∙ ap (λ (ds : List Demand). greatest (exponents_of ds)) (asked_alike rate sources rows t u a) ∙ sym a.second.layout.frame
 
-orders : (rate : ℕ) (sources : List SourceRow) (rows : List OutputRow) (t u : GroupTable) → AreFor rate sources rows t u → order_of t ≡ order_of u
+orders : (rate : ℕ) (sources : List SourceRow) (rows : List OutputRow) (t u : SlotTable) → AreFor rate sources rows t u → order_of t ≡ order_of u
 orders rate sources rows t u a =
     a.one_order (asked_of sources u) (order_of t) (order_of u)
     (subst (λ (ds : List Demand). IsLayoutOrder ds (order_of t)) (asked_alike rate sources rows t u a) a.first.layout.order) a.second.layout.order
 
-buses : (rate : ℕ) (sources : List SourceRow) (rows : List OutputRow) (t u : GroupTable) → AreFor rate sources rows t u → t.buses ≡ u.buses
+buses : (rate : ℕ) (sources : List SourceRow) (rows : List OutputRow) (t u : SlotTable) → AreFor rate sources rows t u → t.buses ≡ u.buses
 buses rate sources rows t u a =
     let f = a.first.fewest in
     let s = a.second.fewest in
     a.one_count s.exponents t.buses u.buses (subst (λ (ks : List ℕ). AreFewestBuses ks t.buses) (same_exponents rate rows f.exponents s.exponents f.fit s.fit) f.fewest) s.fewest
 
 -- what is kept of the output of a row
-served_at : (rate : ℕ) (sources : List SourceRow) (rows : List OutputRow) (t : GroupTable) → IsPlannedFor rate sources rows t → length t.demands ≡ length rows
+served_at : (rate : ℕ) (sources : List SourceRow) (rows : List OutputRow) (t : SlotTable) → IsPlannedFor rate sources rows t → length t.demands ≡ length rows
     → (o : ℕ) → o < length rows → IsServed rate (get_or rows o blank) (placed_at t o)
 served_at rate sources rows t p many o below =
     subst (IsServed rate (get_or rows o blank)) (output_at t o (placed_at t 0) (omega (arith, many)))
     (zipped_at (IsServed rate) rows (outputs_of t) o blank (placed_at t 0) below p.served)
 
-same_period : (rate : ℕ) (sources : List SourceRow) (rows : List OutputRow) (t u : GroupTable) → AreFor rate sources rows t u → (o : ℕ) → o < length rows
+same_period : (rate : ℕ) (sources : List SourceRow) (rows : List OutputRow) (t u : SlotTable) → AreFor rate sources rows t u → (o : ℕ) → o < length rows
     → get_or t.periods o 0 ≡ get_or u.periods o 0
 same_period rate sources rows t u a o below =
     let many = counts rate sources rows t u a in
@@ -109,12 +109,12 @@ same_period rate sources rows t u a o below =
     (served_at rate sources rows t a.first many.0 o below).1 (served_at rate sources rows u a.second many.1 o below).1
 
 -- each output once in the order
-names_of : (rate : ℕ) (sources : List SourceRow) (rows : List OutputRow) (t u : GroupTable) → AreFor rate sources rows t u → NamesEachOnce (length rows) (order_of t)
+names_of : (rate : ℕ) (sources : List SourceRow) (rows : List OutputRow) (t u : SlotTable) → AreFor rate sources rows t u → NamesEachOnce (length rows) (order_of t)
 names_of rate sources rows t u a =
     let many : length (asked_of sources t) ≡ length rows = length-map (outputs_of t) (asked_by sources) ∙ length-outputs t ∙ (counts rate sources rows t u a).0 in
     subst (λ (n : ℕ). NamesEachOnce n (order_of t)) many (a.names (length (asked_of sources t)) (order_of t) a.first.layout.order.all)
 
-demands : (rate : ℕ) (sources : List SourceRow) (rows : List OutputRow) (t u : GroupTable) → AreFor rate sources rows t u → t.demands ≡ u.demands
+demands : (rate : ℕ) (sources : List SourceRow) (rows : List OutputRow) (t u : SlotTable) → AreFor rate sources rows t u → t.demands ≡ u.demands
 demands rate sources rows t u a =
     let names = names_of rate sources rows t u a in
     a.first.layout.demands
@@ -126,11 +126,11 @@ demands rate sources rows t u a =
 
 -- ---- the places
 
-record IsSamePlace (t u : GroupTable) (o : ℕ) : Type 0 where
+record IsSamePlace (t u : SlotTable) (o : ℕ) : Type 0 where
   pub bus : get_or t.on_bus o 0 ≡ get_or u.on_bus o 0
   pub offset : get_or t.offsets o 0 ≡ get_or u.offsets o 0
 
-same_place : (rate : ℕ) (sources : List SourceRow) (rows : List OutputRow) (t u : GroupTable) → AreFor rate sources rows t u → (o : ℕ) → o < length rows → IsSamePlace t u o
+same_place : (rate : ℕ) (sources : List SourceRow) (rows : List OutputRow) (t u : SlotTable) → AreFor rate sources rows t u → (o : ℕ) → o < length rows → IsSamePlace t u o
 same_place rate sources rows t u a o below =
     let many = counts rate sources rows t u a in
     let (k, low, is) = (names_of rate sources rows t u a).place o below in
@@ -162,7 +162,7 @@ placed_alike x y source bus offset period hold spacing =
       limits = record { hold = hold; spacing = spacing };
     }
 
-same_output : (rate : ℕ) (sources : List SourceRow) (rows : List OutputRow) (t u : GroupTable) → AreFor rate sources rows t u → (o : ℕ) → o < length rows → placed_at t o ≡ placed_at u o
+same_output : (rate : ℕ) (sources : List SourceRow) (rows : List OutputRow) (t u : SlotTable) → AreFor rate sources rows t u → (o : ℕ) → o < length rows → placed_at t o ≡ placed_at u o
 same_output rate sources rows t u a o below =
     let many = counts rate sources rows t u a in
     let row : OutputRow = get_or rows o blank in
@@ -172,7 +172,7 @@ same_output rate sources rows t u a o below =
     placed_alike (placed_at t o) (placed_at u o) (f.0 ∙ sym s.0) place.bus place.offset (same_period rate sources rows t u a o below)
     (f.2 ∙ sym s.2) (one_spacing row.min_us rate (placed_at t o).limits.spacing (placed_at u o).limits.spacing f.3 s.3)
 
-outputs : (rate : ℕ) (sources : List SourceRow) (rows : List OutputRow) (t u : GroupTable) → AreFor rate sources rows t u → outputs_of t ≡ outputs_of u
+outputs : (rate : ℕ) (sources : List SourceRow) (rows : List OutputRow) (t u : SlotTable) → AreFor rate sources rows t u → outputs_of t ≡ outputs_of u
 outputs rate sources rows t u a =
     let many = counts rate sources rows t u a in
     let d : Placed = placed_at t 0 in
@@ -181,11 +181,11 @@ outputs rate sources rows t u a =
     output_at t o d (omega (arith, many.0)) ∙ same_output rate sources rows t u a o low ∙ sym (output_at u o d (omega (arith, many.1))))
 
 -- the cells are those of the outputs
-same_cells : (t u : GroupTable) → outputs_of t ≡ outputs_of u → (bus slot : ℕ) → cell_at t bus slot ≡ cell_at u bus slot
+same_cells : (t u : SlotTable) → outputs_of t ≡ outputs_of u → (bus slot : ℕ) → cell_at t bus slot ≡ cell_at u bus slot
 unfolding cell_at
 same_cells t u same bus slot = ap (position (stands_in bus slot)) same
 
-same_table : (rate : ℕ) (sources : List SourceRow) (rows : List OutputRow) (t u : GroupTable) → AreFor rate sources rows t u → IsSameTable t u
+same_table : (rate : ℕ) (sources : List SourceRow) (rows : List OutputRow) (t u : SlotTable) → AreFor rate sources rows t u → IsSameTable t u
 same_table rate sources rows t u a = record {
   frame = ap (λ (h : ℕ). 2 ^ h) (frames rate sources rows t u a);
   buses = buses rate sources rows t u a;
@@ -197,7 +197,7 @@ same_table rate sources rows t u a = record {
 
 -- ---- all groups
 
-same_tables : OneOrder → OneCount → NameEach → (sources : List SourceRow) (rated : List (ℕ × List OutputRow)) (ts us : List GroupTable) → AllZip (IsPlannedAt sources) rated ts → AllZip (IsPlannedAt sources) rated us
+same_tables : OneOrder → OneCount → NameEach → (sources : List SourceRow) (rated : List (ℕ × List OutputRow)) (ts us : List SlotTable) → AllZip (IsPlannedAt sources) rated ts → AllZip (IsPlannedAt sources) rated us
     → AllZip IsSameTable ts us
 same_tables order count names sources [] [] [] h k = tt
 same_tables order count names sources [] [] (u ∷ us) h k = absurd k

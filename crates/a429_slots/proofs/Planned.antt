@@ -21,7 +21,7 @@ use Rattle.a429_pack.specs.Orders.{NamesEachOnce}
 use Rattle.a429_equipment.specs.declared.rows.OutputRow.{OutputRow}
 use Rattle.a429_equipment.specs.declared.rows.SourceRow.{SourceRow}
 use Rattle.a429_slots.specs.declared.group_plan.SendLimits.{SendLimits}
-use Rattle.a429_slots.specs.Tables.{Placed, GroupTable, placed_at, outputs_of, order_of, frame_of, buses_of}
+use Rattle.a429_slots.specs.Tables.{Placed, SlotTable, placed_at, outputs_of, order_of, frame_of, buses_of}
 use Rattle.a429_slots.specs.Kept.{IsTable}
 use Rattle.a429_slots.specs.Asked.{IsAsked, IsTableOf, limits_at}
 use Rattle.a429_slots.specs.Planned.{HasPeriod, IsServed, IsLayout, IsPlannedFor, AreFewestBusesFor, asked_by, asked_of}
@@ -48,7 +48,7 @@ map_where f g [] same = refl
 map_where f g (x ∷ xs) same = ap (λ z. z ∷ map f xs) (same 0 (omega arith)) ∙ ap (λ zs. g x ∷ zs) (map_where f g xs (λ k below. same (suc k) (omega arith)))
 
 -- what is known of a table when it was made of what the rows ask
-pub record IsMade (n rate : ℕ) (sources : List SourceRow) (rows : List OutputRow) (ds : List Demand) (l : Layout) (t : GroupTable) : Type 0 where
+pub record IsMade (n rate : ℕ) (sources : List SourceRow) (rows : List OutputRow) (ds : List Demand) (l : Layout) (t : SlotTable) : Type 0 where
   pub asked : AllZip (IsAsked rate sources) rows ds
   pub fit : AreFit ds
   pub frame : l.frame ≡ demands.frame_of ds
@@ -63,19 +63,19 @@ pub record IsMade (n rate : ℕ) (sources : List SourceRow) (rows : List OutputR
   pub each : HasEach t
   pub apart : AreApart t
 
-counts : (n rate : ℕ) (sources : List SourceRow) (rows : List OutputRow) (ds : List Demand) (l : Layout) (t : GroupTable) → IsMade n rate sources rows ds l t
+counts : (n rate : ℕ) (sources : List SourceRow) (rows : List OutputRow) (ds : List Demand) (l : Layout) (t : SlotTable) → IsMade n rate sources rows ds l t
     → (length t.demands ≡ length ds) × (length ds ≡ length rows)
 counts n rate sources rows ds l t m =
     let same : length ds ≡ length rows = AllZip-long (IsAsked rate sources) rows ds m.asked in
     (sym m.each.length ∙ ap length m.table.order ∙ m.inputs.length, same)
 
-source_at : (n rate : ℕ) (sources : List SourceRow) (rows : List OutputRow) (ds : List Demand) (l : Layout) (t : GroupTable) → IsMade n rate sources rows ds l t
+source_at : (n rate : ℕ) (sources : List SourceRow) (rows : List OutputRow) (ds : List Demand) (l : Layout) (t : SlotTable) → IsMade n rate sources rows ds l t
     → (i : ℕ) → i < length rows → get_or t.sources i 0 ≡ (get_or rows i blank).source
 source_at n rate sources rows ds l t m i below =
     let (many, same) = counts n rate sources rows ds l t m in
     sym (get_or-take (length t.demands) t.sources i 0 (omega arith)) ∙ ap (λ xs. get_or xs i 0) m.table.sources ∙ get_or-map (λ (r : OutputRow). r.source) rows i blank 0 below
 
-period_at : (n rate : ℕ) (sources : List SourceRow) (rows : List OutputRow) (ds : List Demand) (l : Layout) (t : GroupTable) → IsMade n rate sources rows ds l t
+period_at : (n rate : ℕ) (sources : List SourceRow) (rows : List OutputRow) (ds : List Demand) (l : Layout) (t : SlotTable) → IsMade n rate sources rows ds l t
     → (i : ℕ) → i < length rows → get_or t.periods i 0 ≡ exponent_of (demand_at ds i)
 period_at n rate sources rows ds l t m i below =
     let (many, same) = counts n rate sources rows ds l t m in
@@ -100,7 +100,7 @@ asked_is rate sources row d o asked some source period =
     demand : Option ℕ → ℕ → Option ℕ → Demand
     demand p x y = record { period = p; label = x; sdi = y }
 
-asked_same : (n rate : ℕ) (sources : List SourceRow) (rows : List OutputRow) (ds : List Demand) (l : Layout) (t : GroupTable) → IsMade n rate sources rows ds l t → asked_of sources t ≡ ds
+asked_same : (n rate : ℕ) (sources : List SourceRow) (rows : List OutputRow) (ds : List Demand) (l : Layout) (t : SlotTable) → IsMade n rate sources rows ds l t → asked_of sources t ≡ ds
 asked_same n rate sources rows ds l t m =
     let (many, same) = counts n rate sources rows ds l t m in
     same_lists (asked_of sources t) ds unasked (length-map (outputs_of t) (asked_by sources) ∙ length-outputs t ∙ many) (λ i below.
@@ -110,7 +110,7 @@ asked_same n rate sources rows ds l t m =
     ∙ asked_is rate sources (get_or rows i blank) (demand_at ds i) (placed_at t i) (zipped_at (IsAsked rate sources) rows ds i blank unasked inside m.asked) (m.fit i below)
     (source_at n rate sources rows ds l t m i inside) (period_at n rate sources rows ds l t m i inside))
 
-served : (n rate : ℕ) (sources : List SourceRow) (rows : List OutputRow) (ds : List Demand) (l : Layout) (t : GroupTable) → IsMade n rate sources rows ds l t → AllZip (IsServed rate) rows (outputs_of t)
+served : (n rate : ℕ) (sources : List SourceRow) (rows : List OutputRow) (ds : List Demand) (l : Layout) (t : SlotTable) → IsMade n rate sources rows ds l t → AllZip (IsServed rate) rows (outputs_of t)
 served n rate sources rows ds l t m =
     let (many, same) = counts n rate sources rows ds l t m in
     zip_by (IsServed rate) rows (outputs_of t) blank (placed_at t 0) (length-outputs t ∙ many ∙ same) (λ i below.
@@ -127,7 +127,7 @@ served n rate sources rows ds l t m =
       subst (λ (k : SendLimits). IsLeastSpacing row.min_us rate k.spacing) (sym limits) (m.least row.min_us rate),
     ))
 
-shares : (n rate : ℕ) (sources : List SourceRow) (rows : List OutputRow) (ds : List Demand) (l : Layout) (t : GroupTable) → IsMade n rate sources rows ds l t
+shares : (n rate : ℕ) (sources : List SourceRow) (rows : List OutputRow) (ds : List Demand) (l : Layout) (t : SlotTable) → IsMade n rate sources rows ds l t
     → t.demands ≡ map (λ o. frame_of t / 2 ^ get_or t.periods o 0) (order_of t)
 shares n rate sources rows ds l t m =
     let (many, same) = counts n rate sources rows ds l t m in
@@ -138,7 +138,7 @@ shares n rate sources rows ds l t m =
     ∙ ap (λ e. frame_of t / 2 ^ e) (sym (period_at n rate sources rows ds l t m o (omega arith))))
     ∙ ap (map (λ o. frame_of t / 2 ^ get_or t.periods o 0)) (sym m.table.order)
 
-layout : (n rate : ℕ) (sources : List SourceRow) (rows : List OutputRow) (ds : List Demand) (l : Layout) (t : GroupTable) → IsMade n rate sources rows ds l t → IsLayout sources t
+layout : (n rate : ℕ) (sources : List SourceRow) (rows : List OutputRow) (ds : List Demand) (l : Layout) (t : SlotTable) → IsMade n rate sources rows ds l t → IsLayout sources t
 layout n rate sources rows ds l t m =
     let back : ds ≡ asked_of sources t = sym (asked_same n rate sources rows ds l t m) in
     record {
@@ -154,7 +154,7 @@ fewest_for : (rate : ℕ) (sources : List SourceRow) (rows : List OutputRow) (ds
     → AreFewestBuses (exponents_of ds) buses → AreFewestBusesFor rate rows buses
 fewest_for rate sources rows ds buses asked fit fewest = record { exponents = exponents_of ds; fit = have_periods rate sources rows ds asked fit; fewest = fewest }
 
-pub planned : (n rate : ℕ) (sources : List SourceRow) (rows : List OutputRow) (ds : List Demand) (l : Layout) (t : GroupTable) → IsMade n rate sources rows ds l t → IsPlannedFor rate sources rows t
+pub planned : (n rate : ℕ) (sources : List SourceRow) (rows : List OutputRow) (ds : List Demand) (l : Layout) (t : SlotTable) → IsMade n rate sources rows ds l t → IsPlannedFor rate sources rows t
 planned n rate sources rows ds l t m = record {
   served = served n rate sources rows ds l t m;
   layout = layout n rate sources rows ds l t m;

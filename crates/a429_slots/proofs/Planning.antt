@@ -14,7 +14,7 @@ use Rattle.a429_equipment.specs.TableRecord.{TableRecord}
 use Rattle.a429_pack.specs.declared.demands.PackFault.{PackFault}
 use Rattle.a429_pack.specs.declared.demands.PackFault.TheVariants as group
 use Rattle.a429_slots.specs.Planned.{IsPlannedFor, CanBePlanned, CanBePlannedAt, IsPlannedAt, IsPlanOf, rated_outputs}
-use Rattle.a429_slots.specs.Tables.{GroupTable, PlanTable, buses_of, groups_of}
+use Rattle.a429_slots.specs.Tables.{SlotTable, PlanTable, buses_of, groups_of}
 use Rattle.a429_slots.specs.Faults.{IsFaultOf, IsGroupFault, of_group}
 
 rate_within : (rate : ℕ) → IsRate rate → (1 ≤ rate) × (rate ≤ 100000)
@@ -32,7 +32,7 @@ pub length-zipped : {A B : Type 0} (R : A → B → Type 0) (xs : List A) (ys : 
 length-zipped R xs ys i h z = AllZip-long R (take i xs) ys z ∙ omega (arith, length-take i xs)
 
 -- a group that has a plan can be planned
-pub could_be : (rate : ℕ) (sources : List SourceRow) (rows : List OutputRow) (t : GroupTable) → IsPlannedFor rate sources rows t → CanBePlanned rate rows
+pub could_be : (rate : ℕ) (sources : List SourceRow) (rows : List OutputRow) (t : SlotTable) → IsPlannedFor rate sources rows t → CanBePlanned rate rows
 could_be rate sources rows t p = (buses_of t, p.fewest, p.few_buses)
 
 -- the fault of a group, as that of the station
@@ -57,14 +57,14 @@ rate_in_group e g rate sound here =
     all_at (λ r. (1 ≤ r) × (r ≤ 100000)) (map (λ row. row.rate) e.groups) g rate (rates_within e.groups sound.group_rows) (slice_get-map (λ row. row.rate) e.groups g ∙ here)
 
 -- one group more is planned
-pub planned_next : (e : TableRecord) (sources : List SourceRow) (g rate : ℕ) (rows : List OutputRow) (ts us : List GroupTable) (t : GroupTable) → us ≡ ts ++ t ∷ []
+pub planned_next : (e : TableRecord) (sources : List SourceRow) (g rate : ℕ) (rows : List OutputRow) (ts us : List SlotTable) (t : SlotTable) → us ≡ ts ++ t ∷ []
     → option_map (λ row. row.rate) (slice_get e.groups g) ≡ Some rate → slice_get e.outputs g ≡ Some rows → AllZip (IsPlannedAt sources) (take g (rated_outputs e)) ts → IsPlannedFor rate sources rows t
     → AllZip (IsPlannedAt sources) (take (g + 1) (rated_outputs e)) us
 planned_next e sources g rate rows ts us t more here there planned new =
-    subst (λ (us : List GroupTable). AllZip (IsPlannedAt sources) (take (g + 1) (rated_outputs e)) us) (sym more)
+    subst (λ (us : List SlotTable). AllZip (IsPlannedAt sources) (take (g + 1) (rated_outputs e)) us) (sym more)
     (zip_next (IsPlannedAt sources) (rated_outputs e) ts g (rate, rows) t (rated_at e g rate rows here there) planned new)
 
-pub could_next : (e : TableRecord) (sources : List SourceRow) (g rate : ℕ) (rows : List OutputRow) (t : GroupTable)
+pub could_next : (e : TableRecord) (sources : List SourceRow) (g rate : ℕ) (rows : List OutputRow) (t : SlotTable)
     → option_map (λ row. row.rate) (slice_get e.groups g) ≡ Some rate → slice_get e.outputs g ≡ Some rows → AllByRecursion CanBePlannedAt (take g (rated_outputs e)) → IsPlannedFor rate sources rows t
     → AllByRecursion CanBePlannedAt (take (g + 1) (rated_outputs e))
 could_next e sources g rate rows t here there could new =
@@ -72,7 +72,7 @@ could_next e sources g rate rows t here there could new =
 
 -- and all of them, once as many are planned as the station has groups
 -- the plan of a station's first groups has room for the next
-pub room_for : (e : TableRecord) (sources : List SourceRow) (g : ℕ) (tables : List GroupTable) → IsSound e → g < length e.groups
+pub room_for : (e : TableRecord) (sources : List SourceRow) (g : ℕ) (tables : List SlotTable) → IsSound e → g < length e.groups
     → AllZip (IsPlannedAt sources) (take g (rated_outputs e)) tables → length tables < 8
 room_for e sources g tables sound below planned =
     let few : length e.groups ≤ 8 = sound.few_groups in

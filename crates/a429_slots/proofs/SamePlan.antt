@@ -6,7 +6,7 @@ use Rattle.std.proofs.lemmas.Nat.{pow-add}
 use Rattle.std.proofs.lemmas.Bool.{cases_eq, cases_lt}
 use Rattle.std.proofs.lemmas.Option.{none-some, slice_get_within}
 use Rattle.a429_word.proofs.Lists.{in_frame}
-use Rattle.a429_slots.specs.Tables.{Placed, GroupTable, groups_of, outputs_of, frame_of, buses_of, cells_of, cell_at, output_in}
+use Rattle.a429_slots.specs.Tables.{Placed, SlotTable, groups_of, outputs_of, frame_of, buses_of, cells_of, cell_at, output_in}
 use Rattle.a429_slots.specs.Events.{Event, Cell}
 use Rattle.a429_slots.specs.History.{Opening, Current, current, cells_since}
 use Rattle.a429_slots.specs.Spacing.{IsOutputCell, IsTooClose, IsSpacedTable, number_at}
@@ -57,12 +57,12 @@ later_slot c d m less same =
 -- ---- one table
 
 -- what stands in a cell has a number
-pub record IsAt (t : GroupTable) (bus slot : ℕ) (x : Placed) : Type 0 where
+pub record IsAt (t : SlotTable) (bus slot : ℕ) (x : Placed) : Type 0 where
   pub number : ℕ
   pub cell : cell_at t bus slot ≡ Some number
   pub row : slice_get (outputs_of t) number ≡ Some x
 
-pub is_at : (t : GroupTable) (bus slot : ℕ) (x : Placed) → output_in t bus slot ≡ Some x → IsAt t bus slot x
+pub is_at : (t : SlotTable) (bus slot : ℕ) (x : Placed) → output_in t bus slot ≡ Some x → IsAt t bus slot x
 is_at t bus slot x h = go (cell_at t bus slot) refl h
   where
     go : (n : Option ℕ) → cell_at t bus slot ≡ n → option_and_then (λ k. slice_get (outputs_of t) k) n ≡ Some x → IsAt t bus slot x
@@ -70,13 +70,13 @@ is_at t bus slot x h = go (cell_at t bus slot) refl h
     go (Some n) is there = record { number = n; cell = is; row = there }
 
 -- two cells of one source
-pub record AreAlike (t : GroupTable) (b s c u : ℕ) (y : Placed) : Type 0 where
+pub record AreAlike (t : SlotTable) (b s c u : ℕ) (y : Placed) : Type 0 where
   pub bus : b ≡ c
   pub rest : s % 2 ^ y.place.period ≡ u % 2 ^ y.place.period
   pub fits : y.place.period ≤ t.frame
   pub spaced : y.limits.spacing ≤ 2 ^ y.place.period
 
-pub alike : (t : GroupTable) (b s c u : ℕ) (x y : Placed) → IsSpacedTable t → output_in t b s ≡ Some x → output_in t c u ≡ Some y → x.source ≡ y.source → AreAlike t b s c u y
+pub alike : (t : SlotTable) (b s c u : ℕ) (x y : Placed) → IsSpacedTable t → output_in t b s ≡ Some x → output_in t c u ≡ Some y → x.source ≡ y.source → AreAlike t b s c u y
 alike t b s c u x y S first second same =
     let A = is_at t b s x first in
     let B = is_at t c u y second in
@@ -93,7 +93,7 @@ record Cells (g : ℕ) (f : Current) (x : Placed) (slot : ℕ) : Type 0 where
   pub stands : output_in f.table (cells_since g f % buses_of f.table) (cells_since g f / buses_of f.table) ≡ Some x
   pub slot_is : slot ≡ f.first + cells_since g f / buses_of f.table
 
-cells_at : (o : Opening) (g : ℕ) (p : GroupTable) (E : List Event) (k : ℕ) (x : Placed) (slot : ℕ) → IsOutputCell o g p E k x slot → Cells g (frame_at_place o g p E k) x slot
+cells_at : (o : Opening) (g : ℕ) (p : SlotTable) (E : List Event) (k : ℕ) (x : Placed) (slot : ℕ) → IsOutputCell o g p E k x slot → Cells g (frame_at_place o g p E k) x slot
 cells_at o g p E k x slot I =
     let f = frame_at_place o g p E k in
     let D = due_is g f I.cell I.due in
@@ -112,8 +112,8 @@ period_apart g f h x y u t S A B same table r first later =
     let c = cells_since g f in
     let d = cells_since g h in
     let m = buses_of T in
-    let stands : output_in T (d % m) (d / m) ≡ Some y = subst (λ (v : GroupTable). output_in v (d % buses_of v) (d / buses_of v) ≡ Some y) table B.stands in
-    let at : t ≡ h.first + d / m = subst (λ (v : GroupTable). t ≡ h.first + d / buses_of v) table B.slot_is in
+    let stands : output_in T (d % m) (d / m) ≡ Some y = subst (λ (v : SlotTable). output_in v (d % buses_of v) (d / buses_of v) ≡ Some y) table B.stands in
+    let at : t ≡ h.first + d / m = subst (λ (v : SlotTable). t ≡ h.first + d / buses_of v) table B.slot_is in
     let L = alike T (c % m) (c / m) (d % m) (d / m) x y S A.stands stands same in
     let H = frame_of T in
     let rest : c / m % 2 ^ y.place.period ≡ (r * H + d / m) % 2 ^ y.place.period = L.rest ∙ sym (rest_of_frames T.frame y.place.period r (d / m) L.fits) in
@@ -140,7 +140,7 @@ spaced_by g f h x y u t S A B same number (inr M) =
     period_apart g f h x y u t S A B same again.table again.frames first (λ bus. omega (arith, inside, first, past))
 
 -- at a later place
-later_behind : (o : Opening) (g : ℕ) (p : GroupTable) (E : List Event) (j k : ℕ) → slice_get (groups_of o.proposal.plan) g ≡ Some p → j < k → k ≤ length E → slice_get E j ≡ Some (Cell g)
+later_behind : (o : Opening) (g : ℕ) (p : SlotTable) (E : List Event) (j k : ℕ) → slice_get (groups_of o.proposal.plan) g ≡ Some p → j < k → k ≤ length E → slice_get E j ≡ Some (Cell g)
     → IsLater g (goes_on (frame_at_place o g p E j) (Cell g)) (frame_at_place o g p E k)
 later_behind o g p E j k there after few asked =
     subst (λ (f : Current). IsLater g f (frame_at_place o g p E k)) (behind_cell o g p E j asked) (later_at o g p E (suc j) k there (omega (arith, after)) few)
@@ -149,7 +149,7 @@ table_same : (g : ℕ) (f h : Current) → IsLater g f h → h.number ≡ f.numb
 table_same g f h (inl S) number = S.table
 table_same g f h (inr M) number = (M.again number).table
 
-pub plan_spaced : (o : Opening) (g : ℕ) (p : GroupTable) (E : List Event) (j k : ℕ) (earlier now : Placed) (u t : ℕ) → slice_get (groups_of o.proposal.plan) g ≡ Some p → j < k → IsOutputCell o g p E j earlier u
+pub plan_spaced : (o : Opening) (g : ℕ) (p : SlotTable) (E : List Event) (j k : ℕ) (earlier now : Placed) (u t : ℕ) → slice_get (groups_of o.proposal.plan) g ≡ Some p → j < k → IsOutputCell o g p E j earlier u
     → IsOutputCell o g p E k now t → earlier.source ≡ now.source → number_at o g p E j ≡ number_at o g p E k → IsSpacedTable (current o g p (take k E)).table → u + now.limits.spacing ≤ t
 plan_spaced o g p E j k earlier now u t there after A B same number S =
     let f = frame_at_place o g p E j in
@@ -174,7 +174,7 @@ slot_earlier g f h x y u s A B differ (inr M) =
     let inside : c / buses_of f.table < frame_of f.table = in_frame c (buses_of f.table) (frame_of f.table) A.due in
     omega (arith, A.slot_is, B.slot_is, past, inside)
 
-pub first_only : (C : ℕ) (o : Opening) (g : ℕ) (p : GroupTable) (E : List Event) (i k : ℕ) (x now : Placed) (s t : ℕ) → slice_get (groups_of o.proposal.plan) g ≡ Some p → IsSpacedTable (current o g p (take k E)).table
+pub first_only : (C : ℕ) (o : Opening) (g : ℕ) (p : SlotTable) (E : List Event) (i k : ℕ) (x now : Placed) (s t : ℕ) → slice_get (groups_of o.proposal.plan) g ≡ Some p → IsSpacedTable (current o g p (take k E)).table
     → i < k → IsOutputCell o g p E i x s → IsOutputCell o g p E k now t → x.source ≡ now.source → IsTooClose C o g p E k now t → number_at o g p E i ≡ number_at o g p E k → ⊥
 first_only C o g p E i k x now s t there S before I K same close number =
     let q = now.limits.spacing in
@@ -202,7 +202,7 @@ first_only C o g p E i k x now s t there S before I K same close number =
     ]
 
 -- before the first change no cell is empty for it
-pub not_at_first : (C : ℕ) (o : Opening) (g : ℕ) (p : GroupTable) (E : List Event) (k : ℕ) (now : Placed) (t : ℕ) → slice_get (groups_of o.proposal.plan) g ≡ Some p → IsSpacedTable (current o g p (take k E)).table
+pub not_at_first : (C : ℕ) (o : Opening) (g : ℕ) (p : SlotTable) (E : List Event) (k : ℕ) (now : Placed) (t : ℕ) → slice_get (groups_of o.proposal.plan) g ≡ Some p → IsSpacedTable (current o g p (take k E)).table
     → IsOutputCell o g p E k now t → number_at o g p E k ≡ o.proposal.plan.number → IsTooClose C o g p E k now t → ⊥
 not_at_first C o g p E k now t there S K number close =
     let inside : k < length E = slice_get_within E k (Cell g) K.asked in

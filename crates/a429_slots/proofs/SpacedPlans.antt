@@ -6,7 +6,7 @@ use Rattle.std.proofs.lemmas.List.{take-append-drop}
 use Rattle.std.proofs.lemmas.Option.{none-some, slice_get_cases}
 use Rattle.a429_word.proofs.Lists.{all_at}
 use Rattle.a429_equipment.specs.Sound.{HaveOwnSources}
-use Rattle.a429_slots.specs.Tables.{GroupTable, groups_of}
+use Rattle.a429_slots.specs.Tables.{SlotTable, groups_of}
 use Rattle.a429_slots.specs.Planned.{IsPlannedAt, rated_outputs}
 use Rattle.a429_slots.specs.Proposed.{Proposed}
 use Rattle.a429_slots.specs.Events.{Event, Publish}
@@ -27,22 +27,22 @@ second_at {X} {Y} (a ∷ xs) (b ∷ ys) zero x y h = ap (λ (o : Option (X × Y)
 second_at (a ∷ xs) (b ∷ ys) (suc i) x y h = second_at xs ys i x y h
 
 -- a table of a plan that is a proposal's own
-own_table : IsPacked → (q : Proposed) (g : ℕ) (t : GroupTable) → IsOwnPlan q → slice_get (groups_of q.plan) g ≡ Some t → IsSpacedTable t
+own_table : IsPacked → (q : Proposed) (g : ℕ) (t : SlotTable) → IsOwnPlan q → slice_get (groups_of q.plan) g ≡ Some t → IsSpacedTable t
 own_table law q g t Q h =
     let R = row_of (IsPlannedAt q.station.sources) (rated_outputs q.station) (groups_of q.plan) g t Q.plan.groups h in
     let there : slice_get q.station.outputs g ≡ Some R.row.1 = second_at _ q.station.outputs g R.row.0 R.row.1 R.there in
     spaced_table law R.row.0 q.station.sources R.row.1 t R.related (all_at HaveOwnSources q.station.outputs g R.row.1 Q.own there)
 
 -- the group's table of such a plan, or another such table
-own_or : IsPacked → (q : Proposed) (g : ℕ) (p : GroupTable) → IsOwnPlan q → IsSpacedTable p → IsSpacedTable (unwrap_or (slice_get (groups_of q.plan) g) p)
+own_or : IsPacked → (q : Proposed) (g : ℕ) (p : SlotTable) → IsOwnPlan q → IsSpacedTable p → IsSpacedTable (unwrap_or (slice_get (groups_of q.plan) g) p)
 own_or law q g p Q P =
     elim (slice_get_cases (groups_of q.plan) g).1 [
-      | inl there ↦ subst (λ (o : Option GroupTable). IsSpacedTable (unwrap_or o p)) (sym there.2) (own_table law q g there.0 Q there.2)
-      | inr none ↦ subst (λ (o : Option GroupTable). IsSpacedTable (unwrap_or o p)) (sym none.1) P
+      | inl there ↦ subst (λ (o : Option SlotTable). IsSpacedTable (unwrap_or o p)) (sym there.2) (own_table law q g there.0 Q there.2)
+      | inr none ↦ subst (λ (o : Option SlotTable). IsSpacedTable (unwrap_or o p)) (sym none.1) P
     ]
 
 -- at every place
-pub in_force : IsPacked → (o : Opening) (g : ℕ) (p : GroupTable) (E : List Event) (k : ℕ) → OpensWith o g p → HaveOwnPlans o E → HasSpacedTable o g p E k
+pub in_force : IsPacked → (o : Opening) (g : ℕ) (p : SlotTable) (E : List Event) (k : ℕ) → OpensWith o g p → HaveOwnPlans o E → HasSpacedTable o g p E k
 in_force law o g p E k opens H =
     let first : IsSpacedTable p = own_table law o.proposal g p H.opening opens in
     elim (came_from o g p (take k E) opens) [

@@ -8,7 +8,7 @@ use Rattle.a429_pack.specs.Demands.{exponent_of}
 use Rattle.a429_equipment.specs.declared.rows.OutputRow.{OutputRow}
 use Rattle.a429_equipment.specs.declared.rows.SourceRow.{SourceRow}
 use Rattle.a429_equipment.specs.Sound.{HaveOwnSources}
-use Rattle.a429_slots.specs.Tables.{Placed, GroupTable, buses_of, outputs_of, placed_at}
+use Rattle.a429_slots.specs.Tables.{Placed, SlotTable, buses_of, outputs_of, placed_at}
 use Rattle.a429_slots.specs.Kept.{StandsJustAt}
 use Rattle.a429_slots.specs.Planned.{IsServed, IsPlannedFor, asked_by, asked_of}
 use Rattle.a429_slots.specs.Spacing.{IsSpacedTable}
@@ -32,12 +32,12 @@ row_of R (x ∷ xs) (z ∷ ys) (suc n) y all h =
     record { row = rest.row; there = rest.there; related = rest.related }
 
 -- what stands under a number
-placed_is : (t : GroupTable) (n : ℕ) (x : Placed) → slice_get (outputs_of t) n ≡ Some x → x ≡ placed_at t n
+placed_is : (t : SlotTable) (n : ℕ) (x : Placed) → slice_get (outputs_of t) n ≡ Some x → x ≡ placed_at t n
 placed_is t n x h =
     let inside : n < length (outputs_of t) = slice_get_within (outputs_of t) n x h in
     same_Some x (placed_at t n) (sym h ∙ output_is t n (omega (arith, inside, length-outputs t)))
 
-pub spaced_table : IsPacked → (rate : ℕ) (sources : List SourceRow) (rows : List OutputRow) (t : GroupTable) → IsPlannedFor rate sources rows t
+pub spaced_table : IsPacked → (rate : ℕ) (sources : List SourceRow) (rows : List OutputRow) (t : SlotTable) → IsPlannedFor rate sources rows t
     → HaveOwnSources rows → IsSpacedTable t
 spaced_table law rate sources rows t P own = record {
   own = λ a b x y at_a at_b same.

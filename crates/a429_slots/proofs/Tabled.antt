@@ -18,7 +18,7 @@ use Rattle.a429_pack.specs.Schedules.{IsExactlyPeriodic}
 use Rattle.a429_pack.specs.Sums.{start_of, Holds}
 use Rattle.a429_equipment.specs.declared.rows.OutputRow.{OutputRow}
 use Rattle.a429_slots.specs.declared.group_plan.SendLimits.{SendLimits}
-use Rattle.a429_slots.specs.Tables.{GroupTable, unlimited}
+use Rattle.a429_slots.specs.Tables.{SlotTable, unlimited}
 use Rattle.a429_slots.specs.Kept.{HoldsCell, IsTable}
 use Rattle.a429_slots.specs.Asked.{IsTableOf, limits_at}
 use Rattle.a429_slots.proofs.Rows.{blank, unasked, all_below}
@@ -33,7 +33,7 @@ pub record Columns : Type 0 where
   pub periods : List ℕ
   pub limits : List SendLimits
 
-abbrev pub table : ℕ → ℕ → List ℕ → Columns → GroupTable
+abbrev pub table : ℕ → ℕ → List ℕ → Columns → SlotTable
 table frame buses demands c = record {
   frame = frame;
   buses = buses;

@@ -9,7 +9,7 @@ use Rattle.std.proofs.lemmas.List.Sums.{sum_by-append}
 use Rattle.std.proofs.lemmas.Bool.{cases_Bool, and_parts, leb-true, ltb-true, lt-ltb, le-leb, eq-eqb, eqb-true}
 use Rattle.std.proofs.lemmas.Option.{slice_get_cases}
 use Rattle.a429_word.proofs.Lists.{clash, range_next}
-use Rattle.a429_slots.specs.Tables.{GroupTable, frame_of, cells_of}
+use Rattle.a429_slots.specs.Tables.{SlotTable, frame_of, cells_of}
 use Rattle.a429_slots.specs.Events.{Event, Arrive, Cell, Frame, Publish}
 use Rattle.a429_slots.specs.History.{Opening, Current, current, is_cell, is_frame, is_over, has_room, next_frame, cells_since, last_of, newest_number, newest_table}
 use Rattle.a429_slots.specs.TakenFrames.{taken_before, last_taken, table_in_force, events_since, IsTakenAt, AreTaken, is_taken_after, is_taken_at, IsFrameAt}
@@ -20,7 +20,7 @@ use Rattle.a429_equipment.proofs.Cutting.{last_push}
 abbrev began : (ℕ → Bool) → ℕ → ℕ
 began T k = option_map_or (λ j. j + 1) (last_taken T k) 0
 
-record Reached (o : Opening) (g : ℕ) (p : GroupTable) (E : List Event) (T : ℕ → Bool) (k : ℕ) : Type 0 where
+record Reached (o : Opening) (g : ℕ) (p : SlotTable) (E : List Event) (T : ℕ → Bool) (k : ℕ) : Type 0 where
   pub frame : IsFrameAt o g p E T k (current o g p (take k E))
   pub low : began T k ≤ k
 
@@ -35,22 +35,22 @@ taken_no T k h = ap (filter T) (from_zero k) ∙ (filter-append T (range_with_le
 
 -- ---- the opening
 
-opened : (o : Opening) (g : ℕ) (p : GroupTable) (E : List Event) (T : ℕ → Bool) → Reached o g p E T 0
-opened o g p E T = record {
+Reached-zero : (o : Opening) (g : ℕ) (p : SlotTable) (E : List Event) (T : ℕ → Bool) → Reached o g p E T 0
+Reached-zero o g p E T = record {
   frame = record { table = refl; number = refl; first = omega arith; cells = refl };
   low = omega arith;
 }
 
 -- ---- one event more
 
-record Next (o : Opening) (g : ℕ) (p : GroupTable) (E : List Event) (T : ℕ → Bool) (k : ℕ) (e : Event) : Type 0 where
+record Next (o : Opening) (g : ℕ) (p : SlotTable) (E : List Event) (T : ℕ → Bool) (k : ℕ) (e : Event) : Type 0 where
   pub before : Reached o g p E T k
   pub within : k < length E
   pub more : take (suc k) E ≡ take k E ++ e ∷ []
 
 -- the Frame is taken
-turned : (o : Opening) (g : ℕ) (p : GroupTable) (E : List Event) (T : ℕ → Bool) (k : ℕ) (e : Event) → Next o g p E T k e → T k ≡ true → is_taken_after o g p (take k E) e ≡ true → Reached o g p E T (suc k)
-turned o g p E T k e N h taken =
+Reached-taken : (o : Opening) (g : ℕ) (p : SlotTable) (E : List Event) (T : ℕ → Bool) (k : ℕ) (e : Event) → Next o g p E T k e → T k ≡ true → is_taken_after o g p (take k E) e ≡ true → Reached o g p E T (suc k)
+Reached-taken o g p E T k e N h taken =
     let F = take k E in
     let f = current o g p F in
     let places : taken_before T (suc k) ≡ taken_before T k ++ k ∷ [] = taken_yes T k h in
@@ -73,8 +73,8 @@ turned o g p E T k e N h taken =
     }
 
 -- it is not
-stayed : (o : Opening) (g : ℕ) (p : GroupTable) (E : List Event) (T : ℕ → Bool) (k : ℕ) (e : Event) → Next o g p E T k e → T k ≡ false → is_taken_after o g p (take k E) e ≡ false → Reached o g p E T (suc k)
-stayed o g p E T k e N h taken =
+Reached-not_taken : (o : Opening) (g : ℕ) (p : SlotTable) (E : List Event) (T : ℕ → Bool) (k : ℕ) (e : Event) → Next o g p E T k e → T k ≡ false → is_taken_after o g p (take k E) e ≡ false → Reached o g p E T (suc k)
+Reached-not_taken o g p E T k e N h taken =
     let F = take k E in
     let f = current o g p F in
     let places : taken_before T (suc k) ≡ taken_before T k = taken_no T k h in
@@ -96,25 +96,25 @@ stayed o g p E T k e N h taken =
     }
 
 -- T agrees with the frame that the group is in, as long as that is known
-Agrees : Opening → ℕ → GroupTable → List Event → (ℕ → Bool) → Type 0
+Agrees : Opening → ℕ → SlotTable → List Event → (ℕ → Bool) → Type 0
 Agrees o g p E T = (k : ℕ) → k < length E → Reached o g p E T k → T k ≡ is_taken_at o g p E k
 
-reached_next : (o : Opening) (g : ℕ) (p : GroupTable) (E : List Event) (T : ℕ → Bool) (k : ℕ) → k < length E → T k ≡ is_taken_at o g p E k → Reached o g p E T k → Reached o g p E T (suc k)
+reached_next : (o : Opening) (g : ℕ) (p : SlotTable) (E : List Event) (T : ℕ → Bool) (k : ℕ) → k < length E → T k ≡ is_taken_at o g p E k → Reached o g p E T k → Reached o g p E T (suc k)
 reached_next o g p E T k within same R = elim (slice_get_cases E k).1 [
   | inl hit ↦
       let e = hit.0 in
       let is : is_taken_at o g p E k ≡ is_taken_after o g p (take k E) e = ap (λ (x : Option Event). option_map_or (is_taken_after o g p (take k E)) x false) hit.2 in
       let N : Next o g p E T k e = record { before = R; within = within; more = take_following E k e hit.2 } in
       elim (cases_Bool (is_taken_after o g p (take k E) e)) [
-        | inl taken ↦ turned o g p E T k e N (same ∙ (is ∙ taken)) taken
-        | inr left ↦ stayed o g p E T k e N (same ∙ (is ∙ left)) left
+        | inl taken ↦ Reached-taken o g p E T k e N (same ∙ (is ∙ taken)) taken
+        | inr left ↦ Reached-not_taken o g p E T k e N (same ∙ (is ∙ left)) left
       ]
   | inr miss ↦ absurd (omega (arith, within, miss.0))
 ]
 
-reached : (o : Opening) (g : ℕ) (p : GroupTable) (E : List Event) (T : ℕ → Bool) → Agrees o g p E T → (k : ℕ) → k ≤ length E → Reached o g p E T k
+reached : (o : Opening) (g : ℕ) (p : SlotTable) (E : List Event) (T : ℕ → Bool) → Agrees o g p E T → (k : ℕ) → k ≤ length E → Reached o g p E T k
 unfolding Agrees
-reached o g p E T agrees zero within = opened o g p E T
+reached o g p E T agrees zero within = Reached-zero o g p E T
 reached o g p E T agrees (suc k) within =
     let before = reached o g p E T agrees k (omega (arith, within)) in
     let room : k < length E = omega (arith, within) in
@@ -128,7 +128,7 @@ frame_event g (Cell k) h = absurd (clash h)
 frame_event g (Frame k) h = ap Frame (eqb-true k g h)
 frame_event g (Publish q) h = absurd (clash h)
 
-to_sentence : (o : Opening) (g : ℕ) (p : GroupTable) (E : List Event) (T : ℕ → Bool) (k : ℕ) (e : Event) → Reached o g p E T k → slice_get E k ≡ Some e → is_taken_after o g p (take k E) e ≡ true → IsTakenAt o g p E T k
+to_sentence : (o : Opening) (g : ℕ) (p : SlotTable) (E : List Event) (T : ℕ → Bool) (k : ℕ) (e : Event) → Reached o g p E T k → slice_get E k ≡ Some e → is_taken_after o g p (take k E) e ≡ true → IsTakenAt o g p E T k
 to_sentence o g p E T k e R there taken =
     let f = current o g p (take k E) in
     let newest = newest_table o g p (take k E) in
@@ -142,7 +142,7 @@ to_sentence o g p E T k e R there taken =
       room = omega (arith, room, ap frame_of R.frame.table, R.frame.first);
     }
 
-from_sentence : (o : Opening) (g : ℕ) (p : GroupTable) (E : List Event) (T : ℕ → Bool) (k : ℕ) → Reached o g p E T k → IsTakenAt o g p E T k → is_taken_at o g p E k ≡ true
+from_sentence : (o : Opening) (g : ℕ) (p : SlotTable) (E : List Event) (T : ℕ → Bool) (k : ℕ) → Reached o g p E T k → IsTakenAt o g p E T k → is_taken_at o g p E k ≡ true
 from_sentence o g p E T k R S =
     let f = current o g p (take k E) in
     let newest = newest_table o g p (take k E) in
@@ -150,7 +150,7 @@ from_sentence o g p E T k R S =
     let room : has_room f newest ≡ true = lt-ltb (f.first + frame_of f.table + frame_of newest) (2 ^ 64) (omega (arith, S.room, ap frame_of R.frame.table, R.frame.first)) in
     ap (λ (x : Option Event). option_map_or (is_taken_after o g p (take k E)) x false) S.asked ∙ rw (eq-eqb g g refl, over, room) refl
 
-sentence : (o : Opening) (g : ℕ) (p : GroupTable) (E : List Event) (T : ℕ → Bool) (k : ℕ) → Reached o g p E T k → is_taken_at o g p E k ≡ true → IsTakenAt o g p E T k
+sentence : (o : Opening) (g : ℕ) (p : SlotTable) (E : List Event) (T : ℕ → Bool) (k : ℕ) → Reached o g p E T k → is_taken_at o g p E k ≡ true → IsTakenAt o g p E T k
 sentence o g p E T k R h = elim (slice_get_cases E k).1 [
   | inl hit ↦
       let is : is_taken_at o g p E k ≡ is_taken_after o g p (take k E) hit.0 = ap (λ (x : Option Event). option_map_or (is_taken_after o g p (take k E)) x false) hit.2 in
@@ -158,16 +158,16 @@ sentence o g p E T k R h = elim (slice_get_cases E k).1 [
   | inr miss ↦ absurd (clash (sym (ap (λ (x : Option Event). option_map_or (is_taken_after o g p (take k E)) x false) miss.1) ∙ h))
 ]
 
-itself : (o : Opening) (g : ℕ) (p : GroupTable) (E : List Event) → Agrees o g p E (is_taken_at o g p E)
+Agrees-is_taken_at : (o : Opening) (g : ℕ) (p : SlotTable) (E : List Event) → Agrees o g p E (is_taken_at o g p E)
 unfolding Agrees
-itself o g p E k within R = refl
+Agrees-is_taken_at o g p E k within R = refl
 
-pub frame_at : (o : Opening) (g : ℕ) (p : GroupTable) (E : List Event) (k : ℕ) → k ≤ length E → IsFrameAt o g p E (is_taken_at o g p E) k (current o g p (take k E))
-frame_at o g p E k within = (reached o g p E (is_taken_at o g p E) (itself o g p E) k within).frame
+pub frame_at : (o : Opening) (g : ℕ) (p : SlotTable) (E : List Event) (k : ℕ) → k ≤ length E → IsFrameAt o g p E (is_taken_at o g p E) k (current o g p (take k E))
+frame_at o g p E k within = (reached o g p E (is_taken_at o g p E) (Agrees-is_taken_at o g p E) k within).frame
 
-pub are_taken : (o : Opening) (g : ℕ) (p : GroupTable) (E : List Event) → AreTaken o g p E (is_taken_at o g p E)
+pub are_taken : (o : Opening) (g : ℕ) (p : SlotTable) (E : List Event) → AreTaken o g p E (is_taken_at o g p E)
 are_taken o g p E k within =
-    let R = reached o g p E (is_taken_at o g p E) (itself o g p E) k (omega (arith, within)) in
+    let R = reached o g p E (is_taken_at o g p E) (Agrees-is_taken_at o g p E) k (omega (arith, within)) in
     (sentence o g p E (is_taken_at o g p E) k R, from_sentence o g p E (is_taken_at o g p E) k R)
 
 -- two tests that stand for one fact are equal
@@ -176,11 +176,11 @@ same_test true b f h = sym (f refl)
 same_test false true f h = h refl
 same_test false false f h = refl
 
-agrees : (o : Opening) (g : ℕ) (p : GroupTable) (E : List Event) (T : ℕ → Bool) → AreTaken o g p E T → Agrees o g p E T
+agrees : (o : Opening) (g : ℕ) (p : SlotTable) (E : List Event) (T : ℕ → Bool) → AreTaken o g p E T → Agrees o g p E T
 unfolding Agrees
 agrees o g p E T taken k within R =
     same_test (T k) (is_taken_at o g p E k) (λ h. from_sentence o g p E T k R ((taken k within).0 h)) (λ h. (taken k within).1 (sentence o g p E T k R h))
 
-pub no_other : (o : Opening) (g : ℕ) (p : GroupTable) (E : List Event) (T : ℕ → Bool) → AreTaken o g p E T → (k : ℕ) → k < length E → T k ≡ is_taken_at o g p E k
+pub no_other : (o : Opening) (g : ℕ) (p : SlotTable) (E : List Event) (T : ℕ → Bool) → AreTaken o g p E T → (k : ℕ) → k < length E → T k ≡ is_taken_at o g p E k
 unfolding Agrees
 no_other o g p E T taken k within = agrees o g p E T taken k within (reached o g p E T (agrees o g p E T taken) k (omega (arith, within)))

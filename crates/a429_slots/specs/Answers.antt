@@ -5,7 +5,7 @@ use Rattle.a429_equipment.specs.declared.arrivals.ArrivalRefusal.{ArrivalRefusal
 use Rattle.a429_equipment.specs.declared.arrivals.ArrivalRefusal.TheVariants as arrival
 use Rattle.a429_equipment.specs.Arrivals.{sorted}
 use Rattle.a429_equipment.specs.SameStation.{same_station}
-use Rattle.a429_slots.specs.Tables.{GroupTable, groups_of}
+use Rattle.a429_slots.specs.Tables.{SlotTable, groups_of}
 use Rattle.a429_slots.specs.Proposed.{Proposed}
 use Rattle.a429_slots.specs.Events.{Event, Arrive, Cell, Frame, Publish}
 use Rattle.a429_slots.specs.History.{Opening, Current, AnsweredCell, accepted_by, answered_cells, newest_number, newest_table, current, is_over, has_room, cell_due, word_sent}
@@ -31,7 +31,7 @@ arrive_answer C o E r raw =
 abbrev pub cell_answer : ℕ → Opening → List Event → ℕ → List AnsweredCell → Current → Answer
 cell_answer C o E g earlier f = option_map_or (λ c. Sent c.0 (f.first + c.1) (word_sent C o E earlier f c)) (cell_due g f) (Refused FrameEnd)
 
-abbrev pub frame_answer : ℕ → ℕ → GroupTable → Current → Answer
+abbrev pub frame_answer : ℕ → ℕ → SlotTable → Current → Answer
 frame_answer g number newest f =
     if is_over g f then (if has_room f newest then Changed number else Refused SlotsSpent) else Refused MidFrame
 

@@ -9,7 +9,7 @@ use Rattle.a429_pack.specs.Sums.{start_of}
 use Rattle.a429_equipment.specs.declared.rows.OutputRow.{OutputRow}
 use Rattle.a429_equipment.specs.declared.rows.SourceRow.{SourceRow}
 use Rattle.a429_slots.specs.declared.group_plan.SendLimits.{SendLimits}
-use Rattle.a429_slots.specs.Tables.{GroupTable, order_of}
+use Rattle.a429_slots.specs.Tables.{SlotTable, order_of}
 use Rattle.a429_slots.specs.Kept.{BeginsAt}
 use Rattle.a429_slots.specs.Planned.{HasPeriod}
 
@@ -35,7 +35,7 @@ AreOffsetsOf l offsets =
     (k : ℕ) → k < length l.inputs → slice_index offsets (slice_index l.inputs k) ≡ reversed l.frame (start_of l.demands k % 2 ^ l.frame)
 
 -- the table of a layout, with its outputs' rows and what they ask
-pub record IsTableOf (rate : ℕ) (l : Layout) (rows : List OutputRow) (asked : List Demand) (t : GroupTable) : Type 0 where
+pub record IsTableOf (rate : ℕ) (l : Layout) (rows : List OutputRow) (asked : List Demand) (t : SlotTable) : Type 0 where
   pub frame : t.frame ≡ l.frame
   pub buses : t.buses ≡ l.buses
   pub demands : t.demands ≡ l.demands

@@ -1,27 +1,27 @@
 -- What lies between the cells of an output where the plan of its group changes.
 use Rattle.std.specs.Prelude.{◌≡◌, ℕ, ◌+◌, ◌-◌, ◌^◌, ◌<◌, Some}
 use Rattle.a429_slots.specs.declared.group_plan.SlotPlace.{SlotPlace}
-use Rattle.a429_slots.specs.Tables.{GroupTable, cell_at, frame_of, place_of}
+use Rattle.a429_slots.specs.Tables.{SlotTable, cell_at, frame_of, place_of}
 
 -- the output stands in the slot, on some bus
-abbrev pub StandsIn : GroupTable → ℕ → ℕ → Type 0
+abbrev pub StandsIn : SlotTable → ℕ → ℕ → Type 0
 StandsIn t output slot = (bus : ℕ) × (cell_at t bus slot ≡ Some output)
 
 -- its last slot in a frame
-pub record IsLastSlot (t : GroupTable) (output slot : ℕ) : Type 0 where
+pub record IsLastSlot (t : SlotTable) (output slot : ℕ) : Type 0 where
   pub within : slot < frame_of t
   pub stands : StandsIn t output slot
   pub last : (later : ℕ) → slot < later → later < frame_of t → ¬ (StandsIn t output later)
 
 -- its first slot in a frame
-pub record IsFirstSlot (t : GroupTable) (output slot : ℕ) : Type 0 where
+pub record IsFirstSlot (t : SlotTable) (output slot : ℕ) : Type 0 where
   pub within : slot < frame_of t
   pub stands : StandsIn t output slot
   pub first : (earlier : ℕ) → earlier < slot → ¬ (StandsIn t output earlier)
 
 -- how many slots lie between the last cell of an output in a frame by one table and its first in the next frame, which goes by another
 -- table, where the output may have another number
-pub record IsGap (before : GroupTable) (output : ℕ) (after : GroupTable) (same gap : ℕ) : Type 0 where
+pub record IsGap (before : SlotTable) (output : ℕ) (after : SlotTable) (same gap : ℕ) : Type 0 where
   pub from : ℕ
   pub to : ℕ
   pub last : IsLastSlot before output from
@@ -29,7 +29,7 @@ pub record IsGap (before : GroupTable) (output : ℕ) (after : GroupTable) (same
   pub apart : from + gap ≡ frame_of before + to
 
 -- the gap is what the output's old offset leaves of its old period, and its new offset; it is below both periods together
-abbrev pub IsGapOfPlaces : GroupTable → ℕ → GroupTable → ℕ → ℕ → Type 0
+abbrev pub IsGapOfPlaces : SlotTable → ℕ → SlotTable → ℕ → ℕ → Type 0
 IsGapOfPlaces before output after same gap =
     (old new : SlotPlace) → place_of before output ≡ Some old → place_of after same ≡ Some new
     → (gap ≡ 2 ^ old.period - old.offset + new.offset) × (gap < 2 ^ old.period + 2 ^ new.period)

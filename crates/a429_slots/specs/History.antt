@@ -6,7 +6,7 @@ use Rattle.a429_equipment.specs.declared.rows.SourceRow.{SourceRow}
 use Rattle.a429_equipment.specs.Arrivals.{accepted}
 pub use Rattle.a429_equipment.specs.Agreement.{last_of}
 use Rattle.a429_equipment.specs.SameStation.{same_station}
-use Rattle.a429_slots.specs.Tables.{Placed, GroupTable, PlanTable, groups_of, frame_of, buses_of, cells_of, output_in}
+use Rattle.a429_slots.specs.Tables.{Placed, SlotTable, PlanTable, groups_of, frame_of, buses_of, cells_of, output_in}
 use Rattle.a429_slots.specs.Proposed.{Proposed}
 use Rattle.a429_slots.specs.Events.{Event, Arrive, Cell, Frame, Publish}
 
@@ -16,7 +16,7 @@ pub record Opening : Type 0 where
   pub first : ℕ
 
 -- group g begins with this slot table: that of the opening plan
-abbrev pub OpensWith : Opening → ℕ → GroupTable → Type 0
+abbrev pub OpensWith : Opening → ℕ → SlotTable → Type 0
 OpensWith o g p = slice_get (groups_of o.proposal.plan) g ≡ Some p
 
 -- ---- accepted words
@@ -60,7 +60,7 @@ abbrev pub newest_plan : Opening → List Event → PlanTable
 newest_plan o E = option_map_or (λ q. q.plan) (last_of (published o E)) o.proposal.plan
 
 -- the newest slot table of group g, whose opening one is p
-abbrev pub newest_table : Opening → ℕ → GroupTable → List Event → GroupTable
+abbrev pub newest_table : Opening → ℕ → SlotTable → List Event → SlotTable
 newest_table o g p E = unwrap_or (slice_get (groups_of (newest_plan o E)) g) p
 
 -- ---- frames of a group
@@ -68,7 +68,7 @@ newest_table o g p E = unwrap_or (slice_get (groups_of (newest_plan o E)) g) p
 -- the frame that a group is in: the slot table in force and its plan's number, the frame's first slot, and the events since the frame
 -- began, the newest first
 pub record Current : Type 0 where
-  pub table : GroupTable
+  pub table : SlotTable
   pub number : ℕ
   pub first : ℕ
   pub since : List Event
@@ -94,19 +94,19 @@ abbrev pub is_over : ℕ → Current → Bool
 is_over g f = nat_le (cells_of f.table) (cells_since g f)
 
 -- 64 bits can count the slots of a next frame by this table
-abbrev pub has_room : Current → GroupTable → Bool
+abbrev pub has_room : Current → SlotTable → Bool
 has_room f newest = nat_lt (f.first + frame_of f.table + frame_of newest) (2 ^ 64)
 
 -- a Frame of the group is taken where the frame before it is over and the next one has room
-abbrev pub is_taken : ℕ → GroupTable → Current → Event → Bool
+abbrev pub is_taken : ℕ → SlotTable → Current → Event → Bool
 is_taken g newest f e = is_frame g e && (is_over g f && has_room f newest)
 
 -- the frame that begins then, by the newest table
-abbrev pub next_frame : ℕ → GroupTable → Current → Current
+abbrev pub next_frame : ℕ → SlotTable → Current → Current
 next_frame number newest f = record { table = newest; number = number; first = f.first + frame_of f.table; since = [] }
 
 -- the frame of group g after a past, which has the newest event first; p is the group's opening table
-abbrev pub frame_after : Opening → ℕ → GroupTable → List Event → Current
+abbrev pub frame_after : Opening → ℕ → SlotTable → List Event → Current
 frame_after o g p [] = record { table = p; number = o.proposal.plan.number; first = o.first; since = [] }
 frame_after o g p (e ∷ past) =
     let f = frame_after o g p past in
@@ -114,7 +114,7 @@ frame_after o g p (e ∷ past) =
     if is_taken g newest f e then next_frame (newest_number o (reverse past)) newest f else record f { since = e ∷ f.since }
 
 -- the frame that group g is in after a history
-abbrev pub current : Opening → ℕ → GroupTable → List Event → Current
+abbrev pub current : Opening → ℕ → SlotTable → List Event → Current
 current o g p E = frame_after o g p (reverse E)
 
 -- ---- cells
@@ -174,14 +174,14 @@ next_answered C o E g f earlier =
     option_and_then (λ cell. option_map (answered_cell C o E earlier (f.first + cell.1)) (output_in f.table cell.0 cell.1)) (cell_due g f)
 
 -- the cells of outputs that group g answered in a past, which has the newest event first; p is the group's opening table
-abbrev pub answered_after : ℕ → Opening → ℕ → GroupTable → List Event → List AnsweredCell
+abbrev pub answered_after : ℕ → Opening → ℕ → SlotTable → List Event → List AnsweredCell
 answered_after C o g p [] = []
 answered_after C o g p (e ∷ past) =
     let earlier = answered_after C o g p past in
     if is_cell g e then earlier ++ option_map_or (λ c. c ∷ []) (next_answered C o (reverse past) g (frame_after o g p past) earlier) [] else earlier
 
 -- those of a history
-abbrev pub answered_cells : ℕ → Opening → ℕ → GroupTable → List Event → List AnsweredCell
+abbrev pub answered_cells : ℕ → Opening → ℕ → SlotTable → List Event → List AnsweredCell
 answered_cells C o g p E = answered_after C o g p (reverse E)
 
 -- the word that is sent in a cell, after these earlier cells of the group: that of the output that stands there

@@ -5,24 +5,24 @@ use Rattle.std.specs.List.Sorted.{IsPermutation}
 use Rattle.a429_grid.specs.Reversal.{reversed}
 use Rattle.a429_pack.specs.Schedules.{IsExactlyPeriodic}
 use Rattle.a429_pack.specs.Sums.{Holds}
-use Rattle.a429_slots.specs.Tables.{GroupTable, placed_at, cell_at, frame_of, buses_of, order_of}
+use Rattle.a429_slots.specs.Tables.{SlotTable, placed_at, cell_at, frame_of, buses_of, order_of}
 
 -- the stretch of the output at place k of the layout has the cell: cells are counted bus by bus, and on a bus by the slot with its digits
 -- in reverse
-abbrev pub HoldsCell : GroupTable → ℕ → ℕ → ℕ → Type 0
+abbrev pub HoldsCell : SlotTable → ℕ → ℕ → ℕ → Type 0
 HoldsCell t k bus slot = Holds t.demands (bus * frame_of t + reversed t.frame (slot % frame_of t)) k
 
 -- one bus and one offset: the output stands in the cells of that bus once in every period, and in no others
-abbrev pub StandsJustAt : GroupTable → ℕ → ℕ → ℕ → ℕ → Type 0
+abbrev pub StandsJustAt : SlotTable → ℕ → ℕ → ℕ → ℕ → Type 0
 StandsJustAt t o bus offset period = IsExactlyPeriodic (λ row slot. cell_at t row slot ≡ Some o) bus offset period
 
 -- the stretch of an output begins at a place: so many places on from the first bus's, and the slot has the digits of the rest in reverse
-pub record BeginsAt (t : GroupTable) (o start : ℕ) : Type 0 where
+pub record BeginsAt (t : SlotTable) (o start : ℕ) : Type 0 where
   pub bus : slice_index t.on_bus o ≡ start / frame_of t
   pub offset : slice_index t.offsets o ≡ reversed t.frame (start % frame_of t)
 
 -- a table of at most n outputs, each with the cells of its stretch
-pub record IsTable (n : ℕ) (t : GroupTable) : Type 0 where
+pub record IsTable (n : ℕ) (t : SlotTable) : Type 0 where
   pub room : length t.demands ≤ n
   pub frame : t.frame ≤ 13
   pub few : buses_of t ≤ 16

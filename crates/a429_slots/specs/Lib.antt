@@ -12,7 +12,7 @@ pub mod TakenFrames
 pub mod Recalling
 pub mod Spacing
 pub mod Answers
-pub mod Sending
+pub mod FrameStates
 pub mod GoingOn
 pub mod Holding
 pub mod Cached

@@ -6,10 +6,10 @@ use Rattle.a429_slots.specs.declared.planner.PlanFault.{PlanFault}
 use Rattle.a429_slots.specs.declared.planner.PlanFault.TheVariants.{NoMemory}
 use Rattle.a429_slots.specs.Faults.{IsFaultOf}
 use Rattle.a429_slots.specs.Planned.{IsPlanOf}
-use Rattle.a429_slots.specs.Tables.{GroupTable, PlanTable, buses_of, cell_at, frame_of, groups_of, order_of, outputs_of}
+use Rattle.a429_slots.specs.Tables.{SlotTable, PlanTable, buses_of, cell_at, frame_of, groups_of, order_of, outputs_of}
 
 -- the same output stands in each cell; the outputs have the same sources, places and limits, and follow one another in the same order
-pub record IsSameTable (t u : GroupTable) : Type 0 where
+pub record IsSameTable (t u : SlotTable) : Type 0 where
   pub frame : frame_of t ≡ frame_of u
   pub buses : buses_of t ≡ buses_of u
   pub cells : (bus slot : ℕ) → cell_at t bus slot ≡ cell_at u bus slot

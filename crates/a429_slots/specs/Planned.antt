@@ -10,7 +10,7 @@ use Rattle.a429_pack.specs.Sums.{start_of}
 use Rattle.a429_equipment.specs.TableRecord.{TableRecord}
 use Rattle.a429_equipment.specs.declared.rows.OutputRow.{OutputRow}
 use Rattle.a429_equipment.specs.declared.rows.SourceRow.{SourceRow}
-use Rattle.a429_slots.specs.Tables.{Placed, GroupTable, PlanTable, placed_at, outputs_of, order_of, frame_of, buses_of, groups_of}
+use Rattle.a429_slots.specs.Tables.{Placed, SlotTable, PlanTable, placed_at, outputs_of, order_of, frame_of, buses_of, groups_of}
 use Rattle.a429_slots.specs.Kept.{BeginsAt, StandsJustAt}
 
 -- 2^k is the grid period of the output's interval at this rate
@@ -31,12 +31,12 @@ asked_by sources o = record {
   sdi = option_and_then (λ s. s.sdi) (slice_get sources o.source);
 }
 
-abbrev pub asked_of : List SourceRow → GroupTable → List Demand
+abbrev pub asked_of : List SourceRow → SlotTable → List Demand
 asked_of sources t = map (asked_by sources) (outputs_of t)
 
 -- The layout: the frame is the greatest period, and the outputs follow one another by period, then label as a number, then SDI with any
 -- before 0, then place in the table. An output has as many places as slots of a frame, and begins where those before it end.
-pub record IsLayout (sources : List SourceRow) (t : GroupTable) : Type 0 where
+pub record IsLayout (sources : List SourceRow) (t : SlotTable) : Type 0 where
   pub frame : t.frame ≡ greatest (exponents_of (asked_of sources t))
   pub order : IsLayoutOrder (asked_of sources t) (order_of t)
   pub demands : t.demands ≡ map (λ o. frame_of t / 2 ^ slice_index t.periods o) (order_of t)
@@ -50,7 +50,7 @@ pub record AreFewestBusesFor (rate : ℕ) (rows : List OutputRow) (buses : ℕ) 
   pub fewest : AreFewestBuses exponents buses
 
 -- the outputs of a group, each as its row of the equipment table asks, in cells of its own on the fewest buses
-pub record IsPlannedFor (rate : ℕ) (sources : List SourceRow) (rows : List OutputRow) (t : GroupTable) : Type 0 where
+pub record IsPlannedFor (rate : ℕ) (sources : List SourceRow) (rows : List OutputRow) (t : SlotTable) : Type 0 where
   pub served : AllZip (IsServed rate) rows (outputs_of t)
   pub layout : IsLayout sources t
   pub periodic : (o : ℕ) → o < length (outputs_of t)
@@ -64,7 +64,7 @@ abbrev pub rated_outputs : TableRecord → List (ℕ × List OutputRow)
 rated_outputs e = zip (map (λ g. g.rate) e.groups) e.outputs
 
 -- the table is one for these outputs, at the rate beside them
-abbrev pub IsPlannedAt : List SourceRow → ℕ × List OutputRow → GroupTable → Type 0
+abbrev pub IsPlannedAt : List SourceRow → ℕ × List OutputRow → SlotTable → Type 0
 IsPlannedAt sources rated t = IsPlannedFor rated.0 sources rated.1 t
 
 -- the plan of a station: a slot table for each group, in table order, under the number 0

@@ -48,10 +48,10 @@ pub struct GroupPlan<const N: usize> {
 }
 
 impl<const N: usize> Model for GroupPlan<N> {
-    ghost use Rattle.a429_slots.specs.Tables.{GroupTable};
+    ghost use Rattle.a429_slots.specs.Tables.{SlotTable};
     ghost use Rattle.a429_slots.specs.Kept.{IsTable};
 
-    ghost Value = { GroupTable };
+    ghost Value = { SlotTable };
 
     ghost view = { λ p. record {
       frame = p.frame;
@@ -191,7 +191,7 @@ impl<const N: usize> GroupPlan<N> {
     }
 
     /// The output at place `k` of the layout, counted from 0.
-    pub fn ordered(&self, k: usize) -> OutputId
+    pub fn output_at_place(&self, k: usize) -> OutputId
         requires { k < length (outputs_of self.now) }
         ensures value { slice_get (order_of self.now) k ≡ Some result }
         ensures known { result < length (outputs_of self.now) }

@@ -1,6 +1,6 @@
 //! What follows from the definitions of histories.
 ghost use Rattle.std.specs.Prelude.{◌≡◌, [], ◌⊎◌, ℕ, List, false};
-ghost use Rattle.a429_slots.specs.Tables.{GroupTable};
+ghost use Rattle.a429_slots.specs.Tables.{SlotTable};
 ghost use Rattle.a429_slots.specs.GoingOn.{AnsweredCellsGrow, CellsCount, FramesTurn, OthersPass, TellsFrameAnswer, TellsNextCell};
 ghost use Rattle.a429_slots.specs.Holding.{HoldsAreKept};
 ghost use Rattle.a429_slots.specs.Spacing.{CellsOfOnePlanAreApart, EmptyCellsAreFirst, EmptyCellsFollowWords, OpeningPlanEmptiesNone, PlannedTablesAreSpaced, PlansInForceAreSpaced, WordsAreApart};
@@ -33,7 +33,7 @@ pub fn plans_are_unique()
 /// newest at the last taken Frame, or the opening one; a frame's first slot is the opening's and the slots
 /// of every frame that the group has left.
 pub fn frames_are_taken()
-    ensures taken { (o : Opening) (g : ℕ) (p : GroupTable) (E : List Event) → AreTaken o g p E (is_taken_at o g p E) }
+    ensures taken { (o : Opening) (g : ℕ) (p : SlotTable) (E : List Event) → AreTaken o g p E (is_taken_at o g p E) }
     ensures only { TakenFramesAreUnique }
 {}
 
@@ -47,12 +47,12 @@ pub fn frames_follow_taken_ones()
 /// the number that it was given, or the opening one.
 pub fn plan_was_published()
     ensures newest { (o : Opening) (E : List Event) → IsOpeningPlan o E ⊎ IsPublishedPlan o E }
-    ensures own { (o : Opening) (g : ℕ) (p : GroupTable) (E : List Event) → OpensWith o g p → HasOpeningOrPublished o g p E }
+    ensures own { (o : Opening) (g : ℕ) (p : SlotTable) (E : List Event) → OpensWith o g p → HasOpeningOrPublished o g p E }
 {}
 
 /// A group's plan and its frame's first slot change at its taken Frames only.
 pub fn plan_changes_at_taken_frames()
-    ensures { (o : Opening) (g : ℕ) (p : GroupTable) (E : List Event) (e : Event) → is_taken_after o g p E e ≡ false
+    ensures { (o : Opening) (g : ℕ) (p : SlotTable) (E : List Event) (e : Event) → is_taken_after o g p E e ≡ false
         → LeavesFrame o g p E e }
 {}
 

@@ -3,7 +3,7 @@ pub mod cached;
 
 ghost use Rattle.std.specs.Prelude.{◌≡◌, ◌≤◌, ◌+◌, ◌<◌, ◌^◌, length, nat_lt, option_map, slice_get, IfSome, MatchOption, Some, ⊤};
 ghost use Rattle.a429_slots.specs.Tables.{cells_of, frame_of, outputs_of, output_in};
-ghost use Rattle.a429_slots.specs.Sending.{begun, next_cell, after_cell, fits_next, turned, due_of};
+ghost use Rattle.a429_slots.specs.FrameStates.{begun, next_cell, after_cell, fits_next, turned, due_of};
 
 use crate::group_plan::{GroupPlan, OUTPUTS, SendLimits};
 use crate::outputs::OutputId;
@@ -29,9 +29,9 @@ pub struct Sender {
 impl Model for Sender {
     ghost use Rattle.std.specs.Prelude.{◌<◌, ◌+◌, ◌^◌};
     ghost use Rattle.a429_slots.specs.Tables.{frame_of};
-    ghost use Rattle.a429_slots.specs.Sending.{Sending, IsNextCell, cells_before};
+    ghost use Rattle.a429_slots.specs.FrameStates.{FrameState, IsNextCell, cells_before};
 
-    ghost Value = { Sending };
+    ghost Value = { FrameState };
 
     ghost view = { λ s. record { table = s.plan; first = s.first; sent = cells_before s.plan s.bus s.slot } };
 

@@ -40,20 +40,20 @@ use Rattle.a429_station.proofs.Plans.{plan_small}
 
 -- ---- one receiver
 
-pub receiver_stays : (at : ends.Place) (k : ℕ) (words : List ℕ) (answer : Result ReceiveTotals ReceiveFault) (old new : ends.Receiving) → AreTaken words answer old new → old ≡ fresh at k → IsReceiverAt at k new
-receiver_stays at k words (Ok totals) old new h is = (ap (λ (r : ends.Receiving). r.at) (h.0) ∙ ap (λ (r : ends.Receiving). r.at) is, ap (λ (r : ends.Receiving). r.number) (h.0) ∙ ap (λ (r : ends.Receiving). r.number) is)
-receiver_stays at k words (Err Source) old new h is = (ap (λ (r : ends.Receiving). r.at) (h.0) ∙ ap (λ (r : ends.Receiving). r.at) is, ap (λ (r : ends.Receiving). r.number) (h.0) ∙ ap (λ (r : ends.Receiving). r.number) is)
-receiver_stays at k words (Err TooMuch) old new h is = (ap (λ (r : ends.Receiving). r.at) (h.0) ∙ ap (λ (r : ends.Receiving). r.at) is, ap (λ (r : ends.Receiving). r.number) (h.0) ∙ ap (λ (r : ends.Receiving). r.number) is)
-receiver_stays at k words (Err Gate) old new h is = (ap (λ (r : ends.Receiving). r.at) (h.1) ∙ ap (λ (r : ends.Receiving). r.at) is, ap (λ (r : ends.Receiving). r.number) (h.1) ∙ ap (λ (r : ends.Receiving). r.number) is)
+pub receiver_stays : (at : ends.Place) (k : ℕ) (words : List ℕ) (answer : Result ReceiveTotals ReceiveFault) (old new : ends.ReceiverEnd) → AreTaken words answer old new → old ≡ fresh at k → IsReceiverAt at k new
+receiver_stays at k words (Ok totals) old new h is = (ap (λ (r : ends.ReceiverEnd). r.at) (h.0) ∙ ap (λ (r : ends.ReceiverEnd). r.at) is, ap (λ (r : ends.ReceiverEnd). r.number) (h.0) ∙ ap (λ (r : ends.ReceiverEnd). r.number) is)
+receiver_stays at k words (Err Source) old new h is = (ap (λ (r : ends.ReceiverEnd). r.at) (h.0) ∙ ap (λ (r : ends.ReceiverEnd). r.at) is, ap (λ (r : ends.ReceiverEnd). r.number) (h.0) ∙ ap (λ (r : ends.ReceiverEnd). r.number) is)
+receiver_stays at k words (Err TooMuch) old new h is = (ap (λ (r : ends.ReceiverEnd). r.at) (h.0) ∙ ap (λ (r : ends.ReceiverEnd). r.at) is, ap (λ (r : ends.ReceiverEnd). r.number) (h.0) ∙ ap (λ (r : ends.ReceiverEnd). r.number) is)
+receiver_stays at k words (Err Gate) old new h is = (ap (λ (r : ends.ReceiverEnd). r.at) (h.1) ∙ ap (λ (r : ends.ReceiverEnd). r.at) is, ap (λ (r : ends.ReceiverEnd). r.number) (h.1) ∙ ap (λ (r : ends.ReceiverEnd). r.number) is)
 
-gave_too_much : (words : List ℕ) (answer : Result ReceiveTotals ReceiveFault) (old new : ends.Receiving) → AreTaken words answer old new → GaveTooMuch words answer
+gave_too_much : (words : List ℕ) (answer : Result ReceiveTotals ReceiveFault) (old new : ends.ReceiverEnd) → AreTaken words answer old new → GaveTooMuch words answer
 gave_too_much words (Ok totals) old new h = tt
 gave_too_much words (Err Source) old new h = tt
 gave_too_much words (Err Gate) old new h = tt
 gave_too_much words (Err TooMuch) old new h = h.1
 
 module _ {L : Type 0} (gives : L → List ℕ → L → Type 0) (ended : L → Bool) (failed : L → ℕ) (passes shuts : Point → Type 0) where
-  pub line_ended : (k : ℕ) (line line' : L) (r r' : ends.Receiving) (answer : Result ReceiveTotals ReceiveFault) → HasReceived gives ended failed passes shuts k line r line' r' answer → EndsLine gives ended failed passes shuts k line answer
+  pub line_ended : (k : ℕ) (line line' : L) (r r' : ends.ReceiverEnd) (answer : Result ReceiveTotals ReceiveFault) → HasReceived gives ended failed passes shuts k line r line' r' answer → EndsLine gives ended failed passes shuts k line answer
   line_ended k line line' r r' answer h = record {
     after = line';
     words = h.words;
@@ -66,7 +66,7 @@ module _ {L : Type 0} (gives : L → List ℕ → L → Type 0) (ended : L → B
   }
 
   -- what it did, where it ended well
-  pub heard_one : (own : ℕ) (at : ends.Place) (c : Course) (k : ℕ) (line line' : L) (r r' : ends.Receiving) (answer : Result ReceiveTotals ReceiveFault) (totals : ReceiveTotals) (h : HasReceived gives ended failed passes shuts own line r line' r' answer)
+  pub heard_one : (own : ℕ) (at : ends.Place) (c : Course) (k : ℕ) (line line' : L) (r r' : ends.ReceiverEnd) (answer : Result ReceiveTotals ReceiveFault) (totals : ReceiveTotals) (h : HasReceived gives ended failed passes shuts own line r line' r' answer)
       → r ≡ fresh at k → answer ≡ Ok totals → c.came k ≡ h.words → IsHeardIn gives ended at.station c k line line' totals
   heard_one own at c k line line' r r' (Ok counts) totals h is same came =
       let sum : counts ≡ totals = cc in
@@ -76,15 +76,15 @@ module _ {L : Type 0} (gives : L → List ℕ → L → Type 0) (ended : L → B
         few = subst (λ (ws : List ℕ). length ws ≤ 1000000) (sym came) h.taken.2;
         hub = at;
         station = refl;
-        counted = sym sum ∙ (h.taken.1 ∙ (ap (λ (x : ends.Receiving). totals_of (answers_to x h.words)) is ∙ ap (λ (ws : List ℕ). totals_of (answers_to (fresh at k) ws)) (sym came)));
+        counted = sym sum ∙ (h.taken.1 ∙ (ap (λ (x : ends.ReceiverEnd). totals_of (answers_to x h.words)) is ∙ ap (λ (ws : List ℕ). totals_of (answers_to (fresh at k) ws)) (sym came)));
       }
   heard_one own at c k line line' r r' (Err fault) totals h is same came = absurd (cc same)
 
   -- and what its receiver is then
-  pub receiver_one : (own : ℕ) (at : ends.Place) (k : ℕ) (came : List ℕ) (line line' : L) (r r' : ends.Receiving) (answer : Result ReceiveTotals ReceiveFault) (totals : ReceiveTotals) (h : HasReceived gives ended failed passes shuts own line r line' r' answer)
+  pub receiver_one : (own : ℕ) (at : ends.Place) (k : ℕ) (came : List ℕ) (line line' : L) (r r' : ends.ReceiverEnd) (answer : Result ReceiveTotals ReceiveFault) (totals : ReceiveTotals) (h : HasReceived gives ended failed passes shuts own line r line' r' answer)
       → r ≡ fresh at k → answer ≡ Ok totals → came ≡ h.words → r' ≡ after_words (fresh at k) came
   receiver_one own at k came line line' r r' (Ok counts) totals h is same words =
-      h.taken.0 ∙ (ap (λ (x : ends.Receiving). after_words x h.words) is ∙ ap (λ (ws : List ℕ). after_words (fresh at k) ws) (sym words))
+      h.taken.0 ∙ (ap (λ (x : ends.ReceiverEnd). after_words x h.words) is ∙ ap (λ (ws : List ℕ). after_words (fresh at k) ws) (sym words))
   receiver_one own at k came line line' r r' (Err fault) totals h is same words = absurd (cc same)
 
 -- ---- one group
@@ -142,14 +142,14 @@ pub done_between : (did : Running → Running → Type 0) (t : TableRecord) (old
 done_between did t old new here B G N done = record { begin = old; end = new; begun = B; station = sym here; opens = refl; list = (began_so old new B G N).list; done = done }
 
 -- each receiver is what it was before its first word, with the words that came to it
-abbrev pub AreAfter : ends.Place → (ℕ → List ℕ) → List ends.Receiving → Type 0
+abbrev pub AreAfter : ends.Place → (ℕ → List ℕ) → List ends.ReceiverEnd → Type 0
 AreAfter at came receivers = AllNumbered (λ k r. r ≡ after_words (fresh at k) (came k)) receivers
 
 -- the course of a run of this station
 abbrev pub course_of : Running → List Proposed → (ℕ → List ℕ) → Course
 course_of old later came = record { opened = old.planner.last; later = later; came = came }
 
-pub taken_in : (at : ends.Place) (old new : Running) (came : ℕ → List ℕ) (receivers : List ends.Receiving) → at.station ≡ old.station → IsBegun old → GoesOn old new → (N : IsLed new) → IsWired at.station
+pub taken_in : (at : ends.Place) (old new : Running) (came : ℕ → List ℕ) (receivers : List ends.ReceiverEnd) → at.station ≡ old.station → IsBegun old → GoesOn old new → (N : IsLed new) → IsWired at.station
     → AreAfter at came receivers → length receivers ≡ length at.station.receivers → ((k : ℕ) → length at.station.receivers ≤ k → came k ≡ [])
     → IsTakenIn at old.planner new.planner (course_of old N.later came) receivers
 taken_in at old new came receivers here B G N wired each all past =
@@ -172,7 +172,7 @@ taken_in at old new came receivers here B G N wired each all past =
       agree = λ loads agrees r inside.
           numbered_place (λ k. Agrees t k (heard_in t c k) loads) receivers r (omega (arith, inside, all))
           (numbered_weaker (λ k x. (x ≡ after_words (fresh at k) (came k)) × Agrees t x.number x.accepted loads) (λ k x. Agrees t k (heard_in t c k) loads)
-          (λ k x h. subst (λ (y : ends.Receiving). Agrees t y.number y.accepted loads) h.0 h.1) receivers
+          (λ k x h. subst (λ (y : ends.ReceiverEnd). Agrees t y.number y.accepted loads) h.0 h.1) receivers
           (numbered_both (λ k x. x ≡ after_words (fresh at k) (came k)) (λ k x. Agrees t x.number x.accepted loads) receivers each (numbered_also (λ x. Agrees t x.number x.accepted loads) receivers agrees)));
     }
 
@@ -192,7 +192,7 @@ group_over passes shuts r taken failed at old new g frames v w sink sink' answer
     }
 
 -- a group's worker that ended well, was told all plans, and met the receivers
-pub group_one : {B : Type 0} (passes shuts : Point → Type 0) (r : ℕ) (taken : B → Option (List Sent)) (failed : B → ℕ) (at : ends.Place) (first last : Planning) (c : Course) (receivers : List ends.Receiving) (frames own g : ℕ) (v w : Transmitting) (sink sink' : B) (answer : Result SendTotals SendFault) (totals : SendTotals)
+pub group_one : {B : Type 0} (passes shuts : Point → Type 0) (r : ℕ) (taken : B → Option (List Sent)) (failed : B → ℕ) (at : ends.Place) (first last : Planning) (c : Course) (receivers : List ends.ReceiverEnd) (frames own g : ℕ) (v w : Transmitting) (sink sink' : B) (answer : Result SendTotals SendFault) (totals : SendTotals)
     → IsTakenIn at first last c receivers → HasEmitted taken failed passes shuts r own v sink w sink' answer → IsJoined at.station last.list receivers w → IsReady at first g v → own ≡ frames → answer ≡ Ok totals
     → IsSentIn taken frames at.station c g sink sink' totals
 group_one passes shuts r taken failed at first last c receivers frames own g v w sink sink' answer totals K E J R same is =
@@ -220,7 +220,7 @@ want_of_memory x y fault well none is = subst (λ (z : Option ReceiveFault). IsF
 
 -- the loops of all receivers and groups have ended, each with its number and at one gate
 pub all_stopped : {L B G W D V E : Type 0} (gives : L → List ℕ → L → Type 0) (ended : L → Bool) (failed : L → ℕ) (taken : B → Option (List Sent)) (failed_sink : B → ℕ) (passes shuts : G → Point → Type 0) (at : G)
-    (line : W → L) (receiver : W → ends.Receiving) (number : W → ℕ) (gate : W → G) (line' : D → L) (receiver' : D → ends.Receiving) (answer : D → Result ReceiveTotals ReceiveFault)
+    (line : W → L) (receiver : W → ends.ReceiverEnd) (number : W → ℕ) (gate : W → G) (line' : D → L) (receiver' : D → ends.ReceiverEnd) (answer : D → Result ReceiveTotals ReceiveFault)
     (own : V → ℕ) (transmit : V → Transmitting) (sink : V → B) (group : V → ℕ) (gate' : V → G) (transmit' : E → Transmitting) (sink' : E → B) (answer' : E → Result SendTotals SendFault)
     (ws : List W) (ds : List D) (vs : List V) (es : List E) (sinks : List B) (fault : LiveFault)
     → AllZip (λ w d. HasReceived gives ended failed (passes (gate w)) (shuts (gate w)) (number w) (line w) (receiver w) (line' d) (receiver' d) (answer d)) ws ds

@@ -10,7 +10,7 @@ use Rattle.a429_equipment.specs.Agreement.{Agrees, AgreesToTheEnd, loads_of_all}
 use Rattle.a429_values.specs.Ends as ends
 use Rattle.a429_values.specs.Later.{OthersStayAgreed}
 use Rattle.a429_workers.specs.Calls.{Call, Meets}
-use Rattle.a429_workers.specs.Transmitting.{Transmitting, GoesOnBy, StandsFor, loads_since, met}
+use Rattle.a429_workers.specs.Transmitting.{Transmitting, GoesOnByCalls, StandsForCalls, loads_since, met}
 use mathlib.Core.List.{IsPrefix}
 use Rattle.a429_slots.specs.Tables.{PlanTable}
 use Rattle.a429_station.specs.Numbered.{AllNumbered}
@@ -18,13 +18,13 @@ use Rattle.a429_station.specs.Working.{HasMet, IsJoined, IsReceiverAt, meeting_o
 
 pub met_none : (t : TableRecord) (v : Transmitting) → HasMet t [] v v
 met_none t v = record {
-  stands = λ b made S. subst (λ (cs : List Call). StandsFor b cs v) (sym (append-nil made)) S;
+  stands = λ b made S. subst (λ (cs : List Call). StandsForCalls b cs v) (sym (append-nil made)) S;
   rest = refl;
   hub = refl;
   agree = tt;
 }
 
-others_agree : (t : TableRecord) (k : ℕ) (before after : List Load) (rs : List ends.Receiving) → OthersStayAgreed t k before after → AllByRecursion (λ r. r.number < k) rs
+others_agree : (t : TableRecord) (k : ℕ) (before after : List Load) (rs : List ends.ReceiverEnd) → OthersStayAgreed t k before after → AllByRecursion (λ r. r.number < k) rs
     → AllByRecursion (λ r. Agrees t r.number r.accepted before) rs → AllByRecursion (λ r. Agrees t r.number r.accepted after) rs
 others_agree t k before after [] stay low all = tt
 others_agree t k before after (r ∷ rs) stay low all = (
@@ -33,13 +33,13 @@ others_agree t k before after (r ∷ rs) stay low all = (
 )
 
 -- the loads that were made in a meeting
-loads_met : (v w : Transmitting) (r : ends.Receiving) → w ≡ met v r → loads_since v w ≡ loads_of_all v.transmitter.at.station r.number r.accepted
+loads_met : (v w : Transmitting) (r : ends.ReceiverEnd) → w ≡ met v r → loads_since v w ≡ loads_of_all v.transmitter.at.station r.number r.accepted
 loads_met v w r is =
     let loads : w.transmitter.loads ≡ v.transmitter.loads ++ loads_of_all v.transmitter.at.station r.number r.accepted = ap (λ (x : Transmitting). x.transmitter.loads) is in
     ap (drop (length v.transmitter.loads)) loads ∙ drop-append_seam v.transmitter.loads (loads_of_all v.transmitter.at.station r.number r.accepted)
 
-pub met_more : (t : TableRecord) (rs : List ends.Receiving) (r : ends.Receiving) (u v w : Transmitting) → HasMet t rs u v → v.transmitter.at.station ≡ t → AllByRecursion (λ x. x.number < r.number) rs
-    → GoesOnBy v (Meets (loads_since v w) ∷ []) w → w ≡ met v r → AgreesToTheEnd v.transmitter.at.station r.number r.accepted w.transmitter.loads
+pub met_more : (t : TableRecord) (rs : List ends.ReceiverEnd) (r : ends.ReceiverEnd) (u v w : Transmitting) → HasMet t rs u v → v.transmitter.at.station ≡ t → AllByRecursion (λ x. x.number < r.number) rs
+    → GoesOnByCalls v (Meets (loads_since v w) ∷ []) w → w ≡ met v r → AgreesToTheEnd v.transmitter.at.station r.number r.accepted w.transmitter.loads
     → OthersStayAgreed v.transmitter.at.station r.number v.transmitter.loads w.transmitter.loads → HasMet t (rs ++ r ∷ []) u w
 met_more t rs r u v w M here low stands is agrees others =
     let call : Meets (loads_since v w) ≡ meeting_of t r = ap (λ (ls : List Load). Meets ls) (loads_met v w r is) ∙ ap (λ (x : TableRecord). Meets (loads_of_all x r.number r.accepted)) here in
@@ -48,7 +48,7 @@ met_more t rs r u v w M here low stands is agrees others =
     let one : Agrees t r.number r.accepted w.transmitter.loads = subst (λ (x : TableRecord). Agrees x r.number r.accepted w.transmitter.loads) here (agrees.0, agrees.1) in
     record {
       stands = λ b made S.
-          subst (λ (cs : List Call). StandsFor b cs w) (append_assoc made (map (meeting_of t) rs) (Meets (loads_since v w) ∷ []) ∙ ap (λ (cs : List Call). made ++ cs) calls)
+          subst (λ (cs : List Call). StandsForCalls b cs w) (append_assoc made (map (meeting_of t) rs) (Meets (loads_since v w) ∷ []) ∙ ap (λ (cs : List Call). made ++ cs) calls)
           (stands b (made ++ map (meeting_of t) rs) (M.stands b made S));
       rest = is ∙ (ap (λ (x : Transmitting). record x { transmitter = (met v r).transmitter }) M.rest ∙ ap (λ (x : Transmitting). record u { transmitter = x.transmitter }) (sym is));
       hub = ap (λ (x : Transmitting). x.transmitter.at) is ∙ M.hub;
@@ -56,16 +56,16 @@ met_more t rs r u v w M here low stands is agrees others =
           (others_agree t r.number v.transmitter.loads w.transmitter.loads rs (subst (λ (x : TableRecord). OthersStayAgreed x r.number v.transmitter.loads w.transmitter.loads) here others) low M.agree) one;
     }
 
-pub joined_one : (t : TableRecord) (list : List PlanTable) (rs : List ends.Receiving) (v w z : Transmitting) → IsPrefix v.watcher.list list → GoesOnBy v [] w → w ≡ told v list → v.transmitter.at.station ≡ t
+pub joined_one : (t : TableRecord) (list : List PlanTable) (rs : List ends.ReceiverEnd) (v w z : Transmitting) → IsPrefix v.watcher.list list → GoesOnByCalls v [] w → w ≡ told v list → v.transmitter.at.station ≡ t
     → HasMet w.transmitter.at.station rs w z → IsJoined t list rs v
 joined_one t list rs v w z beginning stands is here met = record {
   beginning = beginning;
-  stands = subst (GoesOnBy v []) is stands;
+  stands = subst (GoesOnByCalls v []) is stands;
   end = z;
   met = subst (λ (x : Transmitting). HasMet t rs x z) is (subst (λ (x : TableRecord). HasMet x rs w z) (ap (λ (x : Transmitting). x.transmitter.at.station) is ∙ here) met);
 }
 
-pub receivers_there : (at : ends.Place) (list : List PlanTable) (v w : Transmitting) (rs later : List ends.Receiving) → w ≡ told v list → v.transmitter.at ≡ at → later ≡ rs → AllNumbered (IsReceiverAt at) rs
+pub receivers_there : (at : ends.Place) (list : List PlanTable) (v w : Transmitting) (rs later : List ends.ReceiverEnd) → w ≡ told v list → v.transmitter.at ≡ at → later ≡ rs → AllNumbered (IsReceiverAt at) rs
     → AllNumbered (IsReceiverAt w.transmitter.at) later
 receivers_there at list v w rs later is here same all =
     subst (λ (x : ends.Place). AllNumbered (IsReceiverAt x) later) (sym (ap (λ (x : Transmitting). x.transmitter.at) is ∙ here)) (subst (AllNumbered (IsReceiverAt at)) (sym same) all)

@@ -12,7 +12,7 @@ use Rattle.a429_equipment.specs.SameStation.{same_station, all_agree, same_recei
 use Rattle.a429_equipment.specs.declared.rows.GroupRow.{GroupRow}
 use Rattle.a429_equipment.specs.declared.rows.OutputRow.{OutputRow}
 use Rattle.a429_equipment.specs.declared.rows.SourceRow.{SourceRow}
-use Rattle.a429_slots.specs.Tables.{GroupTable, PlanTable, frame_of, groups_of}
+use Rattle.a429_slots.specs.Tables.{SlotTable, PlanTable, frame_of, groups_of}
 use Rattle.a429_slots.specs.Planned.{IsPlannedAt, IsPlanOf, rated_outputs}
 use Rattle.a429_slots.specs.Proposed.{Proposed}
 use Rattle.a429_slots.specs.Spacing.{IsOwnPlan, IsSpacedTable, PlannedTablesAreSpaced}
@@ -37,7 +37,7 @@ same_sources a b h =
 
 -- ---- slots
 
-tables_small : (sources : List SourceRow) (rated : List (ℕ × List OutputRow)) (ts : List GroupTable) → AllZip (IsPlannedAt sources) rated ts → AllByRecursion (λ t. frame_of t ≤ 8192) ts
+tables_small : (sources : List SourceRow) (rated : List (ℕ × List OutputRow)) (ts : List SlotTable) → AllZip (IsPlannedAt sources) rated ts → AllByRecursion (λ t. frame_of t ≤ 8192) ts
 tables_small sources [] [] planned = tt
 tables_small sources [] (u ∷ ts) planned = absurd planned
 tables_small sources (r ∷ rated) [] planned = absurd planned
@@ -49,7 +49,7 @@ plan_small e p planned = tables_small e.sources (rated_outputs e) (groups_of p) 
 -- ---- spacing
 
 module _ (law : PlannedTablesAreSpaced) where
-  tables_spaced : (sources : List SourceRow) (rates : List ℕ) (rowss : List (List OutputRow)) (ts : List GroupTable) → AllZip (IsPlannedAt sources) (zip rates rowss) ts → AllByRecursion HaveOwnSources rowss
+  tables_spaced : (sources : List SourceRow) (rates : List ℕ) (rowss : List (List OutputRow)) (ts : List SlotTable) → AllZip (IsPlannedAt sources) (zip rates rowss) ts → AllByRecursion HaveOwnSources rowss
       → AllByRecursion IsSpacedTable ts
   tables_spaced sources [] rowss [] planned own = tt
   tables_spaced sources [] rowss (u ∷ ts) planned own = absurd planned
@@ -129,8 +129,8 @@ led_on old new bytes n P fits L =
 
 -- ---- plans follow one another
 
-pub stays : (v : Running) → GoesOn v v
-stays v = record { station = refl; book = refl; plans = ([], append-nil v.planner.list) }
+pub GoesOn-refl : (v : Running) → GoesOn v v
+GoesOn-refl v = record { station = refl; book = refl; plans = ([], append-nil v.planner.list) }
 
 pub goes_further : (u v w : Running) → GoesOn u v → GoesOn v w → GoesOn u w
 goes_further u v w p q = record {

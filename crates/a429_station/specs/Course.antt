@@ -5,7 +5,7 @@ use Rattle.a429_equipment.specs.TableRecord.{TableRecord}
 use Rattle.a429_equipment.specs.Receiving.{accepted_after}
 use Rattle.a429_equipment.specs.Agreement.{loads_of_all}
 use Rattle.a429_equipment.specs.Sound.{HaveOwnSources}
-use Rattle.a429_slots.specs.Tables.{GroupTable, PlanTable}
+use Rattle.a429_slots.specs.Tables.{SlotTable, PlanTable}
 use Rattle.a429_slots.specs.Planned.{IsPlanOf}
 use Rattle.a429_slots.specs.Proposed.{Proposed}
 use Rattle.a429_slots.specs.Spacing.{IsOwnPlan}
@@ -32,7 +32,7 @@ pub record Course : Type 0 where
 -- ---- receivers
 
 -- receiver r, which accepted nothing yet: of a source it accepts as many words as 41 bits count
-abbrev pub fresh : ends.Place → ℕ → ends.Receiving
+abbrev pub fresh : ends.Place → ℕ → ends.ReceiverEnd
 fresh at r = record { at = at; number = r; limit = 2 ^ 41 - 1; accepted = [] }
 
 -- what receiver r accepted of the words that came to it, as pairs of a source's number and a word
@@ -62,7 +62,7 @@ meetings t c = map (meeting t c) (range_with_len 0 (length t.receivers))
 -- working transmitter's, as one run (`a429_workers::laws`) supposes, by the plans that were published and what each receiver accepted. Its sink
 -- took the cells, where it tells them, and the totals count them.
 pub record IsSentIn {B : Type 0} (taken : B → Option (List Sent)) (frames : ℕ) (t : TableRecord) (c : Course) (g : ℕ) (before after : B) (totals : SendTotals) : Type 0 where
-  pub table : GroupTable
+  pub table : SlotTable
   pub calls : List Call
   pub works : IsWorking 41 (opening t c.opened) g table c.later (calls ++ meetings t c) (heard_in t c)
   pub only : AllByRecursion (λ x. IsTrue (is_send x)) calls

@@ -11,7 +11,7 @@ use Rattle.a429_workers.specs.Calls.{Call, Meets}
 use Rattle.a429_workers.specs.Gates.{AreGated}
 use Rattle.a429_workers.specs.Receives.{AreTaken, source_failures}
 use Rattle.a429_workers.specs.Sends.{AreSent, sink_failures}
-use Rattle.a429_workers.specs.Transmitting.{Transmitting, BeginsWith, GoesOnBy}
+use Rattle.a429_workers.specs.Transmitting.{Transmitting, BeginsWith, GoesOnByCalls}
 use Rattle.a429_workers.specs.declared.cells.Sent.{Sent}
 use Rattle.a429_workers.specs.declared.gates.Point.{Point}
 use Rattle.a429_workers.specs.declared.receiving.ReceiveTotals.{ReceiveTotals}
@@ -24,7 +24,7 @@ use Rattle.a429_workers.specs.declared.sending.SendFault.TheVariants.{Change}
 
 -- The line gave words, the receiver took them, each between two points of the gate, and the answer says how many and why it ended; where it is Ok the
 -- line's last call answered the end.
-pub record HasReceived {L : Type 0} (gives : L → List ℕ → L → Type 0) (ended : L → Bool) (failed : L → ℕ) (passes shuts : Point → Type 0) (r : ℕ) (line : L) (receiver : ends.Receiving) (line' : L) (receiver' : ends.Receiving) (answer : Result ReceiveTotals ReceiveFault) : Type 0 where
+pub record HasReceived {L : Type 0} (gives : L → List ℕ → L → Type 0) (ended : L → Bool) (failed : L → ℕ) (passes shuts : Point → Type 0) (r : ℕ) (line : L) (receiver : ends.ReceiverEnd) (line' : L) (receiver' : ends.ReceiverEnd) (answer : Result ReceiveTotals ReceiveFault) : Type 0 where
   pub words : List ℕ
   pub gave : gives line words line'
   pub taken : AreTaken words answer receiver receiver'
@@ -33,7 +33,7 @@ pub record HasReceived {L : Type 0} (gives : L → List ℕ → L → Type 0) (e
   pub failures : failed line' ≡ source_failures (failed line) answer
 
 -- receiver k of the hub
-abbrev pub IsReceiverAt : ends.Place → ℕ → ends.Receiving → Type 0
+abbrev pub IsReceiverAt : ends.Place → ℕ → ends.ReceiverEnd → Type 0
 IsReceiverAt at k r = (r.at ≡ at) × (r.number ≡ k)
 
 -- ---- groups
@@ -60,12 +60,12 @@ pub record IsOver (at : ends.Place) (p : Planning) (v : Transmitting) (answer : 
 -- ---- meetings
 
 -- a receiver is met: each of its sources is loaded
-abbrev pub meeting_of : TableRecord → ends.Receiving → Call
+abbrev pub meeting_of : TableRecord → ends.ReceiverEnd → Call
 meeting_of t r = Meets (loads_of_all t r.number r.accepted)
 
 -- the transmitter met these receivers, in order, and its loads agree with what they accepted
-pub record HasMet (t : TableRecord) (receivers : List ends.Receiving) (old new : Transmitting) : Type 0 where
-  pub stands : GoesOnBy old (map (meeting_of t) receivers) new
+pub record HasMet (t : TableRecord) (receivers : List ends.ReceiverEnd) (old new : Transmitting) : Type 0 where
+  pub stands : GoesOnByCalls old (map (meeting_of t) receivers) new
   pub rest : new ≡ record old { transmitter = new.transmitter }
   pub hub : new.transmitter.at ≡ old.transmitter.at
   pub agree : AllByRecursion (λ r. Agrees t r.number r.accepted new.transmitter.loads) receivers
@@ -75,8 +75,8 @@ abbrev pub told : Transmitting → List PlanTable → Transmitting
 told v list = record v { watcher = record v.watcher { list = list } }
 
 -- the transmitter was told all plans that were published, and then met the receivers
-pub record IsJoined (t : TableRecord) (list : List PlanTable) (receivers : List ends.Receiving) (v : Transmitting) : Type 0 where
+pub record IsJoined (t : TableRecord) (list : List PlanTable) (receivers : List ends.ReceiverEnd) (v : Transmitting) : Type 0 where
   pub beginning : IsPrefix v.watcher.list list
-  pub stands : GoesOnBy v [] (told v list)
+  pub stands : GoesOnByCalls v [] (told v list)
   pub end : Transmitting
   pub met : HasMet t receivers (told v list) end

@@ -45,7 +45,7 @@ pub(crate) struct Told<B> {
 
 /// Whether the loops of all receivers came to their ends. The error is the fault of the first that has one. It takes no
 /// memory.
-fn receivers_ended<L: Drop>(received: &Vec<Received<L>>) -> Result<(), LiveFault>
+fn check_receiver_ends<L: Drop>(received: &Vec<Received<L>>) -> Result<(), LiveFault>
     ensures ended { OnOk result (first_fault (map (λ d. d.answer) received.now.items) ≡ None) }
     ensures fault { IfErr result (λ f. Some f ≡ option_map of_receiver (first_fault (map (λ d. d.answer) received.now.items))) }
 {
@@ -59,7 +59,7 @@ fn receivers_ended<L: Drop>(received: &Vec<Received<L>>) -> Result<(), LiveFault
 
 /// Whether the loops of all groups came to their ends. The error is the fault of the first that has one. It takes no
 /// memory.
-fn groups_ended<R: Wait, B: Drop>(
+fn check_group_ends<R: Wait, B: Drop>(
     hub: &Values,
     station: &mut Station<'_, R>,
     sent: &mut Vec<Emitted<B>>,
@@ -83,7 +83,7 @@ fn groups_ended<R: Wait, B: Drop>(
 /// Whether all loops came to their ends, and the control too. The error is the fault of the first receiver that has one,
 /// or else of the first group, or else `NoMemory` of the control. It takes no memory, so a worker's fault is told
 /// whatever memory the report would take.
-pub(crate) fn all_ended<R: Wait, L: Drop, B: Drop>(
+pub(crate) fn check_all_ends<R: Wait, L: Drop, B: Drop>(
     hub: &Values,
     station: &mut Station<'_, R>,
     received: &Vec<Received<L>>,
@@ -98,14 +98,14 @@ pub(crate) fn all_ended<R: Wait, L: Drop, B: Drop>(
     ensures control { OnOk result (IsTrue (is_ok answer)) }
     ensures fault { IfErr result (IsFirst (first_fault (map (λ d. d.answer) received.now.items)) (first_fault (map (λ d. d.answer) sent.old.items))) }
 {
-    receivers_ended(received)?;
-    groups_ended(hub, station, sent)?;
+    check_receiver_ends(received)?;
+    check_group_ends(hub, station, sent)?;
     answer?;
     Ok(())
 }
 
 /// The totals of the receivers, or the fault of the first that has one.
-pub(crate) fn receivers_reported<L: Drop>(
+pub(crate) fn report_receivers<L: Drop>(
     alloc: Global,
     received: Vec<Received<L>>,
 ) -> Result<Heard<L>, LiveFault>
@@ -151,7 +151,7 @@ fn meet_all(transmit: &mut Transmit, receivers: &mut [Receiver])
 
 /// Each group's transmitter is told all plans that were published, and meets each receiver. Answers the totals of the
 /// groups, or the fault of the first that has one.
-pub(crate) fn groups_reported<R: Wait, B: Drop>(
+pub(crate) fn report_groups<R: Wait, B: Drop>(
     alloc: Global,
     hub: &Values,
     station: &mut Station<'_, R>,

@@ -15,10 +15,10 @@ ghost use Rattle.a429_station.specs.declared.faults.LiveFault.TheVariants.{NoMem
 
 use crate::control::Control;
 use crate::faults::LiveFault;
-use crate::reports::{Heard, Report, Told, all_ended, groups_reported, receivers_reported};
+use crate::reports::{Heard, Report, Told, check_all_ends, report_groups, report_receivers};
 use crate::station::Station;
-use crate::threads::{Ended, at_once};
-use crate::working::{Receiving, Sending, group_worker};
+use crate::threads::{Ended, run_at_once};
+use crate::working::{GroupWorker, ReceiverWorker, group_worker};
 use a429_board::{Board, Watcher};
 use a429_equipment::Equipment;
 use a429_equipment::laws::{numbers_in_range, sources_apart};
@@ -46,7 +46,7 @@ fn receivers<'a, L: LineSource + Drop, G: Gate>(
     desk: &mut Desk,
     sources: Vec<L>,
     gate: &'a G,
-) -> Result<Vec<Receiving<'a, L, G>>, LiveFault>
+) -> Result<Vec<ReceiverWorker<'a, L, G>>, LiveFault>
     requires hub { desk.old.at ≡ hub.now }
     requires none { desk.old.receivers ≡ [] }
     requires sources { vec_len sources ≤ length hub.now.station.receivers }
@@ -65,7 +65,7 @@ fn receivers<'a, L: LineSource + Drop, G: Gate>(
             Err(HubFault::AlreadyTaken) => unreachable!(),
             Err(HubFault::NoMemory) => return Err(LiveFault::NoMemory),
         };
-        workers.push(Receiving {
+        workers.push(ReceiverWorker {
             line,
             receiver,
             number,
@@ -118,7 +118,7 @@ fn groups<'a, R: Wait, B: BusSink + Drop, G: Gate>(
     sinks: Vec<B>,
     frames: u32,
     gate: &'a G,
-) -> Result<Vec<Sending<'a, B, G>>, LiveFault>
+) -> Result<Vec<GroupWorker<'a, B, G>>, LiveFault>
     requires hub { desk.old.at ≡ hub.now }
     requires none { desk.old.transmitters ≡ [] }
     requires sinks { vec_len sinks ≤ length hub.now.station.groups }
@@ -159,7 +159,7 @@ fn run<
     desk: &mut Desk,
     station: &mut Station<'_, R>,
     watchers: Vec<Watcher>,
-    receiving: Vec<Receiving<'_, L, G>>,
+    receiving: Vec<ReceiverWorker<'_, L, G>>,
     sinks: Vec<B>,
     frames: u32,
     gate: &G,
@@ -181,18 +181,18 @@ fn run<
         (map (λ w. w.line) receiving.entry.items) sinks.items) }
 {
     let sending = groups(alloc, hub, desk, station, watchers, sinks, frames, gate)?;
-    let Ok(done) = at_once(rt, alloc, receiving, sending, station, control) else {
+    let Ok(done) = run_at_once(rt, alloc, receiving, sending, station, control) else {
         return Err(LiveFault::Join);
     };
-    station.led();
+    station.plans_are_of_station();
     let Ended {
         first,
         mut second,
         answer,
     } = done;
-    all_ended(hub, station, &first, &mut second, answer)?;
-    let mut heard = receivers_reported(alloc, first)?;
-    let told = groups_reported(alloc, hub, station, heard.receivers.as_mut_slice(), second)?;
+    check_all_ends(hub, station, &first, &mut second, answer)?;
+    let mut heard = report_receivers(alloc, first)?;
+    let told = report_groups(alloc, hub, station, heard.receivers.as_mut_slice(), second)?;
     let Heard {
         totals: receivers,
         sources,
@@ -260,7 +260,7 @@ pub fn live<
     let receiving = receivers(alloc, &hub, &mut desk, sources, gate)?;
     let watchers = equipment.groups().len().max(1) as u32;
     let (planner, watchers) = Board::open(rt, alloc, plan, watchers)?;
-    let mut station = Station::begun(rt, alloc, equipment, planner);
+    let mut station = Station::of_planner(rt, alloc, equipment, planner);
     let answer = run(
         rt,
         alloc,

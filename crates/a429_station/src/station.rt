@@ -4,7 +4,7 @@ ghost use Rattle.a429_equipment.specs.SameStation.{same_station};
 ghost use Rattle.a429_slots.specs.Planned.{IsPlanOf};
 ghost use Rattle.a429_board.specs.Lists.{Planning};
 ghost use mathlib.Core.List.{IsPrefix};
-ghost use Rattle.a429_workers.specs.Transmitting.{GoesOnBy};
+ghost use Rattle.a429_workers.specs.Transmitting.{GoesOnByCalls};
 ghost use Rattle.a429_station.specs.Resubmitting.{GoesOn, IsLed, IsPlanned, IsReplanFault, Publishes};
 ghost use Rattle.a429_station.specs.Working.{told};
 
@@ -87,7 +87,11 @@ impl From<BoardFault> for ReplanFault {
 }
 
 /// The plan of a table of this station.
-fn replanned(alloc: Global, station: &Equipment, table: &[u8]) -> Result<Plan<OUTPUTS>, ReplanFault>
+fn plan_of_table(
+    alloc: Global,
+    station: &Equipment,
+    table: &[u8],
+) -> Result<Plan<OUTPUTS>, ReplanFault>
     ensures plan { IfOk result (λ plan. (of : IsPlanned table.now) × (same_station station.now of.record_of ≡ true) × (plan ≡ of.plan)) }
     ensures fault { IfErr result (λ fault. (p : Planning) → IsReplanFault (record { station = station.now; planner = p }) table.now fault) }
 {
@@ -121,7 +125,7 @@ impl<'a, R: Wait> Model for Station<'a, R> {
 
 impl<'a, R: Wait> Station<'a, R> {
     /// The station whose board this planner has, which begins with the station's plan.
-    pub(crate) fn begun(
+    pub(crate) fn of_planner(
         rt: &'a R,
         alloc: Global,
         equipment: &'a Equipment,
@@ -151,7 +155,7 @@ impl<'a, R: Wait> Station<'a, R> {
         ensures unchanged { OnErr result (self.new ≡ self.old) }
         ensures after { GoesOn self.old self.new }
     {
-        let plan = match replanned(self.alloc, self.equipment, table) {
+        let plan = match plan_of_table(self.alloc, self.equipment, table) {
             Ok(plan) => plan,
             Err(fault) => return Err(fault),
         };
@@ -162,7 +166,7 @@ impl<'a, R: Wait> Station<'a, R> {
     }
 
     /// Its list of plans: the opening one, and proposals of this station after it.
-    pub(crate) fn led(&self)
+    pub(crate) fn plans_are_of_station(&self)
         ensures { IsLed self.now }
     {
         let _ = &self.rt;
@@ -174,7 +178,7 @@ impl<'a, R: Wait> Station<'a, R> {
         ensures station { self.new ≡ self.old }
         ensures transmit { transmit.new ≡ told transmit.old self.old.planner.list }
         ensures beginning { IsPrefix transmit.old.watcher.list self.old.planner.list }
-        ensures stands { GoesOnBy transmit.old [] transmit.new }
+        ensures stands { GoesOnByCalls transmit.old [] transmit.new }
     {
         transmit.told(&mut self.planner);
     }

@@ -35,7 +35,7 @@ pub struct NotJoined;
 type Handles<W> = Vec<PromisedHandle<<W as Work>::Done, Doing<W>>>;
 
 // Starts a thread for each of the workers, in order.
-fn started<'s, E, W: Work + 's>(
+fn start_workers<'s, E, W: Work + 's>(
     scope: &'s Scope<'s, E>,
     alloc: Global,
     workers: Vec<W>,
@@ -58,7 +58,7 @@ fn started<'s, E, W: Work + 's>(
 }
 
 // What the workers of these threads did, in order.
-fn joined<R: Threads, W: Work>(rt: &R, handles: Handles<W>) -> Result<Vec<W::Done>, NotJoined>
+fn join_workers<R: Threads, W: Work>(rt: &R, handles: Handles<W>) -> Result<Vec<W::Done>, NotJoined>
     ensures { IfOk result (λ done. AllZip W.did (map (λ h. h.promise.0.value) handles.items) done.items) }
 {
     match join_promised(rt, handles) {
@@ -85,7 +85,7 @@ pub struct Ended<X: Drop, Y: Drop> {
 }
 
 // Starts the workers, does what is to be done meanwhile, and takes the workers in.
-fn worked<
+fn run_workers<
     's,
     E,
     R: Threads,
@@ -108,12 +108,12 @@ fn worked<
     ensures second { IfOk result (λ done. AllZip V.did second.items done.second.items) }
     ensures meanwhile { IfOk result (λ done. M.did meanwhile.old to.old to.new meanwhile.new (is_ok done.answer)) }
 {
-    let first = started(scope, alloc, first)?;
-    let second = started(scope, alloc, second)?;
+    let first = start_workers(scope, alloc, first)?;
+    let second = start_workers(scope, alloc, second)?;
     let answer = meanwhile.meanwhile(to);
     Ok(Ended {
-        first: joined(rt, first)?,
-        second: joined(rt, second)?,
+        first: join_workers(rt, first)?,
+        second: join_workers(rt, second)?,
         answer,
     })
 }
@@ -126,8 +126,8 @@ struct Lent<'b, S, M, X: Drop, Y: Drop> {
     ended: &'b mut Result<Ended<X, Y>, NotJoined>,
 }
 
-// Works as `worked` does, on what is lent.
-fn lent_worked<
+// Works as `run_workers` does, on what is lent.
+fn run_lent_workers<
     's,
     E,
     R: Threads,
@@ -151,7 +151,7 @@ fn lent_worked<
     ensures second { IfOk lent.new.ended.now (λ done. AllZip V.did second.items done.second.items) }
     ensures meanwhile { IfOk lent.new.ended.now (λ done. M.did lent.old.meanwhile.now lent.old.to.now lent.new.to.now lent.new.meanwhile.now (is_ok done.answer)) }
 {
-    *lent.ended = worked(
+    *lent.ended = run_workers(
         scope,
         rt,
         alloc,
@@ -163,7 +163,7 @@ fn lent_worked<
 }
 
 // Works in a scope of threads, and gives back what was lent.
-fn given_back<
+fn run_in_scope<
     'b,
     R: Threads + Wait,
     W: Work<Done = X>,
@@ -196,7 +196,7 @@ fn given_back<
             ensures meanwhile { IfOk result.ended.now (λ done. M.did lent.entry.meanwhile.now lent.entry.to.now result.to.now result.meanwhile.now (is_ok done.answer)) }
         {
             let mut lent = lent;
-            lent_worked(scope, rt, alloc, first, second, &mut lent);
+            run_lent_workers(scope, rt, alloc, first, second, &mut lent);
             lent
         },
     )
@@ -205,7 +205,7 @@ fn given_back<
 /// Runs each worker on a thread of its own, all at once, and what is to be done meanwhile on the calling thread.
 /// Where a thread cannot be started or taken in, no worker runs in its place; in any case the threads that were
 /// started have ended.
-pub fn at_once<
+pub fn run_at_once<
     R: Threads + Wait,
     W: Work<Done = X>,
     V: Work<Done = Y>,
@@ -232,7 +232,7 @@ pub fn at_once<
             meanwhile,
             ended: &mut ended,
         };
-        let _back = given_back(rt, alloc, first, second, lent);
+        let _back = run_in_scope(rt, alloc, first, second, lent);
     }
     ended
 }

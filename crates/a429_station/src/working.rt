@@ -11,7 +11,7 @@ use a429_workers::{
 
 /// A receiver with its line, before its loop.
 #[derive(Drop)]
-pub struct Receiving<'a, L: LineSource + Drop, G: Gate> {
+pub struct ReceiverWorker<'a, L: LineSource + Drop, G: Gate> {
     pub line: L,
     pub receiver: Receiver,
     pub number: usize,
@@ -26,7 +26,7 @@ pub struct Received<L> {
     pub answer: Result<ReceiveTotals, ReceiveFault>,
 }
 
-impl<'a, L: LineSource + Send + Drop, G: Gate + Sync> Work for Receiving<'a, L, G> {
+impl<'a, L: LineSource + Send + Drop, G: Gate + Sync> Work for ReceiverWorker<'a, L, G> {
     ghost use Rattle.a429_workers.specs.Receives.{Gives};
     ghost use Rattle.a429_station.specs.Working.{HasReceived};
 
@@ -36,7 +36,7 @@ impl<'a, L: LineSource + Send + Drop, G: Gate + Sync> Work for Receiving<'a, L, 
         w.line w.receiver d.line d.receiver d.answer };
 
     fn work(self) -> Received<L> {
-        let Receiving {
+        let ReceiverWorker {
             mut line,
             mut receiver,
             number,
@@ -53,7 +53,7 @@ impl<'a, L: LineSource + Send + Drop, G: Gate + Sync> Work for Receiving<'a, L, 
 
 /// A group with its sink, before its loop, at the first cell of a frame.
 #[derive(Drop)]
-pub struct Sending<'a, B: BusSink + Drop, G: Gate> {
+pub struct GroupWorker<'a, B: BusSink + Drop, G: Gate> {
     pub transmit: Transmit,
     pub sink: B,
     pub number: usize,
@@ -70,7 +70,7 @@ pub struct Emitted<B> {
     pub answer: Result<SendTotals, SendFault>,
 }
 
-impl<'a, B: BusSink + Send + Drop, G: Gate + Sync> Work for Sending<'a, B, G> {
+impl<'a, B: BusSink + Send + Drop, G: Gate + Sync> Work for GroupWorker<'a, B, G> {
     ghost use Rattle.a429_station.specs.Working.{HasEmitted};
 
     type Done = Emitted<B>;
@@ -79,7 +79,7 @@ impl<'a, B: BusSink + Send + Drop, G: Gate + Sync> Work for Sending<'a, B, G> {
         w.transmit w.sink d.transmit d.sink d.answer };
 
     fn work(self) -> Emitted<B> {
-        let Sending {
+        let GroupWorker {
             mut transmit,
             mut sink,
             number,
@@ -103,12 +103,12 @@ pub(crate) fn group_worker<'a, B: BusSink + Drop, G: Gate>(
     number: usize,
     frames: u32,
     gate: &'a G,
-) -> Sending<'a, B, G>
+) -> GroupWorker<'a, B, G>
     requires { transmit.frame.sent ≡ 0 }
     ensures group { (result.transmit ≡ transmit) × (result.sink ≡ sink) × (result.frames ≡ frames) }
     ensures gate { (result.number ≡ number) × (result.gate.now ≡ gate.now) }
 {
-    Sending {
+    GroupWorker {
         transmit,
         sink,
         number,

@@ -12,7 +12,7 @@ pub mod Own
 pub mod SoundRows
 pub mod Soundness
 pub mod Chained
-pub mod KeyPairs
+pub mod TriplePairs
 pub mod Labels
-pub mod Standing
+pub mod AtKeys
 pub mod Written

@@ -30,7 +30,7 @@ use Rattle.a429_table.specs.Stated.{stated, natural, number_of, label_of, receiv
 use Rattle.a429_table.specs.Reading.{document, reading, judged, root_of, read_root}
 use Rattle.a429_table.specs.AsWritten.{HasText, HasInteger, HasRows, HasSdi, HasHold, HasFilters, IsReceiverOf, IsSourceOf, IsGroupOf, IsOutputOf, IsAsWritten}
 use Rattle.a429_table.proofs.Absence.{IsAbsent, is_faultless, is_absent, row_holds, group_holds}
-use Rattle.a429_table.proofs.Standing.{HasArray, IsShaped, none_of, shaped, text_stands, integer_stands, array_stands, rows_of_array, get_mapped, named_at, rate_stands, written_label, sdi_in, hold_in, filters_in, number_in}
+use Rattle.a429_table.proofs.AtKeys.{HasArray, IsShaped, none_of, shaped, text_stands, integer_stands, array_stands, rows_of_array, get_mapped, named_at, rate_stands, written_label, sdi_in, hold_in, filters_in, number_in}
 
 -- ---- what the kinds say at one place
 

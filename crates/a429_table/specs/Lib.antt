@@ -9,8 +9,8 @@ pub mod Chains
 pub mod Names
 pub mod Numbers
 pub mod Faults
-pub mod KeyBuckets
-pub mod SourceKeys
+pub mod TripleBuckets
+pub mod SourceTriples
 pub mod Least
 pub mod Stated
 pub mod FilterTexts

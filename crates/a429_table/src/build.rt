@@ -6,9 +6,9 @@ ghost use Rattle.a429_table.specs.Tree.{rows_at};
 ghost use Rattle.a429_table.specs.Stops.{table_of};
 ghost use Rattle.a429_table.specs.Stated.{natural, label_of, filter_of, filter_row, filters_of, receiver_row, source_row, rate_at, rate_of, group_row, hold_of, output_row, output_rows};
 
-use crate::keys::sdi_at;
-use crate::numbers::Numbers;
+use crate::table_index::TableIndex;
 use crate::tree::{get_integer, integer_at, rows_at, text_at, text_of};
+use crate::triples::sdi_at;
 use crate::values::label_value;
 use a429_equipment::{GroupRow, Name, OutputRow, ReceiverRow, SourceRow, TableVersion};
 use a429_filter::{Filter, FilterSet};
@@ -120,11 +120,11 @@ pub fn receiver_rows(alloc: Global, tables: &[Value]) -> Result<Vec<ReceiverRow>
 }
 
 #[tactic(auto, unfolding(crate::specs::Stated::source_row))]
-fn source_row(alloc: Global, numbers: &Numbers<'_>, table: &Value) -> Result<SourceRow, AllocError>
-    ensures { IfOk result (λ r. r ≡ source_row (table_of numbers.now) (view table.now)) }
+fn source_row(alloc: Global, index: &TableIndex<'_>, table: &Value) -> Result<SourceRow, AllocError>
+    ensures { IfOk result (λ r. r ≡ source_row (table_of index.now) (view table.now)) }
 {
     let name = Name::copy_of(alloc, text_at(table, "name"))?;
-    let receiver = numbers.receiver(text_at(table, "receiver")).unwrap_or(0);
+    let receiver = index.receiver(text_at(table, "receiver")).unwrap_or(0);
     let label = Label::new(label_of(text_at(table, "label").as_bytes()));
     let sdi = sdi_at(table).map(sdi_number);
     Ok(SourceRow {
@@ -137,14 +137,14 @@ fn source_row(alloc: Global, numbers: &Numbers<'_>, table: &Value) -> Result<Sou
 
 pub fn source_rows(
     alloc: Global,
-    numbers: &Numbers<'_>,
+    index: &TableIndex<'_>,
     tables: &[Value],
 ) -> Result<Vec<SourceRow>, AllocError>
-    ensures { IfOk result (λ v. v.items ≡ map (source_row (table_of numbers.now)) (map view tables.now)) }
+    ensures { IfOk result (λ v. v.items ≡ map (source_row (table_of index.now)) (map view tables.now)) }
 {
     let mut rows = Vec::new(alloc);
     for table in tables {
-        rows.push(source_row(alloc, numbers, table)?)?;
+        rows.push(source_row(alloc, index, table)?)?;
     }
     Ok(rows)
 }
@@ -183,27 +183,27 @@ fn hold_of(version: TableVersion, output: &Value) -> Option<u32>
 }
 
 #[tactic(auto, unfolding(crate::specs::Stated::output_row))]
-fn output_row(numbers: &Numbers<'_>, table: &Value) -> OutputRow
-    ensures { result ≡ output_row (table_of numbers.now) (view table.now) }
+fn output_row(index: &TableIndex<'_>, table: &Value) -> OutputRow
+    ensures { result ≡ output_row (table_of index.now) (view table.now) }
 {
     OutputRow {
-        source: numbers.source(text_at(table, "source")).unwrap_or(0),
+        source: index.source(text_at(table, "source")).unwrap_or(0),
         min_us: number(integer_at(table, "min_us")),
         max_us: number(integer_at(table, "max_us")),
-        hold: hold_of(numbers.version, table),
+        hold: hold_of(index.version, table),
     }
 }
 
 fn output_rows(
     alloc: Global,
-    numbers: &Numbers<'_>,
+    index: &TableIndex<'_>,
     tables: &[Value],
 ) -> Result<Vec<OutputRow>, AllocError>
-    ensures { IfOk result (λ v. v.items ≡ map (output_row (table_of numbers.now)) (map view tables.now)) }
+    ensures { IfOk result (λ v. v.items ≡ map (output_row (table_of index.now)) (map view tables.now)) }
 {
     let mut rows = Vec::new(alloc);
     for table in tables {
-        rows.push(output_row(numbers, table))?;
+        rows.push(output_row(index, table))?;
     }
     Ok(rows)
 }
@@ -211,14 +211,14 @@ fn output_rows(
 /// The outputs of each group.
 pub fn group_outputs(
     alloc: Global,
-    numbers: &Numbers<'_>,
+    index: &TableIndex<'_>,
     groups: &[Value],
 ) -> Result<Vec<Vec<OutputRow>>, AllocError>
-    ensures { IfOk result (λ v. map (λ w. w.items) v.items ≡ map (output_rows (table_of numbers.now)) (map view groups.now)) }
+    ensures { IfOk result (λ v. map (λ w. w.items) v.items ≡ map (output_rows (table_of index.now)) (map view groups.now)) }
 {
     let mut outputs = Vec::new(alloc);
     for group in groups {
-        outputs.push(output_rows(alloc, numbers, rows_at(group, "output"))?)?;
+        outputs.push(output_rows(alloc, index, rows_at(group, "output"))?)?;
     }
     Ok(outputs)
 }

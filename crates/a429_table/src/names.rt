@@ -8,7 +8,7 @@ ghost use Rattle.a429_table.specs.Names.{is_below, name_of};
 ghost use Rattle.a429_table.specs.Faults.{repeats_name, names_nothing};
 
 use crate::fault::TablePlace;
-use crate::numbers::Numbers;
+use crate::table_index::TableIndex;
 use crate::tree::text_at;
 use crate::walk::Stop;
 use toml::Value;
@@ -28,13 +28,13 @@ fn name_of(table: &Value) -> &str
 
 /// The name is that of an earlier table of the same array.
 #[tactic(auto, unfolding(crate::specs::Faults::repeats_name, crate::specs::Walk::earlier), using(crate::proofs::NameNumbers::named_before))]
-pub fn repeats_name(numbers: &Numbers<'_>, stop: &Stop) -> bool
-    ensures { result ≡ repeats_name (table_of numbers.now) stop.now.place (view stop.now.value.now) }
+pub fn repeats_name(index: &TableIndex<'_>, stop: &Stop) -> bool
+    ensures { result ≡ repeats_name (table_of index.now) stop.now.place (view stop.now.value.now) }
 {
     match stop.place {
-        TablePlace::Receiver(row) => is_below(numbers.receiver(name_of(stop.value)), row),
-        TablePlace::Source(row) => is_below(numbers.source(name_of(stop.value)), row),
-        TablePlace::Group(row) => is_below(numbers.group(name_of(stop.value)), row),
+        TablePlace::Receiver(row) => is_below(index.receiver(name_of(stop.value)), row),
+        TablePlace::Source(row) => is_below(index.source(name_of(stop.value)), row),
+        TablePlace::Group(row) => is_below(index.group(name_of(stop.value)), row),
         _ => false,
     }
 }
@@ -47,12 +47,12 @@ fn is_below(number: Option<usize>, row: usize) -> bool
 
 /// A source's receiver or an output's source has no table.
 #[tactic(auto, unfolding(crate::specs::Faults::names_nothing))]
-pub fn names_nothing(numbers: &Numbers<'_>, stop: &Stop) -> bool
-    ensures { result ≡ names_nothing (table_of numbers.now) stop.now.place (view stop.now.value.now) }
+pub fn names_nothing(index: &TableIndex<'_>, stop: &Stop) -> bool
+    ensures { result ≡ names_nothing (table_of index.now) stop.now.place (view stop.now.value.now) }
 {
     match stop.place {
-        TablePlace::Source(_) => numbers.receiver(text_at(stop.value, "receiver")).is_none(),
-        TablePlace::Output(_, _) => numbers.source(text_at(stop.value, "source")).is_none(),
+        TablePlace::Source(_) => index.receiver(text_at(stop.value, "receiver")).is_none(),
+        TablePlace::Output(_, _) => index.source(text_at(stop.value, "source")).is_none(),
         _ => false,
     }
 }

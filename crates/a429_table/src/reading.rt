@@ -10,8 +10,8 @@ ghost use Rattle.a429_table.specs.Stops.{table_of};
 use crate::build::{group_outputs, group_rows, rate_of, receiver_rows, source_rows};
 use crate::document::document;
 use crate::fault::TableFault;
-use crate::numbers::Numbers;
 use crate::search::fault_of;
+use crate::table_index::TableIndex;
 use crate::tree::rows_at;
 use crate::version::version_of;
 use a429_equipment::{Equipment, StationRows};
@@ -27,49 +27,49 @@ pub fn read_equipment(alloc: Global, bytes: &[u8]) -> Result<Equipment, TableFau
     ensures { GivesUnlessMemory (λ e. e) bytes.now result (reading bytes.now) }
 {
     let root = document(alloc, bytes)?;
-    of_root(alloc, &root)
+    equipment_of_root(alloc, &root)
 }
 
 /// The equipment of a root table, or its first fault.
-fn of_root(alloc: Global, root: &Value) -> Result<Equipment, TableFault>
+fn equipment_of_root(alloc: Global, root: &Value) -> Result<Equipment, TableFault>
     ensures { IsJudged (view root.now) result }
 {
-    let numbers = Numbers::of(alloc, root)?;
-    of_numbers(alloc, &numbers)
+    let index = TableIndex::of(alloc, root)?;
+    equipment_of_index(alloc, &index)
 }
 
 /// The same, once the names of the table have numbers.
-fn of_numbers(alloc: Global, numbers: &Numbers<'_>) -> Result<Equipment, TableFault>
-    ensures { IsJudged (table_of numbers.now) result }
+fn equipment_of_index(alloc: Global, index: &TableIndex<'_>) -> Result<Equipment, TableFault>
+    ensures { IsJudged (table_of index.now) result }
 {
-    if let Some((kind, place)) = fault_of(alloc, numbers)? {
+    if let Some((kind, place)) = fault_of(alloc, index)? {
         return Err(TableFault::At(kind, place));
     }
-    Ok(stated_by(alloc, numbers)?)
+    Ok(build_equipment(alloc, index)?)
 }
 
 /// The equipment of a table without faults.
-fn stated_by(alloc: Global, numbers: &Numbers<'_>) -> Result<Equipment, AllocError>
-    requires { first (faults (table_of numbers.now)) ≡ None }
-    ensures { IfOk result (λ e. e ≡ stated (table_of numbers.now)) }
+fn build_equipment(alloc: Global, index: &TableIndex<'_>) -> Result<Equipment, AllocError>
+    requires { first (faults (table_of index.now)) ≡ None }
+    ensures { IfOk result (λ e. e ≡ stated (table_of index.now)) }
 {
-    let rows = stated_rows(alloc, numbers)?;
+    let rows = build_rows(alloc, index)?;
     Equipment::of_rows(alloc, rows)
 }
 
 /// The rows of a table without faults.
 #[tactic(auto, unfolding(crate::specs::Stated::stated))]
-fn stated_rows(alloc: Global, numbers: &Numbers<'_>) -> Result<StationRows, AllocError>
-    requires { first (faults (table_of numbers.now)) ≡ None }
-    ensures { IfOk result (λ rows. record_of rows ≡ stated (table_of numbers.now)) }
+fn build_rows(alloc: Global, index: &TableIndex<'_>) -> Result<StationRows, AllocError>
+    requires { first (faults (table_of index.now)) ≡ None }
+    ensures { IfOk result (λ rows. record_of rows ≡ stated (table_of index.now)) }
 {
-    let root = numbers.root;
+    let root = index.root;
     let receivers = receiver_rows(alloc, rows_at(root, "receiver"))?;
-    let sources = source_rows(alloc, numbers, rows_at(root, "source"))?;
+    let sources = source_rows(alloc, index, rows_at(root, "source"))?;
     let version = version_of(root);
     let rate = rate_of(version, root);
     let groups = group_rows(alloc, rate, rows_at(root, "group"))?;
-    let outputs = group_outputs(alloc, numbers, rows_at(root, "group"))?;
+    let outputs = group_outputs(alloc, index, rows_at(root, "group"))?;
     Ok(StationRows {
         version,
         rate,

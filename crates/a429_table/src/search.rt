@@ -8,9 +8,9 @@ ghost use Rattle.a429_table.specs.Faults.{first, faults, faults_of, stands};
 
 use crate::fault::{FaultKind, TablePlace};
 use crate::names::{names_nothing, repeats_name};
-use crate::numbers::Numbers;
 use crate::repeats::{repeats_output, repeats_source};
 use crate::shape::{has_unknown_key, has_wrong_kind, has_wrong_version, lacks_key};
+use crate::table_index::TableIndex;
 use crate::values::{
     has_bad_hold, has_bad_interval, has_bad_label, has_bad_name, has_bad_sdi, has_too_many,
     has_wrong_rate, is_empty_group,
@@ -39,48 +39,48 @@ const KINDS: [FaultKind; 16] = [
 ];
 
 #[tactic(auto, unfolding(crate::specs::Faults::stands))]
-fn stands(numbers: &Numbers<'_>, kind: FaultKind, stop: &Stop) -> bool
-    ensures { result ≡ stands (table_of numbers.now) kind (stop_view stop.now) }
+fn stands(index: &TableIndex<'_>, kind: FaultKind, stop: &Stop) -> bool
+    ensures { result ≡ stands (table_of index.now) kind (stop_view stop.now) }
 {
     match kind {
         FaultKind::NotToml => false,
         FaultKind::Version => has_wrong_version(stop),
-        FaultKind::UnknownKey => has_unknown_key(numbers.version, stop),
-        FaultKind::MissingKey => lacks_key(numbers.version, stop),
-        FaultKind::WrongKind => has_wrong_kind(numbers.version, stop),
-        FaultKind::Rate => has_wrong_rate(numbers.version, stop),
+        FaultKind::UnknownKey => has_unknown_key(index.version, stop),
+        FaultKind::MissingKey => lacks_key(index.version, stop),
+        FaultKind::WrongKind => has_wrong_kind(index.version, stop),
+        FaultKind::Rate => has_wrong_rate(index.version, stop),
         FaultKind::TooMany => has_too_many(stop),
         FaultKind::Name => has_bad_name(stop),
-        FaultKind::DuplicateName => repeats_name(numbers, stop),
+        FaultKind::DuplicateName => repeats_name(index, stop),
         FaultKind::Label => has_bad_label(stop),
         FaultKind::Sdi => has_bad_sdi(stop),
         FaultKind::Interval => has_bad_interval(stop),
-        FaultKind::UnknownName => names_nothing(numbers, stop),
-        FaultKind::DuplicateSource => repeats_source(numbers, stop),
-        FaultKind::DuplicateOutput => repeats_output(numbers, stop),
+        FaultKind::UnknownName => names_nothing(index, stop),
+        FaultKind::DuplicateSource => repeats_source(index, stop),
+        FaultKind::DuplicateOutput => repeats_output(index, stop),
         FaultKind::EmptyGroup => is_empty_group(stop),
         FaultKind::Hold => has_bad_hold(stop),
     }
 }
 
 /// The first place in walk order at which a kind stands.
-fn first_place(numbers: &Numbers<'_>, stops: &[Stop], kind: FaultKind) -> Option<TablePlace>
-    ensures { result ≡ option_map (λ s. s.0) (find (stands (table_of numbers.now) kind) (map stop_view stops.now)) }
+fn first_place(index: &TableIndex<'_>, stops: &[Stop], kind: FaultKind) -> Option<TablePlace>
+    ensures { result ≡ option_map (λ s. s.0) (find (stands (table_of index.now) kind) (map stop_view stops.now)) }
 {
-    let found = stops.iter().find(|stop| stands(numbers, kind, stop))?;
+    let found = stops.iter().find(|stop| stands(index, kind, stop))?;
     Some(found.place)
 }
 
 fn first_of_kinds(
-    numbers: &Numbers<'_>,
+    index: &TableIndex<'_>,
     stops: &[Stop],
     kinds: &[FaultKind],
 ) -> Option<(FaultKind, TablePlace)>
-    requires { map stop_view stops.now ≡ walk (table_of numbers.now) }
-    ensures { result ≡ first (flat_map (faults_of (table_of numbers.now)) kinds.now) }
+    requires { map stop_view stops.now ≡ walk (table_of index.now) }
+    ensures { result ≡ first (flat_map (faults_of (table_of index.now)) kinds.now) }
 {
     for kind in kinds {
-        if let Some(place) = first_place(numbers, stops, *kind) {
+        if let Some(place) = first_place(index, stops, *kind) {
             return Some((*kind, place));
         }
     }
@@ -89,20 +89,20 @@ fn first_of_kinds(
 
 /// The first fault, by kind and then in walk order.
 #[tactic(auto, unfolding(crate::specs::Faults::faults, crate::specs::Faults::kinds))]
-fn first_fault(numbers: &Numbers<'_>, stops: &[Stop]) -> Option<(FaultKind, TablePlace)>
-    requires { map stop_view stops.now ≡ walk (table_of numbers.now) }
-    ensures { result ≡ first (faults (table_of numbers.now)) }
+fn first_fault(index: &TableIndex<'_>, stops: &[Stop]) -> Option<(FaultKind, TablePlace)>
+    requires { map stop_view stops.now ≡ walk (table_of index.now) }
+    ensures { result ≡ first (faults (table_of index.now)) }
 {
-    first_of_kinds(numbers, stops, &KINDS)
+    first_of_kinds(index, stops, &KINDS)
 }
 
 /// The first fault of a table.
 pub fn fault_of(
     alloc: Global,
-    numbers: &Numbers<'_>,
+    index: &TableIndex<'_>,
 ) -> Result<Option<(FaultKind, TablePlace)>, AllocError>
-    ensures { IfOk result (λ fault. fault ≡ first (faults (table_of numbers.now))) }
+    ensures { IfOk result (λ fault. fault ≡ first (faults (table_of index.now))) }
 {
-    let stops = walk(alloc, numbers.root)?;
-    Ok(first_fault(numbers, &stops))
+    let stops = walk(alloc, index.root)?;
+    Ok(first_fault(index, &stops))
 }

@@ -1,7 +1,7 @@
 //! Boards of real plans, and a watcher in a thread of its own.
 ghost use Rattle.std.specs.Prelude.{◌≡◌};
 
-use crate::support::{ONE, one_of, planned};
+use crate::support::{ONE, one_of, plan_of};
 use a429_board::{Board, BoardFault, Planner, Watcher};
 use a429_slots::{OUTPUTS, Plan};
 use a429_table::read_equipment;
@@ -14,7 +14,7 @@ use std::thread::{Threads, for_each_mut, join_mut};
 /// The plan of one source, of number 0.
 fn opening<R: Abort>(rt: &R, alloc: Global) -> Plan<OUTPUTS> {
     let equipment = read_equipment(alloc, ONE.as_bytes()).expect(rt, "a table");
-    planned(rt, alloc, &equipment)
+    plan_of(rt, alloc, &equipment)
 }
 
 /// A board with two watchers.

@@ -98,7 +98,7 @@ impl<'a, R: Wait> Control<R> for MarksRun<'a> {
 }
 
 /// Runs the station of a table, with these words for its receivers.
-fn ran<R: Threads + Wait + Abort, G: Gate + Sync, K: Control<R>>(
+fn run_station<R: Threads + Wait + Abort, G: Gate + Sync, K: Control<R>>(
     rt: &R,
     alloc: Global,
     table: &str,
@@ -150,7 +150,9 @@ fn word_taken_before_a_cell_goes_out_in_it(rt: HostRuntime) {
         made: &made,
     };
     let words: &[&[u32]] = &[&[FIRST, SECOND]];
-    let report = ran(&rt, rt.alloc(), ONE, words, 1, &gate, &mut NoControl).expect(&rt, "a report");
+    let report = run_station(&rt, rt.alloc(), ONE, words, 1, &gate, &mut NoControl).expect(
+        &rt, "a report",
+    );
     assert_eq!(rt; accepted(&report, 0), Some(2));
     assert_eq!(rt; cells(&report, 0), Some(1));
     let first = first_cell(&report).expect(&rt, "a cell");
@@ -168,7 +170,9 @@ fn workers_and_control_run_at_once(rt: HostRuntime) {
     };
     let words: &[&[u32]] = &[&[0x00000080], &[0x00000040]];
     let mut control = MarksRun { made: &made };
-    let report = ran(&rt, rt.alloc(), TWO, words, 1, &gate, &mut control).expect(&rt, "a report");
+    let report = run_station(&rt, rt.alloc(), TWO, words, 1, &gate, &mut control).expect(
+        &rt, "a report",
+    );
     assert_eq!(rt;
         (accepted(&report, 0), accepted(&report, 1)),
         (Some(1), Some(1))
@@ -179,7 +183,7 @@ fn workers_and_control_run_at_once(rt: HostRuntime) {
 #[test]
 fn frames_of_one_run_are_few(rt: HostRuntime) {
     let words: &[&[u32]] = &[&[FIRST]];
-    let answer = ran(
+    let answer = run_station(
         &rt,
         rt.alloc(),
         ONE,
@@ -189,7 +193,7 @@ fn frames_of_one_run_are_few(rt: HostRuntime) {
         &mut NoControl,
     );
     assert!(rt; answer.err() == Some(LiveFault::TooMuch));
-    let report = ran(&rt, rt.alloc(), ONE, words, 0, &OpenGate, &mut NoControl).expect(
+    let report = run_station(&rt, rt.alloc(), ONE, words, 0, &OpenGate, &mut NoControl).expect(
         &rt, "a report",
     );
     assert_eq!(rt;
@@ -203,7 +207,7 @@ fn words_and_cells_are_counted(rt: HostRuntime) {
     // A frame has four slots of one bus.
     let table = three(&rt, rt.alloc(), (1, 720), (1, 1440), (1, 1440));
     let words: &[&[u32]] = &[&[0x00000080, EVEN, 0x80000021]];
-    let report = ran(
+    let report = run_station(
         &rt,
         rt.alloc(),
         table.as_str(),
@@ -266,7 +270,7 @@ fn resubmitted_plans_come_into_force(rt: HostRuntime) {
         unread: false,
     };
     let words: &[&[u32]] = &[&[]];
-    let report = ran(
+    let report = run_station(
         &rt,
         rt.alloc(),
         table.as_str(),

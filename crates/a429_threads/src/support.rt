@@ -109,7 +109,7 @@ pub fn three<R: Abort>(
 }
 
 /// The plan of an equipment, of number 0.
-pub fn planned<R: Abort>(rt: &R, alloc: Global, equipment: &Equipment) -> Plan<OUTPUTS> {
+pub fn plan_of<R: Abort>(rt: &R, alloc: Global, equipment: &Equipment) -> Plan<OUTPUTS> {
     // A reader tells that the tables of groups have room.
     let _groups = equipment.groups();
     plan(alloc, equipment).expect(rt, "a plan")

@@ -6,7 +6,7 @@ ghost use Rattle.a429_workers.specs.Transmitting.{IsSameGroup};
 mod devices;
 mod loops;
 
-use crate::support::{FIRST, one_of, planned, three};
+use crate::support::{FIRST, one_of, plan_of, three};
 use a429_board::{Board, Planner};
 use a429_equipment::Equipment;
 use a429_slots::{OUTPUTS, Plan};
@@ -74,7 +74,7 @@ fn ends<R: Abort>(rt: &R, alloc: Global, equipment: &Equipment) -> (Receiver, Tr
 }
 
 /// A transmitter of the group that begins with this plan at this slot, where slots are left, and the planner of its board.
-fn opened<R: Wait + Abort>(
+fn open_transmit<R: Wait + Abort>(
     rt: &R,
     alloc: Global,
     transmitter: Transmitter,
@@ -93,7 +93,7 @@ fn opened<R: Wait + Abort>(
 
 /// The receiver of an equipment, the transmitter of its group by the equipment's plan from slot 0 on, and the planner of
 /// its board.
-fn begun<R: Wait + Abort>(
+fn open_workers<R: Wait + Abort>(
     rt: &R,
     alloc: Global,
     equipment: &Equipment,
@@ -102,9 +102,9 @@ fn begun<R: Wait + Abort>(
     ensures receiver { result.0.at ≡ result.1.transmitter.at }
     ensures group { (result.1.watcher.book ≡ result.2.book) × (result.1.frame.sent ≡ 0) }
 {
-    let plan = planned(rt, alloc, equipment);
+    let plan = plan_of(rt, alloc, equipment);
     let (receiver, transmitter) = ends(rt, alloc, equipment);
-    let (transmit, planner) = opened(rt, alloc, transmitter, plan, 0);
+    let (transmit, planner) = open_transmit(rt, alloc, transmitter, plan, 0);
     (receiver, transmit.expect(rt, "a transmitter"), planner)
 }
 
@@ -142,7 +142,7 @@ fn changes(transmit: &mut Transmit, answer: Result<u64, ChangeFault>) -> bool
 }
 
 /// Accepts a word and meets the receiver.
-fn heard(transmit: &mut Transmit, receiver: &mut Receiver, raw: u32) -> Accept
+fn accept_and_meet(transmit: &mut Transmit, receiver: &mut Receiver, raw: u32) -> Accept
     requires { receiver.old.at ≡ transmit.old.transmitter.at }
     ensures group { IsSameGroup transmit.old transmit.new }
     ensures receiver { IsSameReceiver receiver.old receiver.new }
@@ -153,7 +153,7 @@ fn heard(transmit: &mut Transmit, receiver: &mut Receiver, raw: u32) -> Accept
 }
 
 /// Publishes a plan and tells the transmitter.
-fn newer<R: Wait>(
+fn publish_and_tell<R: Wait>(
     rt: &R,
     transmit: &mut Transmit,
     planner: &mut Planner,
@@ -188,11 +188,11 @@ const EMPTY: &[Row] = &[
 /// A transmitter that has sent its first frame, with c in these intervals in us, and the planner that has published a
 /// plan of two buses meanwhile.
 fn after_a_frame<R: Wait + Abort>(rt: &R, alloc: Global, c: (u32, u32)) -> (Transmit, Planner) {
-    let next = planned(rt, alloc, &standard(rt, alloc, (1, 720), (1, 720), c));
+    let next = plan_of(rt, alloc, &standard(rt, alloc, (1, 720), (1, 720), c));
     let equipment = standard(rt, alloc, (1, 720), (1, 1440), c);
-    let (mut receiver, mut transmit, mut planner) = begun(rt, alloc, &equipment);
-    let accepted = heard(&mut transmit, &mut receiver, WORD);
-    let number = newer(rt, &mut transmit, &mut planner, next);
+    let (mut receiver, mut transmit, mut planner) = open_workers(rt, alloc, &equipment);
+    let accepted = accept_and_meet(&mut transmit, &mut receiver, WORD);
+    let number = publish_and_tell(rt, &mut transmit, &mut planner, next);
     assert!(rt; accepted == Accept::Accepted(2) && number == Some(1));
     assert!(rt; sends(&mut transmit, FRAME));
     (transmit, planner)
@@ -226,13 +226,13 @@ fn words_keep_their_least_spacing_across_plans(rt: HostRuntime) {
 fn a_word_is_sent_as_often_as_it_may_be_held(rt: HostRuntime) {
     let alloc = rt.alloc();
     let equipment = read(&rt, alloc, HELD);
-    let (mut receiver, mut transmit, planner) = begun(&rt, alloc, &equipment);
-    let first = heard(&mut transmit, &mut receiver, FIRST);
+    let (mut receiver, mut transmit, planner) = open_workers(&rt, alloc, &equipment);
+    let first = accept_and_meet(&mut transmit, &mut receiver, FIRST);
     let once = sends(&mut transmit, &[(0, 0, Some(FIRST))]) && changes(&mut transmit, Ok(0));
     let twice = sends(&mut transmit, &[(0, 1, Some(FIRST))]) && changes(&mut transmit, Ok(0));
     let held = sends(&mut transmit, &[(0, 2, None)]);
     // An equal word that is accepted again is another one.
-    let second = heard(&mut transmit, &mut receiver, FIRST);
+    let second = accept_and_meet(&mut transmit, &mut receiver, FIRST);
     let anew = changes(&mut transmit, Ok(0)) && sends(&mut transmit, &[(0, 3, Some(FIRST))]);
     planner.close(&rt);
     assert_eq!(rt; (first, second), (Accept::Accepted(0), Accept::Accepted(0)));
@@ -244,9 +244,9 @@ fn slots_are_counted_to_the_last(rt: HostRuntime) {
     let alloc = rt.alloc();
     let equipment = standard(&rt, alloc, (1, 720), (1, 1440), (1, 1440));
     let (_, transmitter) = ends(&rt, alloc, &equipment);
-    let opening = planned(&rt, alloc, &equipment);
+    let opening = plan_of(&rt, alloc, &equipment);
     let first = u64::MAX - 4;
-    let (transmit, planner) = opened(&rt, alloc, transmitter, opening, first);
+    let (transmit, planner) = open_transmit(&rt, alloc, transmitter, opening, first);
     let mut transmit = transmit.expect(&rt, "a transmitter");
     let cells = [
         (0, first, None),
@@ -260,7 +260,7 @@ fn slots_are_counted_to_the_last(rt: HostRuntime) {
     planner.close(&rt);
     assert!(rt; sent && spent && over);
     let (_, transmitter) = ends(&rt, alloc, &equipment);
-    let (refused, planner) = opened(&rt, alloc, transmitter, opening, first + 1);
+    let (refused, planner) = open_transmit(&rt, alloc, transmitter, opening, first + 1);
     planner.close(&rt);
     assert!(rt; refused.err() == Some(OpenFault::SlotsSpent));
 }

@@ -19,14 +19,14 @@ pub record Place : Type 0 where
   pub station : TableRecord
 
 -- a receiver: its number, how many words of one source it accepts at most, and what it accepted, as pairs of a source's number and a word
-pub record Receiving : Type 0 where
+pub record ReceiverEnd : Type 0 where
   pub at : Place
   pub number : ℕ
   pub limit : ℕ
   pub accepted : List (ℕ × ℕ)
 
 -- a transmitter: its group's number, and its loads
-pub record Sending : Type 0 where
+pub record TransmitterEnd : Type 0 where
   pub at : Place
   pub number : ℕ
   pub loads : List Load
@@ -49,7 +49,7 @@ sorted_answer limit A (Ok s) = if nat_lt (length (words_of s A)) limit then Acce
 sorted_answer limit A (Err refusal) = refusal_of refusal
 
 -- the answer to a raw word, by the receiver's own list
-abbrev pub accept_answer : Receiving → ℕ → Accept
+abbrev pub accept_answer : ReceiverEnd → ℕ → Accept
 accept_answer r raw = sorted_answer r.limit r.accepted (sorted r.at.station r.number raw)
 
 -- an accepted word is appended, and nothing else
@@ -63,7 +63,7 @@ with_answer A raw CountSpent = A
 -- ---- loading
 
 -- these loads are appended, and nothing else
-abbrev pub with_loads : Sending → List Load → Sending
+abbrev pub with_loads : TransmitterEnd → List Load → TransmitterEnd
 with_loads t loads = record t { loads = t.loads ++ loads }
 
 -- ---- how the ends stand for this

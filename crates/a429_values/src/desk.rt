@@ -4,9 +4,9 @@ ghost use Rattle.std.specs.List.{list_any};
 ghost use Rattle.a429_values.specs.Seats.{IsAt, SitsAt, Stays};
 ghost use Rattle.a429_values.specs.Views.{CanDeal, CanDealTransmitter, Deals, DealsTransmitter};
 
-use crate::board::{Board, Chosen, HubSeat};
 use crate::hub::Hub;
 use crate::receiver::Receiver;
+use crate::shared_words::{Chosen, HubSeat, SharedWords};
 use crate::steps::{receiver_step, transmitter_step};
 use crate::transmitter::Transmitter;
 use crate::wired::zeros;
@@ -103,7 +103,7 @@ impl Desk {
         if receivers.push(number).is_err() {
             return Err(HubFault::NoMemory);
         }
-        let badge = cut_receiver(&wired.board, seat, number).into_badge();
+        let badge = cut_receiver(&wired.shared_words, seat, number).into_badge();
         Ok(Receiver {
             wired,
             badge,
@@ -139,7 +139,7 @@ impl Desk {
         if transmitters.push(number).is_err() {
             return Err(HubFault::NoMemory);
         }
-        let seat = cut_transmitter(&wired.board, seat, number);
+        let seat = cut_transmitter(&wired.shared_words, seat, number);
         Ok(Transmitter {
             wired,
             seat,
@@ -148,40 +148,48 @@ impl Desk {
     }
 }
 
-fn cut_receiver_as<N: Chosen>(board: &Board, seat: &mut HubSeat, number: usize) -> HubSeat
+fn cut_receiver_as<N: Chosen>(
+    shared_words: &SharedWords,
+    seat: &mut HubSeat,
+    number: usize,
+) -> HubSeat
     requires number { number ≡ N.number }
-    requires seat { SitsAt board.now.shared.table_id seat.old }
+    requires seat { SitsAt shared_words.now.shared.table_id seat.old }
     requires view { CanDeal seat.old.me.0 number }
     ensures seat { Stays seat.old seat.new × Stays seat.old result }
     ensures view { Deals seat.old.me.0 number seat.new.me.0 result.me.0 }
 {
-    receiver_step::<N>(board, seat)
+    receiver_step::<N>(shared_words, seat)
 }
 
-fn cut_receiver(board: &Board, seat: &mut HubSeat, number: usize) -> HubSeat
-    requires seat { SitsAt board.now.shared.table_id seat.old }
+fn cut_receiver(shared_words: &SharedWords, seat: &mut HubSeat, number: usize) -> HubSeat
+    requires seat { SitsAt shared_words.now.shared.table_id seat.old }
     requires view { CanDeal seat.old.me.0 number }
     ensures seat { Stays seat.old seat.new × Stays seat.old result }
     ensures view { Deals seat.old.me.0 number seat.new.me.0 result.me.0 }
 {
-    cut_receiver_as::<Brand>(board, seat, number)
+    cut_receiver_as::<Brand>(shared_words, seat, number)
 }
 
-fn cut_transmitter_as<N: Chosen>(board: &Board, seat: &mut HubSeat, number: usize) -> HubSeat
+fn cut_transmitter_as<N: Chosen>(
+    shared_words: &SharedWords,
+    seat: &mut HubSeat,
+    number: usize,
+) -> HubSeat
     requires number { number ≡ N.number }
-    requires seat { SitsAt board.now.shared.table_id seat.old }
+    requires seat { SitsAt shared_words.now.shared.table_id seat.old }
     requires view { CanDealTransmitter seat.old.me.0 number }
     ensures seat { Stays seat.old seat.new × Stays seat.old result }
     ensures view { DealsTransmitter seat.old.me.0 number seat.new.me.0 result.me.0 }
 {
-    transmitter_step::<N>(board, seat)
+    transmitter_step::<N>(shared_words, seat)
 }
 
-fn cut_transmitter(board: &Board, seat: &mut HubSeat, number: usize) -> HubSeat
-    requires seat { SitsAt board.now.shared.table_id seat.old }
+fn cut_transmitter(shared_words: &SharedWords, seat: &mut HubSeat, number: usize) -> HubSeat
+    requires seat { SitsAt shared_words.now.shared.table_id seat.old }
     requires view { CanDealTransmitter seat.old.me.0 number }
     ensures seat { Stays seat.old seat.new × Stays seat.old result }
     ensures view { DealsTransmitter seat.old.me.0 number seat.new.me.0 result.me.0 }
 {
-    cut_transmitter_as::<Brand>(board, seat, number)
+    cut_transmitter_as::<Brand>(shared_words, seat, number)
 }

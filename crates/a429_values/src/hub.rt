@@ -1,8 +1,8 @@
 //! A hub: the table that its ends share.
 ghost use Rattle.std.specs.Prelude.{◌≡◌, ◌≤◌, ◌-◌, ◌^◌, [], length, IfOk};
 
-use crate::board::{Board, HubSeat};
 use crate::desk::Desk;
+use crate::shared_words::{HubSeat, SharedWords};
 use crate::wired::{Wired, zeros};
 use a429_equipment::Equipment;
 use atomic_table::Table;
@@ -43,9 +43,19 @@ impl<const S: usize, const C: u32> Hub<S, C> {
         // Seats step on the first word, also where there is no source.
         let words = zeros(alloc, S.max(1))?;
         let about = Snapshot::of(equipment);
-        let (board, seat): (Board, HubSeat) = Table::of_words(alloc, words.as_slice(), &about)?;
+        let (shared_words, seat): (SharedWords, HubSeat) = Table::of_words(
+            alloc,
+            words.as_slice(),
+            &about,
+        )?;
         let equipment = equipment.copied(alloc)?;
-        let wired = Arc::new(alloc, Wired { board, equipment })?;
+        let wired = Arc::new(
+            alloc,
+            Wired {
+                shared_words,
+                equipment,
+            },
+        )?;
         Ok((Hub { wired }, Desk::of_seat(alloc, seat)))
     }
 }

@@ -2,10 +2,10 @@
 //! the last accepted one, each by one step on one word of a table.
 #![tactic(auto)]
 
-mod board;
 mod desk;
 mod hub;
 mod receiver;
+mod shared_words;
 mod steps;
 mod transmitter;
 mod view;

@@ -5,7 +5,7 @@ ghost use Rattle.a429_values.specs.Ends.{accept_answer, with_answer};
 ghost use Rattle.a429_values.specs.Seats.{HasWordOf, IsAt, Stays};
 ghost use Rattle.a429_values.specs.Views.{with_accepted, IsReceiverOf, IsNextCount};
 
-use crate::board::{Board, Chosen, HubSeat};
+use crate::shared_words::{Chosen, HubSeat, SharedWords};
 use crate::steps::accept_step;
 use crate::view::View;
 use crate::wired::Wired;
@@ -61,10 +61,10 @@ pub struct Receiver {
 
 impl Model for Receiver {
     ghost use Rattle.std.specs.Arc.{arc_value};
-    ghost use Rattle.a429_values.specs.Ends.{Receiving, IsReceiving, view_in};
+    ghost use Rattle.a429_values.specs.Ends.{ReceiverEnd, IsReceiving, view_in};
     ghost use Rattle.a429_values.specs.Wires.{place_of};
 
-    ghost Value = { Receiving };
+    ghost Value = { ReceiverEnd };
 
     ghost view = { λ r. record {
       at = place_of (arc_value r.wired);
@@ -76,30 +76,36 @@ impl Model for Receiver {
     ghost invariant = { λ r. IsReceiving (place_of (arc_value r.wired)) r.number r.limit r.counts.items r.badge.table_id r.badge.views };
 }
 
-fn store_as<N: Chosen>(board: &Board, seat: &mut HubSeat, source: usize, count: u64, word: Word)
+fn store_as<N: Chosen>(
+    shared_words: &SharedWords,
+    seat: &mut HubSeat,
+    source: usize,
+    count: u64,
+    word: Word,
+)
     requires number { word ≡ N.number }
-    requires seat { IsAt board.now.shared.table_id seat.old }
-    requires source { HasWordOf board.now.shared.table_id board.now.shared.key.value source }
-    requires view { IsReceiverOf seat.old.me.0 board.now.shared.key.value }
-    requires word { IsAccepted board.now.shared.key.value seat.old.me.0.number (source, word) }
+    requires seat { IsAt shared_words.now.shared.table_id seat.old }
+    requires source { HasWordOf shared_words.now.shared.table_id shared_words.now.shared.key.value source }
+    requires view { IsReceiverOf seat.old.me.0 shared_words.now.shared.key.value }
+    requires word { IsAccepted shared_words.now.shared.key.value seat.old.me.0.number (source, word) }
     requires count { IsNextCount seat.old.me.0 source count }
     ensures seat { Stays seat.old seat.new }
     ensures view { seat.new.me.0 ≡ with_accepted seat.old.me.0 (source, word) }
 {
-    accept_step::<N>(board, seat, source, count, word.above_label());
+    accept_step::<N>(shared_words, seat, source, count, word.above_label());
 }
 
 /// Stores an accepted word, the source's `count`th, by one step.
-fn store(board: &Board, seat: &mut HubSeat, source: usize, count: u64, word: Word)
-    requires seat { IsAt board.now.shared.table_id seat.old }
-    requires source { HasWordOf board.now.shared.table_id board.now.shared.key.value source }
-    requires view { IsReceiverOf seat.old.me.0 board.now.shared.key.value }
-    requires word { IsAccepted board.now.shared.key.value seat.old.me.0.number (source, word) }
+fn store(shared_words: &SharedWords, seat: &mut HubSeat, source: usize, count: u64, word: Word)
+    requires seat { IsAt shared_words.now.shared.table_id seat.old }
+    requires source { HasWordOf shared_words.now.shared.table_id shared_words.now.shared.key.value source }
+    requires view { IsReceiverOf seat.old.me.0 shared_words.now.shared.key.value }
+    requires word { IsAccepted shared_words.now.shared.key.value seat.old.me.0.number (source, word) }
     requires count { IsNextCount seat.old.me.0 source count }
     ensures seat { Stays seat.old seat.new }
     ensures view { seat.new.me.0 ≡ with_accepted seat.old.me.0 (source, word) }
 {
-    store_as::<Brand>(board, seat, source, count, word);
+    store_as::<Brand>(shared_words, seat, source, count, word);
 }
 
 impl Receiver {
@@ -138,7 +144,7 @@ impl Receiver {
             return Accept::CountSpent;
         }
         let mut seat = replace(badge, Badge::blank()).into_seat();
-        store(&wired.board, &mut seat, source, count + 1, word);
+        store(&wired.shared_words, &mut seat, source, count + 1, word);
         *badge = seat.into_badge();
         counts[source] = count + 1;
         Accept::Accepted(source)

@@ -8,8 +8,8 @@ ghost use Rattle.a429_values.specs.Seats.{IsAt, Stays};
 ghost use Rattle.a429_values.specs.Views.{with_loads_of};
 ghost use Rattle.a429_values.specs.Words.{Tells, load_of};
 
-use crate::board::HubSeat;
 use crate::receiver::Receiver;
+use crate::shared_words::HubSeat;
 use crate::steps::{ONE, join_step, load_step, look_step, part_step};
 use crate::wired::Wired;
 use a429_word::laws::word_is_determined;
@@ -30,11 +30,11 @@ pub struct Transmitter {
 
 impl Model for Transmitter {
     ghost use Rattle.std.specs.Arc.{arc_value};
-    ghost use Rattle.a429_values.specs.Ends.{Sending, IsSending};
+    ghost use Rattle.a429_values.specs.Ends.{TransmitterEnd, IsSending};
     ghost use Rattle.a429_values.specs.Seats.{IsAt};
     ghost use Rattle.a429_values.specs.Wires.{place_of};
 
-    ghost Value = { Sending };
+    ghost Value = { TransmitterEnd };
 
     ghost view = { λ t. record { at = place_of (arc_value t.wired); number = t.number; loads = t.seat.me.0.loads } };
 
@@ -58,18 +58,18 @@ fn word_in(label: Label, number: u64) -> Option<(u64, Word)>
 
 /// Loads each source of the receiver that the seat is too.
 fn load_all(wired: &Wired, seat: &mut HubSeat, number: usize)
-    requires seat { IsAt wired.now.board.shared.table_id seat.old }
+    requires seat { IsAt wired.now.shared_words.shared.table_id seat.old }
     requires view { (seat.old.me.0.transmits ≡ true) × (seat.old.me.0.receives ≡ true) × (seat.old.me.0.station ≡ wired.now.equipment) }
     requires number { seat.old.me.0.number ≡ number }
     ensures seat { Stays seat.old seat.new }
     ensures view { seat.new.me.0 ≡ with_loads_of seat.old.me.0 wired.now.equipment number }
     ensures agrees { AgreesToTheEnd wired.now.equipment number seat.old.me.0.accepted seat.new.me.0.loads }
 {
-    look_step(&wired.board, seat);
+    look_step(&wired.shared_words, seat);
     let sources = wired.equipment.sources();
     for source in 0..sources.len() {
         if sources[source].receiver == number {
-            load_step(&wired.board, seat, source);
+            load_step(&wired.shared_words, seat, source);
         }
     }
 }
@@ -99,7 +99,7 @@ impl Transmitter {
     {
         let Transmitter { wired, seat, .. } = self;
         let label = wired.equipment.sources()[source].label;
-        word_in(label, load_step(&wired.board, seat, source))
+        word_in(label, load_step(&wired.shared_words, seat, source))
     }
 
     /// The last accepted word of the source, by one load; none where no word was accepted. This takes no
@@ -125,11 +125,11 @@ impl Transmitter {
         let Transmitter { wired, seat, .. } = self;
         let Receiver { badge, number, .. } = other;
         join_step(
-            &wired.board,
+            &wired.shared_words,
             seat,
             replace(badge, Badge::blank()).into_seat(),
         );
         load_all(wired, seat, *number);
-        *badge = part_step(&wired.board, seat).into_badge();
+        *badge = part_step(&wired.shared_words, seat).into_badge();
     }
 }

@@ -1,16 +1,16 @@
 //! What all ends of a hub share.
 ghost use Rattle.std.specs.Prelude.{◌≡◌, ◌<◌, ◌≤◌, length, replicate, IfOk};
 
-use crate::board::Board;
+use crate::shared_words::SharedWords;
 use a429_equipment::Equipment;
 use std::alloc::{AllocError, Global};
 
 #[derive(Drop)]
 pub struct Wired {
-    pub board: Board,
+    pub shared_words: SharedWords,
     pub equipment: Equipment,
-    ghost tied: { board.shared.key.value ≡ equipment },
-    ghost room: { (length equipment.sources ≤ board.shared.table_id.words) × (0 < board.shared.table_id.words) },
+    ghost tied: { shared_words.shared.key.value ≡ equipment },
+    ghost room: { (length equipment.sources ≤ shared_words.shared.table_id.words) × (0 < shared_words.shared.table_id.words) },
 }
 
 /// So many zeros.

@@ -38,7 +38,7 @@ pub struct Parity;
 pub struct DataRange;
 
 /// The bits of four fields, with no parity.
-fn joined(low: u32, sdi: u32, value: u32, ssm: u32) -> u32
+fn join_fields(low: u32, sdi: u32, value: u32, ssm: u32) -> u32
     requires low { low < 256 }
     requires sdi { sdi < 4 }
     requires value { value < 2 ^ 19 }
@@ -49,7 +49,7 @@ fn joined(low: u32, sdi: u32, value: u32, ssm: u32) -> u32
 }
 
 /// A label's bits below bits 9 to 31, with no parity.
-fn labelled(low: u32, bits: u32) -> u32
+fn join_label(low: u32, bits: u32) -> u32
     requires low { low < 256 }
     requires bits { bits < 2 ^ 23 }
     ensures { result ≡ low + 256 * bits }
@@ -83,7 +83,7 @@ impl Word {
             return Err(DataRange);
         }
         let low = u32::from(label.value().reverse_bits());
-        let bits = joined(low, u32::from(sdi.value()), value, u32::from(ssm.value()));
+        let bits = join_fields(low, u32::from(sdi.value()), value, u32::from(ssm.value()));
         Ok(Word {
             raw: with_parity(bits),
         })
@@ -97,7 +97,7 @@ impl Word {
     {
         let low = u32::from(label.value().reverse_bits());
         Word {
-            raw: with_parity(labelled(low, bits)),
+            raw: with_parity(join_label(low, bits)),
         }
     }
 

@@ -8,13 +8,13 @@ use Rattle.a429_word.proofs.Lists.{all_front, either_none, get_set_other, get_se
 use Rattle.a429_equipment.specs.declared.loads.Load.{Load}
 use Rattle.a429_equipment.specs.TableRecord.{TableRecord}
 use Rattle.a429_equipment.specs.Agreement.{CountsNoLess}
-use Rattle.a429_slots.specs.Tables.{Placed, GroupTable, cell_at, outputs_of, output_in}
+use Rattle.a429_slots.specs.Tables.{Placed, SlotTable, cell_at, outputs_of, output_in}
 use Rattle.a429_slots.specs.History.{AnsweredCell, has_sent, is_held, is_too_close}
-use Rattle.a429_slots.specs.Sending.{Sending, next_cell, after_cell, due_of}
+use Rattle.a429_slots.specs.FrameStates.{FrameState, next_cell, after_cell, due_of}
 use Rattle.a429_slots.specs.Recalling.{Recent, Recalls, RecentCountsSends, RecentDecides, RecentPassesOtherCells, may_send, never, recent_after, sent_again, source_sends, source_after}
 use Rattle.a429_values.specs.Ends as ends
 use Rattle.a429_values.specs.Words.{load_of}
-use Rattle.a429_workers.specs.Calls.{Call, Asks, Carried, Standing, IsAnswered, word_of}
+use Rattle.a429_workers.specs.Calls.{Call, Asks, Carried, GroupState, IsAnswered, word_of}
 use Rattle.a429_workers.specs.Transmitting.{Transmitting, Outset, IsSameGroup, IsKnownTable, IsReached, Remembers, HasMade, IsDone, IsLoaded, cell_call, led_by, loads_since, sent_by}
 use Rattle.a429_workers.proofs.Beginning.{all_back}
 use Rattle.a429_workers.proofs.Calling.{one_more, none_due, reached_cell, reached_own, same_table, slot_after}
@@ -29,7 +29,7 @@ pub record AreRecalled : Type 0 where
 
 -- ---- what is kept of a source
 
-abbrev with_cell : Standing → AnsweredCell → Standing
+abbrev with_cell : GroupState → AnsweredCell → GroupState
 with_cell s c = record s { frame = after_cell s.frame; earlier = s.earlier ++ c ∷ [] }
 
 fewer : (ls more all : List Load) (l : Load) → all ≡ ls ++ more → CountsNoLess all l → CountsNoLess ls l
@@ -37,7 +37,7 @@ fewer ls more all l is h =
     all_front (λ (m : Load). m.source ≡ l.source → m.count ≤ l.count) ls more (subst (λ (xs : List Load). CountsNoLess xs l) is h)
 
 -- a cell that sent no word of the source
-remembers_other : AreRecalled → (ls more all : List Load) (s : Standing) (i : ℕ) (x : Option Recent) (c : AnsweredCell) → all ≡ ls ++ more → has_sent i c ≡ false
+remembers_other : AreRecalled → (ls more all : List Load) (s : GroupState) (i : ℕ) (x : Option Recent) (c : AnsweredCell) → all ≡ ls ++ more → has_sent i c ≡ false
     → Remembers ls s i x → Remembers all (with_cell s c) i x
 remembers_other law ls more all s i x c is unsent R = record {
   recent = R.recent;
@@ -48,7 +48,7 @@ remembers_other law ls more all s i x c is unsent R = record {
 }
 
 -- a cell without an output
-remembers_empty : (ls : List Load) (s : Standing) (i : ℕ) (x : Option Recent) → Remembers ls s i x → Remembers ls (record s { frame = after_cell s.frame; earlier = s.earlier ++ [] }) i x
+remembers_empty : (ls : List Load) (s : GroupState) (i : ℕ) (x : Option Recent) → Remembers ls s i x → Remembers ls (record s { frame = after_cell s.frame; earlier = s.earlier ++ [] }) i x
 remembers_empty ls s i x R = record {
   recent = R.recent;
   there = R.there;
@@ -58,7 +58,7 @@ remembers_empty ls s i x R = record {
 }
 
 -- the cell that sent the word which the load found
-remembers_sent : AreRecalled → (ls all : List Load) (s : Standing) (i slot n u : ℕ) (x y : Option Recent) (cell : ℕ × ℕ) → all ≡ ls ++ load_of i (Some (n, u)) ∷ [] → (R : Remembers ls s i x)
+remembers_sent : AreRecalled → (ls all : List Load) (s : GroupState) (i slot n u : ℕ) (x y : Option Recent) (cell : ℕ × ℕ) → all ≡ ls ++ load_of i (Some (n, u)) ∷ [] → (R : Remembers ls s i x)
     → R.recent.count ≤ n → next_cell s.frame ≡ Some cell → slot ≡ s.frame.first + cell.1 → y ≡ Some (sent_again R.recent slot n)
     → Remembers all (with_cell s (record { slot = slot; source = i; count = n; word = Some u })) i y
 remembers_sent law ls all s i slot n u x y cell is R most due at there = record {
@@ -74,7 +74,7 @@ remembers_sent law ls all s i slot n u x y cell is R most due at there = record 
 -- ---- the output that stands there
 
 -- it sends a source of the station
-output_known : (t : TableRecord) (p : GroupTable) (bus slot : ℕ) (o : Placed) → IsKnownTable t p → output_in p bus slot ≡ Some o → o.source < length t.sources
+output_known : (t : TableRecord) (p : SlotTable) (bus slot : ℕ) (o : Placed) → IsKnownTable t p → output_in p bus slot ≡ Some o → o.source < length t.sources
 output_known t p bus slot o known is = go (cell_at p bus slot) is
   where
     go : (k : Option ℕ) → option_and_then (λ n. slice_get (outputs_of p) n) k ≡ Some o → o.source < length t.sources
@@ -86,11 +86,11 @@ abbrev cell_of : ℕ → ℕ → Option (ℕ × ℕ) → Option ℕ → Answered
 cell_of slot i found word = record { slot = slot; source = i; count = (load_of i found).count; word = word }
 
 -- what goes out for an output is lawful, and what is kept then is kept on
-record IsWord (ls all : List Load) (s : Standing) (o : Placed) (slot n : ℕ) (found : Option (ℕ × ℕ)) (x : Option ℕ × List Recent) : Type 0 where
+record IsWord (ls all : List Load) (s : GroupState) (o : Placed) (slot n : ℕ) (found : Option (ℕ × ℕ)) (x : Option ℕ × List Recent) : Type 0 where
   pub word : x.0 ≡ word_of s.earlier slot (Some o) (Some (load_of o.source found))
   pub sends : (i : ℕ) → i < n → Remembers all (with_cell s (cell_of slot o.source found x.0)) i (slice_get x.1 i)
 
-word_is : AreRecalled → (ls all : List Load) (rs : List Recent) (s : Standing) (o : Placed) (slot n : ℕ) (cell : ℕ × ℕ) (found : Option (ℕ × ℕ)) → all ≡ ls ++ load_of o.source found ∷ []
+word_is : AreRecalled → (ls all : List Load) (rs : List Recent) (s : GroupState) (o : Placed) (slot n : ℕ) (cell : ℕ × ℕ) (found : Option (ℕ × ℕ)) → all ≡ ls ++ load_of o.source found ∷ []
     → CountsNoLess ls (load_of o.source found) → next_cell s.frame ≡ Some cell → slot ≡ s.frame.first + cell.1 → o.source < n → ((i : ℕ) → i < n → Remembers ls s i (slice_get rs i))
     → IsWord ls all s o slot n found (sent_by rs slot (due_of o) found)
 word_is law ls all rs s o slot n cell None is least due at low kept = record {
@@ -143,17 +143,17 @@ word_is law ls all rs s o slot n cell (Some f) is least due at low kept =
 
 -- ---- the call
 
-abbrev pub moved : Transmitting → ends.Sending → List Recent → Transmitting
+abbrev pub moved : Transmitting → ends.TransmitterEnd → List Recent → Transmitting
 moved v t sends = record v { transmitter = t; frame = after_cell v.frame; sends = sends }
 
-pub same_moved : (v : Transmitting) (t : ends.Sending) (sends : List Recent) → t.at ≡ v.transmitter.at → t.number ≡ v.transmitter.number → IsSameGroup v (moved v t sends)
+pub same_moved : (v : Transmitting) (t : ends.TransmitterEnd) (sends : List Recent) → t.at ≡ v.transmitter.at → t.number ≡ v.transmitter.number → IsSameGroup v (moved v t sends)
 same_moved v t sends hub group = record { hub = hub; group = group; board = refl; opened = refl }
 
 -- no cell was due
 pub cell_end : (b : Outset) (calls : List Call) (v : Transmitting) → next_cell v.frame ≡ None → HasMade b calls v → HasMade b (calls ++ Asks None ∷ []) (moved v v.transmitter v.sends)
 cell_end b calls v none M =
     let still : after_cell v.frame ≡ v.frame = rw (none_due v.frame none) refl in
-    subst (λ (f : Sending). HasMade b (calls ++ Asks None ∷ []) (record v { frame = f })) (sym still)
+    subst (λ (f : FrameState). HasMade b (calls ++ Asks None ∷ []) (record v { frame = f })) (sym still)
     (one_more b calls v v (Asks None) M (record {
       same = record { hub = refl; group = refl; board = refl; opened = refl };
       lawful = ap next_cell (sym M.at.frame) ∙ none;
@@ -174,7 +174,7 @@ empty_cell b calls v cell due none M =
     let F = M.at.frame in
     one_more b calls v (moved v v.transmitter v.sends) (Asks (Some (answer_by v cell None None))) M (record {
       same = same_moved v v.transmitter v.sends refl refl;
-      lawful = subst (λ (f : Sending). IsAnswered (record s { frame = f }) (answer_by v cell None None)) F (record {
+      lawful = subst (λ (f : FrameState). IsAnswered (record s { frame = f }) (answer_by v cell None None)) F (record {
         cell = cell;
         due = due;
         bus = refl;
@@ -196,7 +196,7 @@ empty_cell b calls v cell due none M =
     })
 
 -- a cell of an output
-output_cell : AreRecalled → (b : Outset) (calls : List Call) (v : Transmitting) (cell : ℕ × ℕ) (o : Placed) (word : Option ℕ) (t : ends.Sending) (sends : List Recent) → next_cell v.frame ≡ Some cell
+output_cell : AreRecalled → (b : Outset) (calls : List Call) (v : Transmitting) (cell : ℕ × ℕ) (o : Placed) (word : Option ℕ) (t : ends.TransmitterEnd) (sends : List Recent) → next_cell v.frame ≡ Some cell
     → output_in v.frame.table cell.0 cell.1 ≡ Some o → o.source < length v.transmitter.at.station.sources → t.at ≡ v.transmitter.at → t.number ≡ v.transmitter.number
     → (L : IsLoaded v.transmitter v.sends (v.frame.first + cell.1) (due_of o) word t sends) → HasMade b calls v
     → HasMade b (calls ++ Asks (Some (answer_by v cell word (Some (load_of o.source L.found)))) ∷ []) (moved v t sends)
@@ -207,14 +207,14 @@ output_cell law b calls v cell o word t sends due there low hub group L M =
     let slot = v.frame.first + cell.1 in
     let n = length v.transmitter.at.station.sources in
     let c = answer_by v cell word (Some l) in
-    let all : t.loads ≡ v.transmitter.loads ++ l ∷ [] = ap (λ (x : ends.Sending). x.loads) L.loads in
+    let all : t.loads ≡ v.transmitter.loads ++ l ∷ [] = ap (λ (x : ends.TransmitterEnd). x.loads) L.loads in
     let own : l.source ≡ o.source = load_source o.source L.found in
     let W : IsWord v.transmitter.loads t.loads s o slot n L.found (sent_by v.sends slot (due_of o) L.found) =
-    word_is law v.transmitter.loads t.loads v.sends s o slot n cell L.found all L.no_less (ap next_cell (sym F) ∙ due) (ap (λ (f : Sending). f.first + cell.1) F) low M.at.sends in
+    word_is law v.transmitter.loads t.loads v.sends s o slot n cell L.found all L.no_less (ap next_cell (sym F) ∙ due) (ap (λ (f : FrameState). f.first + cell.1) F) low M.at.sends in
     let V : IsWord v.transmitter.loads t.loads s o slot n L.found (word, sends) = subst (IsWord v.transmitter.loads t.loads s o slot n L.found) (sym L.sent) W in
     one_more b calls v (moved v t sends) (Asks (Some c)) M (record {
       same = same_moved v t sends hub group;
-      lawful = subst (λ (f : Sending). IsAnswered (record s { frame = f }) c) F (record {
+      lawful = subst (λ (f : FrameState). IsAnswered (record s { frame = f }) c) F (record {
         cell = cell;
         due = due;
         bus = refl;
@@ -244,7 +244,7 @@ output_cell law b calls v cell o word t sends due there low hub group L M =
 first_since : (ls more all : List Load) → all ≡ ls ++ more → slice_get (drop (length ls) all) 0 ≡ slice_get more 0
 first_since ls more all is = ap (λ (xs : List Load). slice_get (drop (length ls) xs) 0) is ∙ ap (λ (xs : List Load). slice_get xs 0) (drop-append_seam ls more)
 
-pub cell_made : AreRecalled → (b : Outset) (calls : List Call) (v : Transmitting) (cell : ℕ × ℕ) (word : Option ℕ) (t : ends.Sending) (sends : List Recent) → length v.sends ≡ length v.transmitter.at.station.sources
+pub cell_made : AreRecalled → (b : Outset) (calls : List Call) (v : Transmitting) (cell : ℕ × ℕ) (word : Option ℕ) (t : ends.TransmitterEnd) (sends : List Recent) → length v.sends ≡ length v.transmitter.at.station.sources
     → next_cell v.frame ≡ Some cell → t.at ≡ v.transmitter.at → t.number ≡ v.transmitter.number
     → IsDone v.transmitter v.sends (v.frame.first + cell.1) (option_map due_of (output_in v.frame.table cell.0 cell.1)) word t sends → HasMade b calls v
     → HasMade b (calls ++ cell_call (Ok (record { bus = cell.0; slot = v.frame.first + cell.1; word = word })) (loads_since v (moved v t sends)) ∷ []) (moved v t sends)
@@ -253,17 +253,17 @@ cell_made law b calls v cell word t sends sized due hub group done M = go (outpu
     go : (x : Option Placed) → output_in v.frame.table cell.0 cell.1 ≡ x → IsDone v.transmitter v.sends (v.frame.first + cell.1) (option_map due_of x) word t sends
         → HasMade b (calls ++ cell_call (Ok (record { bus = cell.0; slot = v.frame.first + cell.1; word = word })) (loads_since v (moved v t sends)) ∷ []) (moved v t sends)
     go None none D =
-        let all : t.loads ≡ v.transmitter.loads ++ [] = ap (λ (x : ends.Sending). x.loads) D.1 ∙ sym (append-nil v.transmitter.loads) in
+        let all : t.loads ≡ v.transmitter.loads ++ [] = ap (λ (x : ends.TransmitterEnd). x.loads) D.1 ∙ sym (append-nil v.transmitter.loads) in
         let load : slice_get (drop (length v.transmitter.loads) t.loads) 0 ≡ None = first_since v.transmitter.loads [] t.loads all in
         let made = empty_cell b calls v cell due none M in
         subst (λ (y : Option Load). HasMade b (calls ++ Asks (Some (answer_by v cell word y)) ∷ []) (moved v t sends)) (sym load)
         (subst (λ (w : Option ℕ). HasMade b (calls ++ Asks (Some (answer_by v cell w None)) ∷ []) (moved v t sends)) (sym D.0)
-        (subst (λ (u : ends.Sending). HasMade b (calls ++ Asks (Some (answer_by v cell None None)) ∷ []) (moved v u sends)) (sym D.1)
+        (subst (λ (u : ends.TransmitterEnd). HasMade b (calls ++ Asks (Some (answer_by v cell None None)) ∷ []) (moved v u sends)) (sym D.1)
         (subst (λ (rs : List Recent). HasMade b (calls ++ Asks (Some (answer_by v cell None None)) ∷ []) (moved v v.transmitter rs)) (sym D.2) made)))
     go (Some o) there D =
         let low : o.source < length v.transmitter.at.station.sources = output_known v.transmitter.at.station v.frame.table cell.0 cell.1 o M.at.sources there in
         let L = D (subst (λ (k : ℕ). o.source < k) (sym sized) low) in
-        let all : t.loads ≡ v.transmitter.loads ++ load_of o.source L.found ∷ [] = ap (λ (x : ends.Sending). x.loads) L.loads in
+        let all : t.loads ≡ v.transmitter.loads ++ load_of o.source L.found ∷ [] = ap (λ (x : ends.TransmitterEnd). x.loads) L.loads in
         let load : slice_get (drop (length v.transmitter.loads) t.loads) 0 ≡ Some (load_of o.source L.found) = first_since v.transmitter.loads (load_of o.source L.found ∷ []) t.loads all in
         subst (λ (y : Option Load). HasMade b (calls ++ Asks (Some (answer_by v cell word y)) ∷ []) (moved v t sends)) (sym load)
         (output_cell law b calls v cell o word t sends due there low hub group L M)

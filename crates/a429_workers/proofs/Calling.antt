@@ -8,9 +8,9 @@ use Rattle.std.proofs.lemmas.Option.{none-some, cond_some}
 use Rattle.std.proofs.lemmas.Bool.{cases_Bool, ltb-true}
 use Rattle.a429_word.proofs.Lists.{in_frame}
 use Rattle.a429_equipment.specs.declared.loads.Load.{Load}
-use Rattle.a429_slots.specs.Tables.{GroupTable, cells_of, buses_of, frame_of}
-use Rattle.a429_slots.specs.Sending.{Sending, next_cell, after_cell, fits_next, turned}
-use Rattle.a429_workers.specs.Calls.{Call, Standing, loads_in, loads_of, IsLawful, before_calls, after}
+use Rattle.a429_slots.specs.Tables.{SlotTable, cells_of, buses_of, frame_of}
+use Rattle.a429_slots.specs.FrameStates.{FrameState, next_cell, after_cell, fits_next, turned}
+use Rattle.a429_workers.specs.Calls.{Call, GroupState, loads_in, loads_of, IsLawful, before_calls, after}
 use Rattle.a429_workers.specs.Transmitting.{Transmitting, Outset, IsSameGroup, IsReached, IsAt, HasMade, led_by}
 use Rattle.a429_workers.proofs.Beginning.{all_append}
 use Rattle.a429_workers.proofs.Growing.{lawful_push, loads_push, standing_push}
@@ -39,7 +39,7 @@ one_more b calls v w c M N = record {
   known = subst (AreKnown w) (sym (loads_push calls c))
       (subst (λ (n : ℕ). AllByRecursion (λ l. l.source < n) (loads_of calls ++ loads_in c)) (ap (λ at. length at.station.sources) (sym N.same.hub))
       (all_append (λ (l : Load). l.source < length v.transmitter.at.station.sources) (loads_of calls) (loads_in c) M.known N.known));
-  at = subst (λ (s : Standing). IsAt b s w) (sym (standing_push b.group b.table (before_calls b.opened b.table b.first) calls c)) N.at;
+  at = subst (λ (s : GroupState). IsAt b s w) (sym (standing_push b.group b.table (before_calls b.opened b.table b.first) calls c)) N.at;
 }
 
 -- ---- slots go on
@@ -48,14 +48,14 @@ div_more : (c m : ℕ) → c / m ≤ (c + 1) / m
 div_more c zero = omega (arith, div-zero c)
 div_more c (suc m) = le-div (c / suc m) (c + 1) (suc m) (omega arith) (omega (arith, div-mul-le_self c (suc m)))
 
-pub reached_cell : (f : Sending) (slot : ℕ) → IsReached f slot → IsReached (after_cell f) slot
+pub reached_cell : (f : FrameState) (slot : ℕ) → IsReached f slot → IsReached (after_cell f) slot
 reached_cell f slot R = go (nat_lt f.sent (cells_of f.table))
   where
     go : (b : Bool) → IsReached (if b then record f { sent = f.sent + 1 } else f) slot
     go true = record { passed = omega (arith, R.passed, div_more f.sent (buses_of f.table)); in_frame = R.in_frame }
     go false = R
 
-pub reached_turn : (f : Sending) (t : GroupTable) (slot : ℕ) → IsReached f slot → IsReached (turned f t) slot
+pub reached_turn : (f : FrameState) (t : SlotTable) (slot : ℕ) → IsReached f slot → IsReached (turned f t) slot
 reached_turn f t slot R = go (fits_next f t)
   where
     go : (b : Bool) → IsReached (if b then record { table = t; first = f.first + frame_of f.table; sent = 0 } else f) slot
@@ -63,16 +63,16 @@ reached_turn f t slot R = go (fits_next f t)
     go false = R
 
 -- a cell that is due: cells are left, and this is its place
-pub record IsDue (f : Sending) (cell : ℕ × ℕ) : Type 0 where
+pub record IsDue (f : FrameState) (cell : ℕ × ℕ) : Type 0 where
   pub left : nat_lt f.sent (cells_of f.table) ≡ true
   pub place : (f.sent % buses_of f.table, f.sent / buses_of f.table) ≡ cell
 
-pub due_is : (f : Sending) (cell : ℕ × ℕ) → next_cell f ≡ Some cell → IsDue f cell
+pub due_is : (f : FrameState) (cell : ℕ × ℕ) → next_cell f ≡ Some cell → IsDue f cell
 due_is f cell is =
     let both = cond_some (nat_lt f.sent (cells_of f.table)) (f.sent % buses_of f.table, f.sent / buses_of f.table) cell is in
     record { left = both.0; place = both.1 }
 
-pub none_due : (f : Sending) → next_cell f ≡ None → nat_lt f.sent (cells_of f.table) ≡ false
+pub none_due : (f : FrameState) → next_cell f ≡ None → nat_lt f.sent (cells_of f.table) ≡ false
 none_due f none = elim (cases_Bool (nat_lt f.sent (cells_of f.table))) [
   | inl lt ↦
       let some : next_cell f ≡ Some (f.sent % buses_of f.table, f.sent / buses_of f.table) = rw lt refl in
@@ -81,19 +81,19 @@ none_due f none = elim (cases_Bool (nat_lt f.sent (cells_of f.table))) [
 ]
 
 -- the slot of a due cell is not before what was reached, and it is reached once the cell is answered
-pub slot_after : (f : Sending) (cell : ℕ × ℕ) (slot : ℕ) → next_cell f ≡ Some cell → IsReached f slot → slot ≤ f.first + cell.1
+pub slot_after : (f : FrameState) (cell : ℕ × ℕ) (slot : ℕ) → next_cell f ≡ Some cell → IsReached f slot → slot ≤ f.first + cell.1
 slot_after f cell slot is R =
     let at : f.sent / buses_of f.table ≡ cell.1 = ap (λ (x : ℕ × ℕ). x.1) (due_is f cell is).place in
     omega (arith, at, R.passed)
 
-pub reached_own : (f : Sending) (cell : ℕ × ℕ) → next_cell f ≡ Some cell → IsReached (after_cell f) (f.first + cell.1)
+pub reached_own : (f : FrameState) (cell : ℕ × ℕ) → next_cell f ≡ Some cell → IsReached (after_cell f) (f.first + cell.1)
 reached_own f cell is =
     let D = due_is f cell is in
     let at : f.sent / buses_of f.table ≡ cell.1 = ap (λ (x : ℕ × ℕ). x.1) D.place in
     let low = in_frame f.sent (buses_of f.table) (frame_of f.table) (ltb-true f.sent (cells_of f.table) D.left) in
     reached_cell f (f.first + cell.1) (record { passed = omega (arith, at); in_frame = omega (arith, at, low) })
 
-pub same_table : (f : Sending) → (after_cell f).table ≡ f.table
+pub same_table : (f : FrameState) → (after_cell f).table ≡ f.table
 same_table f = go (nat_lt f.sent (cells_of f.table))
   where
     go : (b : Bool) → (if b then record f { sent = f.sent + 1 } else f).table ≡ f.table

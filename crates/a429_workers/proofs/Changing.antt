@@ -8,12 +8,12 @@ use Rattle.a429_word.proofs.Lists.{all_beginning, all_front, prefix_on, prefix_s
 use Rattle.a429_equipment.specs.declared.loads.Load.{Load}
 use Rattle.a429_equipment.specs.TableRecord.{TableRecord}
 use Rattle.a429_equipment.specs.Agreement.{CountsNoLess, is_of, load_after, loads_of_all, sources_of}
-use Rattle.a429_slots.specs.Tables.{GroupTable, PlanTable, groups_of, cells_of}
-use Rattle.a429_slots.specs.Sending.{Sending, begun, fits_next, turned}
+use Rattle.a429_slots.specs.Tables.{SlotTable, PlanTable, groups_of, cells_of}
+use Rattle.a429_slots.specs.FrameStates.{FrameState, begun, fits_next, turned}
 use Rattle.a429_slots.specs.Recalling.{Recent, Recalls, never}
 use Rattle.a429_values.specs.Ends as ends
 use Rattle.a429_board.specs.Lists.{Watched}
-use Rattle.a429_workers.specs.Calls.{Call, Turns, Meets, Takes, StaysMid, StaysSpent, Standing, number_of, table_of, turn}
+use Rattle.a429_workers.specs.Calls.{Call, Turns, Meets, Takes, StaysMid, StaysSpent, GroupState, number_of, table_of, turn}
 use Rattle.a429_workers.specs.Transmitting.{Transmitting, Outset, IsSameGroup, IsKnownPlan, IsKnownTable, IsReached, Remembers, HasMade, led_by, loads_since}
 use Rattle.a429_workers.proofs.Calling.{AreKnown, one_more, reached_turn}
 use Rattle.a429_workers.proofs.Answering.{AreRecalled}
@@ -26,7 +26,7 @@ first_known t plans q P all = (all_beginning (IsKnownPlan t) (q ∷ []) plans P 
 -- ---- changes
 
 -- what is kept goes on where neither loads nor earlier cells change
-kept_by : (ls : List Load) (s r : Standing) (i : ℕ) (x : Option Recent) → r.earlier ≡ s.earlier → ((slot : ℕ) → IsReached s.frame slot → IsReached r.frame slot) → Remembers ls s i x → Remembers ls r i x
+kept_by : (ls : List Load) (s r : GroupState) (i : ℕ) (x : Option Recent) → r.earlier ≡ s.earlier → ((slot : ℕ) → IsReached s.frame slot → IsReached r.frame slot) → Remembers ls s i x → Remembers ls r i x
 kept_by ls s r i x same on R = record {
   recent = R.recent;
   there = R.there;
@@ -35,8 +35,8 @@ kept_by ls s r i x same on R = record {
   reached = on R.recent.slot R.reached;
 }
 
-still : (v : Transmitting) (w : Watched) → w.book ≡ v.watcher.book → w.opened ≡ v.watcher.opened → IsSameGroup v (record v { watcher = w })
-still v w book opened = record { hub = refl; group = refl; board = book; opened = opened }
+IsSameGroup-same_board : (v : Transmitting) (w : Watched) → w.book ≡ v.watcher.book → w.opened ≡ v.watcher.opened → IsSameGroup v (record v { watcher = w })
+IsSameGroup-same_board v w book opened = record { hub = refl; group = refl; board = book; opened = opened }
 
 pub change_mid : (b : Outset) (calls : List Call) (v : Transmitting) → nat_lt v.frame.sent (cells_of v.frame.table) ≡ true → HasMade b calls v → HasMade b (calls ++ Turns v.watcher.list StaysMid ∷ []) v
 change_mid b calls v mid M =
@@ -44,7 +44,7 @@ change_mid b calls v mid M =
     let plans = v.watcher.list in
     one_more b calls v v (Turns plans StaysMid) M (record {
       same = record { hub = refl; group = refl; board = refl; opened = refl };
-      lawful = (M.at.seen, subst (λ (f : Sending). StaysMid ≡ turn b.group b.table (record s { frame = f }) plans) M.at.frame (rw mid refl));
+      lawful = (M.at.seen, subst (λ (f : FrameState). StaysMid ≡ turn b.group b.table (record s { frame = f }) plans) M.at.frame (rw mid refl));
       loads = sym (append-nil v.transmitter.loads);
       known = tt;
       at = record {
@@ -59,7 +59,7 @@ change_mid b calls v mid M =
     })
 
 -- the frame is over, and the watcher has seen these plans, of which the newest has this table
-pub record IsOver (b : Outset) (v : Transmitting) (w : Watched) (t : GroupTable) : Type 0 where
+pub record IsOver (b : Outset) (v : Transmitting) (w : Watched) (t : SlotTable) : Type 0 where
   pub over : nat_lt v.frame.sent (cells_of v.frame.table) ≡ false
   pub grows : IsPrefix v.watcher.list w.list
   pub book : w.book ≡ v.watcher.book
@@ -67,18 +67,18 @@ pub record IsOver (b : Outset) (v : Transmitting) (w : Watched) (t : GroupTable)
   pub table : t ≡ table_of b.group b.table w.list
   pub known : IsKnownTable v.transmitter.at.station t
 
-pub change_spent : (b : Outset) (calls : List Call) (v : Transmitting) (w : Watched) (t : GroupTable) → IsOver b v w t → fits_next v.frame t ≡ false → HasMade b calls v
+pub change_spent : (b : Outset) (calls : List Call) (v : Transmitting) (w : Watched) (t : SlotTable) → IsOver b v w t → fits_next v.frame t ≡ false → HasMade b calls v
     → HasMade b (calls ++ Turns w.list StaysSpent ∷ []) (record v { watcher = w; frame = turned v.frame t })
 change_spent b calls v w t O full M =
     let s = led_by b calls in
     let stays : turned v.frame t ≡ v.frame = rw full refl in
     let full' : fits_next v.frame (table_of b.group b.table w.list) ≡ false = ap (fits_next v.frame) (sym O.table) ∙ full in
-    subst (λ (f : Sending). HasMade b (calls ++ Turns w.list StaysSpent ∷ []) (record v { watcher = w; frame = f })) (sym stays)
+    subst (λ (f : FrameState). HasMade b (calls ++ Turns w.list StaysSpent ∷ []) (record v { watcher = w; frame = f })) (sym stays)
     (one_more b calls v (record v { watcher = w }) (Turns w.list StaysSpent) M (record {
-      same = still v w O.book O.opened;
+      same = IsSameGroup-same_board v w O.book O.opened;
       lawful = (
         prefix_on s.seen v.watcher.list w.list M.at.seen O.grows,
-        subst (λ (f : Sending). StaysSpent ≡ turn b.group b.table (record s { frame = f }) w.list) M.at.frame (rw (O.over, full') refl),
+        subst (λ (f : FrameState). StaysSpent ≡ turn b.group b.table (record s { frame = f }) w.list) M.at.frame (rw (O.over, full') refl),
       );
       loads = sym (append-nil v.transmitter.loads);
       known = tt;
@@ -93,7 +93,7 @@ change_spent b calls v w t O full M =
       };
     }))
 
-pub change_taken : (b : Outset) (calls : List Call) (v : Transmitting) (w : Watched) (t : GroupTable) (n : ℕ) → IsOver b v w t → n ≡ number_of w.list → fits_next v.frame t ≡ true → HasMade b calls v
+pub change_taken : (b : Outset) (calls : List Call) (v : Transmitting) (w : Watched) (t : SlotTable) (n : ℕ) → IsOver b v w t → n ≡ number_of w.list → fits_next v.frame t ≡ true → HasMade b calls v
     → HasMade b (calls ++ Turns w.list (Takes n) ∷ []) (record v { watcher = w; frame = turned v.frame t; number = n })
 change_taken b calls v w t n O number room M =
     let s = led_by b calls in
@@ -104,14 +104,14 @@ change_taken b calls v w t n O number room M =
       same = record { hub = refl; group = refl; board = O.book; opened = O.opened };
       lawful = (
         prefix_on s.seen v.watcher.list w.list M.at.seen O.grows,
-        subst (λ (f : Sending). Takes n ≡ turn b.group b.table (record s { frame = f }) w.list) M.at.frame (rw (O.over, room') (ap Takes number)),
+        subst (λ (f : FrameState). Takes n ≡ turn b.group b.table (record s { frame = f }) w.list) M.at.frame (rw (O.over, room') (ap Takes number)),
       );
       loads = sym (append-nil v.transmitter.loads);
       known = tt;
       at = record {
         group = M.at.group;
         opened = O.opened ∙ M.at.opened;
-        frame = ap (λ (f : Sending). turned f t) M.at.frame ∙ ap (turned s.frame) O.table;
+        frame = ap (λ (f : FrameState). turned f t) M.at.frame ∙ ap (turned s.frame) O.table;
         number = refl;
         seen = prefix_self w.list;
         sources = subst (IsKnownTable v.transmitter.at.station) (sym began) O.known;
@@ -144,13 +144,13 @@ loads_known t r A = each (sources_of t r) (filter_below (range_with_len 0 (lengt
     filter_below [] all = tt
     filter_below (i ∷ is) all = keep (is_of t r i) i (filter (is_of t r) is) all.0 (filter_below is all.1)
 
-pub meet_more : (b : Outset) (calls : List Call) (v : Transmitting) (t : ends.Sending) (more : List Load) → t ≡ ends.with_loads v.transmitter more → AreKnown v more → HasMade b calls v
+pub meet_more : (b : Outset) (calls : List Call) (v : Transmitting) (t : ends.TransmitterEnd) (more : List Load) → t ≡ ends.with_loads v.transmitter more → AreKnown v more → HasMade b calls v
     → HasMade b (calls ++ Meets (loads_since v (record v { transmitter = t })) ∷ []) (record v { transmitter = t })
 meet_more b calls v t more is known M =
     let s = led_by b calls in
-    let all : t.loads ≡ v.transmitter.loads ++ more = ap (λ (x : ends.Sending). x.loads) is in
-    let hub : t.at ≡ v.transmitter.at = ap (λ (x : ends.Sending). x.at) is in
-    let group : t.number ≡ v.transmitter.number = ap (λ (x : ends.Sending). x.number) is in
+    let all : t.loads ≡ v.transmitter.loads ++ more = ap (λ (x : ends.TransmitterEnd). x.loads) is in
+    let hub : t.at ≡ v.transmitter.at = ap (λ (x : ends.TransmitterEnd). x.at) is in
+    let group : t.number ≡ v.transmitter.number = ap (λ (x : ends.TransmitterEnd). x.number) is in
     subst (λ (ls : List Load). HasMade b (calls ++ Meets ls ∷ []) (record v { transmitter = t })) (sym (since_is v.transmitter.loads more t.loads all))
     (one_more b calls v (record v { transmitter = t }) (Meets more) M (record {
       same = record { hub = hub; group = group; board = refl; opened = refl };
@@ -202,7 +202,7 @@ get_replicate zero i low = absurd (omega arith)
 get_replicate (suc n) zero low = refl
 get_replicate (suc n) (suc i) low = get_replicate n i (omega arith)
 
-pub nothing_made : AreRecalled → (t : ends.Sending) (w : Watched) (p : GroupTable) (first : ℕ) (rs : List Recent) → slice_get (groups_of w.opened) t.number ≡ Some p → IsPrefix (w.opened ∷ []) w.list
+pub nothing_made : AreRecalled → (t : ends.TransmitterEnd) (w : Watched) (p : SlotTable) (first : ℕ) (rs : List Recent) → slice_get (groups_of w.opened) t.number ≡ Some p → IsPrefix (w.opened ∷ []) w.list
     → rs ≡ replicate (length t.at.station.sources) never → IsKnownTable t.at.station p
     → HasMade (record { opened = w.opened; group = t.number; table = p; first = first; before = t.loads }) [] (record { transmitter = t; watcher = w; frame = begun first p; number = w.opened.number; sends = rs })
 nothing_made law t w p first rs opens begins unsent known = record {

@@ -3,7 +3,7 @@ use Rattle.std.proofs.Common.{◌≡◌, ℕ, ◌+◌, ◌<◌, List, [], ◌∷
 use Rattle.std.specs.Prelude.{Err}
 use Rattle.std.proofs.lemmas.Bool.{cases_lt}
 use Rattle.std.proofs.lemmas.List.{length_push, take_all, take-append-le}
-use Rattle.a429_values.specs.Ends.{Receiving}
+use Rattle.a429_values.specs.Ends.{ReceiverEnd}
 use Rattle.a429_workers.specs.Gates.{AreGated, HavePassed, HaveWordsPassed, IsShutAt}
 use Rattle.a429_workers.specs.Receives.{AreTaken, after_words}
 use Rattle.a429_workers.specs.declared.gates.Point.{Point}
@@ -23,7 +23,7 @@ passed_more passes before after n P both = record {
 
 -- ---- words
 
-module _ (Now Next : List ℕ → Type 0) (passes shuts : Point → Type 0) (r : ℕ) (old mid : Receiving) (totals : ReceiveTotals) (n raw : ℕ) (S : SoFar Now old mid totals n) (on : (words : List ℕ) → Now words → Next (words ++ raw ∷ [])) (P : HaveWordsPassed passes r n) where
+module _ (Now Next : List ℕ → Type 0) (passes shuts : Point → Type 0) (r : ℕ) (old mid : ReceiverEnd) (totals : ReceiveTotals) (n raw : ℕ) (S : SoFar Now old mid totals n) (on : (words : List ℕ) → Now words → Next (words ++ raw ∷ [])) (P : HaveWordsPassed passes r n) where
   all : List ℕ
   all = S.came ++ raw ∷ []
 
@@ -34,7 +34,7 @@ module _ (Now Next : List ℕ → Type 0) (passes shuts : Point → Type 0) (r :
   front = take-append-le n S.came (raw ∷ []) (omega (arith, S.many)) ∙ take_all n S.came (omega (arith, S.many))
 
   -- the gate ended the loop before or after the last word
-  pub gate_shut : (new : Receiving) → n < 1000000 → IsShutAt passes shuts r n raw mid new
+  pub gate_shut : (new : ReceiverEnd) → n < 1000000 → IsShutAt passes shuts r n raw mid new
       → (given : List ℕ) × Next given × AreTaken given (Err receive.Gate) old new × AreGated passes shuts r given (Err receive.Gate) old new
   gate_shut new low shut = elim shut [
     | inl left ↦
@@ -43,7 +43,7 @@ module _ (Now Next : List ℕ → Type 0) (passes shuts : Point → Type 0) (r :
     | inr through ↦
         let rest : take (n + 1) (S.came ++ raw ∷ []) ≡ S.came ++ raw ∷ [] = take_all (n + 1) (S.came ++ raw ∷ []) (omega (arith, many)) in
         let is : new ≡ after_words old (take (n + 1) (S.came ++ raw ∷ [])) =
-        through.0 ∙ (ap (λ (x : Receiving). after_words x (raw ∷ [])) S.taken ∙ (after_append old S.came (raw ∷ []) ∙ ap (after_words old) (sym rest))) in
+        through.0 ∙ (ap (λ (x : ReceiverEnd). after_words x (raw ∷ [])) S.taken ∙ (after_append old S.came (raw ∷ []) ∙ ap (after_words old) (sym rest))) in
         (S.came ++ raw ∷ [], on S.came S.given, (n + 1, is, omega (arith, many), omega (arith, many, low)), (n + 1, is, inr (n, many, refl, record { passed = P; begun = through.1; shut = through.2 })))
   ]
 

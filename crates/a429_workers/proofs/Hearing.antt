@@ -4,7 +4,7 @@ use Rattle.std.specs.Prelude.{Ok, Option, Some, None, cond, count_by, if◌then�
 use Rattle.a429_filter.specs.Sources.{SourceAnswer, word_given}
 use Rattle.std.proofs.lemmas.List.{length_push}
 use Rattle.std.proofs.lemmas.List.Sums.{sum_by-append, sum_by-cons}
-use Rattle.a429_values.specs.Ends.{Receiving, accept_answer}
+use Rattle.a429_values.specs.Ends.{ReceiverEnd, accept_answer}
 use Rattle.a429_values.specs.declared.receiver.Accept.{Accept}
 use Rattle.a429_values.specs.declared.receiver.Accept.TheVariants.{Accepted, Parity, Filtered, NoSource, CountSpent}
 use Rattle.a429_workers.specs.declared.receiving.ReceiveTotals.{ReceiveTotals}
@@ -13,14 +13,14 @@ use Rattle.a429_equipment.proofs.Receiving.{in_pieces}
 
 -- ---- in pieces
 
-pub after_append : (r : Receiving) (xs ys : List ℕ) → after_words (after_words r xs) ys ≡ after_words r (xs ++ ys)
+pub after_append : (r : ReceiverEnd) (xs ys : List ℕ) → after_words (after_words r xs) ys ≡ after_words r (xs ++ ys)
 after_append r xs ys = ap (λ (A : List (ℕ × ℕ)). record r { accepted = A }) (sym (in_pieces r.at.station r.limit r.number r.accepted xs ys))
 
-pub answers_append : (r : Receiving) (xs ys : List ℕ) → answers_to r (xs ++ ys) ≡ answers_to r xs ++ answers_to (after_words r xs) ys
+pub answers_append : (r : ReceiverEnd) (xs ys : List ℕ) → answers_to r (xs ++ ys) ≡ answers_to r xs ++ answers_to (after_words r xs) ys
 answers_append r [] ys = refl
 answers_append r (x ∷ xs) ys = ap (λ (zs : List Accept). accept_answer r x ∷ zs) (answers_append (after_words r (x ∷ [])) xs ys)
 
-pub length_answers : (r : Receiving) (xs : List ℕ) → length (answers_to r xs) ≡ length xs
+pub length_answers : (r : ReceiverEnd) (xs : List ℕ) → length (answers_to r xs) ≡ length xs
 length_answers r [] = refl
 length_answers r (x ∷ xs) = let rest = length_answers (after_words r (x ∷ [])) xs in omega arith
 
@@ -59,8 +59,8 @@ totals_small xs = record { accepted = few is_accepted xs; parity = few is_parity
 
 -- ---- the loop
 
-pub same_receiver : (a b c : Receiving) → IsSameReceiver a b → IsSameReceiver b c → IsSameReceiver a c
-same_receiver a b c p q = q ∙ ap (λ (r : Receiving). record r { accepted = c.accepted }) p
+pub same_receiver : (a b c : ReceiverEnd) → IsSameReceiver a b → IsSameReceiver b c → IsSameReceiver a c
+same_receiver a b c p q = q ∙ ap (λ (r : ReceiverEnd). record r { accepted = c.accepted }) p
 
 -- one more answer of the line
 module _ {L : Type 0} (given : L → List ℕ) (left : L → Option (List ℕ)) where
@@ -81,26 +81,26 @@ module _ {L : Type 0} (given : L → List ℕ) (left : L → Option (List ℕ)) 
   gives_word before now next words answer raw is G one rest = subst (λ (ws : List ℕ). Gives given left before (words ++ ws) next) (ap word_given is) (gives_on before now next words answer G one rest)
 
 -- the line gave these words since, and the receiver took them all
-pub record SoFar (Gave : List ℕ → Type 0) (old new : Receiving) (totals : ReceiveTotals) (n : ℕ) : Type 0 where
+pub record SoFar (Gave : List ℕ → Type 0) (old new : ReceiverEnd) (totals : ReceiveTotals) (n : ℕ) : Type 0 where
   pub came : List ℕ
   pub given : Gave came
   pub many : length came ≡ n
   pub taken : new ≡ after_words old came
   pub counts : totals ≡ totals_of (answers_to old came)
 
-pub one_more : (Now Next : List ℕ → Type 0) (old mid new : Receiving) (totals later : ReceiveTotals) (n raw : ℕ) → SoFar Now old mid totals n → ((words : List ℕ) → Now words → Next (words ++ raw ∷ [])) → new ≡ after_words mid (raw ∷ [])
+pub one_more : (Now Next : List ℕ → Type 0) (old mid new : ReceiverEnd) (totals later : ReceiveTotals) (n raw : ℕ) → SoFar Now old mid totals n → ((words : List ℕ) → Now words → Next (words ++ raw ∷ [])) → new ≡ after_words mid (raw ∷ [])
     → later ≡ counted totals (accept_answer mid raw) → SoFar Next old new later (n + 1)
 one_more Now Next old mid new totals later n raw S given taken counts = record {
   came = S.came ++ raw ∷ [];
   given = given S.came S.given;
   many = length_push S.came raw ∙ ap (λ (m : ℕ). m + 1) S.many;
-  taken = taken ∙ (ap (λ (r : Receiving). after_words r (raw ∷ [])) S.taken ∙ after_append old S.came (raw ∷ []));
+  taken = taken ∙ (ap (λ (r : ReceiverEnd). after_words r (raw ∷ [])) S.taken ∙ after_append old S.came (raw ∷ []));
   counts = counts
       ∙ (ap (λ (t : ReceiveTotals). counted t (accept_answer mid raw)) S.counts
-      ∙ (ap (λ (r : Receiving). counted (totals_of (answers_to old S.came)) (accept_answer r raw)) S.taken
+      ∙ (ap (λ (r : ReceiverEnd). counted (totals_of (answers_to old S.came)) (accept_answer r raw)) S.taken
       ∙ (sym (totals_push (answers_to old S.came) (accept_answer (after_words old S.came) raw)) ∙ ap totals_of (sym (answers_append old S.came (raw ∷ []))))));
 }
 
-pub small_so_far : (Gave : List ℕ → Type 0) (old new : Receiving) (totals : ReceiveTotals) (n : ℕ) → SoFar Gave old new totals n → AreAtMost n totals
+pub small_so_far : (Gave : List ℕ → Type 0) (old new : ReceiverEnd) (totals : ReceiveTotals) (n : ℕ) → SoFar Gave old new totals n → AreAtMost n totals
 small_so_far Gave old new totals n S =
     subst (λ (t : ReceiveTotals). AreAtMost n t) (sym S.counts) (subst (λ (m : ℕ). AreAtMost m (totals_of (answers_to old S.came))) (length_answers old S.came ∙ S.many) (totals_small (answers_to old S.came)))

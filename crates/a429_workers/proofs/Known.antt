@@ -6,12 +6,12 @@ use Rattle.a429_equipment.specs.Sound.{IsSound}
 use Rattle.a429_equipment.specs.declared.rows.OutputRow.{OutputRow}
 use Rattle.a429_equipment.specs.declared.rows.SourceRow.{SourceRow}
 use Rattle.a429_equipment.specs.declared.rows.GroupRow.{GroupRow}
-use Rattle.a429_slots.specs.Tables.{GroupTable, PlanTable, groups_of, outputs_of}
+use Rattle.a429_slots.specs.Tables.{SlotTable, PlanTable, groups_of, outputs_of}
 use Rattle.a429_slots.specs.Planned.{IsPlannedAt, IsPlanOf}
 use Rattle.a429_slots.proofs.Known.{served_known}
 use Rattle.a429_workers.specs.Transmitting.{IsKnownPlan, IsKnownTable}
 
-tables_known : (t : TableRecord) (sources : List SourceRow) (rates : List ℕ) (rowss : List (List OutputRow)) (ts : List GroupTable) → AllZip (IsPlannedAt sources) (zip rates rowss) ts
+tables_known : (t : TableRecord) (sources : List SourceRow) (rates : List ℕ) (rowss : List (List OutputRow)) (ts : List SlotTable) → AllZip (IsPlannedAt sources) (zip rates rowss) ts
     → AllByRecursion (AllByRecursion (λ o. o.source < length t.sources)) rowss → AllByRecursion (IsKnownTable t) ts
 tables_known t sources [] rowss [] planned known = tt
 tables_known t sources [] rowss (u ∷ ts) planned known = absurd planned

@@ -9,31 +9,31 @@ use Rattle.std.proofs.lemmas.Option.{none-some, same_Some}
 use Rattle.std.proofs.lemmas.Bool.{cases_Bool, cases_lt, lt-ltb, ltb-true, lt-leb, leb-false, eq-eqb, eqb-true, and_parts}
 use Rattle.a429_word.proofs.Lists.{or_parts, some_word}
 use Rattle.a429_equipment.specs.declared.loads.Load.{Load}
-use Rattle.a429_slots.specs.Tables.{Placed, GroupTable, PlanTable, output_in}
+use Rattle.a429_slots.specs.Tables.{Placed, SlotTable, PlanTable, output_in}
 use Rattle.a429_slots.specs.History.{AnsweredCell, has_sent, is_held, is_too_close, times_sent}
-use Rattle.a429_workers.specs.Calls.{Call, Asks, Turns, Meets, Turn, Takes, StaysMid, StaysSpent, Carried, Standing, IsAnswered, IsLawful, AreLawful, after, after_turn, standing_after, word_of, answered_by}
+use Rattle.a429_workers.specs.Calls.{Call, Asks, Turns, Meets, Turn, Takes, StaysMid, StaysSpent, Carried, GroupState, IsAnswered, IsLawful, AreLawful, after, after_turn, state_after, word_of, answered_by}
 use Rattle.a429_workers.specs.SentWords.{MayGoOut, SendsAt, standing_at, output_due, cells_in, cells_of}
 
 -- ---- what went out before
 
-earlier_turned : (g : ℕ) (p : GroupTable) (s : Standing) (plans : List PlanTable) (t : Turn) → (after_turn g p s plans t).earlier ≡ s.earlier
+earlier_turned : (g : ℕ) (p : SlotTable) (s : GroupState) (plans : List PlanTable) (t : Turn) → (after_turn g p s plans t).earlier ≡ s.earlier
 earlier_turned g p s plans (Takes n) = refl
 earlier_turned g p s plans StaysMid = refl
 earlier_turned g p s plans StaysSpent = refl
 
 -- a call leaves the cells that it answered
-earlier_after : (g : ℕ) (p : GroupTable) (s : Standing) (c : Call) → (after g p s c).earlier ≡ s.earlier ++ cells_in c
+earlier_after : (g : ℕ) (p : SlotTable) (s : GroupState) (c : Call) → (after g p s c).earlier ≡ s.earlier ++ cells_in c
 earlier_after g p s (Asks (Some c)) = refl
 earlier_after g p s (Asks None) = sym (append-nil s.earlier)
 earlier_after g p s (Turns plans t) = earlier_turned g p s plans t ∙ sym (append-nil s.earlier)
 earlier_after g p s (Meets loads) = sym (append-nil s.earlier)
 
-earlier_is : (g : ℕ) (p : GroupTable) (s : Standing) (calls : List Call) → (standing_after g p s calls).earlier ≡ s.earlier ++ cells_of calls
+earlier_is : (g : ℕ) (p : SlotTable) (s : GroupState) (calls : List Call) → (state_after g p s calls).earlier ≡ s.earlier ++ cells_of calls
 earlier_is g p s [] = sym (append-nil s.earlier)
 earlier_is g p s (c ∷ calls) =
     earlier_is g p (after g p s c) calls ∙ (ap (λ (cs : List AnsweredCell). cs ++ cells_of calls) (earlier_after g p s c) ∙ append_assoc s.earlier (cells_in c) (cells_of calls))
 
-pub lawful_at : (g : ℕ) (p : GroupTable) (s : Standing) (calls : List Call) (k : ℕ) (c : Call) → AreLawful g p s calls → slice_get calls k ≡ Some c → IsLawful g p (standing_at g p s calls k) c
+pub lawful_at : (g : ℕ) (p : SlotTable) (s : GroupState) (calls : List Call) (k : ℕ) (c : Call) → AreLawful g p s calls → slice_get calls k ≡ Some c → IsLawful g p (standing_at g p s calls k) c
 lawful_at g p s [] k c all h = absurd (none-some c h)
 lawful_at g p s (d ∷ calls) zero c all h = subst (IsLawful g p s) (same_Some d c h) all.0
 lawful_at g p s (d ∷ calls) (suc k) c all h = lawful_at g p (after g p s d) calls k c all.1 h
@@ -69,14 +69,14 @@ free false true x word h = absurd (none-some word h)
 free false false x word h = (refl, refl)
 
 -- the output of an answered cell, and the source of its load
-pub stands_there : (now : Standing) (c : Carried) (output : Placed) (A : IsAnswered now c) → output_due now ≡ Some output → output_in now.frame.table A.cell.0 A.cell.1 ≡ Some output
+pub stands_there : (now : GroupState) (c : Carried) (output : Placed) (A : IsAnswered now c) → output_due now ≡ Some output → output_in now.frame.table A.cell.0 A.cell.1 ≡ Some output
 stands_there now c output A due = sym (ap (λ (x : Option (ℕ × ℕ)). option_and_then (λ cell. output_in now.frame.table cell.0 cell.1) x) A.due) ∙ due
 
-own_source : (now : Standing) (c : Carried) (l : Load) (output : Placed) (A : IsAnswered now c) → c.load ≡ Some l → output_in now.frame.table A.cell.0 A.cell.1 ≡ Some output → l.source ≡ output.source
+own_source : (now : GroupState) (c : Carried) (l : Load) (output : Placed) (A : IsAnswered now c) → c.load ≡ Some l → output_in now.frame.table A.cell.0 A.cell.1 ≡ Some output → l.source ≡ output.source
 own_source now c l output A load stands =
     same_Some l.source output.source (ap (λ (x : Option Load). option_map (λ l. l.source) x) (sym load) ∙ (A.load ∙ ap (λ (x : Option Placed). option_map (λ o. o.source) x) stands))
 
-is_free : (g : ℕ) (p : GroupTable) (s : Standing) (calls : List Call) (k : ℕ) (c : Carried) (l : Load) (output : Placed) → AreLawful g p s calls → SendsAt calls k c l → output_due (standing_at g p s calls k) ≡ Some output
+is_free : (g : ℕ) (p : SlotTable) (s : GroupState) (calls : List Call) (k : ℕ) (c : Carried) (l : Load) (output : Placed) → AreLawful g p s calls → SendsAt calls k c l → output_due (standing_at g p s calls k) ≡ Some output
     → IsFree (standing_at g p s calls k).earlier c.slot output l
 is_free g p s calls k c l output all S due =
     let now = standing_at g p s calls k in
@@ -87,7 +87,7 @@ is_free g p s calls k c l output all S due =
     let both = free (is_held now.earlier output.source output.limits.hold l.count) (is_too_close now.earlier c.slot output.source output.limits.spacing) l.word S.word goes in
     record { source = own_source now c l output A S.load stands; held = both.0; close = both.1 }
 
-pub words_apart : (g : ℕ) (p : GroupTable) (s : Standing) (calls : List Call) (j k : ℕ) (c d : Carried) (l m : Load) (output : Placed) → AreLawful g p s calls → j < k → SendsAt calls j c l → SendsAt calls k d m
+pub words_apart : (g : ℕ) (p : SlotTable) (s : GroupState) (calls : List Call) (j k : ℕ) (c d : Carried) (l m : Load) (output : Placed) → AreLawful g p s calls → j < k → SendsAt calls j c l → SendsAt calls k d m
     → l.source ≡ m.source → output_due (standing_at g p s calls k) ≡ Some output → c.slot + output.limits.spacing ≤ d.slot
 words_apart g p s calls j k c d l m output all less S T same due =
     let q = output.limits.spacing in
@@ -104,7 +104,7 @@ words_apart g p s calls j k c d l m output all less S T same due =
           absurd (true≢false (sym found ∙ F.close))
     ]
 
-pub holds_kept : (g : ℕ) (p : GroupTable) (s : Standing) (calls : List Call) (k : ℕ) (d : Carried) (m : Load) (output : Placed) (hold : ℕ) → AreLawful g p s calls → SendsAt calls k d m
+pub holds_kept : (g : ℕ) (p : SlotTable) (s : GroupState) (calls : List Call) (k : ℕ) (d : Carried) (m : Load) (output : Placed) (hold : ℕ) → AreLawful g p s calls → SendsAt calls k d m
     → output_due (standing_at g p s calls k) ≡ Some output → output.limits.hold ≡ Some hold → times_sent (cells_of (take k calls)) m.source m.count < hold
 holds_kept g p s calls k d m output hold all T due limited =
     let F = is_free g p s calls k d m output all T due in
@@ -167,7 +167,7 @@ pub record HasWordNear (calls : List Call) (k source slot q : ℕ) : Type 0 wher
   pub before : place < k
   pub near : IsNear calls place source slot q
 
-pub word_near : (g : ℕ) (p : GroupTable) (s : Standing) (calls : List Call) (k : ℕ) (output : Placed) (d : Carried) → s.earlier ≡ []
+pub word_near : (g : ℕ) (p : SlotTable) (s : GroupState) (calls : List Call) (k : ℕ) (output : Placed) (d : Carried) → s.earlier ≡ []
     → is_too_close (standing_at g p s calls k).earlier d.slot output.source output.limits.spacing ≡ true → HasWordNear calls k output.source d.slot output.limits.spacing
 word_near g p s calls k output d none close =
     let cells : (standing_at g p s calls k).earlier ≡ cells_of (take k calls) = earlier_is g p s (take k calls) ∙ ap (λ (cs : List AnsweredCell). cs ++ cells_of (take k calls)) none in
@@ -175,7 +175,7 @@ word_near g p s calls k output d none close =
     let F = find_call test calls k (ap (list_any test) (sym cells) ∙ close) in
     record { place = F.place; before = F.before; near = is_near calls F.place output.source d.slot output.limits.spacing F.call F.there F.passes }
 
-pub goes_out : (g : ℕ) (p : GroupTable) (s : Standing) (calls : List Call) (k : ℕ) (d : Carried) (m : Load) (output : Placed) → s.earlier ≡ [] → AreLawful g p s calls → slice_get calls k ≡ Some (Asks (Some d)) → d.load ≡ Some m
+pub goes_out : (g : ℕ) (p : SlotTable) (s : GroupState) (calls : List Call) (k : ℕ) (d : Carried) (m : Load) (output : Placed) → s.earlier ≡ [] → AreLawful g p s calls → slice_get calls k ≡ Some (Asks (Some d)) → d.load ≡ Some m
     → output_due (standing_at g p s calls k) ≡ Some output → MayGoOut calls k output d m → d.word ≡ m.word
 goes_out g p s calls k d m output none all asked load due M =
     let now = standing_at g p s calls k in

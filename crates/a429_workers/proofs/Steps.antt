@@ -15,17 +15,17 @@ use Rattle.a429_equipment.specs.Arrivals.{sorted}
 use Rattle.a429_equipment.specs.Receiving.{IsReceived, ReceiversAcceptForSources, ReceiversAcceptInPieces}
 use Rattle.a429_equipment.specs.SameStation.{same_station}
 use Rattle.a429_equipment.specs.Sound.{OfEach}
-use Rattle.a429_slots.specs.Tables.{Placed, GroupTable, PlanTable, groups_of, buses_of, cells_of, output_in}
+use Rattle.a429_slots.specs.Tables.{Placed, SlotTable, PlanTable, groups_of, buses_of, cells_of, output_in}
 use Rattle.a429_slots.specs.Proposed.{Proposed}
 use Rattle.a429_slots.specs.Events.{Event, Arrive, Cell, Frame, Publish}
 use Rattle.a429_slots.specs.History.{Opening, OpensWith, AnsweredCell, current, last_of, accepted_in, accepted_by, latest_by, sent_word, answered_cell, answered_cells, proposal_for, published, numbers_left, newest_number, newest_plan, newest_table}
-use Rattle.a429_slots.specs.Sending.{Sending, sending_of, next_cell, after_cell, fits_next}
+use Rattle.a429_slots.specs.FrameStates.{FrameState, frame_state_of, next_cell, after_cell, fits_next}
 use Rattle.a429_slots.specs.GoingOn.{AnsweredCellsGrow, CellsCount, FramesTurn, OthersPass, TellsFrameAnswer, TellsNextCell, after_frame, frame_reply}
 use Rattle.a429_slots.specs.declared.answers.Answer.{Answer}
 use Rattle.a429_slots.specs.declared.answers.Answer.TheVariants.{Accepted, Sent, Changed, Published, Refused}
 use Rattle.a429_slots.specs.declared.answers.Refusal.TheVariants.{NoSuch, FrameEnd, MidFrame, SlotsSpent}
 use Rattle.a429_slots.specs.Answers.{answer, source_answer, cell_answer, frame_answer}
-use Rattle.a429_workers.specs.Calls.{Carried, Turn, Takes, StaysMid, StaysSpent, Standing, IsAnswered, word_of, answered_by, number_of, table_of, turn, after_turn}
+use Rattle.a429_workers.specs.Calls.{Carried, Turn, Takes, StaysMid, StaysSpent, GroupState, IsAnswered, word_of, answered_by, number_of, table_of, turn, after_turn}
 use Rattle.a429_workers.specs.Runs.{AreHeard, ArePublished, plans_of, turn_answer}
 use Rattle.a429_workers.proofs.Lists.{get_front, get_seam, all_get, last_get, last_from}
 use Rattle.a429_workers.proofs.Heard.{beginning, next_word, word_at, words_at, accepted_of, none_of_others}
@@ -43,7 +43,7 @@ pub record Below (t : TableRecord) : Type 0 where
   pub answered : AnsweredCellsGrow
 
 -- what does not change along a run
-pub record Given (C : ℕ) (o : Opening) (g : ℕ) (p : GroupTable) (later : List Proposed) (heard : ℕ → List (ℕ × ℕ)) : Type 0 where
+pub record Given (C : ℕ) (o : Opening) (g : ℕ) (p : SlotTable) (later : List Proposed) (heard : ℕ → List (ℕ × ℕ)) : Type 0 where
   pub below : Below o.proposal.station
   pub known : OfEach (λ s. s.receiver < length o.proposal.station.receivers) o.proposal.station.sources
   pub opens : OpensWith o g p
@@ -57,8 +57,8 @@ bump r cut q = if r == q then suc (cut q) else cut q
 abbrev pub plans_in : Opening → List Event → List Proposed
 plans_in o E = filter_map (proposal_for o) E
 
-silent : (o : Opening) (E : List Event) (e : Event) → proposal_for o e ≡ None → plans_in o (E ++ e ∷ []) ≡ plans_in o E
-silent o E e h = filter_map-append (proposal_for o) E (e ∷ []) ∙ rw h (append-nil (plans_in o E))
+plans_in-no_proposal : (o : Opening) (E : List Event) (e : Event) → proposal_for o e ≡ None → plans_in o (E ++ e ∷ []) ≡ plans_in o E
+plans_in-no_proposal o E e h = filter_map-append (proposal_for o) E (e ∷ []) ∙ rw h (append-nil (plans_in o E))
 
 -- the load tells what its source has accepted
 abbrev pub IsLatest : ℕ → Opening → List Event → Load → Type 0
@@ -75,10 +75,10 @@ cell_after C o E earlier slot x = option_to_list (option_map (answered_cell C o 
 abbrev cell_with : ℕ → Option Load → Option ℕ → List AnsweredCell
 cell_with slot load word = option_map_or (λ l. record { slot = slot; source = l.source; count = l.count; word = word } ∷ []) load []
 
-abbrev reply : ℕ → Opening → List Event → Sending → List AnsweredCell → Option (ℕ × ℕ) → Answer
+abbrev reply : ℕ → Opening → List Event → FrameState → List AnsweredCell → Option (ℕ × ℕ) → Answer
 reply C o E s earlier due = option_map_or (λ c. Sent c.0 (s.first + c.1) (word_after C o E earlier (s.first + c.1) (output_in s.table c.0 c.1))) due (Refused FrameEnd)
 
-abbrev cells_next : ℕ → Opening → List Event → Sending → List AnsweredCell → Option (ℕ × ℕ) → List AnsweredCell
+abbrev cells_next : ℕ → Opening → List Event → FrameState → List AnsweredCell → Option (ℕ × ℕ) → List AnsweredCell
 cells_next C o E s earlier due = option_to_list (option_and_then (λ cell. option_map (answered_cell C o E earlier (s.first + cell.1)) (output_in s.table cell.0 cell.1)) due)
 
 -- the cell of an output is the machine's where the load tells the latest
@@ -101,13 +101,13 @@ same_cell C o E earlier slot (Some output) (Some l) same latest =
           ∙ ap (λ (i : ℕ). record { slot = slot; source = i; count = l.count; word = sends (l.count, l.word) } ∷ []) (sym source);
     }
 
-module _ (C : ℕ) (o : Opening) (g : ℕ) (p : GroupTable) (later : List Proposed) (heard : ℕ → List (ℕ × ℕ)) where
+module _ (C : ℕ) (o : Opening) (g : ℕ) (p : SlotTable) (later : List Proposed) (heard : ℕ → List (ℕ × ℕ)) where
   -- after these events each receiver's list stands at its cut, and the transmitter stands so; the rest of the plans is yet to come
-  pub record IsAt (E : List Event) (cut : ℕ → ℕ) (s : Standing) (rest : List Proposed) : Type 0 where
+  pub record IsAt (E : List Event) (cut : ℕ → ℕ) (s : GroupState) (rest : List Proposed) : Type 0 where
     pub arrivals : (r : ℕ) → words_at r E ≡ map (λ a. a.1) (take (cut r) (heard r))
     pub seen : s.seen ≡ plans_of o (plans_in o E)
     pub left : later ≡ plans_in o E ++ rest
-    pub frame : sending_of g (current o g p E) ≡ s.frame
+    pub frame : frame_state_of g (current o g p E) ≡ s.frame
     pub earlier : answered_cells C o g p E ≡ s.earlier
 
   module _ (W : Given C o g p later heard) where
@@ -122,7 +122,7 @@ module _ (C : ℕ) (o : Opening) (g : ℕ) (p : GroupTable) (later : List Propos
     so_far : (r k : ℕ) → IsReceived (2 ^ C - 1) o.proposal.station r (take k (heard r))
     so_far r k = beginning (2 ^ C - 1) o.proposal.station r W.below.pieces (heard r) (received r) k
 
-    pub accepted_here : (E : List Event) (cut : ℕ → ℕ) (s : Standing) (rest : List Proposed) (i r : ℕ) (row : SourceRow) → IsAt E cut s rest → slice_get o.proposal.station.sources i ≡ Some row → row.receiver ≡ r
+    pub accepted_here : (E : List Event) (cut : ℕ → ℕ) (s : GroupState) (rest : List Proposed) (i r : ℕ) (row : SourceRow) → IsAt E cut s rest → slice_get o.proposal.station.sources i ≡ Some row → row.receiver ≡ r
         → accepted_by C o i E ≡ words_of i (take (cut r) (heard r))
     accepted_here E cut s rest i r row A there its = subst (λ (q : ℕ). accepted_by C o i E ≡ words_of i (take (cut q) (heard q))) its
         (accepted_of C o W.below.words i row E (take (cut row.receiver) (heard row.receiver)) there (so_far row.receiver (cut row.receiver)) (A.arrivals row.receiver))
@@ -139,7 +139,7 @@ module _ (C : ℕ) (o : Opening) (g : ℕ) (p : GroupTable) (later : List Propos
           absurd (omega (arith, ap (λ (ws : List ℕ). length ws) (sym more ∙ none), length-append (words_of a.0 xs) (words_of a.0 (a ∷ [])), ap (λ (ws : List ℕ). length ws) own))
     ]
 
-    few_words : (E : List Event) (cut : ℕ → ℕ) (s : Standing) (rest : List Proposed) (r : ℕ) (a : ℕ × ℕ) → IsAt E cut s rest → slice_get (heard r) (cut r) ≡ Some a → length (words_of a.0 (take (cut r) (heard r))) < 2 ^ C - 1
+    few_words : (E : List Event) (cut : ℕ → ℕ) (s : GroupState) (rest : List Proposed) (r : ℕ) (a : ℕ × ℕ) → IsAt E cut s rest → slice_get (heard r) (cut r) ≡ Some a → length (words_of a.0 (take (cut r) (heard r))) < 2 ^ C - 1
         → length (accepted_by C o a.0 E) < 2 ^ C - 1
     few_words E cut s rest r a A there room = go (slice_get o.proposal.station.sources a.0) refl
       where
@@ -153,7 +153,7 @@ module _ (C : ℕ) (o : Opening) (g : ℕ) (p : GroupTable) (later : List Propos
       | inr ge ↦ absurd (none-some a (sym (ap (λ (xs : List (ℕ × ℕ)). slice_get xs k) (W.accepted.others r ge)) ∙ there))
     ]
 
-    pub arrival_answer : (E : List Event) (cut : ℕ → ℕ) (s : Standing) (rest : List Proposed) (r : ℕ) (a : ℕ × ℕ) → IsAt E cut s rest → slice_get (heard r) (cut r) ≡ Some a
+    pub arrival_answer : (E : List Event) (cut : ℕ → ℕ) (s : GroupState) (rest : List Proposed) (r : ℕ) (a : ℕ × ℕ) → IsAt E cut s rest → slice_get (heard r) (cut r) ≡ Some a
         → answer C o E (Arrive r a.1) ≡ Accepted a.0
     arrival_answer E cut s rest r a A there =
         let t = o.proposal.station in
@@ -172,10 +172,10 @@ module _ (C : ℕ) (o : Opening) (g : ℕ) (p : GroupTable) (later : List Propos
       | inr n ↦ rw (ne_eqb r q n) (append-nil (words_at q E) ∙ before)
     ]
 
-    pub arrival_step : (E : List Event) (cut : ℕ → ℕ) (s : Standing) (rest : List Proposed) (r : ℕ) (a : ℕ × ℕ) → IsAt E cut s rest → slice_get (heard r) (cut r) ≡ Some a
+    pub arrival_step : (E : List Event) (cut : ℕ → ℕ) (s : GroupState) (rest : List Proposed) (r : ℕ) (a : ℕ × ℕ) → IsAt E cut s rest → slice_get (heard r) (cut r) ≡ Some a
         → IsAt (E ++ Arrive r a.1 ∷ []) (bump r cut) s rest
     arrival_step E cut s rest r a A there =
-        let same = silent o E (Arrive r a.1) refl in
+        let same = plans_in-no_proposal o E (Arrive r a.1) refl in
         record {
           arrivals = λ q. arrived_at E cut r a there q (A.arrivals q);
           seen = A.seen ∙ ap (plans_of o) (sym same);
@@ -205,7 +205,7 @@ module _ (C : ℕ) (o : Opening) (g : ℕ) (p : GroupTable) (later : List Propos
     of_station : (qs : List Proposed) (q : Proposed) (rest : List Proposed) → later ≡ qs ++ q ∷ rest → same_station o.proposal.station q.station ≡ true
     of_station qs q rest left = all_get (λ (x : Proposed). IsTrue (same_station o.proposal.station x.station)) later (length qs) q (in_later qs q rest left) W.plans.of_station
 
-    pub publish_answer_is : (E : List Event) (cut : ℕ → ℕ) (s : Standing) (q : Proposed) (rest : List Proposed) → IsAt E cut s (q ∷ rest) → answer C o E (Publish q) ≡ Published q.plan.number
+    pub publish_answer_is : (E : List Event) (cut : ℕ → ℕ) (s : GroupState) (q : Proposed) (rest : List Proposed) → IsAt E cut s (q ∷ rest) → answer C o E (Publish q) ≡ Published q.plan.number
     publish_answer_is E cut s q rest A =
         let qs = plans_in o E in
         let number = next_number E (q ∷ rest) A.left in
@@ -214,7 +214,7 @@ module _ (C : ℕ) (o : Opening) (g : ℕ) (p : GroupTable) (later : List Propos
         let next : newest_number o E + 1 ≡ q.plan.number = omega (arith, number, own) in
         rw (of_station qs q rest A.left, lt-ltb (newest_number o E) (2 ^ 64 - 1) lt) (ap Published next)
 
-    pub publish_step : (E : List Event) (cut : ℕ → ℕ) (s : Standing) (q : Proposed) (rest : List Proposed) → IsAt E cut s (q ∷ rest) → IsAt (E ++ Publish q ∷ []) cut (record s { seen = s.seen ++ q.plan ∷ [] }) rest
+    pub publish_step : (E : List Event) (cut : ℕ → ℕ) (s : GroupState) (q : Proposed) (rest : List Proposed) → IsAt E cut s (q ∷ rest) → IsAt (E ++ Publish q ∷ []) cut (record s { seen = s.seen ++ q.plan ∷ [] }) rest
     publish_step E cut s q rest A =
         let qs = plans_in o E in
         let more : plans_in o (E ++ Publish q ∷ []) ≡ qs ++ q ∷ [] = filter_map-append (proposal_for o) E (Publish q ∷ []) ∙ rw (of_station qs q rest A.left) refl in
@@ -230,10 +230,10 @@ module _ (C : ℕ) (o : Opening) (g : ℕ) (p : GroupTable) (later : List Propos
     -- ---- the group's own events
 
     -- they are no arrivals and no publications
-    own_event : (E : List Event) (cut : ℕ → ℕ) (s r : Standing) (rest : List Proposed) (e : Event) → ((k : ℕ) → word_at k e ≡ None) → proposal_for o e ≡ None → IsAt E cut s rest → r.seen ≡ s.seen
-        → sending_of g (current o g p (E ++ e ∷ [])) ≡ r.frame → answered_cells C o g p (E ++ e ∷ []) ≡ r.earlier → IsAt (E ++ e ∷ []) cut r rest
+    own_event : (E : List Event) (cut : ℕ → ℕ) (s r : GroupState) (rest : List Proposed) (e : Event) → ((k : ℕ) → word_at k e ≡ None) → proposal_for o e ≡ None → IsAt E cut s rest → r.seen ≡ s.seen
+        → frame_state_of g (current o g p (E ++ e ∷ [])) ≡ r.frame → answered_cells C o g p (E ++ e ∷ []) ≡ r.earlier → IsAt (E ++ e ∷ []) cut r rest
     own_event E cut s r rest e unheard unplanned A seen frame earlier =
-        let same = silent o E e unplanned in
+        let same = plans_in-no_proposal o E e unplanned in
         record {
           arrivals = none_came E cut e unheard A.arrivals;
           seen = seen ∙ (A.seen ∙ ap (plans_of o) (sym same));
@@ -242,29 +242,29 @@ module _ (C : ℕ) (o : Opening) (g : ℕ) (p : GroupTable) (later : List Propos
           earlier = earlier;
         }
 
-    cell_reply : (E : List Event) (cut : ℕ → ℕ) (s : Standing) (rest : List Proposed) → IsAt E cut s rest → answer C o E (Cell g) ≡ reply C o E s.frame s.earlier (next_cell s.frame)
+    cell_reply : (E : List Event) (cut : ℕ → ℕ) (s : GroupState) (rest : List Proposed) → IsAt E cut s rest → answer C o E (Cell g) ≡ reply C o E s.frame s.earlier (next_cell s.frame)
     cell_reply E cut s rest A =
         let f = current o g p E in
-        ap (λ (x : Option GroupTable). option_map_or (λ t. cell_answer C o E g (answered_cells C o g t E) (current o g t E)) x (Refused NoSuch)) W.opens
-        ∙ (ap (reply C o E (sending_of g f) (answered_cells C o g p E)) (W.below.next g f)
-        ∙ (ap (λ (z : Sending). reply C o E z (answered_cells C o g p E) (next_cell z)) A.frame ∙ ap (λ (cs : List AnsweredCell). reply C o E s.frame cs (next_cell s.frame)) A.earlier))
+        ap (λ (x : Option SlotTable). option_map_or (λ t. cell_answer C o E g (answered_cells C o g t E) (current o g t E)) x (Refused NoSuch)) W.opens
+        ∙ (ap (reply C o E (frame_state_of g f) (answered_cells C o g p E)) (W.below.next g f)
+        ∙ (ap (λ (z : FrameState). reply C o E z (answered_cells C o g p E) (next_cell z)) A.frame ∙ ap (λ (cs : List AnsweredCell). reply C o E s.frame cs (next_cell s.frame)) A.earlier))
 
-    cells_grow : (E : List Event) (cut : ℕ → ℕ) (s : Standing) (rest : List Proposed) → IsAt E cut s rest
+    cells_grow : (E : List Event) (cut : ℕ → ℕ) (s : GroupState) (rest : List Proposed) → IsAt E cut s rest
         → answered_cells C o g p (E ++ Cell g ∷ []) ≡ s.earlier ++ cells_next C o E s.frame s.earlier (next_cell s.frame)
     cells_grow E cut s rest A =
         let f = current o g p E in
         let cs = answered_cells C o g p E in
         W.below.answered C o g p E (Cell g) ∙ rw (eq-eqb g g refl)
-        (ap (λ (x : Option (ℕ × ℕ)). cs ++ cells_next C o E (sending_of g f) cs x) (W.below.next g f)
-        ∙ (ap (λ (z : Sending). cs ++ cells_next C o E z cs (next_cell z)) A.frame ∙ ap (λ (l : List AnsweredCell). l ++ cells_next C o E s.frame l (next_cell s.frame)) A.earlier))
+        (ap (λ (x : Option (ℕ × ℕ)). cs ++ cells_next C o E (frame_state_of g f) cs x) (W.below.next g f)
+        ∙ (ap (λ (z : FrameState). cs ++ cells_next C o E z cs (next_cell z)) A.frame ∙ ap (λ (l : List AnsweredCell). l ++ cells_next C o E s.frame l (next_cell s.frame)) A.earlier))
 
-    frame_next : (E : List Event) (cut : ℕ → ℕ) (s : Standing) (rest : List Proposed) → IsAt E cut s rest → sending_of g (current o g p (E ++ Cell g ∷ [])) ≡ after_cell s.frame
-    frame_next E cut s rest A = W.below.cell o g p E ∙ ap (λ (z : Sending). after_cell z) A.frame
+    frame_next : (E : List Event) (cut : ℕ → ℕ) (s : GroupState) (rest : List Proposed) → IsAt E cut s rest → frame_state_of g (current o g p (E ++ Cell g ∷ [])) ≡ after_cell s.frame
+    frame_next E cut s rest A = W.below.cell o g p E ∙ ap (λ (z : FrameState). after_cell z) A.frame
 
-    pub end_answer : (E : List Event) (cut : ℕ → ℕ) (s : Standing) (rest : List Proposed) → IsAt E cut s rest → next_cell s.frame ≡ None → answer C o E (Cell g) ≡ Refused FrameEnd
+    pub end_answer : (E : List Event) (cut : ℕ → ℕ) (s : GroupState) (rest : List Proposed) → IsAt E cut s rest → next_cell s.frame ≡ None → answer C o E (Cell g) ≡ Refused FrameEnd
     end_answer E cut s rest A none = cell_reply E cut s rest A ∙ ap (reply C o E s.frame s.earlier) none
 
-    still_over : (z : Sending) → next_cell z ≡ None → after_cell z ≡ z
+    still_over : (z : FrameState) → next_cell z ≡ None → after_cell z ≡ z
     still_over z none = elim (cases_lt z.sent (cells_of z.table)) [
       | inl lt ↦
           let cell : ℕ × ℕ = (z.sent % buses_of z.table, z.sent / buses_of z.table) in
@@ -273,12 +273,12 @@ module _ (C : ℕ) (o : Opening) (g : ℕ) (p : GroupTable) (later : List Propos
       | inr ge ↦ rw (le-ltb z.sent (cells_of z.table) ge) refl
     ]
 
-    pub end_step : (E : List Event) (cut : ℕ → ℕ) (s : Standing) (rest : List Proposed) → IsAt E cut s rest → next_cell s.frame ≡ None → IsAt (E ++ Cell g ∷ []) cut s rest
+    pub end_step : (E : List Event) (cut : ℕ → ℕ) (s : GroupState) (rest : List Proposed) → IsAt E cut s rest → next_cell s.frame ≡ None → IsAt (E ++ Cell g ∷ []) cut s rest
     end_step E cut s rest A none = own_event E cut s s rest (Cell g) (λ r. refl) refl A refl
         (frame_next E cut s rest A ∙ still_over s.frame none)
         (cells_grow E cut s rest A ∙ (ap (λ (x : Option (ℕ × ℕ)). s.earlier ++ cells_next C o E s.frame s.earlier x) none ∙ append-nil s.earlier))
 
-    pub cell_answer_is : (E : List Event) (cut : ℕ → ℕ) (s : Standing) (rest : List Proposed) (c : Carried) → IsAt E cut s rest → IsAnswered s c → ((l : Load) → c.load ≡ Some l → IsLatest C o E l)
+    pub cell_answer_is : (E : List Event) (cut : ℕ → ℕ) (s : GroupState) (rest : List Proposed) (c : Carried) → IsAt E cut s rest → IsAnswered s c → ((l : Load) → c.load ≡ Some l → IsLatest C o E l)
         → answer C o E (Cell g) ≡ Sent c.bus c.slot c.word
     cell_answer_is E cut s rest c A is latest =
         let x = output_in s.frame.table is.cell.0 is.cell.1 in
@@ -288,7 +288,7 @@ module _ (C : ℕ) (o : Opening) (g : ℕ) (p : GroupTable) (later : List Propos
         ∙ (ap (λ (n : ℕ). Sent is.cell.0 n (word_after C o E s.earlier n x)) (sym is.slot)
         ∙ (ap (λ (w : Option ℕ). Sent is.cell.0 c.slot w) (same.word ∙ sym is.word) ∙ ap (λ (b : ℕ). Sent b c.slot c.word) (sym is.bus))))
 
-    pub cell_step : (E : List Event) (cut : ℕ → ℕ) (s : Standing) (rest : List Proposed) (c : Carried) → IsAt E cut s rest → IsAnswered s c → ((l : Load) → c.load ≡ Some l → IsLatest C o E l)
+    pub cell_step : (E : List Event) (cut : ℕ → ℕ) (s : GroupState) (rest : List Proposed) (c : Carried) → IsAt E cut s rest → IsAnswered s c → ((l : Load) → c.load ≡ Some l → IsLatest C o E l)
         → IsAt (E ++ Cell g ∷ []) cut (record s { frame = after_cell s.frame; earlier = s.earlier ++ answered_by c }) rest
     cell_step E cut s rest c A is latest =
         let x = output_in s.frame.table is.cell.0 is.cell.1 in
@@ -302,7 +302,7 @@ module _ (C : ℕ) (o : Opening) (g : ℕ) (p : GroupTable) (later : List Propos
 
     -- ---- changes
 
-    newest_is : (E : List Event) (cut : ℕ → ℕ) (s : Standing) (rest : List Proposed) → IsAt E cut s rest → last_of s.seen ≡ Some (newest_plan o E)
+    newest_is : (E : List Event) (cut : ℕ → ℕ) (s : GroupState) (rest : List Proposed) → IsAt E cut s rest → last_of s.seen ≡ Some (newest_plan o E)
     newest_is E cut s rest A = ap (λ (l : List PlanTable). last_of l) A.seen
         ∙ (last_from (λ (q : Proposed). q.plan) o.proposal.plan (plans_in o E)
         ∙ ap (λ (qs : List Proposed). Some (option_map_or (λ q. q.plan) (last_of qs) o.proposal.plan)) (sym (published_all E rest A.left)))
@@ -317,33 +317,33 @@ module _ (C : ℕ) (o : Opening) (g : ℕ) (p : GroupTable) (later : List Propos
         let number : w.plan.number ≡ o.proposal.plan.number + (n + 1) = W.plans.numbered n w there in
         ap (λ (x : Option Proposed). (option_map_or (λ q. q.plan) x o.proposal.plan).number) is ∙ omega (arith, number)
 
-    number_is : (E : List Event) (cut : ℕ → ℕ) (s : Standing) (rest : List Proposed) → IsAt E cut s rest → newest_number o E ≡ number_of s.seen
+    number_is : (E : List Event) (cut : ℕ → ℕ) (s : GroupState) (rest : List Proposed) → IsAt E cut s rest → newest_number o E ≡ number_of s.seen
     number_is E cut s rest A = next_number E rest A.left
         ∙ (sym (last_number (plans_in o E) rest A.left)
         ∙ (ap (λ (qs : List Proposed). (option_map_or (λ q. q.plan) (last_of qs) o.proposal.plan).number) (sym (published_all E rest A.left))
         ∙ ap (λ (x : Option PlanTable). option_map_or (λ q. q.number) x 0) (sym (newest_is E cut s rest A))))
 
-    table_is : (E : List Event) (cut : ℕ → ℕ) (s : Standing) (rest : List Proposed) → IsAt E cut s rest → newest_table o g p E ≡ table_of g p s.seen
+    table_is : (E : List Event) (cut : ℕ → ℕ) (s : GroupState) (rest : List Proposed) → IsAt E cut s rest → newest_table o g p E ≡ table_of g p s.seen
     table_is E cut s rest A = ap (λ (x : Option PlanTable). option_map_or (λ q. unwrap_or (slice_get (groups_of q) g) p) x p) (sym (newest_is E cut s rest A))
 
     -- what a change is answered, and where it leads
-    pub record IsTurned (E : List Event) (cut : ℕ → ℕ) (s : Standing) (rest : List Proposed) (t : Turn) : Type 0 where
+    pub record IsTurned (E : List Event) (cut : ℕ → ℕ) (s : GroupState) (rest : List Proposed) (t : Turn) : Type 0 where
       pub answer : answer C o E (Frame g) ≡ turn_answer t
       pub after : IsAt (E ++ Frame g ∷ []) cut (after_turn g p s s.seen t) rest
 
-    pub turn_step : (E : List Event) (cut : ℕ → ℕ) (s : Standing) (rest : List Proposed) → IsAt E cut s rest → IsTurned E cut s rest (turn g p s s.seen)
+    pub turn_step : (E : List Event) (cut : ℕ → ℕ) (s : GroupState) (rest : List Proposed) → IsAt E cut s rest → IsTurned E cut s rest (turn g p s s.seen)
     turn_step E cut s rest A =
         let f = current o g p E in
         let n = newest_number o E in
         let now = newest_table o g p E in
         let t = turn g p s s.seen in
         record {
-          answer = ap (λ (x : Option GroupTable). option_map_or (λ p. frame_answer g n (newest_table o g p E) (current o g p E)) x (Refused NoSuch)) W.opens
+          answer = ap (λ (x : Option SlotTable). option_map_or (λ p. frame_answer g n (newest_table o g p E) (current o g p E)) x (Refused NoSuch)) W.opens
               ∙ (W.below.answer g n now f
-              ∙ (ap (λ (z : Sending). frame_reply z n now) A.frame
+              ∙ (ap (λ (z : FrameState). frame_reply z n now) A.frame
               ∙ (ap (λ (m : ℕ). frame_reply s.frame m now) (number_is E cut s rest A) ∙ (ap (frame_reply s.frame (number_of s.seen)) (table_is E cut s rest A) ∙ replied))));
           after = own_event E cut s (after_turn g p s s.seen t) rest (Frame g) (λ r. refl) refl A (seen_turned t)
-              (W.below.frame o g p E ∙ (ap (λ (z : Sending). after_frame z now) A.frame ∙ (ap (after_frame s.frame) (table_is E cut s rest A) ∙ led)))
+              (W.below.frame o g p E ∙ (ap (λ (z : FrameState). after_frame z now) A.frame ∙ (ap (after_frame s.frame) (table_is E cut s rest A) ∙ led)))
               (W.below.answered C o g p E (Frame g) ∙ (A.earlier ∙ earlier_turned t));
         }
       where

@@ -5,9 +5,9 @@ use Rattle.std.proofs.lemmas.List.Elements.{filter_map-append}
 use Rattle.std.proofs.lemmas.List.Sums.{sum_by-append}
 use Rattle.std.proofs.lemmas.Bool.{lt-ltb}
 use Rattle.a429_slots.specs.Tables.{PlanTable, cells_of}
-use Rattle.a429_slots.specs.Sending.{Sending, after_cell}
+use Rattle.a429_slots.specs.FrameStates.{FrameState, after_cell}
 use Rattle.a429_workers.specs.Calls.{Call, Carried, Asks, Turns, Takes, StaysSpent}
-use Rattle.a429_workers.specs.Transmitting.{Transmitting, GoesOnBy, IsSameGroup, StandsFor}
+use Rattle.a429_workers.specs.Transmitting.{Transmitting, GoesOnByCalls, IsSameGroup, StandsForCalls}
 use Rattle.a429_workers.specs.Gates.{HaveCellsPassed, IsStoppedGroup}
 use Rattle.a429_workers.specs.Sends.{AreSent, HasSent, IsCell, IsCellMade, IsFrame, IsTallied, IsTurn, has_word, is_send, is_taken, sent_in, sent_of, with_cells}
 use Rattle.a429_workers.specs.declared.cells.Sent.{Sent}
@@ -42,11 +42,11 @@ same_self v = record { hub = refl; group = refl; board = refl; opened = refl }
 pub same_trans : (u v w : Transmitting) → IsSameGroup u v → IsSameGroup v w → IsSameGroup u w
 same_trans u v w p q = record { hub = q.hub ∙ p.hub; group = q.group ∙ p.group; board = q.board ∙ p.board; opened = q.opened ∙ p.opened }
 
-pub goes_nowhere : (v : Transmitting) → GoesOnBy v [] v
-goes_nowhere v b made S = subst (λ (cs : List Call). StandsFor b cs v) (sym (append-nil made)) S
+pub goes_nowhere : (v : Transmitting) → GoesOnByCalls v [] v
+goes_nowhere v b made S = subst (λ (cs : List Call). StandsForCalls b cs v) (sym (append-nil made)) S
 
-pub goes_further : (u v w : Transmitting) (xs ys : List Call) → GoesOnBy u xs v → GoesOnBy v ys w → GoesOnBy u (xs ++ ys) w
-goes_further u v w xs ys p q b made S = subst (λ (cs : List Call). StandsFor b cs w) (append_assoc made xs ys) (q b (made ++ xs) (p b made S))
+pub goes_further : (u v w : Transmitting) (xs ys : List Call) → GoesOnByCalls u xs v → GoesOnByCalls v ys w → GoesOnByCalls u (xs ++ ys) w
+goes_further u v w xs ys p q b made S = subst (λ (cs : List Call). StandsForCalls b cs w) (append_assoc made xs ys) (q b (made ++ xs) (p b made S))
 
 pub nothing_sent : (v : Transmitting) (taken : Option (List Sent)) → HasSent v v taken taken [] []
 nothing_sent v taken = record { stands = goes_nowhere v; same = same_self v; sends = tt; took = cells_none taken }
@@ -61,7 +61,7 @@ cell_lost v w c before after M took = record { stands = M.stands; same = M.same;
 -- one stretch after another
 pub further : (u v w : Transmitting) (a b c : Option (List Sent)) (xs ys last : List Call) → HasSent u v a b xs [] → HasSent v w b c ys last → HasSent u w a c (xs ++ ys) last
 further u v w a b c xs ys last P Q = record {
-  stands = subst (λ (cs : List Call). GoesOnBy u cs w) (sym (append_assoc xs ys last)) (goes_further u v w xs (ys ++ last) (subst (λ (cs : List Call). GoesOnBy u cs v) (append-nil xs) P.stands) Q.stands);
+  stands = subst (λ (cs : List Call). GoesOnByCalls u cs w) (sym (append_assoc xs ys last)) (goes_further u v w xs (ys ++ last) (subst (λ (cs : List Call). GoesOnByCalls u cs v) (append-nil xs) P.stands) Q.stands);
   same = same_trans u v w P.same Q.same;
   sends = all_append (λ (d : Call). IsTrue (is_send d)) xs ys P.sends Q.sends;
   took = Q.took ∙ (ap (λ (x : Option (List Sent)). with_cells x (sent_in ys)) P.took ∙ (cells_more a (sent_in xs) (sent_in ys) ∙ ap (with_cells a) (sym (sent_append xs ys))));
@@ -114,8 +114,8 @@ frame_goes_on old now next a b c start totals later n F left C small =
       sends = further old now next a b c F.calls one [] F.sends (cell_sent now next C.0 b c M C.2);
       tallied = tallied_more start totals later F.calls one F.tallied C.3;
       turns = taken_append F.calls one ∙ omega (arith, F.turns);
-      table = ap (λ (f : Sending). f.table) M.frame ∙ (same_table now.frame ∙ F.table);
-      sent = ap (λ (f : Sending). f.sent) M.frame ∙ (sent ∙ ap (λ (k : ℕ). k + 1) F.sent);
+      table = ap (λ (f : FrameState). f.table) M.frame ∙ (same_table now.frame ∙ F.table);
+      sent = ap (λ (f : FrameState). f.sent) M.frame ∙ (sent ∙ ap (λ (k : ℕ). k + 1) F.sent);
       words = small.0;
       cells = omega (arith, small.1, F.cells);
     }
@@ -149,7 +149,7 @@ pub record AreInFrames (old now : Transmitting) (before after : Option (List Sen
   pub words : totals.words ≤ totals.cells
   pub cells : totals.cells ≤ start.cells + n * 131072
 
-turned : (now next : Transmitting) (taken : Option (List Sent)) (plans : List PlanTable) (n : ℕ) → GoesOnBy now (Turns plans (Takes n) ∷ []) next → IsSameGroup now next → HasSent now next taken taken (Turns plans (Takes n) ∷ []) []
+turned : (now next : Transmitting) (taken : Option (List Sent)) (plans : List PlanTable) (n : ℕ) → GoesOnByCalls now (Turns plans (Takes n) ∷ []) next → IsSameGroup now next → HasSent now next taken taken (Turns plans (Takes n) ∷ []) []
 turned now next taken plans n stands same = record { stands = stands; same = same; sends = (refl, tt); took = cells_none taken }
 
 pub frames_go_on : (old now mid next : Transmitting) (a b c : Option (List Sent)) (start totals later : SendTotals) (n : ℕ) → AreInFrames old now a b start totals n → IsTurn now mid (Ok tt)

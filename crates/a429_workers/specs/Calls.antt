@@ -4,9 +4,9 @@ use Rattle.std.specs.Prelude.{◌≡◌, ◌+◌, ◌++◌, ◌∷◌, [], ⊤, 
 use Rattle.std.specs.Option.{option_map_or}
 use mathlib.Core.List.{IsPrefix}
 use Rattle.a429_equipment.specs.declared.loads.Load.{Load}
-use Rattle.a429_slots.specs.Tables.{Placed, GroupTable, PlanTable, groups_of, cells_of, output_in}
+use Rattle.a429_slots.specs.Tables.{Placed, SlotTable, PlanTable, groups_of, cells_of, output_in}
 use Rattle.a429_slots.specs.History.{AnsweredCell, last_of, sent_word}
-use Rattle.a429_slots.specs.Sending.{Sending, begun, next_cell, after_cell, fits_next, turned}
+use Rattle.a429_slots.specs.FrameStates.{FrameState, begun, next_cell, after_cell, fits_next, turned}
 
 -- ---- calls
 
@@ -46,14 +46,14 @@ loads_of calls = flat_map loads_in calls
 -- ---- where calls lead
 
 -- the frame that the group is in and the number of its plan, the plans that were seen, and the cells of outputs that were answered
-pub record Standing : Type 0 where
-  pub frame : Sending
+pub record GroupState : Type 0 where
+  pub frame : FrameState
   pub number : ℕ
   pub seen : List PlanTable
   pub earlier : List AnsweredCell
 
 -- before the first call: the first plan that was seen is in force, in which the group has the table p
-abbrev pub before_calls : PlanTable → GroupTable → ℕ → Standing
+abbrev pub before_calls : PlanTable → SlotTable → ℕ → GroupState
 before_calls opened p first = record { frame = begun first p; number = opened.number; seen = opened ∷ []; earlier = [] }
 
 -- ---- cells
@@ -68,7 +68,7 @@ word_of earlier slot _ _ = None
 
 -- The answer is to the cell that is due. One load was made for it, of the source of the output that stands there, or none where none stands
 -- there; the word is what goes out by this load.
-pub record IsAnswered (s : Standing) (c : Carried) : Type 0 where
+pub record IsAnswered (s : GroupState) (c : Carried) : Type 0 where
   pub cell : ℕ × ℕ
   pub due : next_cell s.frame ≡ Some cell
   pub bus : c.bus ≡ cell.0
@@ -86,42 +86,42 @@ answered_by c = option_map_or (λ l. record { slot = c.slot; source = l.source; 
 abbrev pub number_of : List PlanTable → ℕ
 number_of plans = option_map_or (λ q. q.number) (last_of plans) 0
 
-abbrev pub table_of : ℕ → GroupTable → List PlanTable → GroupTable
+abbrev pub table_of : ℕ → SlotTable → List PlanTable → SlotTable
 table_of g p plans = option_map_or (λ q. unwrap_or (slice_get (groups_of q) g) p) (last_of plans) p
 
 -- what is answered to a change where these plans were seen
-abbrev pub turn : ℕ → GroupTable → Standing → List PlanTable → Turn
+abbrev pub turn : ℕ → SlotTable → GroupState → List PlanTable → Turn
 turn g p s plans =
     if nat_lt s.frame.sent (cells_of s.frame.table) then StaysMid
     else (if fits_next s.frame (table_of g p plans) then Takes (number_of plans) else StaysSpent)
 
 -- ---- lawful calls
 
-abbrev pub IsLawful : ℕ → GroupTable → Standing → Call → Type 0
+abbrev pub IsLawful : ℕ → SlotTable → GroupState → Call → Type 0
 IsLawful g p s (Asks (Some c)) = IsAnswered s c
 IsLawful g p s (Asks None) = next_cell s.frame ≡ None
 IsLawful g p s (Turns plans t) = IsPrefix s.seen plans × (t ≡ turn g p s plans)
 IsLawful g p s (Meets loads) = ⊤
 
 -- what a change leaves: only one that is taken begins a frame
-abbrev pub after_turn : ℕ → GroupTable → Standing → List PlanTable → Turn → Standing
+abbrev pub after_turn : ℕ → SlotTable → GroupState → List PlanTable → Turn → GroupState
 after_turn g p s plans (Takes n) = record s { frame = turned s.frame (table_of g p plans); number = n; seen = plans }
 after_turn g p s plans StaysMid = record s { seen = plans }
 after_turn g p s plans StaysSpent = record s { seen = plans }
 
 -- what a call leaves
-abbrev pub after : ℕ → GroupTable → Standing → Call → Standing
+abbrev pub after : ℕ → SlotTable → GroupState → Call → GroupState
 after g p s (Asks (Some c)) = record s { frame = after_cell s.frame; earlier = s.earlier ++ answered_by c }
 after g p s (Asks None) = s
 after g p s (Turns plans t) = after_turn g p s plans t
 after g p s (Meets loads) = s
 
 -- where calls lead
-abbrev pub standing_after : ℕ → GroupTable → Standing → List Call → Standing
-standing_after g p s [] = s
-standing_after g p s (c ∷ calls) = standing_after g p (after g p s c) calls
+abbrev pub state_after : ℕ → SlotTable → GroupState → List Call → GroupState
+state_after g p s [] = s
+state_after g p s (c ∷ calls) = state_after g p (after g p s c) calls
 
 -- each call is lawful where those before it led
-abbrev pub AreLawful : ℕ → GroupTable → Standing → List Call → Type 0
+abbrev pub AreLawful : ℕ → SlotTable → GroupState → List Call → Type 0
 AreLawful g p s [] = ⊤
 AreLawful g p s (c ∷ calls) = IsLawful g p s c × AreLawful g p (after g p s c) calls

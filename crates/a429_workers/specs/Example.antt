@@ -4,7 +4,7 @@ use Rattle.std.specs.Prelude.{◌∷◌, [], ℕ, zero, suc, List, Option, Some,
 use Rattle.a429_equipment.specs.declared.loads.Load.{Load}
 use Rattle.a429_equipment.specs.declared.rows.SourceRow.{SourceRow}
 use Rattle.a429_equipment.specs.TableRecord.{TableRecord}
-use Rattle.a429_slots.specs.Tables.{GroupTable}
+use Rattle.a429_slots.specs.Tables.{SlotTable}
 use Rattle.a429_slots.specs.Proposed.{Proposed}
 use Rattle.a429_slots.specs.History.{Opening}
 use Rattle.a429_workers.specs.Calls.{Call, Asks, Turns, Meets, Takes}
@@ -25,7 +25,7 @@ station = record {
 }
 
 -- a frame of two slots on so many buses, in both of which the source stands on this one
-abbrev pub table_on : ℕ → ℕ → GroupTable
+abbrev pub table_on : ℕ → ℕ → SlotTable
 table_on buses bus = record {
   frame = 1;
   buses = buses;
@@ -38,11 +38,11 @@ table_on buses bus = record {
   limits = record { hold = Some 1; spacing = 1 } ∷ [];
 }
 
-abbrev pub proposal : ℕ → GroupTable → Proposed
+abbrev pub proposal : ℕ → SlotTable → Proposed
 proposal number t = record { station = station; plan = record { count = 1; groups = t ∷ []; number = number } }
 
 -- one bus, and later two
-abbrev pub table : GroupTable
+abbrev pub table : SlotTable
 table = table_on 1 0
 
 abbrev pub first_plan : Proposed

@@ -1,6 +1,6 @@
 -- What the loops of receivers and groups do at their gate: the points that they pass, in order, and the one at which it ended them.
 use Rattle.std.specs.Prelude.{◌≡◌, ◌+◌, ◌<◌, ◌⊎◌, ◌∷◌, [], ℕ, List, Result, Ok, Err, length, take}
-use Rattle.a429_values.specs.Ends.{Receiving}
+use Rattle.a429_values.specs.Ends.{ReceiverEnd}
 use Rattle.a429_workers.specs.Receives.{AreTaken, after_words}
 use Rattle.a429_workers.specs.declared.gates.Point.{Point}
 use Rattle.a429_workers.specs.declared.gates.Point.TheVariants as point
@@ -50,17 +50,17 @@ IsGatedLine passes shuts r given taken (Err receive.Gate) =
     ⊎ ((k : ℕ) × (given ≡ taken) × (taken ≡ k + 1) × EndsAfter passes shuts (point_before_word r) (point_after_word r) k)
 
 -- the receiver took the first of these words, so many, each between two points of the gate
-abbrev pub AreGated : (Point → Type 0) → (Point → Type 0) → ℕ → List ℕ → Result ReceiveTotals ReceiveFault → Receiving → Receiving → Type 0
+abbrev pub AreGated : (Point → Type 0) → (Point → Type 0) → ℕ → List ℕ → Result ReceiveTotals ReceiveFault → ReceiverEnd → ReceiverEnd → Type 0
 AreGated passes shuts r given answer old new =
     (taken : ℕ) × (new ≡ after_words old (take taken given)) × IsGatedLine passes shuts r (length given) taken answer
 
 -- what the loop of receiver r did: the line gave words, and the receiver took them, each between two points of the gate
-abbrev pub HasTaken : {L : Type 0} → (L → List ℕ → L → Type 0) → (Point → Type 0) → (Point → Type 0) → ℕ → L → L → Receiving → Receiving → Result ReceiveTotals ReceiveFault → Type 0
+abbrev pub HasTaken : {L : Type 0} → (L → List ℕ → L → Type 0) → (Point → Type 0) → (Point → Type 0) → ℕ → L → L → ReceiverEnd → ReceiverEnd → Result ReceiveTotals ReceiveFault → Type 0
 HasTaken gives passes shuts r line line' old new answer =
     (given : List ℕ) × gives line given line' × AreTaken given answer old new × AreGated passes shuts r given answer old new
 
 -- the gate ended the loop of receiver r before word n, which the receiver did not take, or after it
-abbrev pub IsShutAt : (Point → Type 0) → (Point → Type 0) → ℕ → ℕ → ℕ → Receiving → Receiving → Type 0
+abbrev pub IsShutAt : (Point → Type 0) → (Point → Type 0) → ℕ → ℕ → ℕ → ReceiverEnd → ReceiverEnd → Type 0
 IsShutAt passes shuts r n raw old new =
     ((new ≡ old) × shuts (point_before_word r n)) ⊎ ((new ≡ after_words old (raw ∷ [])) × passes (point_before_word r n) × shuts (point_after_word r n))
 

@@ -1,19 +1,19 @@
 -- What lists of calls with one call more are.
 use Rattle.std.specs.Prelude.{◌≡◌, ◌++◌, ◌∷◌, [], ℕ, List}
-use Rattle.a429_slots.specs.Tables.{GroupTable}
-use Rattle.a429_workers.specs.Calls.{Call, Standing, IsLawful, AreLawful, after, standing_after, loads_in, loads_of}
+use Rattle.a429_slots.specs.Tables.{SlotTable}
+use Rattle.a429_workers.specs.Calls.{Call, GroupState, IsLawful, AreLawful, after, state_after, loads_in, loads_of}
 
 -- lawful calls stay lawful with one more that is lawful where they led
 abbrev pub LawfulCallsGrow : Type 0
 LawfulCallsGrow =
-    (g : ℕ) (p : GroupTable) (s : Standing) (calls : List Call) (c : Call)
-    → AreLawful g p s calls → IsLawful g p (standing_after g p s calls) c → AreLawful g p s (calls ++ c ∷ [])
+    (g : ℕ) (p : SlotTable) (s : GroupState) (calls : List Call) (c : Call)
+    → AreLawful g p s calls → IsLawful g p (state_after g p s calls) c → AreLawful g p s (calls ++ c ∷ [])
 
 -- they lead to where the last one leads from where the others led
 abbrev pub LastCallLeads : Type 0
 LastCallLeads =
-    (g : ℕ) (p : GroupTable) (s : Standing) (calls : List Call) (c : Call)
-    → standing_after g p s (calls ++ c ∷ []) ≡ after g p (standing_after g p s calls) c
+    (g : ℕ) (p : SlotTable) (s : GroupState) (calls : List Call) (c : Call)
+    → state_after g p s (calls ++ c ∷ []) ≡ after g p (state_after g p s calls) c
 
 -- their loads have those of the last one at their end
 abbrev pub LastCallLoads : Type 0

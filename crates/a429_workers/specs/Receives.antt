@@ -1,7 +1,7 @@
 -- What a receiver does with the raw words that a line gave, one after another.
 use Rattle.std.specs.Prelude.{◌≡◌, ◌≤◌, ◌+◌, ◌∷◌, [], ◌++◌, ℕ, Bool, true, false, List, Option, Result, Ok, Err, length, take, count_by, option_map}
 use Rattle.a429_equipment.specs.Receiving.{accepted_after}
-use Rattle.a429_values.specs.Ends.{Receiving, accept_answer}
+use Rattle.a429_values.specs.Ends.{ReceiverEnd, accept_answer}
 use Rattle.a429_values.specs.declared.receiver.Accept.{Accept}
 use Rattle.a429_values.specs.declared.receiver.Accept.TheVariants.{Accepted, Parity, Filtered, NoSource, CountSpent}
 use Rattle.a429_workers.specs.Sinks.{failures_by}
@@ -10,15 +10,15 @@ use Rattle.a429_workers.specs.declared.receiving.ReceiveFault.{ReceiveFault}
 use Rattle.a429_workers.specs.declared.receiving.ReceiveFault.TheVariants.{Source, Gate, TooMuch}
 
 -- hub and number stay the same, and how many words of a source it accepts
-abbrev pub IsSameReceiver : Receiving → Receiving → Type 0
+abbrev pub IsSameReceiver : ReceiverEnd → ReceiverEnd → Type 0
 IsSameReceiver old new = new ≡ record old { accepted = new.accepted }
 
 -- the receiver after these raw words came in
-abbrev pub after_words : Receiving → List ℕ → Receiving
+abbrev pub after_words : ReceiverEnd → List ℕ → ReceiverEnd
 after_words r raws = record r { accepted = accepted_after r.limit r.at.station r.number r.accepted raws }
 
 -- its answers to them, each by what it had accepted before
-abbrev pub answers_to : Receiving → List ℕ → List Accept
+abbrev pub answers_to : ReceiverEnd → List ℕ → List Accept
 answers_to r [] = []
 answers_to r (raw ∷ raws) = accept_answer r raw ∷ answers_to (after_words r (raw ∷ [])) raws
 
@@ -91,7 +91,7 @@ pub record Gives {L : Type 0} (given : L → List ℕ) (left : L → Option (Lis
 
 -- The line gave these words: the receiver took them, all of them where the line ended or failed, all but the last where they were too many, and
 -- all or all but the last where the gate ended the loop.
-abbrev pub AreTaken : List ℕ → Result ReceiveTotals ReceiveFault → Receiving → Receiving → Type 0
+abbrev pub AreTaken : List ℕ → Result ReceiveTotals ReceiveFault → ReceiverEnd → ReceiverEnd → Type 0
 AreTaken given (Ok totals) old new = (new ≡ after_words old given) × (totals ≡ totals_of (answers_to old given)) × (length given ≤ 1000000)
 AreTaken given (Err Source) old new = (new ≡ after_words old given) × (length given ≤ 1000000)
 AreTaken given (Err TooMuch) old new = (new ≡ after_words old (take 1000000 given)) × (length given ≡ 1000001)

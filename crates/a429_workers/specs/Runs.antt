@@ -9,7 +9,7 @@ use Rattle.a429_equipment.specs.Receiving.{IsReceived}
 use Rattle.a429_equipment.specs.Agreement.{Agrees}
 use Rattle.a429_equipment.specs.SameStation.{same_station}
 use Rattle.a429_equipment.specs.Sound.{OfEach}
-use Rattle.a429_slots.specs.Tables.{GroupTable, PlanTable}
+use Rattle.a429_slots.specs.Tables.{SlotTable, PlanTable}
 use Rattle.a429_slots.specs.Proposed.{Proposed}
 use Rattle.a429_slots.specs.Events.{Event, Arrive, Cell, Frame, Publish}
 use Rattle.a429_slots.specs.History.{Opening, OpensWith, accepted_by, latest_by}
@@ -18,7 +18,7 @@ use Rattle.a429_slots.specs.declared.answers.Answer.{Answer}
 use Rattle.a429_slots.specs.declared.answers.Answer.TheVariants.{Accepted, Sent, Changed, Published, Refused}
 use Rattle.a429_slots.specs.declared.answers.Refusal.TheVariants.{FrameEnd, MidFrame, SlotsSpent}
 use Rattle.a429_slots.specs.Answers.{answers}
-use Rattle.a429_workers.specs.Calls.{Call, Carried, Turn, Asks, Turns, Meets, Takes, StaysMid, StaysSpent, Standing, AreLawful, before_calls, standing_after, loads_of}
+use Rattle.a429_workers.specs.Calls.{Call, Carried, Turn, Asks, Turns, Meets, Takes, StaysMid, StaysSpent, GroupState, AreLawful, before_calls, state_after, loads_of}
 
 -- ---- what is given
 
@@ -43,12 +43,12 @@ abbrev pub plans_of : Opening → List Proposed → List PlanTable
 plans_of o later = o.proposal.plan ∷ map (λ q. q.plan) later
 
 -- where the calls of a transmitter of group g led since the opening
-abbrev pub led_to : Opening → ℕ → GroupTable → List Call → Standing
-led_to o g p calls = standing_after g p (before_calls o.proposal.plan p o.first) calls
+abbrev pub led_to : Opening → ℕ → SlotTable → List Call → GroupState
+led_to o g p calls = state_after g p (before_calls o.proposal.plan p o.first) calls
 
 -- Lawful calls of a transmitter of group g, which saw no other plans than the published ones, and whose loads agree with what each receiver
 -- of its station accepted.
-pub record IsWorking (C : ℕ) (o : Opening) (g : ℕ) (p : GroupTable) (later : List Proposed) (calls : List Call) (heard : ℕ → List (ℕ × ℕ)) : Type 0 where
+pub record IsWorking (C : ℕ) (o : Opening) (g : ℕ) (p : SlotTable) (later : List Proposed) (calls : List Call) (heard : ℕ → List (ℕ × ℕ)) : Type 0 where
   pub wired : IsWired o.proposal.station
   pub opens : OpensWith o g p
   pub published : ArePublished o later
@@ -97,7 +97,7 @@ event_of g (Meets loads) = None
 -- The place in a run to which some calls lead, the first of the transmitter's: the events before it have just the cells and frames of these
 -- calls, lead the group to the frame that the calls led to, and have as many accepted words of each source that was loaded as each load counted,
 -- or more.
-pub record HavePlace (C : ℕ) (o : Opening) (g : ℕ) (p : GroupTable) (calls : List Call) (E : List Event) : Type 0 where
+pub record HavePlace (C : ℕ) (o : Opening) (g : ℕ) (p : SlotTable) (calls : List Call) (E : List Event) : Type 0 where
   pub place : ℕ
   pub within : place ≤ length E
   pub sends : filter (λ x. is_sending x.0) (answered C o (take place E)) ≡ filter_map (event_of g) calls
@@ -119,7 +119,7 @@ pub record IsRun (C : ℕ) (o : Opening) (g : ℕ) (later : List Proposed) (call
   pub sends : filter (λ x. is_sending x.0) (answered C o E) ≡ filter_map (event_of g) calls
   pub arrivals : (r : ℕ) → filter (λ x. comes_to r x.0) (answered C o E) ≡ map (λ a. (Arrive r a.1, Accepted a.0)) (heard r)
   pub publications : filter (λ x. is_publish x.0) (answered C o E) ≡ map (λ q. (Publish q, Published q.plan.number)) later
-  pub places : (p : GroupTable) (n : ℕ) → OpensWith o g p → HavePlace C o g p (take n calls) E
+  pub places : (p : SlotTable) (n : ℕ) → OpensWith o g p → HavePlace C o g p (take n calls) E
   pub cells : (n : ℕ) (c : Carried) (l : Load) → slice_get calls n ≡ Some (Asks (Some c)) → c.load ≡ Some l → HasCellPlace C o g (take n calls) l E
 
 -- what was done is one run
@@ -130,5 +130,5 @@ pub record HasRun (C : ℕ) (o : Opening) (g : ℕ) (later : List Proposed) (cal
 -- whatever lawful calls a group's transmitter was asked for, they are one run with what the receivers accepted and the plans that were published
 abbrev pub WorkIsOneRun : Type 0
 WorkIsOneRun =
-    (C : ℕ) (o : Opening) (g : ℕ) (p : GroupTable) (later : List Proposed) (calls : List Call) (heard : ℕ → List (ℕ × ℕ))
+    (C : ℕ) (o : Opening) (g : ℕ) (p : SlotTable) (later : List Proposed) (calls : List Call) (heard : ℕ → List (ℕ × ℕ))
     → IsWorking C o g p later calls heard → HasRun C o g later calls heard

@@ -2,11 +2,11 @@
 use Rattle.std.specs.Prelude.{◌≡◌, ◌+◌, ◌<◌, ◌++◌, ◌∷◌, [], ◌⊎◌, ℕ, zero, suc, Bool, true, false, List, Option, Some, None, Result, Ok, Err, IsTrue, is_some, length, count_by, filter_map, option_map}
 use Rattle.std.specs.List.{AllByRecursion}
 use Rattle.a429_slots.specs.Tables.{PlanTable, cells_of}
-use Rattle.a429_slots.specs.Sending.{Sending, after_cell}
+use Rattle.a429_slots.specs.FrameStates.{FrameState, after_cell}
 use Rattle.a429_workers.specs.Gates.{IsGatedGroup}
 use Rattle.a429_workers.specs.Calls.{Call, Carried, Asks, Turns, Meets, Takes, StaysMid, StaysSpent}
 use Rattle.a429_workers.specs.Sinks.{failures_by}
-use Rattle.a429_workers.specs.Transmitting.{Transmitting, GoesOnBy, IsSameGroup}
+use Rattle.a429_workers.specs.Transmitting.{Transmitting, GoesOnByCalls, IsSameGroup}
 use Rattle.a429_workers.specs.declared.cells.Sent.{Sent}
 use Rattle.a429_workers.specs.declared.gates.Point.{Point}
 use Rattle.a429_workers.specs.declared.sending.SendTotals.{SendTotals}
@@ -49,7 +49,7 @@ with_cells taken cells = option_map (λ before. before ++ cells) taken
 
 -- The transmitter answered these calls, each a cell or a next frame that was taken, and then the last; the sink took the cells of the former.
 pub record HasSent (old new : Transmitting) (before after : Option (List Sent)) (calls last : List Call) : Type 0 where
-  pub stands : GoesOnBy old (calls ++ last) new
+  pub stands : GoesOnByCalls old (calls ++ last) new
   pub same : IsSameGroup old new
   pub sends : AllByRecursion (λ c. IsTrue (is_send c)) calls
   pub took : after ≡ with_cells before (sent_in calls)
@@ -61,7 +61,7 @@ IsLast Sink last = (c : Carried) × (last ≡ Asks (Some c) ∷ [])
 IsLast Change last = (plans : List PlanTable) × (last ≡ Turns plans StaysSpent ∷ [])
 
 -- the calls are so many whole frames: a next one is taken between two, and all cells of the last one are sent
-abbrev pub AreWhole : ℕ → List Call → Sending → Type 0
+abbrev pub AreWhole : ℕ → List Call → FrameState → Type 0
 AreWhole zero calls frame = calls ≡ []
 AreWhole (suc n) calls frame = (count_by is_taken calls ≡ n) × (frame.sent ≡ cells_of frame.table)
 
@@ -93,7 +93,7 @@ pub record IsTallied (start totals : SendTotals) (sent : List Sent) : Type 0 whe
 
 -- a cell was answered
 pub record IsCellMade (old new : Transmitting) (c : Carried) : Type 0 where
-  pub stands : GoesOnBy old (Asks (Some c) ∷ []) new
+  pub stands : GoesOnByCalls old (Asks (Some c) ∷ []) new
   pub same : IsSameGroup old new
   pub frame : new.frame ≡ after_cell old.frame
   pub number : new.number ≡ old.number
@@ -119,7 +119,7 @@ IsFrame old new before after start totals (Err fault) =
 -- the next frame was taken, or its slots cannot be counted
 abbrev pub IsTurn : Transmitting → Transmitting → Result (Unit {0}) SendFault → Type 0
 IsTurn old new (Ok done) =
-    (plans : List PlanTable) × (n : ℕ) × GoesOnBy old (Turns plans (Takes n) ∷ []) new × IsSameGroup old new × (new.frame.sent ≡ 0)
-IsTurn old new (Err Change) = (plans : List PlanTable) × GoesOnBy old (Turns plans StaysSpent ∷ []) new × IsSameGroup old new
+    (plans : List PlanTable) × (n : ℕ) × GoesOnByCalls old (Turns plans (Takes n) ∷ []) new × IsSameGroup old new × (new.frame.sent ≡ 0)
+IsTurn old new (Err Change) = (plans : List PlanTable) × GoesOnByCalls old (Turns plans StaysSpent ∷ []) new × IsSameGroup old new
 IsTurn old new (Err Gate) = ⊥
 IsTurn old new (Err Sink) = ⊥

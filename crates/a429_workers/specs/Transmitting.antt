@@ -6,14 +6,14 @@ use mathlib.Core.List.{IsPrefix}
 use Rattle.a429_equipment.specs.declared.loads.Load.{Load}
 use Rattle.a429_equipment.specs.TableRecord.{TableRecord}
 use Rattle.a429_equipment.specs.Agreement.{CountsNoLess, loads_of_all}
-use Rattle.a429_slots.specs.Tables.{GroupTable, PlanTable, groups_of, outputs_of, buses_of, cells_of, frame_of}
-use Rattle.a429_slots.specs.Sending.{Sending, begun, fits_next, next_cell}
+use Rattle.a429_slots.specs.Tables.{SlotTable, PlanTable, groups_of, outputs_of, buses_of, cells_of, frame_of}
+use Rattle.a429_slots.specs.FrameStates.{FrameState, begun, fits_next, next_cell}
 use Rattle.a429_slots.specs.Recalling.{Recent, Recalls, source_sends, source_after}
 use Rattle.a429_slots.specs.declared.senders.Due.{Due}
 use Rattle.a429_values.specs.Ends as ends
 use Rattle.a429_values.specs.Words.{load_of}
 use Rattle.a429_board.specs.Lists.{Watched}
-use Rattle.a429_workers.specs.Calls.{Call, Asks, Turns, Takes, StaysMid, StaysSpent, Standing, AreLawful, before_calls, standing_after, loads_of, table_of}
+use Rattle.a429_workers.specs.Calls.{Call, Asks, Turns, Takes, StaysMid, StaysSpent, GroupState, AreLawful, before_calls, state_after, loads_of, table_of}
 use Rattle.a429_workers.specs.declared.cells.Sent.{Sent}
 use Rattle.a429_workers.specs.declared.cells.FrameEnd.{FrameEnd}
 use Rattle.a429_workers.specs.declared.cells.ChangeFault.{ChangeFault}
@@ -22,9 +22,9 @@ use Rattle.a429_workers.specs.declared.cells.ChangeFault.TheVariants.{MidFrame, 
 -- a group's transmitter: its ends of the current values and of the board, the frame that the group is in with the number of its plan, and what
 -- is kept of the group's sends, source by source
 pub record Transmitting : Type 0 where
-  pub transmitter : ends.Sending
+  pub transmitter : ends.TransmitterEnd
   pub watcher : Watched
-  pub frame : Sending
+  pub frame : FrameState
   pub number : ℕ
   pub sends : List Recent
 
@@ -42,37 +42,37 @@ first_fits opened g first = option_map_or (λ p. nat_lt (first + frame_of p) (2 
 -- ---- the next cell and the next frame
 
 -- the bus of the next cell of a frame, and its slot counted from the station's first; none where all cells of the frame were sent
-abbrev pub place_due : Sending → Option (ℕ × ℕ)
+abbrev pub place_due : FrameState → Option (ℕ × ℕ)
 place_due f = option_map (λ cell. (cell.0, f.first + cell.1)) (next_cell f)
 
 -- the group has this slot table in the plan that the board was opened with
-abbrev pub OpensBy : Transmitting → GroupTable → Type 0
+abbrev pub OpensBy : Transmitting → SlotTable → Type 0
 OpensBy v p = slice_get (groups_of v.watcher.opened) v.transmitter.number ≡ Some p
 
 -- the group's slot table in the last plan that was seen; p where that plan has no such group
-abbrev pub newest_table : Transmitting → GroupTable → GroupTable
+abbrev pub newest_table : Transmitting → SlotTable → SlotTable
 newest_table v p = table_of v.transmitter.number p v.watcher.list
 
 -- all cells of the frame were sent, and 64 bits cannot count the slots of a next one by this table
-abbrev pub IsSpent : Sending → GroupTable → Type 0
+abbrev pub IsSpent : FrameState → SlotTable → Type 0
 IsSpent f t = (cells_of f.table ≤ f.sent) × (fits_next f t ≡ false)
 
 -- the frame that follows one that is over, by this table
-abbrev pub frame_behind : Sending → GroupTable → Sending
+abbrev pub frame_behind : FrameState → SlotTable → FrameState
 frame_behind f t = begun (f.first + frame_of f.table) t
 
 -- where the group opened with table p, a change answers SlotsSpent just where the frame is over and 64 bits cannot count the slots of the next one
 abbrev pub TellsSpent : Transmitting → Result ℕ ChangeFault → Transmitting → Type 0
-TellsSpent old answer new = (p : GroupTable) → OpensBy old p → (IsErrOf answer SlotsSpent ↔ IsSpent old.frame (newest_table new p))
+TellsSpent old answer new = (p : SlotTable) → OpensBy old p → (IsErrOf answer SlotsSpent ↔ IsSpent old.frame (newest_table new p))
 
 -- and where it is Ok it begins the next frame, by the newest table
 abbrev pub TakesNext : Transmitting → Result ℕ ChangeFault → Transmitting → Type 0
-TakesNext old answer new = (p : GroupTable) → OpensBy old p → OnOk answer (new.frame ≡ frame_behind old.frame (newest_table new p))
+TakesNext old answer new = (p : SlotTable) → OpensBy old p → OnOk answer (new.frame ≡ frame_behind old.frame (newest_table new p))
 
 -- ---- plans of a station
 
 -- the slot table sends sources of the station alone, and so does the plan
-abbrev pub IsKnownTable : TableRecord → GroupTable → Type 0
+abbrev pub IsKnownTable : TableRecord → SlotTable → Type 0
 IsKnownTable t p = AllByRecursion (λ o. o.source < length t.sources) (outputs_of p)
 
 abbrev pub IsKnownPlan : TableRecord → PlanTable → Type 0
@@ -84,22 +84,22 @@ IsKnownPlan t q = AllByRecursion (IsKnownTable t) (groups_of q)
 pub record Outset : Type 0 where
   pub opened : PlanTable
   pub group : ℕ
-  pub table : GroupTable
+  pub table : SlotTable
   pub first : ℕ
   pub before : List Load
 
 -- where calls led from there
-abbrev pub led_by : Outset → List Call → Standing
-led_by b calls = standing_after b.group b.table (before_calls b.opened b.table b.first) calls
+abbrev pub led_by : Outset → List Call → GroupState
+led_by b calls = state_after b.group b.table (before_calls b.opened b.table b.first) calls
 
 -- the slot is not past the next cell of the frame
-pub record IsReached (f : Sending) (slot : ℕ) : Type 0 where
+pub record IsReached (f : FrameState) (slot : ℕ) : Type 0 where
   pub passed : slot ≤ f.first + f.sent / buses_of f.table
   pub in_frame : slot ≤ f.first + frame_of f.table
 
 -- This is kept of the cells that were answered, for source i: it is of no later word than any load finds that counts no less than these, and of
 -- no later slot than the next cell.
-pub record Remembers (loads : List Load) (s : Standing) (i : ℕ) (x : Option Recent) : Type 0 where
+pub record Remembers (loads : List Load) (s : GroupState) (i : ℕ) (x : Option Recent) : Type 0 where
   pub recent : Recent
   pub there : x ≡ Some recent
   pub recalls : Recalls s.earlier i recent
@@ -107,7 +107,7 @@ pub record Remembers (loads : List Load) (s : Standing) (i : ℕ) (x : Option Re
   pub reached : IsReached s.frame recent.slot
 
 -- this is kept of where calls led
-pub record IsAt (b : Outset) (s : Standing) (v : Transmitting) : Type 0 where
+pub record IsAt (b : Outset) (s : GroupState) (v : Transmitting) : Type 0 where
   pub group : v.transmitter.number ≡ b.group
   pub opened : v.watcher.opened ≡ b.opened
   pub frame : v.frame ≡ s.frame
@@ -125,21 +125,21 @@ pub record HasMade (b : Outset) (calls : List Call) (v : Transmitting) : Type 0 
   pub at : IsAt b (led_by b calls) v
 
 -- so it is, where the plans that its watcher saw are plans of the hub's station: they send sources of it alone
-abbrev pub StandsFor : Outset → List Call → Transmitting → Type 0
-StandsFor b calls v = AllByRecursion (IsKnownPlan v.transmitter.at.station) v.watcher.list → HasMade b calls v
+abbrev pub StandsForCalls : Outset → List Call → Transmitting → Type 0
+StandsForCalls b calls v = AllByRecursion (IsKnownPlan v.transmitter.at.station) v.watcher.list → HasMade b calls v
 
 -- for all calls that the transmitter stands for, the next one stands for them with these at their end
-abbrev pub GoesOnBy : Transmitting → List Call → Transmitting → Type 0
-GoesOnBy old calls new = (b : Outset) (made : List Call) → StandsFor b made old → StandsFor b (made ++ calls) new
+abbrev pub GoesOnByCalls : Transmitting → List Call → Transmitting → Type 0
+GoesOnByCalls old calls new = (b : Outset) (made : List Call) → StandsForCalls b made old → StandsForCalls b (made ++ calls) new
 
 -- it begins with these ends at this slot, with the group's table of the plan that the board was opened with, and was asked for nothing
-abbrev pub BeginsWith : ends.Sending → Watched → ℕ → Transmitting → Type 0
+abbrev pub BeginsWith : ends.TransmitterEnd → Watched → ℕ → Transmitting → Type 0
 BeginsWith t w first v =
-    (p : GroupTable) → slice_get (groups_of w.opened) t.number ≡ Some p
-    → StandsFor (record { opened = w.opened; group = t.number; table = p; first = first; before = t.loads }) [] v
+    (p : SlotTable) → slice_get (groups_of w.opened) t.number ≡ Some p
+    → StandsForCalls (record { opened = w.opened; group = t.number; table = p; first = first; before = t.loads }) [] v
 
 -- with the loads of all sources of a receiver that was met
-abbrev pub met : Transmitting → ends.Receiving → Transmitting
+abbrev pub met : Transmitting → ends.ReceiverEnd → Transmitting
 met v r = record v { transmitter = ends.with_loads v.transmitter (loads_of_all v.transmitter.at.station r.number r.accepted) }
 
 -- ---- the calls that answers are
@@ -167,13 +167,13 @@ sent_by sends slot due None = (None, sends)
 sent_by sends slot due (Some found) = (if source_sends sends slot found.0 due then Some found.1 else None, source_after sends slot found.0 due)
 
 -- one load was made, of the source of the output, and by what it found the word goes out
-pub record IsLoaded (old : ends.Sending) (sends : List Recent) (slot : ℕ) (due : Due) (word : Option ℕ) (new : ends.Sending) (kept : List Recent) : Type 0 where
+pub record IsLoaded (old : ends.TransmitterEnd) (sends : List Recent) (slot : ℕ) (due : Due) (word : Option ℕ) (new : ends.TransmitterEnd) (kept : List Recent) : Type 0 where
   pub found : Option (ℕ × ℕ)
   pub loads : new ≡ ends.with_loads old (load_of due.source found ∷ [])
   pub no_less : CountsNoLess old.loads (load_of due.source found)
   pub sent : (word, kept) ≡ sent_by sends slot due found
 
 -- for an output of a source of which sends are kept that is done, for an empty cell nothing
-abbrev pub IsDone : ends.Sending → List Recent → ℕ → Option Due → Option ℕ → ends.Sending → List Recent → Type 0
+abbrev pub IsDone : ends.TransmitterEnd → List Recent → ℕ → Option Due → Option ℕ → ends.TransmitterEnd → List Recent → Type 0
 IsDone old sends slot None word new kept = (word ≡ None) × (new ≡ old) × (kept ≡ sends)
 IsDone old sends slot (Some due) word new kept = due.source < length sends → IsLoaded old sends slot due word new kept

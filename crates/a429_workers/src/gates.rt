@@ -40,7 +40,7 @@ pub trait Gate {
 
     /// Is told what a receiver counted so far, and its answer to the last word: between the two points of that word.
     /// A gate that does not care does nothing.
-    fn counted(&self, _answer: Accept, _totals: &ReceiveTotals) {}
+    fn tell_counted(&self, _answer: Accept, _totals: &ReceiveTotals) {}
 }
 
 /// A gate that always lets pass.

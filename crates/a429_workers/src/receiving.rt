@@ -69,7 +69,7 @@ fn receive<G: Gate>(
     gate.pass(Point::BeforeAccept(number, place))?;
     let answer = receiver.accept(raw);
     count(totals, answer);
-    gate.counted(answer, totals);
+    gate.tell_counted(answer, totals);
     gate.pass(Point::AfterAccept(number, place))
 }
 

@@ -1,14 +1,14 @@
 //! A group's transmitter.
 ghost use Rattle.std.specs.Prelude.{◌≡◌, ◌≤◌, ◌+◌, ◌<◌, ◌^◌, ◌↔◌, ◌∷◌, [], false, length, slice_get, IfOk, IfSome, IsErrOf, IsErr, OnErr, None, Some};
 ghost use Rattle.std.specs.List.{AllByRecursion};
-ghost use Rattle.a429_slots.specs.Tables.{GroupTable, groups_of, cells_of};
-ghost use Rattle.a429_slots.specs.Sending.{next_cell, after_cell};
+ghost use Rattle.a429_slots.specs.Tables.{SlotTable, groups_of, cells_of};
+ghost use Rattle.a429_slots.specs.FrameStates.{next_cell, after_cell};
 ghost use Rattle.a429_equipment.specs.TableRecord.{TableRecord};
 ghost use Rattle.a429_equipment.specs.Agreement.{AgreesToTheEnd};
 ghost use Rattle.a429_values.specs.Later.{OthersStayAgreed, StaysWhole};
 ghost use Rattle.a429_workers.specs.Calls.{Meets, number_of, table_of};
 ghost use mathlib.Core.List.{IsPrefix};
-ghost use Rattle.a429_workers.specs.Transmitting.{BeginsWith, GoesOnBy, IsDone, IsKnownPlan, IsKnownTable, IsSameGroup, TakesNext, TellsSpent, cell_call, change_call, first_fits, loads_since, met, place_due, sent_by};
+ghost use Rattle.a429_workers.specs.Transmitting.{BeginsWith, GoesOnByCalls, IsDone, IsKnownPlan, IsKnownTable, IsSameGroup, TakesNext, TellsSpent, cell_call, change_call, first_fits, loads_since, met, place_due, sent_by};
 
 use crate::cells::{ChangeFault, FrameEnd, OpenFault, Sent};
 use a429_board::{Planner, Watcher};
@@ -106,7 +106,7 @@ fn last_number(watcher: &Watcher) -> u64
 /// The slot table of a group in that plan, or the opening one where it has no such group.
 fn last_table(watcher: &Watcher, group: usize) -> &GroupPlan<OUTPUTS>
     requires { group < length (groups_of watcher.now.opened) }
-    ensures table { (p : GroupTable) → slice_get (groups_of watcher.now.opened) group ≡ Some p → result.now ≡ table_of group p watcher.now.list }
+    ensures table { (p : SlotTable) → slice_get (groups_of watcher.now.opened) group ≡ Some p → result.now ≡ table_of group p watcher.now.list }
     ensures known { (t : TableRecord) → AllByRecursion (IsKnownPlan t) watcher.now.list → IsKnownTable t result.now }
 {
     let plan = watcher.last();
@@ -173,7 +173,7 @@ impl Transmit {
     /// frame were sent, and nothing changes. It takes no memory and waits for nobody.
     #[inline(always)]
     pub fn cell(&mut self) -> Result<Sent, FrameEnd>
-        ensures stands { GoesOnBy self.old (cell_call result (loads_since self.old self.new) ∷ []) self.new }
+        ensures stands { GoesOnByCalls self.old (cell_call result (loads_since self.old self.new) ∷ []) self.new }
         ensures end { IsErr result ↔ (next_cell self.old.frame ≡ None) }
         ensures place { IfOk result (λ sent. place_due self.old.frame ≡ Some (sent.bus, sent.slot)) }
         ensures err { OnErr result (self.new ≡ self.old) }
@@ -207,7 +207,7 @@ impl Transmit {
     /// `SlotsSpent` just where 64 bits cannot count the slots of the next frame. Then plan, frame and cell stay,
     /// and the watcher may have seen a newer plan. It takes no memory and waits for nobody.
     pub fn change(&mut self) -> Result<u64, ChangeFault>
-        ensures stands { GoesOnBy self.old (change_call result self.new.watcher.list ∷ []) self.new }
+        ensures stands { GoesOnByCalls self.old (change_call result self.new.watcher.list ∷ []) self.new }
         ensures mid { IsErrOf result ChangeFault.MidFrame ↔ (self.old.frame.sent < cells_of self.old.frame.table) }
         ensures spent { TellsSpent self.old result self.new }
         ensures next { TakesNext self.old result self.new }
@@ -242,7 +242,7 @@ impl Transmit {
     /// memory and waits for nobody.
     pub fn meet(&mut self, other: &mut Receiver)
         requires { other.old.at ≡ self.old.transmitter.at }
-        ensures stands { GoesOnBy self.old (Meets (loads_since self.old self.new) ∷ []) self.new }
+        ensures stands { GoesOnByCalls self.old (Meets (loads_since self.old self.new) ∷ []) self.new }
         ensures receiver { other.new ≡ other.old }
         ensures loads { self.new ≡ met self.old other.old }
         ensures agrees { AgreesToTheEnd self.old.transmitter.at.station other.old.number other.old.accepted self.new.transmitter.loads }
@@ -255,7 +255,7 @@ impl Transmit {
     /// Is told by the planner of its board all that was published. It takes no memory and waits for nobody.
     pub fn told(&mut self, planner: &mut Planner)
         requires { self.old.watcher.book ≡ planner.old.book }
-        ensures stands { GoesOnBy self.old [] self.new }
+        ensures stands { GoesOnByCalls self.old [] self.new }
         ensures planner { planner.new ≡ planner.old }
         ensures beginning { IsPrefix self.old.watcher.list planner.old.list }
         ensures list { self.new ≡ record self.old { watcher = record self.old.watcher { list = planner.old.list } } }

@@ -27,7 +27,7 @@ pub fn push_found(text: &mut Vec<u8>, found: Found) -> Result<(), AllocError>
 }
 
 /// The word of a report, where it has odd parity and its label passes.
-fn received(filters: &FilterSet, found: Found) -> Option<Word>
+fn received_word(filters: &FilterSet, found: Found) -> Option<Word>
     ensures { option_to_list result ≡ received filters.now (found ∷ []) }
 {
     let word = match found {
@@ -51,7 +51,7 @@ fn push_report(lines: &mut Pending, filters: &FilterSet, found: Found) -> Result
     if filters.list().is_none() {
         return lines.push_found(found);
     }
-    match received(filters, found) {
+    match received_word(filters, found) {
         Some(word) => lines.push_found(Found::Word(word)),
         None => Ok(()),
     }

@@ -13,7 +13,7 @@ ghost use Rattle.std.specs.Prelude.{not};
 use crate::live::progress::Progress;
 use crate::live::running::run_station;
 use a429_console::arguments::replies::explain;
-use a429_console::arguments::requests::{LiveRequest, Request, not_here, parse};
+use a429_console::arguments::requests::{LiveRequest, Request, other_call_error, parse};
 use a429_console::files::FileReader;
 use a429_console::hints::{Hints, tell_hint};
 use a429_console::output::endings::tell_fault;
@@ -95,14 +95,7 @@ fn run_words<
 }
 
 /// Runs the station that is asked for, if the request is for one.
-fn run_here<
-    R: Threads + Wait,
-    H: Hints,
-    F: FileReader,
-    O: Output,
-    V: Output,
-    P: Progress + Sync,
->(
+fn run_here<R: Threads + Wait, H: Hints, F: FileReader, O: Output, V: Output, P: Progress + Sync>(
     rt: &R,
     alloc: Global,
     request: &Request,
@@ -123,7 +116,7 @@ fn run_here<
             run_with_hint(rt, alloc, request, run, hints, files, out, err, progress)
         }
         Request::Command(_) => {
-            let error = not_here(alloc, "this call runs stations, and does nothing else");
+            let error = other_call_error(alloc, "this call runs stations, and does nothing else");
             explain(alloc, &error, out, err)
         }
     }

@@ -19,16 +19,16 @@ const SHOWN: u64 = 1 << 22;
 /// Is told by the threads of a run how far it is. Nothing that it does changes what the run answers.
 pub trait Progress {
     /// The run begins: so many cells are to be sent, by the plan that it begins with.
-    fn begins(&self, cells: u64);
+    fn begin(&self, cells: u64);
 
     /// So many more cells were sent.
-    fn sent(&self, cells: u64);
+    fn tell_sent(&self, cells: u64);
 
     /// So many more words were accepted.
-    fn accepted(&self, words: u64);
+    fn tell_accepted(&self, words: u64);
 
     /// The run has ended.
-    fn ends(&self);
+    fn end(&self);
 }
 
 /// Shows nothing.
@@ -36,13 +36,13 @@ pub trait Progress {
 pub struct NoProgress;
 
 impl Progress for NoProgress {
-    fn begins(&self, _cells: u64) {}
+    fn begin(&self, _cells: u64) {}
 
-    fn sent(&self, _cells: u64) {}
+    fn tell_sent(&self, _cells: u64) {}
 
-    fn accepted(&self, _words: u64) {}
+    fn tell_accepted(&self, _words: u64) {}
 
-    fn ends(&self) {}
+    fn end(&self) {}
 }
 
 /// Shows on a terminal how many cells of all were sent, and how many words were accepted: one line, which is written anew
@@ -90,12 +90,12 @@ impl<W: Write + Copy> ProgressLine<W> {
 }
 
 impl<W: Write + Copy> Progress for ProgressLine<W> {
-    fn begins(&self, cells: u64) {
+    fn begin(&self, cells: u64) {
         self.all.store(cells, Ordering::Relaxed);
         let _ = self.show(0);
     }
 
-    fn sent(&self, cells: u64) {
+    fn tell_sent(&self, cells: u64) {
         let before = self.cells.fetch_add(cells, Ordering::Relaxed);
         let now = before.wrapping_add(cells);
         if before / SHOWN != now / SHOWN {
@@ -103,11 +103,11 @@ impl<W: Write + Copy> Progress for ProgressLine<W> {
         }
     }
 
-    fn accepted(&self, words: u64) {
+    fn tell_accepted(&self, words: u64) {
         self.words.fetch_add(words, Ordering::Relaxed);
     }
 
-    fn ends(&self) {
+    fn end(&self) {
         let mut terminal = self.terminal;
         let _ = terminal.write_all(b"\r\x1b[K");
     }
@@ -115,15 +115,15 @@ impl<W: Write + Copy> Progress for ProgressLine<W> {
 
 /// A gate that always lets pass, and tells how far the run is.
 #[derive(Drop)]
-pub struct Followed<'a, P> {
+pub struct ProgressGate<'a, P> {
     progress: &'a P,
 }
 
-impl<'a, P: Progress> Followed<'a, P> {
+impl<'a, P: Progress> ProgressGate<'a, P> {
     /// The run begins: so many frames are to be sent of each group.
-    pub fn begins(progress: &'a P, plan: &Plan<OUTPUTS>, frames: u32) -> Followed<'a, P> {
-        progress.begins(cells_of_run(plan, frames));
-        Followed { progress }
+    pub fn begin(progress: &'a P, plan: &Plan<OUTPUTS>, frames: u32) -> ProgressGate<'a, P> {
+        progress.begin(cells_of_run(plan, frames));
+        ProgressGate { progress }
     }
 }
 
@@ -143,20 +143,20 @@ fn is_last(cell: u64) -> bool {
     cell % STRIDE == STRIDE - 1
 }
 
-impl<P: Progress> Gate for Followed<'_, P> {
+impl<P: Progress> Gate for ProgressGate<'_, P> {
     ghost shuts = { λ _ _. ⊥ };
 
     fn pass(&self, point: Point) -> Result<(), GateFault> {
         match point {
-            Point::AfterCell(_, cell) if is_last(cell) => self.progress.sent(STRIDE),
+            Point::AfterCell(_, cell) if is_last(cell) => self.progress.tell_sent(STRIDE),
             _ => {}
         }
         Ok(())
     }
 
-    fn counted(&self, answer: Accept, totals: &ReceiveTotals) {
+    fn tell_counted(&self, answer: Accept, totals: &ReceiveTotals) {
         if matches!(answer, Accept::Accepted(_)) && totals.accepted % STRIDE == 0 {
-            self.progress.accepted(STRIDE);
+            self.progress.tell_accepted(STRIDE);
         }
     }
 }

@@ -6,10 +6,10 @@ ghost use Rattle.a429_cli.specs.Resubmitted.{AreAnswers, IsAnswer, IsRefusedBy};
 ghost use Rattle.a429_station.specs.Resubmitting.{Running};
 ghost use Rattle.a429_console.specs.RefusalText.{OrMemory, refusal_line};
 
-use a429_equipment::{Equipment, GroupRow, ReceiverRow};
-use a429_filter::MemoryLine;
 use a429_console::refusals::CommandRefusal;
 use a429_console::refusals::tables::propose;
+use a429_equipment::{Equipment, GroupRow, ReceiverRow};
+use a429_filter::MemoryLine;
 use a429_slots::laws::plans_are_unique;
 use a429_station::Report;
 use a429_workers::{CountSink, ReceiveTotals, SendTotals};

@@ -8,18 +8,18 @@ ghost use Rattle.a429_console.specs.Readings.{HasRead};
 ghost use Rattle.a429_console.specs.RefusalText.{OrMemory};
 
 use crate::live::control::Resubmits;
-use crate::live::progress::{Followed, Progress};
+use crate::live::progress::{Progress, ProgressGate};
 use crate::live::report::report_text;
 use crate::live::words::{Arrival, line_sources, read_words};
+use crate::names::Names;
 use a429_console::arguments::requests::LiveRequest;
 use a429_console::files::FileReader;
+use a429_console::files::reading::{read_file, read_files};
 use a429_console::output::endings::finish;
 use a429_console::output::{Output, OutputFault};
-use a429_equipment::Equipment;
-use a429_console::files::reading::{read_file, read_files};
-use crate::names::Names;
-use a429_console::refusals::{CommandRefusal, refuse};
 use a429_console::refusals::tables::propose;
+use a429_console::refusals::{CommandRefusal, refuse};
+use a429_equipment::Equipment;
 use a429_slots::{OUTPUTS, Proposal};
 use a429_station::{LiveFault, live};
 use a429_workers::CountSink;
@@ -104,7 +104,7 @@ fn run<R: Threads + Wait, P: Progress + Sync>(
     arrivals: &[Arrival],
     frames: u32,
     further: &[Vec<u8>],
-    gate: &Followed<P>,
+    gate: &ProgressGate<P>,
 ) -> Result<Vec<u8>, CommandRefusal>
     ensures { IsRunResult equipment.now arrivals.now frames (bytes_of further.now) result }
 {
@@ -128,7 +128,7 @@ fn run<R: Threads + Wait, P: Progress + Sync>(
 
 /// The text of the report of a run. Refused is a file, the table, its plan, the file of words, or the run: `TooMuch` for
 /// more than a million frames or words of a receiver, `Join` where a thread could not be started or taken in.
-fn lived<R: Threads + Wait, F: FileReader, P: Progress + Sync>(
+fn run_report<R: Threads + Wait, F: FileReader, P: Progress + Sync>(
     rt: &R,
     alloc: Global,
     files: &mut F,
@@ -142,9 +142,9 @@ fn lived<R: Threads + Wait, F: FileReader, P: Progress + Sync>(
     let equipment = prepared.proposal.equipment();
     let (arrivals, further) = (&prepared.arrivals, &input.further);
     let frames = request.frames;
-    let gate = Followed::begins(progress, prepared.proposal.plan(), frames);
+    let gate = ProgressGate::begin(progress, prepared.proposal.plan(), frames);
     let result = run(rt, alloc, equipment, arrivals, frames, further, &gate);
-    progress.ends();
+    progress.end();
     result
 }
 
@@ -164,7 +164,7 @@ pub fn run_station<R: Threads + Wait, F: FileReader, O: Output, P: Progress + Sy
     ensures flushed { OnOk result (IsTrue (O.is_flushed out.new)) }
     ensures faults { CountsFault result (O.failures out.old) (O.failures out.new) }
 {
-    match lived(rt, alloc, files, request, progress) {
+    match run_report(rt, alloc, files, request, progress) {
         Ok(text) => finish(&text, true, out),
         Err(refusal) => refuse(alloc, &refusal, out),
     }

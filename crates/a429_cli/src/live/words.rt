@@ -4,11 +4,11 @@ ghost use Rattle.std.specs.List.{range_with_len};
 ghost use Rattle.a429_filter.specs.Sources.{at_start};
 ghost use Rattle.a429_cli.specs.WordsFile.{IsWordsReading, line_arrival, raw_for, words_for};
 
-use a429_filter::MemoryLine;
 use crate::names::Names;
 use a429_console::files::lines::{LineForm, LinesFault, read_lines};
 use a429_console::refusals::CommandRefusal;
 use a429_console::texts::cut_at;
+use a429_filter::MemoryLine;
 use a429_word::raw_word;
 use std::alloc::{AllocError, Global};
 

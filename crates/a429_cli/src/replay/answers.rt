@@ -3,9 +3,9 @@ ghost use Rattle.std.specs.Prelude.{◌≡◌, ◌≤◌, ◌+◌, ◌++◌, [],
 ghost use Rattle.a429_slots.specs.declared.answers.Answer.TheVariants.{Sent, Refused};
 ghost use Rattle.a429_cli.specs.AnswerLines.{answer_line, cell_text};
 
+use crate::names::Names;
 use a429_console::output::from_end::{ROOM, push_number, put_decimal, put_hex, put_text};
 use a429_core::{Answer, Refusal};
-use crate::names::Names;
 use a429_word::Word;
 use std::alloc::AllocError;
 
@@ -61,7 +61,7 @@ pub fn push_answer(text: &mut Vec<u8>, names: &Names, answer: Answer) -> Result<
     ensures kept { OnErr result (text.new.items ≡ text.old.items) }
 {
     match answer {
-        Answer::Accepted { source } => text.extend_from_slice(names.accepted(source)),
+        Answer::Accepted { source } => text.extend_from_slice(names.accepted_line(source)),
         Answer::Sent { bus, slot, word } => push_sent(text, bus, slot, word),
         Answer::Changed { plan } => push_number(text, b"changed ", plan),
         Answer::Published { plan } => push_number(text, b"published ", plan),

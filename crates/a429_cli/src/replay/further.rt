@@ -6,9 +6,9 @@ ghost use Rattle.a429_cli.specs.Playing.{IsPublication};
 ghost use Rattle.a429_console.specs.RefusalText.{OrMemory};
 ghost use Rattle.a429_console.specs.Tables.{IsProposing, IsTableRefusal};
 
-use a429_core::Event;
 use a429_console::refusals::CommandRefusal;
 use a429_console::refusals::tables::propose;
+use a429_core::Event;
 use a429_slots::{OUTPUTS, Proposal};
 use std::alloc::{AllocError, Global};
 use std::marker::Model;

@@ -5,14 +5,14 @@ ghost use Rattle.a429_console.specs.Outputs.{AppendsPending, CountsFault};
 ghost use Rattle.a429_cli.specs.Playing.{HasTable, IsEventOf, IsUnread, PlaysOne, PlaysScript};
 ghost use Rattle.a429_console.specs.RefusalText.{OrMemory};
 
+use crate::names::Names;
 use crate::pending::{Pending, put_if_full};
 use crate::replay::further::FurtherTable;
 use crate::replay::script::{ScriptEvent, ScriptForm};
 use a429_console::files::lines::first_entry;
 use a429_console::output::{Output, OutputFault};
-use a429_core::{Event, StationState};
-use crate::names::Names;
 use a429_console::refusals::CommandRefusal;
+use a429_core::{Event, StationState};
 use std::alloc::{AllocError, Global};
 
 /// The event of the machine that a script's event stands for, where these are the further tables. Refused is the

@@ -4,29 +4,29 @@ ghost use Rattle.a429_cli.specs.Opened.{IsOpenedFrom};
 ghost use Rattle.a429_console.specs.RefusalText.{OrMemory};
 ghost use Rattle.a429_console.specs.Tables.{IsTableRefusal};
 
-use a429_core::{OpenFault, StationState};
 use crate::names::Names;
 use a429_console::refusals::CommandRefusal;
 use a429_console::refusals::tables::propose;
+use a429_core::{OpenFault, StationState};
 use std::alloc::Global;
 
 /// A station in operation, with its names.
 #[derive(Drop)]
-pub struct Station {
+pub struct ReplayStation {
     pub names: Names,
     pub state: StationState,
 }
 
-impl Station {
+impl ReplayStation {
     /// The station of a table's bytes, to which nothing has happened, at slot 0. Refused is the table's
     /// fault, or else the first fault of its plan.
-    pub fn open(alloc: Global, table: &[u8]) -> Result<Station, CommandRefusal>
+    pub fn open(alloc: Global, table: &[u8]) -> Result<ReplayStation, CommandRefusal>
         ensures { MatchResult result (IsOpenedFrom table.now) (OrMemory (IsTableRefusal table.now)) }
     {
         let proposal = propose(alloc, table)?;
         let names = Names::of(alloc, proposal.equipment())?;
         match StationState::open(alloc, proposal, 0) {
-            Ok(state) => Ok(Station { names, state }),
+            Ok(state) => Ok(ReplayStation { names, state }),
             Err(OpenFault::NoMemory) => Err(CommandRefusal::Memory),
             // the frames of a plan are far too short for that
             Err(OpenFault::SlotsSpent) => unreachable!(),

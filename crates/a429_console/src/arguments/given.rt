@@ -97,7 +97,11 @@ fn push_word(words: &mut Vec<String>, word: String) -> Result<(), WordsFault>
 }
 
 /// The word at a place, or none behind the last.
-fn word_at<A: Arguments>(alloc: Global, arguments: &A, place: usize) -> Result<Option<String>, WordsFault>
+fn word_at<A: Arguments>(
+    alloc: Global,
+    arguments: &A,
+    place: usize,
+) -> Result<Option<String>, WordsFault>
     ensures given { IfOk result (λ found. IfSome found (λ word. A.gives arguments.now place (string_bytes word))) }
     ensures ended { IfOk result (λ found. found ≡ None → A.ends arguments.now place) }
     ensures not_text { result ≡ Err WordsFault.NotText → (bytes : List ℕ) × A.gives arguments.now place bytes × (¬ (IsUtf8 bytes)) }

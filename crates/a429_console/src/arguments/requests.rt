@@ -93,7 +93,7 @@ pub fn parse<'a>(alloc: Global, words: &'a [&'a str]) -> Result<Request<'a>, Err
 }
 
 /// The error of words that ask for a command which another call does.
-pub fn not_here(alloc: Global, message: &str) -> Error
+pub fn other_call_error(alloc: Global, message: &str) -> Error
     ensures { HasKind (elsewhere true) result }
 {
     match usage_error(alloc, message) {

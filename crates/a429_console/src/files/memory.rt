@@ -25,7 +25,7 @@ impl FileReader for MemoryFiles {
     ghost known = { λ m n name answer _ is. (is.1, (λ other. ap (λ k. file_of k.files.items other) is.0), refl) };
 
     fn read(&mut self, name: &str) -> Result<Vec<u8>, FileFault> {
-        match found(&self.files, name) {
+        match find_file(&self.files, name) {
             None => Err(FileFault::Refused),
             Some(bytes) => match bytes.clone() {
                 Ok(bytes) => Ok(bytes),
@@ -35,7 +35,7 @@ impl FileReader for MemoryFiles {
     }
 
     fn look(&mut self, name: &str) -> Result<Vec<u8>, FileTrouble> {
-        match found(&self.files, name) {
+        match find_file(&self.files, name) {
             None => Err(FileTrouble::Missing),
             Some(bytes) if bytes.len() > LARGEST_FILE => Err(FileTrouble::TooLarge),
             Some(bytes) => bytes.clone().map_err(|_| FileTrouble::Unknown),
@@ -43,7 +43,7 @@ impl FileReader for MemoryFiles {
     }
 }
 
-fn found<'a>(files: &'a [(String, Vec<u8>)], name: &str) -> Option<&'a Vec<u8>>
+fn find_file<'a>(files: &'a [(String, Vec<u8>)], name: &str) -> Option<&'a Vec<u8>>
     ensures { option_map (λ v. v.now.items) result ≡ file_of files.entry.now name.now }
 {
     let (_, bytes) = files.iter().find(|file| file.0.as_str() == name)?;

@@ -2,29 +2,29 @@
 ghost use Rattle.std.specs.Prelude.{◌≡◌, List, ℕ, Option, IfOk, string_bytes};
 ghost use Rattle.a429_console.specs.Files.{texts_of};
 ghost use Rattle.a429_console.specs.Readings.{HasRead, IsAnswerOf, answer_of};
-ghost use Rattle.a429_console.specs.FileReadings.{AreReadings, IsReading, shown_char, shown_name};
+ghost use Rattle.a429_console.specs.FileReadings.{AreReadings, IsReading, printable_char, printable_name};
 
-use crate::refusals::CommandRefusal;
 use crate::files::{FileFault, FileReader, LARGEST_FILE};
+use crate::refusals::CommandRefusal;
 use std::alloc::{AllocError, Global};
 
 /// A character as a refusal tells it: a control character, such as a line feed, as `?`.
-fn shown_char(c: char) -> char
-    ensures { result ≡ shown_char c }
+fn printable_char(c: char) -> char
+    ensures { result ≡ printable_char c }
 {
     if c.is_control() { '?' } else { c }
 }
 
 /// A name as a refusal tells it, in one line.
-#[tactic(auto, unfolding(crate::specs::FileReadings::shown_name))]
-pub fn shown_name(alloc: Global, name: &str) -> Result<String, AllocError>
-    ensures { IfOk result (λ shown. string_bytes shown ≡ shown_name name.now) }
+#[tactic(auto, unfolding(crate::specs::FileReadings::printable_name))]
+pub fn printable_name(alloc: Global, name: &str) -> Result<String, AllocError>
+    ensures { IfOk result (λ shown. string_bytes shown ≡ printable_name name.now) }
 {
-    name.chars().map(|c| shown_char(c)).collect(alloc)
+    name.chars().map(|c| printable_char(c)).collect(alloc)
 }
 
 /// What a command takes of the answer to a file's name: at most 16 MiB.
-fn taken(
+fn bytes_of_answer(
     alloc: Global,
     name: &str,
     answer: Result<Vec<u8>, FileFault>,
@@ -33,7 +33,7 @@ fn taken(
 {
     match answer {
         Ok(bytes) if bytes.len() <= LARGEST_FILE => Ok(bytes),
-        Ok(_) | Err(FileFault::Refused) => match shown_name(alloc, name) {
+        Ok(_) | Err(FileFault::Refused) => match printable_name(alloc, name) {
             Ok(name) => Err(CommandRefusal::File(name)),
             Err(_) => Err(CommandRefusal::Memory),
         },
@@ -50,7 +50,7 @@ pub fn read_file<F: FileReader>(
     ensures { HasRead F.answers (λ file. IsReading file name.now result) files.old files.new }
 {
     let answer = files.read(name);
-    taken(alloc, name, answer)
+    bytes_of_answer(alloc, name, answer)
 }
 
 /// The bytes of several files.

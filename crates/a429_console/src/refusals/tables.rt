@@ -6,9 +6,9 @@ ghost use Rattle.a429_slots.specs.declared.planner.PlanFault.TheVariants.{Unfit,
 ghost use Rattle.a429_console.specs.RefusalText.{OrMemory};
 ghost use Rattle.a429_console.specs.Tables.{IsGroupRefusal, IsProposedBy, IsTableFault, IsTableRefusal, IsPlanRefusal, IsUnfitNamed};
 
-use crate::files::reading::shown_name;
-use crate::refusals::names::{group_name, source_name};
+use crate::files::reading::printable_name;
 use crate::refusals::CommandRefusal;
+use crate::refusals::names::{group_name, source_name};
 use a429_equipment::Equipment;
 use a429_slots::{NoProposal, OUTPUTS, PlanFault, Proposal};
 use a429_table::{TableFault, read_equipment};
@@ -81,7 +81,7 @@ fn too_many_buses(
 pub fn no_group(alloc: Global, name: &str) -> CommandRefusal
     ensures { OrMemory (IsGroupRefusal name.now) result }
 {
-    match shown_name(alloc, name) {
+    match printable_name(alloc, name) {
         Ok(name) => CommandRefusal::Group(name),
         Err(_) => CommandRefusal::Memory,
     }

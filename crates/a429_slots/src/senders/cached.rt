@@ -1,7 +1,7 @@
 //! A group in its frame, which looks each cell of its slot table up once.
 ghost use Rattle.std.specs.Prelude.{◌≡◌, ◌≤◌, ◌+◌, ◌<◌, ◌^◌, IfOk, IfSome, MatchOption, ⊤, length, nat_lt, option_map};
 ghost use Rattle.a429_slots.specs.Tables.{cell_at, cells_of, frame_of, outputs_of, output_in};
-ghost use Rattle.a429_slots.specs.Sending.{begun, next_cell, after_cell, fits_next, turned, due_of};
+ghost use Rattle.a429_slots.specs.FrameStates.{begun, next_cell, after_cell, fits_next, turned, due_of};
 ghost use Rattle.a429_slots.specs.Cached.{AreCached, IsForgotten, cached};
 
 use crate::group_plan::{GroupPlan, OUTPUTS};
@@ -23,10 +23,10 @@ pub struct CachedSender {
 }
 
 impl Model for CachedSender {
-    ghost use Rattle.a429_slots.specs.Sending.{Sending};
+    ghost use Rattle.a429_slots.specs.FrameStates.{FrameState};
     ghost use Rattle.a429_slots.specs.Cached.{AreCached};
 
-    ghost Value = { Sending };
+    ghost Value = { FrameState };
 
     ghost view = { λ s. s.sender };
 
@@ -79,7 +79,7 @@ fn look_up(cells: &mut Vec<u8>, plan: &GroupPlan<OUTPUTS>, bus: u32, slot: u64) 
 
 /// So many cells, of which nothing is known.
 #[tactic(auto, using(crate::proofs::CachedCells::none_kept))]
-fn forgotten(alloc: Global, many: usize) -> Result<Vec<u8>, AllocError>
+fn empty_cells(alloc: Global, many: usize) -> Result<Vec<u8>, AllocError>
     ensures { IfOk result (λ cells. IsForgotten cells.items) }
 {
     vec![in alloc; 0; many]
@@ -106,7 +106,7 @@ impl CachedSender {
     {
         Ok(CachedSender {
             sender: Sender::open(plan, first),
-            cells: forgotten(alloc, CELLS)?,
+            cells: empty_cells(alloc, CELLS)?,
         })
     }
 

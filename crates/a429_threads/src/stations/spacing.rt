@@ -1,6 +1,6 @@
 //! A station whose plan changes again and again.
 
-use super::ran;
+use super::run_station;
 use crate::support::three;
 use a429_station::{Control, Station};
 use a429_workers::{Gate, GateFault, Point, Sent};
@@ -40,7 +40,7 @@ fn comes<R: Clock>(rt: &R, number: &AtomicU64, least: u64) -> bool {
 
 /// The marks that a cell waits for: of the word, and of a plan for every so many cells. As marks are made in order, they
 /// are a number that grows.
-fn awaited(cell: u64) -> u64 {
+fn marks_before(cell: u64) -> u64 {
     match cell / CELLS {
         0 => 3,
         1 => 7,
@@ -56,7 +56,7 @@ impl<'a, R: Clock> Gate for Course<'a, R> {
                 self.made.fetch_or(TAKEN, Ordering::SeqCst);
                 true
             }
-            Point::BeforeCell(_, cell) => comes(self.rt, self.made, awaited(cell)),
+            Point::BeforeCell(_, cell) => comes(self.rt, self.made, marks_before(cell)),
             Point::AfterCell(_, cell) => {
                 self.cells.store(cell.saturating_add(1), Ordering::SeqCst);
                 true
@@ -102,7 +102,7 @@ impl<'a, R: Wait, C: Clock> Control<R> for Alternates<'a, C> {
 }
 
 /// How many cells have the word, where they are two slots apart.
-fn spaced(sent: &[Sent]) -> Option<usize> {
+fn count_spaced_words(sent: &[Sent]) -> Option<usize> {
     let mut words: usize = 0;
     let mut earlier: Option<u64> = None;
     for cell in sent {
@@ -137,7 +137,7 @@ fn words_keep_their_spacing_as_plans_change(rt: HostRuntime) {
         published: false,
     };
     let words: &[&[u32]] = &[&[WORD]];
-    let report = ran(
+    let report = run_station(
         &rt,
         rt.alloc(),
         table.as_str(),
@@ -150,7 +150,7 @@ fn words_keep_their_spacing_as_plans_change(rt: HostRuntime) {
     let sent = report.groups.get(0).copied().expect(&rt, "a group");
     let sink = report.sinks.get(0).expect(&rt, "a sink");
     // Each of the 50 frames has one cell of the word, of which a change of the plan may empty one.
-    let words = spaced(sink.sent());
+    let words = count_spaced_words(sink.sent());
     assert!(rt; control.published && sent.plan == 4);
     assert!(rt; words.is_some_and(|count| count >= 46));
 }

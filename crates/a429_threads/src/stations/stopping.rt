@@ -1,6 +1,6 @@
 //! Stations that stop: which fault is told where several workers have one.
 
-use super::ran;
+use super::run_station;
 use crate::support::{FIRST, ONE, TWO};
 use a429_filter::{LineSource, MemoryLine, SourceFault};
 use a429_station::{Control, LiveFault, NoControl, Station, live};
@@ -28,7 +28,7 @@ impl Gate for Shut {
 #[test]
 fn a_shut_gate_ends_the_run(rt: HostRuntime) {
     let words: &[&[u32]] = &[&[FIRST]];
-    let answer = ran(&rt, rt.alloc(), ONE, words, 1, &Shut, &mut NoControl);
+    let answer = run_station(&rt, rt.alloc(), ONE, words, 1, &Shut, &mut NoControl);
     assert!(rt; answer.err() == Some(LiveFault::Gate));
 }
 
@@ -101,7 +101,7 @@ impl<R: Wait> Control<R> for Refused {
 
 /// Why the station of two receivers stops where the line of the first gives so many words, that of the second fails
 /// if it is said so, and both sinks fail.
-fn stopped<R: Threads + Wait + Abort, K: Control<R>>(
+fn fault_of_run<R: Threads + Wait + Abort, K: Control<R>>(
     rt: &R,
     alloc: Global,
     words: u32,
@@ -139,25 +139,25 @@ fn stopped<R: Threads + Wait + Abort, K: Control<R>>(
 #[test]
 fn the_first_fault_is_answered(rt: HostRuntime) {
     let calls = AtomicU64::new(0);
-    let none = stopped(&rt, rt.alloc(), 1, false, 1000001, &calls, &mut NoControl);
+    let none = fault_of_run(&rt, rt.alloc(), 1, false, 1000001, &calls, &mut NoControl);
     assert_eq!(rt; none, Some(LiveFault::TooMuch));
     assert_eq!(rt; calls.load(Ordering::SeqCst), 0);
-    let sink = stopped(&rt, rt.alloc(), 1, false, 1, &calls, &mut NoControl);
+    let sink = fault_of_run(&rt, rt.alloc(), 1, false, 1, &calls, &mut NoControl);
     assert_eq!(rt; sink, Some(LiveFault::Sink));
-    let source = stopped(&rt, rt.alloc(), 1, true, 1, &calls, &mut NoControl);
+    let source = fault_of_run(&rt, rt.alloc(), 1, true, 1, &calls, &mut NoControl);
     assert_eq!(rt; source, Some(LiveFault::Source));
-    let words = stopped(&rt, rt.alloc(), 1000001, true, 1, &calls, &mut NoControl);
+    let words = fault_of_run(&rt, rt.alloc(), 1000001, true, 1, &calls, &mut NoControl);
     assert_eq!(rt; words, Some(LiveFault::TooMuch));
 }
 
 #[test]
 fn a_workers_fault_is_answered_before_the_controls(rt: HostRuntime) {
     let calls = AtomicU64::new(0);
-    let source = stopped(&rt, rt.alloc(), 1, true, 1, &calls, &mut Refused);
+    let source = fault_of_run(&rt, rt.alloc(), 1, true, 1, &calls, &mut Refused);
     assert_eq!(rt; source, Some(LiveFault::Source));
-    let sink = stopped(&rt, rt.alloc(), 1, false, 1, &calls, &mut Refused);
+    let sink = fault_of_run(&rt, rt.alloc(), 1, false, 1, &calls, &mut Refused);
     assert_eq!(rt; sink, Some(LiveFault::Sink));
     let words: &[&[u32]] = &[&[FIRST]];
-    let answer = ran(&rt, rt.alloc(), ONE, words, 1, &OpenGate, &mut Refused);
+    let answer = run_station(&rt, rt.alloc(), ONE, words, 1, &OpenGate, &mut Refused);
     assert!(rt; answer.err() == Some(LiveFault::NoMemory));
 }

@@ -2,7 +2,7 @@
 ghost use Rattle.std.specs.Prelude.{◌≡◌, ◌<◌, length};
 
 use super::devices::{FailingLine, FailingSink, ShutGate};
-use super::{begun, ends, standard};
+use super::{ends, open_workers, standard};
 use crate::support::{EVEN, FIRST, ONE, SECOND};
 use a429_equipment::Equipment;
 use a429_filter::MemoryLine;
@@ -28,7 +28,7 @@ fn one<R: Abort>(rt: &R, alloc: Global) -> (Receiver, Transmitter)
 }
 
 /// What the source loads once the transmitter met the receiver.
-fn met(transmitter: &mut Transmitter, receiver: &mut Receiver) -> Option<u32>
+fn load_after_meeting(transmitter: &mut Transmitter, receiver: &mut Receiver) -> Option<u32>
     requires { (receiver.old.at ≡ transmitter.old.at) × (0 < length transmitter.old.at.station.sources) }
 {
     transmitter.meet(receiver);
@@ -84,7 +84,10 @@ fn a_receiver_takes_its_line_beside_loads(rt: HostRuntime) {
         spent: 0,
     };
     assert!(rt; rises && answer == Ok(totals));
-    assert_eq!(rt; met(&mut transmitter, &mut receiver), Some(SECOND));
+    assert_eq!(rt;
+        load_after_meeting(&mut transmitter, &mut receiver),
+        Some(SECOND)
+    );
 }
 
 #[test]
@@ -99,7 +102,10 @@ fn what_was_taken_before_a_fault_stays(rt: HostRuntime) {
     };
     let answer = receive_all(&mut line, &mut receiver, 0, &OpenGate);
     assert!(rt; answer == Err(ReceiveFault::Source));
-    assert_eq!(rt; met(&mut transmitter, &mut receiver), Some(FIRST));
+    assert_eq!(rt;
+        load_after_meeting(&mut transmitter, &mut receiver),
+        Some(FIRST)
+    );
 }
 
 #[test]
@@ -112,7 +118,10 @@ fn a_shut_gate_ends_a_receiver(rt: HostRuntime) {
     };
     let answer = receive_all(&mut line, &mut receiver, 7, &gate);
     assert!(rt; answer == Err(ReceiveFault::Gate));
-    assert_eq!(rt; met(&mut transmitter, &mut receiver), Some(FIRST));
+    assert_eq!(rt;
+        load_after_meeting(&mut transmitter, &mut receiver),
+        Some(FIRST)
+    );
 }
 
 #[test]
@@ -135,7 +144,7 @@ fn two_frames<R: Wait + Abort, G: Gate>(
 ) -> (Result<SendTotals, SendFault>, usize)
     requires { (length equipment.now.receivers ≡ 1) × (length equipment.now.groups ≡ 1) }
 {
-    let (_, mut transmit, planner) = begun(rt, alloc, equipment);
+    let (_, mut transmit, planner) = open_workers(rt, alloc, equipment);
     let mut sink = FailingSink {
         sink: MemorySink::new(alloc),
         fails_in,
@@ -171,7 +180,7 @@ fn a_sink_takes_all_cells_before_it_fails(rt: HostRuntime) {
 #[test]
 fn a_count_sink_counts(rt: HostRuntime) {
     let equipment = standard(&rt, rt.alloc(), (1, 720), (1, 1440), (1, 1440));
-    let (_, mut transmit, planner) = begun(&rt, rt.alloc(), &equipment);
+    let (_, mut transmit, planner) = open_workers(&rt, rt.alloc(), &equipment);
     let mut sink = CountSink::new();
     let answer = send_frames(&mut transmit, &mut sink, 0, 3, &OpenGate);
     planner.close(&rt);

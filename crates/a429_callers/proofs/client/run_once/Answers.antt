@@ -6,8 +6,8 @@ use Rattle.a429_callers.specs.OneRun.{CanPublish}
 use Rattle.a429_callers.proofs.OneRuns.{run_over}
 use Rattle.a429_callers.proofs.client.run_once.Goals as goal
 
-pub begun-requires-clause-group : goal.begun-requires-clause-group
-begun-requires-clause-group g c =
+pub open_transmit-requires-clause-group : goal.open_transmit-requires-clause-group
+open_transmit-requires-clause-group g c =
     let planned : IsPlanOf c.args.station.now c.in_ok-opens.opens = c.in_ok-opens.ensures in
     omega (arith, c.requires.group, planned.count, ap (λ (p : PlanTable). length (groups_of p)) c.in-Ok-open.ensures.planner.1)
 

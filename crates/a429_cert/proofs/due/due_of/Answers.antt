@@ -54,7 +54,7 @@ returns-clause-due c =
     omega (arith, ended, ap length same, length-zip (map (λ (g : GroupRow). g.rate) e.groups) e.outputs, length-map e.groups (λ (g : GroupRow). g.rate)) in
     record {
       version = c.version-version.ensures.version;
-      rate = c.widened.ensures ∙ c.rate.ensures.rate;
+      rate = c.to_u64.ensures ∙ c.rate.ensures.rate;
       names = c.loop-group.invariant.names ∙ ap (map (λ (r : GroupRow). r.name)) (take_all c.loop-group.group rows ended ∙ same);
       groups = subst (λ (rs : List (ℕ × List OutputRow)). AllZip (IsDueGroup e) rs c.loop-group.groups.items) (take_all c.loop-group.group (rated_outputs e) rated) c.loop-group.invariant.groups;
     }

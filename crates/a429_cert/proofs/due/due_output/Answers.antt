@@ -16,5 +16,5 @@ returns c =
       there = ap (λ (rs : List SourceRow). slice_get rs c.args.row.now.source) (sym same) ∙ read_is rows c.args.row.now.source c.index-sources-row.result below c.index-sources-row.is;
       name = c.in_ok-source.ensures ∙ ap (λ (s : SourceRow). s.name) (sym c.index-sources-row.is);
       period = subst (IsGridPeriod c.args.row.now.min_us c.args.row.now.max_us c.args.rate) (sym slots) c.in-Some.ensures;
-      hold = c.widened-hold.ensures;
+      hold = c.to_u64-hold.ensures;
     }

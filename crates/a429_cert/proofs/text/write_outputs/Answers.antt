@@ -8,8 +8,8 @@ use Rattle.a429_cert.proofs.text.write_outputs.Goals as goal
 
 pub loop-place-preserved : goal.loop-place-preserved
 loop-place-preserved c =
-    outputs_more (string_bytes c.loop-place.text) (string_bytes c.write_output.new.text) (string_bytes c.args.text.now) (listing_of c.args.version c.args.sources.now c.args.table.now) (order_of c.args.table.now) c.loop-place.place c.ordered.result
-    c.ordered.ensures.value c.loop-place.invariant c.in_ok-write_output.ensures
+    outputs_more (string_bytes c.loop-place.text) (string_bytes c.write_output.new.text) (string_bytes c.args.text.now) (listing_of c.args.version c.args.sources.now c.args.table.now) (order_of c.args.table.now) c.loop-place.place c.output_at_place.result
+    c.output_at_place.ensures.value c.loop-place.invariant c.in_ok-write_output.ensures
 
 pub returns : goal.returns
 returns c =

@@ -4,7 +4,7 @@ use Rattle.std.specs.Option.{option_to_list}
 use Rattle.std.specs.Io.KnownBytes.{append_known}
 use Rattle.a429_line.specs.LineBytes.{symbols_of}
 use Rattle.a429_line.specs.Reports.{reports, rest}
-use Rattle.a429_line.specs.Standing.{StandsFor}
+use Rattle.a429_line.specs.KeptLines.{StandsForLine}
 use Rattle.a429_line.specs.declared.found.Found.{Found}
 use Rattle.a429_line.specs.declared.found.Symbol.{Symbol}
 use Rattle.a429_cli.specs.LineReports.{printed, rest_line}
@@ -49,7 +49,7 @@ loop-found-preserved g c =
     let reported : reports (symbols_of (take c.next.new.from bytes)) ≡ reports past ++ one = ap reports (sym taken) ∙ next.reports past was.stands in
     record {
       within = omega (arith, ap length c.as_slice-bytes.ensures.value, next.forward.1);
-      stands = subst (λ (x : List Symbol). StandsFor x c.next.new.self) taken (next.stands past was.stands);
+      stands = subst (λ (x : List Symbol). StandsForLine x c.next.new.self) taken (next.stands past was.stands);
       printed = rw (reported, printed-append filters (reports past) one) (Appends-then _ _ _ (printed filters (reports past)) (printed filters one) was.printed said);
       kept = c.in_ok-print_report.ensures.faults ∙ was.kept;
     }
@@ -80,7 +80,7 @@ returns-clause-printed g c =
     let whole = taken ∙ taken_whole bytes c.as_slice-bytes.result.now c.next.new.from same (next.end none) in
     let reported : reports (symbols_of bytes) ≡ reports past =
     ap reports (sym whole) ∙ (next.reports past was.stands ∙ (ap (λ (o : Option Found). reports past ++ option_to_list o) none ∙ append-nil (reports past))) in
-    let bits : c.rest.result ≡ rest (symbols_of bytes) = c.rest.ensures (symbols_of bytes) (subst (λ (x : List Symbol). StandsFor x c.next.new.self) whole (next.stands past was.stands)) in
+    let bits : c.rest.result ≡ rest (symbols_of bytes) = c.rest.ensures (symbols_of bytes) (subst (λ (x : List Symbol). StandsForLine x c.next.new.self) whole (next.stands past was.stands)) in
     let said : c.push_rest.new.lines.text.items ≡ c.loop-found.lines.text.items ++ rest_line filters c.rest.result = c.in-Ok.ensures.line in
     let told = printed filters (reports past) in
     let last = rest_line filters c.rest.result in (

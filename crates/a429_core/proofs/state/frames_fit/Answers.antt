@@ -3,7 +3,7 @@ use Rattle.std.specs.Prelude.{nat_lt}
 use Rattle.std.proofs.lemmas.Bool.{lt-ltb, le-ltb}
 use Rattle.std.proofs.lemmas.List.{take_all}
 use Rattle.a429_slots.specs.Tables.{groups_of, frame_of}
-use Rattle.a429_slots.specs.Sending.{all_fit}
+use Rattle.a429_slots.specs.FrameStates.{all_fit}
 use Rattle.a429_core.proofs.Opening.{fit_next, unfit_at}
 use Rattle.a429_core.proofs.state.frames_fit.Goals as goal
 

@@ -2,7 +2,7 @@ use Rattle.std.proofs.Common.{◌<◌, ◌≤◌, ◌∙◌, List, [], length, r
 use Rattle.std.specs.List.{AllByRecursion, AllZip}
 use Rattle.a429_word.proofs.Lists.{all_at}
 use Rattle.a429_equipment.specs.Sound.{IsSound, IsInterval}
-use Rattle.a429_slots.specs.Tables.{GroupTable, groups_of}
+use Rattle.a429_slots.specs.Tables.{SlotTable, groups_of}
 use Rattle.a429_equipment.specs.declared.rows.GroupRow.{GroupRow}
 use Rattle.a429_slots.specs.Planned.{IsPlannedAt}
 use Rattle.a429_equipment.specs.declared.rows.OutputRow.{OutputRow}
@@ -19,7 +19,7 @@ outputs-requires g c = subst (λ (rows : List GroupRow). c.loop-group.group < le
 
 pub loop-group-init : goal.loop-group-init
 loop-group-init g c = record {
-  planned = subst (λ (tables : List GroupTable). AllZip (IsPlannedAt c.sources-sources.result.now) [] tables) (sym c.empty-plan.ensures.none) tt;
+  planned = subst (λ (tables : List SlotTable). AllZip (IsPlannedAt c.sources-sources.result.now) [] tables) (sym c.empty-plan.ensures.none) tt;
   could = tt;
   number = c.empty-plan.ensures.number;
 }

@@ -28,11 +28,11 @@ loop-place-preserved c =
     let place = c.loop-place.place in
     let d = c.index-receivers-place.result in
     let r = get_or c.loop-place.receivers place d in
-    let same : get_or rs place d ≡ r = ap (λ (l : List ends.Receiving). get_or l place d) (sym i.0) in
+    let same : get_or rs place d ≡ r = ap (λ (l : List ends.ReceiverEnd). get_or l place d) (sym i.0) in
     let inside = c.loop-place-test.true in
     let one = numbered_get (IsReceiverAt at) rs place d inside c.requires.receivers in
-    let own = ap (λ (x : ends.Receiving). x.number) (sym same) ∙ one.1 in
-    let low = numbers_below (λ (x : ends.Receiving). x.number) (λ k. k) rs place r.number (numbered_weaker (IsReceiverAt at) (λ k x. x.number ≡ k) (λ k x h. h.1) rs c.requires.receivers) (λ k lt. omega (arith, lt, own)) in
+    let own = ap (λ (x : ends.ReceiverEnd). x.number) (sym same) ∙ one.1 in
+    let low = numbers_below (λ (x : ends.ReceiverEnd). x.number) (λ k. k) rs place r.number (numbered_weaker (IsReceiverAt at) (λ k x. x.number ≡ k) (λ k x h. h.1) rs c.requires.receivers) (λ k lt. omega (arith, lt, own)) in
     let met = met_more at.station (take place rs) r u c.loop-place.transmit c.meet.new.self i.1 (ap (λ (x : ends.Place). x.station) i.1.hub) low c.meet.ensures.stands c.meet.ensures.loads c.meet.ensures.agrees c.meet.ensures.others in
-    let grown : take place rs ++ r ∷ [] ≡ take (place + 1) rs = ap (λ (x : ends.Receiving). take place rs ++ x ∷ []) (sym same) ∙ sym (take_more rs place d inside) in
-    (first_of (search rules, grind (arith, common_steps)), subst (λ (l : List ends.Receiving). HasMet at.station l u c.meet.new.self) grown met)
+    let grown : take place rs ++ r ∷ [] ≡ take (place + 1) rs = ap (λ (x : ends.ReceiverEnd). take place rs ++ x ∷ []) (sym same) ∙ sym (take_more rs place d inside) in
+    (first_of (search rules, grind (arith, common_steps)), subst (λ (l : List ends.ReceiverEnd). HasMet at.station l u c.meet.new.self) grown met)

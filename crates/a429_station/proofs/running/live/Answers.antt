@@ -72,11 +72,11 @@ returns-in_err-planner-clause-fault g c =
     (λ e is. no_memory (c.args.control.now ≡ c.args.control.now) (Gives g.L.LineSource.given g.L.LineSource.left) g.L.LineSource.ended g.L.LineSource.failed g.B.BusSink.failed (g.G.Gate.passes c.args.gate.now) (g.G.Gate.shuts c.args.gate.now) c.args.equipment.now c.args.frames c.args.sources.items c.args.sinks.items
     (record { plan = c.in_ok-plan.plan; planned = c.in_ok-plan.ensures.planned; few = search rules }) refl e is)
 
-pub begun-station-requires-clause-planned : goal.begun-station-requires-clause-planned
-begun-station-requires-clause-planned g c = subst (IsPlanOf c.args.equipment.now) (sym c.in_ok-planner.ensures.planner.1) c.in_ok-plan.ensures.planned
+pub of_planner-station-requires-clause-planned : goal.of_planner-station-requires-clause-planned
+of_planner-station-requires-clause-planned g c = subst (IsPlanOf c.args.equipment.now) (sym c.in_ok-planner.ensures.planner.1) c.in_ok-plan.ensures.planned
 
-pub begun-station-requires-clause-first : goal.begun-station-requires-clause-first
-begun-station-requires-clause-first g c = c.in_ok-planner.ensures.planner.0 ∙ ap (λ (p : PlanTable). p ∷ []) (sym c.in_ok-planner.ensures.planner.1)
+pub of_planner-station-requires-clause-first : goal.of_planner-station-requires-clause-first
+of_planner-station-requires-clause-first g c = c.in_ok-planner.ensures.planner.0 ∙ ap (λ (p : PlanTable). p ∷ []) (sym c.in_ok-planner.ensures.planner.1)
 
 pub run-answer-requires-clause-receivers : goal.run-answer-requires-clause-receivers
 run-answer-requires-clause-receivers g c κs lives = c.in_ok-receiving.ensures.fresh
@@ -90,7 +90,7 @@ run-answer-requires-clause-desk g c κs lives =
 
 pub run-answer-requires-clause-begun : goal.run-answer-requires-clause-begun
 run-answer-requires-clause-begun g c κs lives =
-    subst IsBegun (sym c.begun-station.ensures) (record {
+    subst IsBegun (sym c.of_planner-station.ensures) (record {
       planned = subst (IsPlanOf c.args.equipment.now) (sym c.in_ok-planner.ensures.planner.1) c.in_ok-plan.ensures.planned;
       first = c.in_ok-planner.ensures.planner.0 ∙ ap (λ (p : PlanTable). p ∷ []) (sym c.in_ok-planner.ensures.planner.1);
     })
@@ -101,7 +101,7 @@ run-answer-requires-clause-sinks g c κs lives = c.requires.sinks ∙ sym (ap (�
 pub run-answer-requires-clause-hub : goal.run-answer-requires-clause-hub
 run-answer-requires-clause-hub g c κs lives = (
   subst IsWired (sym c.in_ok-hub.ensures.station) (record { apart = c.sources_apart.ensures; received = λ i s there. (c.numbers_in_range.ensures.sources i s there).1 }),
-  c.in_ok-hub.ensures.station ∙ sym (ap (λ (r : Running). r.station) c.begun-station.ensures),
+  c.in_ok-hub.ensures.station ∙ sym (ap (λ (r : Running). r.station) c.of_planner-station.ensures),
 )
 
 pub returns-clause-told : goal.returns-clause-told

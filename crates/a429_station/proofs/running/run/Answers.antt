@@ -17,8 +17,8 @@ use Rattle.a429_station.specs.declared.faults.LiveFault.{LiveFault}
 use Rattle.a429_station.specs.declared.reports.Report.{Report}
 use Rattle.a429_station.specs.declared.working.Emitted.{Emitted}
 use Rattle.a429_station.specs.declared.working.Received.{Received}
-use Rattle.a429_station.specs.declared.working.Receiving.{Receiving}
-use Rattle.a429_station.specs.declared.working.Sending.{Sending}
+use Rattle.a429_station.specs.declared.working.ReceiverWorker.{ReceiverWorker}
+use Rattle.a429_station.specs.declared.working.GroupWorker.{GroupWorker}
 use Rattle.a429_station.proofs.Ended.{AreAfter, all_stopped, course_of, taken_in, group_one, group_over, heard_one, receiver_one, receiver_stays, want_of_memory, done_between}
 use Rattle.a429_station.proofs.Numbered.{at_most, middle, numbered_all, numbered_mapped, shown, shown_past, three_of, zip_length, zip_numbered, zip_with}
 use Rattle.a429_station.proofs.Plans.{plan_small}
@@ -47,34 +47,34 @@ groups-requires-clause-planned g c =
 pub groups-requires-clause-small : goal.groups-requires-clause-small
 groups-requires-clause-small g c = plan_small c.args.station.now.station c.args.station.now.planner.last c.requires.begun.planned
 
-pub groups_reported-requires-clause-receivers : goal.groups_reported-requires-clause-receivers
-groups_reported-requires-clause-receivers g c =
+pub report_groups-requires-clause-receivers : goal.report_groups-requires-clause-receivers
+report_groups-requires-clause-receivers g c =
     let hub = c.args.hub.now in
     let all = zip_numbered _ (λ k w. w.receiver ≡ fresh hub k) (λ k d. IsReceiverAt hub k d.receiver) (λ k w d h p. receiver_stays hub k h.words d.answer w.receiver d.receiver h.taken p)
     c.args.receiving.items c.in-Ok.done.first.items c.in-Ok.ensures.first c.requires.receivers in
     subst (AllNumbered (IsReceiverAt hub)) (search rules) (numbered_mapped (λ d. d.receiver) (IsReceiverAt hub) c.in-Ok.done.first.items all)
 
-pub all_ended-requires : goal.all_ended-requires
-all_ended-requires g c =
+pub check_all_ends-requires : goal.check_all_ends-requires
+check_all_ends-requires g c =
     let hub = c.args.hub.now in
     let old = c.args.station.now in
     let on = c.in-Ok.ensures.meanwhile.0 in
-    let over = zip_numbered _ (λ k w. IsReady hub old.planner k w.transmit × (w.frames ≡ c.args.frames)) (λ k d. IsOver hub c.at_once.new.to.planner d.transmit d.answer)
-    (λ k w d h p. group_over (g.G.Gate.passes w.gate.now) (g.G.Gate.shuts w.gate.now) w.number g.B.BusSink.taken g.B.BusSink.failed hub old c.at_once.new.to k w.frames w.transmit d.transmit w.sink d.sink d.answer c.requires.hub.1 c.requires.begun on c.led.ensures (omega (arith, p.1, c.requires.few)) h p.0)
+    let over = zip_numbered _ (λ k w. IsReady hub old.planner k w.transmit × (w.frames ≡ c.args.frames)) (λ k d. IsOver hub c.run_at_once.new.to.planner d.transmit d.answer)
+    (λ k w d h p. group_over (g.G.Gate.passes w.gate.now) (g.G.Gate.shuts w.gate.now) w.number g.B.BusSink.taken g.B.BusSink.failed hub old c.run_at_once.new.to k w.frames w.transmit d.transmit w.sink d.sink d.answer c.requires.hub.1 c.requires.begun on c.plans_are_of_station.ensures (omega (arith, p.1, c.requires.few)) h p.0)
     c.in_ok-sending.sending.items c.in-Ok.done.second.items c.in-Ok.ensures.second c.in_ok-sending.ensures.ready in
-    record { groups = numbered_all (λ d. IsOver hub c.at_once.new.to.planner d.transmit d.answer) c.in-Ok.done.second.items over }
+    record { groups = numbered_all (λ d. IsOver hub c.run_at_once.new.to.planner d.transmit d.answer) c.in-Ok.done.second.items over }
 
-pub groups_reported-requires-clause-groups : goal.groups_reported-requires-clause-groups
-groups_reported-requires-clause-groups g c =
+pub report_groups-requires-clause-groups : goal.report_groups-requires-clause-groups
+report_groups-requires-clause-groups g c =
     let hub = c.args.hub.now in
     let old = c.args.station.now in
     let on = c.in-Ok.ensures.meanwhile.0 in
-    let each = zip_numbered _ (λ k w. IsReady hub old.planner k w.transmit × (w.frames ≡ c.args.frames)) (λ k d. IsOver hub c.at_once.new.to.planner d.transmit d.answer)
-    (λ k w d h p. group_over (g.G.Gate.passes w.gate.now) (g.G.Gate.shuts w.gate.now) w.number g.B.BusSink.taken g.B.BusSink.failed hub old c.at_once.new.to k w.frames w.transmit d.transmit w.sink d.sink d.answer c.requires.hub.1 c.requires.begun on c.led.ensures (omega (arith, p.1, c.requires.few)) h p.0)
+    let each = zip_numbered _ (λ k w. IsReady hub old.planner k w.transmit × (w.frames ≡ c.args.frames)) (λ k d. IsOver hub c.run_at_once.new.to.planner d.transmit d.answer)
+    (λ k w d h p. group_over (g.G.Gate.passes w.gate.now) (g.G.Gate.shuts w.gate.now) w.number g.B.BusSink.taken g.B.BusSink.failed hub old c.run_at_once.new.to k w.frames w.transmit d.transmit w.sink d.sink d.answer c.requires.hub.1 c.requires.begun on c.plans_are_of_station.ensures (omega (arith, p.1, c.requires.few)) h p.0)
     c.in_ok-sending.sending.items c.in-Ok.done.second.items c.in-Ok.ensures.second c.in_ok-sending.ensures.ready in
-    let over = numbered_all (λ d. IsOver hub c.at_once.new.to.planner d.transmit d.answer) c.in-Ok.done.second.items each in
-    subst (λ (r : Running). AllByRecursion (λ (d : Emitted g.row.B.Denot). IsOver hub r.planner d.transmit d.answer) c.all_ended.new.sent.items) (sym c.all_ended.ensures.station)
-    (subst (AllByRecursion (λ (d : Emitted g.row.B.Denot). IsOver hub c.at_once.new.to.planner d.transmit d.answer)) (sym c.in_ok-all_ended.ensures.same) over)
+    let over = numbered_all (λ d. IsOver hub c.run_at_once.new.to.planner d.transmit d.answer) c.in-Ok.done.second.items each in
+    subst (λ (r : Running). AllByRecursion (λ (d : Emitted g.row.B.Denot). IsOver hub r.planner d.transmit d.answer) c.check_all_ends.new.sent.items) (sym c.check_all_ends.ensures.station)
+    (subst (AllByRecursion (λ (d : Emitted g.row.B.Denot). IsOver hub c.run_at_once.new.to.planner d.transmit d.answer)) (sym c.in_ok-check_all_ends.ensures.same) over)
 
 pub returns-clause-ran : goal.returns-clause-ran
 returns-clause-ran g c =
@@ -84,16 +84,16 @@ returns-clause-ran g c =
     let taken = g.B.BusSink.taken in
     let hub = c.args.hub.now in
     let old = c.args.station.now in
-    let new = c.at_once.new.to in
-    let did : Receiving g.row.L.Denot g.row.G.Denot → Received g.row.L.Denot → Type 0 = λ w d. HasReceived gives ended failed (g.G.Gate.passes w.gate.now) (g.G.Gate.shuts w.gate.now) w.number w.line w.receiver d.line d.receiver d.answer in
+    let new = c.run_at_once.new.to in
+    let did : ReceiverWorker g.row.L.Denot g.row.G.Denot → Received g.row.L.Denot → Type 0 = λ w d. HasReceived gives ended failed (g.G.Gate.passes w.gate.now) (g.G.Gate.shuts w.gate.now) w.number w.line w.receiver d.line d.receiver d.answer in
     let first = c.in-Ok.ensures.first in
     let ws = c.args.receiving.items in
     let ds = c.in-Ok.done.first.items in
-    let show : (w : Receiving g.row.L.Denot g.row.G.Denot) (d : Received g.row.L.Denot) → did w d → List ℕ = λ w d h. h.words in
+    let show : (w : ReceiverWorker g.row.L.Denot g.row.G.Denot) (d : Received g.row.L.Denot) → did w d → List ℕ = λ w d h. h.words in
     let came : ℕ → List ℕ = shown did show ws ds first in
     let heard = c.in_ok-heard.heard in
     let told = c.in_ok-told.told in
-    let course = course_of old c.led.ensures.later came in
+    let course = course_of old c.plans_are_of_station.ensures.later came in
     let lines = three_of did show (λ w. w.line) (λ d. d.line) (λ d. d.answer) (λ k w. w.receiver ≡ fresh hub k) (IsHeardIn gives ended hub.station course) came
     (λ k w d t h p same is. heard_one gives ended failed (g.G.Gate.passes w.gate.now) (g.G.Gate.shuts w.gate.now) w.number hub course k w.line d.line w.receiver d.receiver d.answer t h p same is)
     ws ds heard.totals.items first c.requires.receivers c.in_ok-heard.ensures.totals (λ k. refl) in
@@ -103,17 +103,17 @@ returns-clause-ran g c =
     let rs = map (λ d. d.receiver) ds in
     let each : AreAfter hub came rs = middle (λ k r. r ≡ after_words (fresh hub k) (came k)) (map (λ w. w.line) ws) rs heard.totals.items after in
     let many : length ds ≡ length hub.station.receivers = omega (arith, zip_length did ws ds first, c.requires.all) in
-    let K = taken_in hub old new came rs c.requires.hub.1 c.requires.begun c.in-Ok.ensures.meanwhile.0 c.led.ensures c.requires.hub.0 each (omega (arith, many, length-map ds (λ d. d.receiver)))
+    let K = taken_in hub old new came rs c.requires.hub.1 c.requires.begun c.in-Ok.ensures.meanwhile.0 c.plans_are_of_station.ensures c.requires.hub.0 each (omega (arith, many, length-map ds (λ d. d.receiver)))
     (λ k past. shown_past did show ws ds first k (omega (arith, past, c.requires.all))) in
-    let same = c.in_ok-all_ended.ensures.same in
-    let told_there = subst (λ (r : Running). AllByRecursion (λ (d : Emitted g.row.B.Denot). IsJoined hub.station r.planner.list c.as_mut_slice.result.now d.transmit) c.all_ended.new.sent.items) c.all_ended.ensures.station c.in_ok-told.ensures.joined in
+    let same = c.in_ok-check_all_ends.ensures.same in
+    let told_there = subst (λ (r : Running). AllByRecursion (λ (d : Emitted g.row.B.Denot). IsJoined hub.station r.planner.list c.as_mut_slice.result.now d.transmit) c.check_all_ends.new.sent.items) c.check_all_ends.ensures.station c.in_ok-told.ensures.joined in
     let told_items = subst (AllByRecursion (λ (d : Emitted g.row.B.Denot). IsJoined hub.station new.planner.list c.as_mut_slice.result.now d.transmit)) same told_there in
-    let joined = subst (λ (l : List ends.Receiving). AllByRecursion (λ (d : Emitted g.row.B.Denot). IsJoined hub.station new.planner.list l d.transmit) c.in-Ok.done.second.items) (search rules) told_items in
+    let joined = subst (λ (l : List ends.ReceiverEnd). AllByRecursion (λ (d : Emitted g.row.B.Denot). IsJoined hub.station new.planner.list l d.transmit) c.in-Ok.done.second.items) (search rules) told_items in
     let totals = subst (λ (l : List (Emitted g.row.B.Denot)). map (λ t. Ok t) told.totals.items ≡ map (λ d. d.answer) l) same c.in_ok-told.ensures.totals in
     let sinks = subst (λ (l : List (Emitted g.row.B.Denot)). told.sinks.items ≡ map (λ d. d.sink) l) same c.in_ok-told.ensures.sinks in
-    let sent : Sending g.row.B.Denot g.row.G.Denot g.B.BusSink g.G.Gate → Emitted g.row.B.Denot → Type 0 = λ w d. HasEmitted taken g.B.BusSink.failed (g.G.Gate.passes w.gate.now) (g.G.Gate.shuts w.gate.now) w.number w.frames w.transmit w.sink d.transmit d.sink d.answer in
-    let both : Sending g.row.B.Denot g.row.G.Denot g.B.BusSink g.G.Gate → Emitted g.row.B.Denot → Type 0 = λ w d. sent w d × IsJoined hub.station new.planner.list rs d.transmit in
-    let none : (w : Sending g.row.B.Denot g.row.G.Denot g.B.BusSink g.G.Gate) (d : Emitted g.row.B.Denot) → both w d → List ℕ = λ w d h. [] in
+    let sent : GroupWorker g.row.B.Denot g.row.G.Denot g.B.BusSink g.G.Gate → Emitted g.row.B.Denot → Type 0 = λ w d. HasEmitted taken g.B.BusSink.failed (g.G.Gate.passes w.gate.now) (g.G.Gate.shuts w.gate.now) w.number w.frames w.transmit w.sink d.transmit d.sink d.answer in
+    let both : GroupWorker g.row.B.Denot g.row.G.Denot g.B.BusSink g.G.Gate → Emitted g.row.B.Denot → Type 0 = λ w d. sent w d × IsJoined hub.station new.planner.list rs d.transmit in
+    let none : (w : GroupWorker g.row.B.Denot g.row.G.Denot g.B.BusSink g.G.Gate) (d : Emitted g.row.B.Denot) → both w d → List ℕ = λ w d h. [] in
     let vs = c.in_ok-sending.sending.items in
     let es = c.in-Ok.done.second.items in
     let pairs = zip_with sent (λ d. IsJoined hub.station new.planner.list rs d.transmit) vs es c.in-Ok.ensures.second joined in
@@ -124,45 +124,45 @@ returns-clause-ran g c =
       record {
         course = course;
         planned = K.planned;
-        own_sources = subst (λ (t : TableRecord). AllByRecursion HaveOwnSources t.outputs) (c.in-Ok.ensures.meanwhile.0.station ∙ sym c.requires.hub.1) c.led.ensures.own_sources;
-        own_plans = c.led.ensures.own;
+        own_sources = subst (λ (t : TableRecord). AllByRecursion HaveOwnSources t.outputs) (c.in-Ok.ensures.meanwhile.0.station ∙ sym c.requires.hub.1) c.plans_are_of_station.ensures.own_sources;
+        own_plans = c.plans_are_of_station.ensures.own;
         few = c.requires.few;
         heard = subst (λ l. AllOfThree (IsHeardIn gives ended hub.station course) (map (λ w. w.line) ws) l heard.totals.items) (sym c.in_ok-heard.ensures.sources) lines;
         sent = subst (λ l. AllOfThree (IsSentIn taken c.args.frames hub.station course) c.args.sinks.items l told.totals.items) (sym sinks)
             (subst (λ l. AllOfThree (IsSentIn taken c.args.frames hub.station course) l (map (λ d. d.sink) c.in-Ok.done.second.items) told.totals.items) c.in_ok-sending.ensures.sinks cells);
       },
-      done_between (λ begin end. g.K.Control.did c.args.control.now begin end c.at_once.new.meanwhile) hub.station old new c.requires.hub.1 c.requires.begun c.in-Ok.ensures.meanwhile.0 c.led.ensures (c.in-Ok.ensures.meanwhile.1 c.in_ok-all_ended.ensures.control),
+      done_between (λ begin end. g.K.Control.did c.args.control.now begin end c.run_at_once.new.meanwhile) hub.station old new c.requires.hub.1 c.requires.begun c.in-Ok.ensures.meanwhile.0 c.plans_are_of_station.ensures (c.in-Ok.ensures.meanwhile.1 c.in_ok-check_all_ends.ensures.control),
     )
 
 -- the first fault of a worker, or else of the control
-pub returns-in_err-all_ended-clause-fault : goal.returns-in_err-all_ended-clause-fault
-returns-in_err-all_ended-clause-fault g c =
-    let p = err_from_is_err_and c.from_residual-in_err-all_ended.result c.from_residual-in_err-all_ended.ensures.1 in
-    let fault = c.in_err-all_ended.field-0.0 in
+pub returns-in_err-check_all_ends-clause-fault : goal.returns-in_err-check_all_ends-clause-fault
+returns-in_err-check_all_ends-clause-fault g c =
+    let p = err_from_is_err_and c.from_residual-in_err-check_all_ends.result c.from_residual-in_err-check_all_ends.ensures.1 in
+    let fault = c.in_err-check_all_ends.field-0.0 in
     let stop = λ (first : IsFirst (first_fault (map (λ d. d.answer) c.in-Ok.done.first.items)) (first_fault (map (λ d. d.answer) c.in-Ok.done.second.items)) fault).
     all_stopped (Gives g.L.LineSource.given g.L.LineSource.left) g.L.LineSource.ended g.L.LineSource.failed g.B.BusSink.taken g.B.BusSink.failed g.G.Gate.passes g.G.Gate.shuts c.args.gate.now
     (λ w. w.line) (λ w. w.receiver) (λ w. w.number) (λ w. w.gate.now) (λ d. d.line) (λ d. d.receiver) (λ d. d.answer)
     (λ v. v.frames) (λ v. v.transmit) (λ v. v.sink) (λ v. v.number) (λ v. v.gate.now) (λ e. e.transmit) (λ e. e.sink) (λ e. e.answer)
     c.args.receiving.items c.in-Ok.done.first.items c.in_ok-sending.sending.items c.in-Ok.done.second.items c.args.sinks.items fault c.in-Ok.ensures.first c.requires.gates c.in-Ok.ensures.second c.in_ok-sending.ensures.gates
     c.in_ok-sending.ensures.sinks first in
-    subst (λ (r : Result (Report g.row.L.Denot g.row.B.Denot) LiveFault). IfErr r (IsRunFault (c.at_once.new.meanwhile ≡ c.args.control.now) (Gives g.L.LineSource.given g.L.LineSource.left) g.L.LineSource.ended g.L.LineSource.failed g.B.BusSink.failed (g.G.Gate.passes c.args.gate.now) (g.G.Gate.shuts c.args.gate.now) (map (λ w. w.line) c.args.receiving.items) c.args.sinks.items))
+    subst (λ (r : Result (Report g.row.L.Denot g.row.B.Denot) LiveFault). IfErr r (IsRunFault (c.run_at_once.new.meanwhile ≡ c.args.control.now) (Gives g.L.LineSource.given g.L.LineSource.left) g.L.LineSource.ended g.L.LineSource.failed g.B.BusSink.failed (g.G.Gate.passes c.args.gate.now) (g.G.Gate.shuts c.args.gate.now) (map (λ w. w.line) c.args.receiving.items) c.args.sinks.items))
     (sym (p.1 ∙ ap (λ (f : LiveFault). Err f) p.2))
-    (inr (inr (stop c.in_err-all_ended.ensures.fault)))
+    (inr (inr (stop c.in_err-check_all_ends.ensures.fault)))
 
 -- of workers that ended well there is no report for want of memory alone
 pub returns-in_err-heard-clause-fault : goal.returns-in_err-heard-clause-fault
 returns-in_err-heard-clause-fault g c =
     let p = err_from_is_err_and c.from_residual-in_err-heard.result c.from_residual-in_err-heard.ensures.1 in
     let fault = c.in_err-heard.field-0.0 in
-    let well = c.in_ok-all_ended.ensures.receivers in
-    let none = c.in_ok-all_ended.ensures.groups in
+    let well = c.in_ok-check_all_ends.ensures.receivers in
+    let none = c.in_ok-check_all_ends.ensures.groups in
     let stop = λ (first : IsFirst (first_fault (map (λ d. d.answer) c.in-Ok.done.first.items)) (first_fault (map (λ d. d.answer) c.in-Ok.done.second.items)) fault).
     all_stopped (Gives g.L.LineSource.given g.L.LineSource.left) g.L.LineSource.ended g.L.LineSource.failed g.B.BusSink.taken g.B.BusSink.failed g.G.Gate.passes g.G.Gate.shuts c.args.gate.now
     (λ w. w.line) (λ w. w.receiver) (λ w. w.number) (λ w. w.gate.now) (λ d. d.line) (λ d. d.receiver) (λ d. d.answer)
     (λ v. v.frames) (λ v. v.transmit) (λ v. v.sink) (λ v. v.number) (λ v. v.gate.now) (λ e. e.transmit) (λ e. e.sink) (λ e. e.answer)
     c.args.receiving.items c.in-Ok.done.first.items c.in_ok-sending.sending.items c.in-Ok.done.second.items c.args.sinks.items fault c.in-Ok.ensures.first c.requires.gates c.in-Ok.ensures.second c.in_ok-sending.ensures.gates
     c.in_ok-sending.ensures.sinks first in
-    subst (λ (r : Result (Report g.row.L.Denot g.row.B.Denot) LiveFault). IfErr r (IsRunFault (c.at_once.new.meanwhile ≡ c.args.control.now) (Gives g.L.LineSource.given g.L.LineSource.left) g.L.LineSource.ended g.L.LineSource.failed g.B.BusSink.failed (g.G.Gate.passes c.args.gate.now) (g.G.Gate.shuts c.args.gate.now) (map (λ w. w.line) c.args.receiving.items) c.args.sinks.items))
+    subst (λ (r : Result (Report g.row.L.Denot g.row.B.Denot) LiveFault). IfErr r (IsRunFault (c.run_at_once.new.meanwhile ≡ c.args.control.now) (Gives g.L.LineSource.given g.L.LineSource.left) g.L.LineSource.ended g.L.LineSource.failed g.B.BusSink.failed (g.G.Gate.passes c.args.gate.now) (g.G.Gate.shuts c.args.gate.now) (map (λ w. w.line) c.args.receiving.items) c.args.sinks.items))
     (sym (p.1 ∙ ap (λ (f : LiveFault). Err f) p.2))
     (inr (inr (stop (want_of_memory _ _ fault well none (elim c.in_err-heard.ensures.fault [
       | inl want ↦ want
@@ -173,9 +173,9 @@ pub returns-in_err-told-clause-fault : goal.returns-in_err-told-clause-fault
 returns-in_err-told-clause-fault g c =
     let p = err_from_is_err_and c.from_residual-in_err-told.result c.from_residual-in_err-told.ensures.1 in
     let fault = c.in_err-told.field-0.0 in
-    let well = c.in_ok-all_ended.ensures.receivers in
-    let none = c.in_ok-all_ended.ensures.groups in
-    let same = c.in_ok-all_ended.ensures.same in
+    let well = c.in_ok-check_all_ends.ensures.receivers in
+    let none = c.in_ok-check_all_ends.ensures.groups in
+    let same = c.in_ok-check_all_ends.ensures.same in
     let none_left = ap (λ (l : List (Emitted g.row.B.Denot)). first_fault (map (λ d. d.answer) l)) same ∙ none in
     let stop = λ (first : IsFirst (first_fault (map (λ d. d.answer) c.in-Ok.done.first.items)) (first_fault (map (λ d. d.answer) c.in-Ok.done.second.items)) fault).
     all_stopped (Gives g.L.LineSource.given g.L.LineSource.left) g.L.LineSource.ended g.L.LineSource.failed g.B.BusSink.taken g.B.BusSink.failed g.G.Gate.passes g.G.Gate.shuts c.args.gate.now
@@ -183,7 +183,7 @@ returns-in_err-told-clause-fault g c =
     (λ v. v.frames) (λ v. v.transmit) (λ v. v.sink) (λ v. v.number) (λ v. v.gate.now) (λ e. e.transmit) (λ e. e.sink) (λ e. e.answer)
     c.args.receiving.items c.in-Ok.done.first.items c.in_ok-sending.sending.items c.in-Ok.done.second.items c.args.sinks.items fault c.in-Ok.ensures.first c.requires.gates c.in-Ok.ensures.second c.in_ok-sending.ensures.gates
     c.in_ok-sending.ensures.sinks first in
-    subst (λ (r : Result (Report g.row.L.Denot g.row.B.Denot) LiveFault). IfErr r (IsRunFault (c.at_once.new.meanwhile ≡ c.args.control.now) (Gives g.L.LineSource.given g.L.LineSource.left) g.L.LineSource.ended g.L.LineSource.failed g.B.BusSink.failed (g.G.Gate.passes c.args.gate.now) (g.G.Gate.shuts c.args.gate.now) (map (λ w. w.line) c.args.receiving.items) c.args.sinks.items))
+    subst (λ (r : Result (Report g.row.L.Denot g.row.B.Denot) LiveFault). IfErr r (IsRunFault (c.run_at_once.new.meanwhile ≡ c.args.control.now) (Gives g.L.LineSource.given g.L.LineSource.left) g.L.LineSource.ended g.L.LineSource.failed g.B.BusSink.failed (g.G.Gate.passes c.args.gate.now) (g.G.Gate.shuts c.args.gate.now) (map (λ w. w.line) c.args.receiving.items) c.args.sinks.items))
     (sym (p.1 ∙ ap (λ (f : LiveFault). Err f) p.2))
     (inr (inr (stop (want_of_memory _ _ fault well none (elim c.in_err-told.ensures.fault [
       | inl want ↦ want
@@ -199,8 +199,8 @@ returns-in_err-heard-clause-ran g c = early_ok _ _ c.from_residual-in_err-heard.
 pub returns-in_err-told-clause-ran : goal.returns-in_err-told-clause-ran
 returns-in_err-told-clause-ran g c = early_ok _ _ c.from_residual-in_err-told.result c.from_residual-in_err-told.ensures.1
 
-pub returns-in_err-all_ended-clause-ran : goal.returns-in_err-all_ended-clause-ran
-returns-in_err-all_ended-clause-ran g c = early_ok _ _ c.from_residual-in_err-all_ended.result c.from_residual-in_err-all_ended.ensures.1
+pub returns-in_err-check_all_ends-clause-ran : goal.returns-in_err-check_all_ends-clause-ran
+returns-in_err-check_all_ends-clause-ran g c = early_ok _ _ c.from_residual-in_err-check_all_ends.result c.from_residual-in_err-check_all_ends.ensures.1
 
 pub returns-in_err-sending-clause-fault : goal.returns-in_err-sending-clause-fault
 returns-in_err-sending-clause-fault g c = early_err _ c.from_residual.result c.from_residual.ensures.1 (λ e is. inl (is ∙ c.in_err-sending.ensures.fault, refl))

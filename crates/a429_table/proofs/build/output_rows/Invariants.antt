@@ -5,4 +5,4 @@ use Rattle.a429_table.specs.Stops.{table_of}
 use Rattle.a429_table.proofs.build.output_rows.Given as goal
 
 abbrev pub invariant-loop-table : goal.invariant-loop-table
-invariant-loop-table l = l.rows.items ++ map (output_row (table_of l.numbers)) (map view (drop l.table-index l.tables)) ≡ map (output_row (table_of l.numbers)) (map view l.tables)
+invariant-loop-table l = l.rows.items ++ map (output_row (table_of l.index)) (map view (drop l.table-index l.tables)) ≡ map (output_row (table_of l.index)) (map view l.tables)

@@ -5,4 +5,4 @@ use Rattle.a429_table.specs.Stops.{table_of}
 use Rattle.a429_table.proofs.search.first_of_kinds.Given as goal
 
 abbrev pub invariant-loop-kind : goal.invariant-loop-kind
-invariant-loop-kind l = first (flat_map (faults_of (table_of l.numbers)) l.kinds) ≡ first (flat_map (faults_of (table_of l.numbers)) (drop l.kind-index l.kinds))
+invariant-loop-kind l = first (flat_map (faults_of (table_of l.index)) l.kinds) ≡ first (flat_map (faults_of (table_of l.index)) (drop l.kind-index l.kinds))

@@ -8,10 +8,10 @@ use Rattle.a429_table.proofs.search.first_place.Goals as goal
 
 pub returns : goal.returns
 returns c =
-    let found = find_from_yields_List (λ s. stands (table_of c.args.numbers.now) c.args.kind (stop_view s)) _ _ c.find.result c.find.ensures.ran (YieldsList-from_slice c.args.stops.now cc) (λ x b q k. search (rules, tests)) in
+    let found = find_from_yields_List (λ s. stands (table_of c.args.index.now) c.args.kind (stop_view s)) _ _ c.find.result c.find.ensures.ran (YieldsList-from_slice c.args.stops.now cc) (λ x b q k. search (rules, tests)) in
     rw (find_map, ← found, c.in_ok-found.was)
 
 pub returns-in_err-found : goal.returns-in_err-found
 returns-in_err-found c =
-    let found = find_from_yields_List (λ s. stands (table_of c.args.numbers.now) c.args.kind (stop_view s)) _ _ c.find.result c.find.ensures.ran (YieldsList-from_slice c.args.stops.now cc) (λ x b q k. search (rules, tests)) in
+    let found = find_from_yields_List (λ s. stands (table_of c.args.index.now) c.args.kind (stop_view s)) _ _ c.find.result c.find.ensures.ran (YieldsList-from_slice c.args.stops.now cc) (λ x b q k. search (rules, tests)) in
     rw (find_map, ← found, c.from_residual.ensures, c.in_err-found.was)

@@ -8,8 +8,8 @@ use Rattle.a429_slots.specs.Recalling.{never}
 use Rattle.std.proofs.lemmas.List.{length-map, length-replicate}
 use Rattle.a429_core.specs.declared.sources.Kept.{Kept}
 use Rattle.a429_core.proofs.Answering.{AreRecalled}
-use Rattle.a429_slots.specs.Sending.{Sending, begun}
-use Rattle.a429_core.specs.Standing.{StandsFor}
+use Rattle.a429_slots.specs.FrameStates.{FrameState, begun}
+use Rattle.a429_core.specs.MachineStates.{StandsForHistory}
 use Rattle.a429_core.proofs.Opening.{stands_at_first, unheard}
 use Rattle.a429_core.proofs.state.State.open.Goals as goal
 
@@ -25,12 +25,12 @@ returns-clause-stands g c =
     let tables : c.deref-2.result.now ≡ q.plan = c.deref-2.ensures ∙ parts.plan in
     let sent : c.in_ok-groups.groups.items ≡ map (begun c.args.first_slot) (groups_of q.plan) = c.in_ok-groups.ensures ∙ ap (λ (p : PlanTable). map (begun c.args.first_slot) (groups_of p)) tables in
     let law : AreRecalled = record { none = c.sends_are_recalled.ensures.none; decides = c.sends_are_recalled.ensures.decides; sent = c.sends_are_recalled.ensures.sent; other = c.sends_are_recalled.ensures.other } in
-    let many : length c.in_ok-groups.groups.items ≡ length (groups_of q.plan) = ap (λ (ss : List Sending). length ss) sent ∙ length-map (groups_of q.plan) (begun c.args.first_slot) in
+    let many : length c.in_ok-groups.groups.items ≡ length (groups_of q.plan) = ap (λ (ss : List FrameState). length ss) sent ∙ length-map (groups_of q.plan) (begun c.args.first_slot) in
     let known : length c.in_ok-sources.sources.items ≡ length q.station.sources = ap (λ (ks : List Kept). length ks) kept ∙ length-replicate (length q.station.sources) unheard in
     let groups_long : c.len.result ≡ length c.in_ok-groups.groups.items = omega (arith, c.len.ensures) in
     let sources_long : c.len-2.result ≡ length c.in_ok-sources.sources.items = omega (arith, c.len-2.ensures) in
     let unsent : c.in_ok-sends.sends.items ≡ replicate (length (groups_of q.plan)) (replicate (length q.station.sources) never) =
     c.in_ok-sends.ensures ∙ (ap (λ (n : ℕ). replicate n (replicate c.len-2.result never)) (groups_long ∙ many) ∙ ap (λ (n : ℕ). replicate (length (groups_of q.plan)) (replicate n never)) (sources_long ∙ known)) in
     let first = stands_at_first g.row.C c.args.first_slot q c.in_ok-sources.sources.items c.in_ok-groups.groups.items c.in_ok-sends.sends.items law sound.apart own.count own.number kept sent unsent in
-    subst (λ (t : TableRecord). StandsFor g.row.C (record { proposal = q; first = c.args.first_slot }) [] (record { station = t; sources = c.in_ok-sources.sources.items; groups = c.in_ok-groups.groups.items; sends = c.in_ok-sends.sends.items; newest = c.into_parts-equipment.result.1.value })) (sym parts.equipment)
-    (subst (λ (p : PlanTable). StandsFor g.row.C (record { proposal = q; first = c.args.first_slot }) [] (record { station = q.station; sources = c.in_ok-sources.sources.items; groups = c.in_ok-groups.groups.items; sends = c.in_ok-sends.sends.items; newest = p })) (sym parts.plan) first)
+    subst (λ (t : TableRecord). StandsForHistory g.row.C (record { proposal = q; first = c.args.first_slot }) [] (record { station = t; sources = c.in_ok-sources.sources.items; groups = c.in_ok-groups.groups.items; sends = c.in_ok-sends.sends.items; newest = c.into_parts-equipment.result.1.value })) (sym parts.equipment)
+    (subst (λ (p : PlanTable). StandsForHistory g.row.C (record { proposal = q; first = c.args.first_slot }) [] (record { station = q.station; sources = c.in_ok-sources.sources.items; groups = c.in_ok-groups.groups.items; sends = c.in_ok-sends.sends.items; newest = p })) (sym parts.plan) first)

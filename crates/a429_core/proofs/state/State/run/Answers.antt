@@ -6,7 +6,7 @@ use Rattle.a429_slots.specs.declared.answers.Answer.{Answer}
 use Rattle.a429_core.specs.declared.events.Event as code
 use Rattle.a429_slots.specs.Answers.{answers}
 use Rattle.a429_core.specs.Happened.{event_of}
-use Rattle.a429_core.specs.Standing.{StandsFor}
+use Rattle.a429_core.specs.MachineStates.{StandsForHistory}
 use Rattle.a429_core.proofs.Steps.{step_is, answers_push}
 use Rattle.a429_core.proofs.state.State.run.Goals as goal
 
@@ -24,8 +24,8 @@ loop-event-preserved g c =
           ∙ (sym (answers_push g.row.C o E so_far e) ∙ ap (answers g.row.C o E) (sym more))));
       stands = λ o E S.
           let step = step_is (record { none = c.sends_are_recalled.ensures.none; decides = c.sends_are_recalled.ensures.decides; sent = c.sends_are_recalled.ensures.sent; other = c.sends_are_recalled.ensures.other }) g.row.C o (E ++ so_far) e c.loop-event.self c.take.ensures.whole (c.loop-event.invariant.stands o E S) in
-          let after = subst (StandsFor g.row.C o (E ++ so_far ++ e ∷ [])) (sym c.take.ensures.after) step.after in
-          subst (λ (F : List Event). StandsFor g.row.C o F c.take.new.self) (append_assoc E so_far (e ∷ []) ∙ ap (λ (F : List Event). E ++ F) (sym more)) after;
+          let after = subst (StandsForHistory g.row.C o (E ++ so_far ++ e ∷ [])) (sym c.take.ensures.after) step.after in
+          subst (λ (F : List Event). StandsForHistory g.row.C o F c.take.new.self) (append_assoc E so_far (e ∷ []) ∙ ap (λ (F : List Event). E ++ F) (sym more)) after;
       whole = c.loop-event.invariant.whole ∙ (ap (λ (xs : List code.Event). c.loop-event.yielded ++ xs) c.in-Some.ensures.steps.0 ∙ sym (append_assoc c.loop-event.yielded (c.in-Some.event ∷ []) _));
       so_far = grind (arith, common_steps);
       room = grind (arith, common_steps);
@@ -34,4 +34,4 @@ loop-event-preserved g c =
 pub returns-clause-stands : goal.returns-clause-stands
 returns-clause-stands g c o E S =
     let all : c.loop-event.yielded ≡ c.args.events.items = grind (arith, common_steps) in
-    subst (λ (F : List code.Event). StandsFor g.row.C o (E ++ map event_of F) c.loop-event.self) all (c.loop-event.invariant.stands o E S)
+    subst (λ (F : List code.Event). StandsForHistory g.row.C o (E ++ map event_of F) c.loop-event.self) all (c.loop-event.invariant.stands o E S)

@@ -26,7 +26,7 @@ loop-look-preserved g c =
         refused.0 ++ c.in-Ok-Some.raw ∷ [],
         given_next _ refused.0 _ _ c.in-Ok-Some.raw refused.1 given,
         left_next refused.0 c.in-Ok-Some.raw _ _ _ refused.2 left,
-        refused_next _ refused.0 c.in-Ok-Some.raw _ refused.3 c.accepted.ensures c.in_default.is,
+        refused_next _ refused.0 c.in-Ok-Some.raw _ refused.3 c.accepted_word.ensures c.in_default.is,
         length-append refused.0 (c.in-Ok-Some.raw ∷ []) ∙ ap (λ (n : ℕ). n + 1) refused.4,
       );
       filters = search rules;

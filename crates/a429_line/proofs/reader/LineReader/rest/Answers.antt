@@ -1,5 +1,5 @@
 use Rattle.std.proofs.Common.{◌∙◌, sym, ap}
-use Rattle.a429_line.specs.Standing.{left}
+use Rattle.a429_line.specs.KeptLines.{left}
 use Rattle.a429_line.proofs.Steps.{rest_of}
 use Rattle.a429_line.proofs.reader.LineReader.rest.Goals as goal
 

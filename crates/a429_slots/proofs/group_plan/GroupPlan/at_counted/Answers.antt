@@ -2,7 +2,7 @@ use Rattle.std.proofs.Common.{◌≡◌, ◌+◌, ◌^◌, ◌<◌, ◌≤◌, �
 use Rattle.std.specs.Prelude.{Option, IfSome}
 use Rattle.std.proofs.lemmas.Option.{none-some}
 use Rattle.a429_pack.specs.Sums.{Holds}
-use Rattle.a429_slots.specs.Tables.{GroupTable, outputs_of, order_of, cell_at}
+use Rattle.a429_slots.specs.Tables.{SlotTable, outputs_of, order_of, cell_at}
 use Rattle.a429_slots.specs.Kept.{IsTable, HoldsCell}
 use Rattle.a429_slots.proofs.Cells.{HasEach, length-outputs, cell_found, cell_empty, cell_outside, ordered_below}
 use Rattle.a429_slots.proofs.group_plan.GroupPlan.at_counted.Goals as goal
@@ -22,42 +22,42 @@ bounds-self-inside-place g c =
 pub returns-then-bus-self-clause-cell : goal.returns-then-bus-self-clause-cell
 returns-then-bus-self-clause-cell g c =
     let p = c.self.inside in
-    let t : GroupTable = record { frame = p.frame; buses = p.buses; demands = p.sums; order = p.order; sources = p.sources; on_bus = p.on_bus; offsets = p.offsets; periods = p.periods; limits = p.limits } in
+    let t : SlotTable = record { frame = p.frame; buses = p.buses; demands = p.sums; order = p.order; sources = p.sources; on_bus = p.on_bus; offsets = p.offsets; periods = p.periods; limits = p.limits } in
     let w : IsTable g.row.N t = c.self.invariant in
     let each : HasEach t = c.orders_name_each_once.ensures (length t.demands) (order_of t) w.order in
-    subst (λ (u : GroupTable). None ≡ cell_at u c.args.bus c.args.slot) c.self.view_is (sym (cell_outside g.row.N t w each (c.stretches_are_apart.ensures.within t.demands) c.args.bus c.args.slot c.if-bus-self.true))
+    subst (λ (u : SlotTable). None ≡ cell_at u c.args.bus c.args.slot) c.self.view_is (sym (cell_outside g.row.N t w each (c.stretches_are_apart.ensures.within t.demands) c.args.bus c.args.slot c.if-bus-self.true))
 
 pub returns-in-Some-clause-cell : goal.returns-in-Some-clause-cell
 returns-in-Some-clause-cell g c =
     let p = c.self.inside in
-    let t : GroupTable = record { frame = p.frame; buses = p.buses; demands = p.sums; order = p.order; sources = p.sources; on_bus = p.on_bus; offsets = p.offsets; periods = p.periods; limits = p.limits } in
+    let t : SlotTable = record { frame = p.frame; buses = p.buses; demands = p.sums; order = p.order; sources = p.sources; on_bus = p.on_bus; offsets = p.offsets; periods = p.periods; limits = p.limits } in
     let w : IsTable g.row.N t = c.self.invariant in
     let each : HasEach t = c.orders_name_each_once.ensures (length t.demands) (order_of t) w.order in
     let found : IfSome (Some c.in-Some.place) (Holds t.demands c.place_of_cell.result) =
     subst (λ (r : Option ℕ). IfSome r (Holds t.demands c.place_of_cell.result)) c.in-Some.is c.find_counted-found.ensures.found in
     let holds : HoldsCell t c.in-Some.place c.args.bus c.args.slot = subst (λ (y : ℕ). Holds t.demands y c.in-Some.place) c.place_of_cell.ensures found in
-    subst (λ (u : GroupTable). Some c.new.result ≡ cell_at u c.args.bus c.args.slot) c.self.view_is
+    subst (λ (u : SlotTable). Some c.new.result ≡ cell_at u c.args.bus c.args.slot) c.self.view_is
     (ap (λ (o : ℕ). Some o) c.new.ensures ∙ sym (cell_found g.row.N t w each (c.stretches_are_apart.ensures.apart t.demands) c.in-Some.place c.args.bus c.args.slot holds))
 
 pub returns-in-Some-clause-known : goal.returns-in-Some-clause-known
 returns-in-Some-clause-known g c =
     let p = c.self.inside in
-    let t : GroupTable = record { frame = p.frame; buses = p.buses; demands = p.sums; order = p.order; sources = p.sources; on_bus = p.on_bus; offsets = p.offsets; periods = p.periods; limits = p.limits } in
+    let t : SlotTable = record { frame = p.frame; buses = p.buses; demands = p.sums; order = p.order; sources = p.sources; on_bus = p.on_bus; offsets = p.offsets; periods = p.periods; limits = p.limits } in
     let w : IsTable g.row.N t = c.self.invariant in
     let each : HasEach t = c.orders_name_each_once.ensures (length t.demands) (order_of t) w.order in
     let found : IfSome (Some c.in-Some.place) (Holds t.demands c.place_of_cell.result) =
     subst (λ (r : Option ℕ). IfSome r (Holds t.demands c.place_of_cell.result)) c.in-Some.is c.find_counted-found.ensures.found in
     let inside : c.new.result < length (outputs_of t) = omega (arith, c.new.ensures, ordered_below t each c.in-Some.place found.0, length-outputs t) in
-    subst (λ (u : GroupTable). c.new.result < length (outputs_of u)) c.self.view_is inside
+    subst (λ (u : SlotTable). c.new.result < length (outputs_of u)) c.self.view_is inside
 
 pub returns-in-Some-clause-probes : goal.returns-in-Some-clause-probes
 returns-in-Some-clause-probes g c digits below =
-    let many : length c.self.inside.sums ≡ length c.args.self.now.demands = ap (λ (t : GroupTable). length t.demands) c.self.view_is in
+    let many : length c.self.inside.sums ≡ length c.args.self.now.demands = ap (λ (t : SlotTable). length t.demands) c.self.view_is in
     c.find_counted-found.ensures.probes digits (omega (arith, many, length-outputs c.args.self.now, below))
 
 pub returns-in-Some-clause-least : goal.returns-in-Some-clause-least
 returns-in-Some-clause-least g c =
-    let many : length c.self.inside.sums ≡ length c.args.self.now.demands = ap (λ (t : GroupTable). length t.demands) c.self.view_is in
+    let many : length c.self.inside.sums ≡ length c.args.self.now.demands = ap (λ (t : SlotTable). length t.demands) c.self.view_is in
     let least : length c.self.inside.sums < 2 ^ (c.find_counted-found.result.1 + 1) =
     subst (λ (r : Option ℕ). IfSome r (λ _. length c.self.inside.sums < 2 ^ (c.find_counted-found.result.1 + 1))) c.in-Some.is c.find_counted-found.ensures.least in
     omega (arith, least, many, length-outputs c.args.self.now)
@@ -65,16 +65,16 @@ returns-in-Some-clause-least g c =
 pub returns-in-None-clause-cell : goal.returns-in-None-clause-cell
 returns-in-None-clause-cell g c =
     let p = c.self.inside in
-    let t : GroupTable = record { frame = p.frame; buses = p.buses; demands = p.sums; order = p.order; sources = p.sources; on_bus = p.on_bus; offsets = p.offsets; periods = p.periods; limits = p.limits } in
+    let t : SlotTable = record { frame = p.frame; buses = p.buses; demands = p.sums; order = p.order; sources = p.sources; on_bus = p.on_bus; offsets = p.offsets; periods = p.periods; limits = p.limits } in
     let w : IsTable g.row.N t = c.self.invariant in
     let each : HasEach t = c.orders_name_each_once.ensures (length t.demands) (order_of t) w.order in
-    subst (λ (u : GroupTable). None ≡ cell_at u c.args.bus c.args.slot) c.self.view_is
+    subst (λ (u : SlotTable). None ≡ cell_at u c.args.bus c.args.slot) c.self.view_is
     (sym (cell_empty g.row.N t w each c.args.bus c.args.slot (λ k holds.
     none-some k (sym c.in-None.is ∙ c.find_counted-found.ensures.only k (subst (λ (y : ℕ). Holds t.demands y k) (sym c.place_of_cell.ensures) holds)))))
 
 pub returns-in-None-clause-probes : goal.returns-in-None-clause-probes
 returns-in-None-clause-probes g c digits below =
-    let many : length c.self.inside.sums ≡ length c.args.self.now.demands = ap (λ (t : GroupTable). length t.demands) c.self.view_is in
+    let many : length c.self.inside.sums ≡ length c.args.self.now.demands = ap (λ (t : SlotTable). length t.demands) c.self.view_is in
     c.find_counted-found.ensures.probes digits (omega (arith, many, length-outputs c.args.self.now, below))
 
 pub returns-in-None-clause-outside : goal.returns-in-None-clause-outside

@@ -1,6 +1,6 @@
 use Rattle.std.proofs.Common.{◌≡◌, ◌∙◌, ℕ, List, ap, arith, length, map, subst, sym}
 use Rattle.a429_pack.specs.Demands.{exponent_of}
-use Rattle.a429_slots.specs.Tables.{GroupTable}
+use Rattle.a429_slots.specs.Tables.{SlotTable}
 use Rattle.a429_slots.specs.Kept.{IsTable}
 use Rattle.a429_slots.specs.Asked.{IsTableOf}
 use Rattle.a429_slots.proofs.Tabled.{Columns, AreColumns, table, is_table, is_table_of}
@@ -46,7 +46,7 @@ parts g c =
 
 pub invariant_of-result : goal.invariant_of-result
 invariant_of-result g c =
-    subst (λ (t : GroupTable). IsTable g.row.N t) (parts g c) (is_table g.row.N c.args.packed.now c.args.outputs.now c.args.demands.now (columns g c) (are_columns g c) (omega arith))
+    subst (λ (t : SlotTable). IsTable g.row.N t) (parts g c) (is_table g.row.N c.args.packed.now c.args.outputs.now c.args.demands.now (columns g c) (are_columns g c) (omega arith))
 
 pub returns-clause-table : goal.returns-clause-table
 unfolding are_columns

@@ -1,6 +1,6 @@
 use Rattle.std.proofs.Common.{◌≡◌, ◌∙◌, sym, refl, ap, ltb, true}
 use Rattle.a429_slots.specs.Tables.{cells_of}
-use Rattle.a429_slots.specs.Sending.{cells_before, next_cell}
+use Rattle.a429_slots.specs.FrameStates.{cells_before, next_cell}
 use Rattle.a429_slots.proofs.NextCells.{has_bus, next_is}
 use Rattle.a429_slots.proofs.senders.Sender.cell.Goals as goal
 

@@ -2,7 +2,7 @@ use Rattle.std.proofs.Common.{rules, ◌<◌, ◌^◌, refl, sym, subst, ℕ}
 use Rattle.std.specs.Prelude.{IfOk, IfErr}
 use Rattle.a429_station.specs.Resubmitting.{GoesOn, Running, Publishes, IsReplanFault, IsLed, of_board}
 use Rattle.a429_station.specs.declared.station.ReplanFault.{ReplanFault}
-use Rattle.a429_station.proofs.Plans.{led_on, one_further, publishes, refused, stays}
+use Rattle.a429_station.proofs.Plans.{led_on, one_further, publishes, refused, GoesOn-refl}
 use Rattle.a429_station.proofs.station.Station.resubmit.Goals as goal
 use Rattle.a429_station.proofs.station.Station.resubmit.Goals.{in-Ok-publish, in-Err-publish}
 
@@ -52,7 +52,7 @@ returns-clause-fault g c =
     ]
 
 pub returns-in-Err-clause-after : goal.returns-in-Err-clause-after
-returns-in-Err-clause-after g c = subst (λ (v : Running). GoesOn c.args.self.now v) (search rules) (stays c.args.self.now)
+returns-in-Err-clause-after g c = subst (λ (v : Running). GoesOn c.args.self.now v) (search rules) (GoesOn-refl c.args.self.now)
 
 pub returns-clause-after : goal.returns-clause-after
 returns-clause-after g c =
@@ -65,5 +65,5 @@ returns-clause-after g c =
           let e = w.in-Ok-publish.ensures in
           let done = publishes old new c.args.table.now told.0 c.in-Ok.plan n told.1 told.2 e.next e.list e.last e.book refl in
           subst (λ (v : Running). GoesOn v new) c.self.view_is (one_further old new c.args.table.now n done)
-      | in-Err-publish w ↦ subst (λ (v : Running). GoesOn c.args.self.now v) (search rules) (stays c.args.self.now)
+      | in-Err-publish w ↦ subst (λ (v : Running). GoesOn c.args.self.now v) (search rules) (GoesOn-refl c.args.self.now)
     ]

@@ -3,7 +3,7 @@ use Rattle.std.specs.Prelude.{Some, slice_get}
 use Rattle.std.proofs.lemmas.Option.{same_Some}
 use mathlib.Core.List.{IsPrefix}
 use Rattle.a429_slots.specs.Tables.{PlanTable, groups_of}
-use Rattle.a429_slots.specs.Sending.{Sending, begun}
+use Rattle.a429_slots.specs.FrameStates.{FrameState, begun}
 use Rattle.a429_slots.specs.Recalling.{never}
 use Rattle.a429_workers.specs.Transmitting.{HasMade, IsKnownTable}
 use Rattle.a429_workers.proofs.Answering.{AreRecalled}
@@ -27,4 +27,4 @@ returns-clause-stands c = λ p own known.
     let numbered : w.opened.number ≡ c.number-number.result = sym (c.number-number.ensures ∙ ap (λ (q : PlanTable). q.number) opened) in
     let frame : begun c.args.first_slot p ≡ c.in_ok-sender.sender = sym (c.in_ok-sender.ensures ∙ ap (begun c.args.first_slot) table) in
     subst (λ (n : ℕ). HasMade (record { opened = w.opened; group = t.number; table = p; first = c.args.first_slot; before = t.loads }) [] (record { transmitter = t; watcher = w; frame = c.in_ok-sender.sender; number = n; sends = c.in_ok-sends.sends })) numbered
-    (subst (λ (f : Sending). HasMade (record { opened = w.opened; group = t.number; table = p; first = c.args.first_slot; before = t.loads }) [] (record { transmitter = t; watcher = w; frame = f; number = w.opened.number; sends = c.in_ok-sends.sends })) frame made)
+    (subst (λ (f : FrameState). HasMade (record { opened = w.opened; group = t.number; table = p; first = c.args.first_slot; before = t.loads }) [] (record { transmitter = t; watcher = w; frame = f; number = w.opened.number; sends = c.in_ok-sends.sends })) frame made)

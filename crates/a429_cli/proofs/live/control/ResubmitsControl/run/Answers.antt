@@ -8,10 +8,10 @@ use Rattle.a429_console.specs.Files.{bytes_of}
 use Rattle.a429_cli.specs.Resubmitted.{AreAnswers, IsAnswer}
 use Rattle.a429_cli.proofs.Resubmits.{one_more_answer}
 use Rattle.a429_cli.proofs.live.control.ResubmitsControl.run.Goals as goal
-use Rattle.a429_station.proofs.Plans.{goes_further, stays}
+use Rattle.a429_station.proofs.Plans.{goes_further, GoesOn-refl}
 
 pub loop-table-init : goal.loop-table-init
-loop-table-init g c = (stays _, refl, λ none rest w all. rw none all)
+loop-table-init g c = (GoesOn-refl _, refl, λ none rest w all. rw none all)
 
 pub loop-table-preserved : goal.loop-table-preserved
 loop-table-preserved g c =

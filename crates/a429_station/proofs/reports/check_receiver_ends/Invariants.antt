@@ -1,0 +1,6 @@
+use Rattle.std.specs.Prelude.{◌≡◌, drop, map}
+use Rattle.a429_station.specs.Faults.{first_fault}
+use Rattle.a429_station.proofs.reports.check_receiver_ends.Given as goal
+
+abbrev pub invariant-loop-place : goal.invariant-loop-place
+invariant-loop-place g l = first_fault (map (λ d. d.answer) (drop l.place l.fn.received.items)) ≡ first_fault (map (λ d. d.answer) l.fn.received.items)

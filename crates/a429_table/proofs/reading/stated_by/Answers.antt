@@ -1,6 +1,0 @@
-use Rattle.a429_table.specs.Stops.{table_of}
-use Rattle.a429_table.proofs.Soundness.{is_sound}
-use Rattle.a429_table.proofs.reading.stated_by.Goals as goal
-
-pub of_rows-requires : goal.of_rows-requires
-of_rows-requires c = rw c.in_ok-rows.ensures (is_sound (table_of c.args.numbers.now) c.requires)
