@@ -4,14 +4,16 @@ ghost use Rattle.std.specs.Io.{WritesAtMost};
 use a429_cli::{Arguments, CountedWriter, MemoryFiles, NoProgress, run_program};
 use a429_hints::HintLines;
 use std::env::FillError;
+use std::sync::Wait;
+use std::thread::Threads;
 
 /// Words as the system has them, which need not be text. The first is the path of the program.
 #[derive(Clone, Copy)]
-struct Given<'a> {
-    words: &'a [&'a [u8]],
+struct Given<'a, 'w> {
+    words: &'a [&'w [u8]],
 }
 
-impl Arguments for Given<'_> {
+impl Arguments for Given<'_, '_> {
     ghost use Rattle.std.specs.Prelude.{⊤};
 
     ghost gives = { λ _ _ _. ⊤ };
@@ -30,30 +32,39 @@ impl Arguments for Given<'_> {
     }
 }
 
+/// The status of the program on these words, and what it writes to both outputs.
+fn run_on<R: AllocGlobal + Threads + Wait>(rt: &R, words: &[&[u8]]) -> (u8, Vec<u8>, Vec<u8>) {
+    let mut files = MemoryFiles {
+        files: Vec::new(rt.alloc()),
+    };
+    let mut out = CountedWriter::new(Vec::new(rt.alloc()));
+    let mut err = CountedWriter::new(Vec::new(rt.alloc()));
+    let given = Given { words };
+    let status = run_program(
+        rt,
+        &given,
+        &HintLines,
+        &mut files,
+        &mut out,
+        &mut err,
+        &NoProgress,
+    );
+    (status, out.writer, err.writer)
+}
+
 #[test]
-fn words_of_any_length_are_read_and_those_that_are_no_text_are_a_mistake(rt: HostRuntime) {
+fn words_that_are_no_text_are_a_mistake(rt: HostRuntime) {
+    let words: [&[u8]; 4] = [b"a429", b"word", b"600000c1", b"\xff"];
+    let (status, out, err) = run_on(&rt, &words);
+    assert!(rt; status == 2 && out.is_empty() && !err.is_empty());
+}
+
+#[test]
+fn a_word_of_any_length_is_read(rt: HostRuntime) {
     let long = [b'0'; 600];
-    let rows: [(&[&[u8]], u8, &[u8]); 3] = [
-        (&[b"a429", b"word", b"600000c1", b"\xff"], 2, b""),
-        (&[b"a429", b"word", &long], 1, b"refused word-text\n"),
-        (&[b"a429"], 2, b""),
-    ];
-    for (words, wanted, line) in rows {
-        let mut files = MemoryFiles {
-            files: Vec::new(rt.alloc()),
-        };
-        let mut out = CountedWriter::new(Vec::new(rt.alloc()));
-        let mut err = CountedWriter::new(Vec::new(rt.alloc()));
-        let status = run_program(
-            &rt,
-            &Given { words },
-            &HintLines,
-            &mut files,
-            &mut out,
-            &mut err,
-            &NoProgress,
-        );
-        assert!(rt; status == wanted && out.writer.as_slice() == line);
-        assert!(rt; err.writer.is_empty() == (wanted == 1));
-    }
+    let words: [&[u8]; 3] = [b"a429", b"word", &long];
+    let (status, out, err) = run_on(&rt, &words);
+    assert!(rt;
+        status == 1 && out.as_slice() == b"refused word-text\n".as_slice() && err.is_empty()
+    );
 }
