@@ -5,8 +5,6 @@
 #[cfg(test)]
 mod fields;
 #[cfg(test)]
-mod gates;
-#[cfg(test)]
 mod grid;
 #[cfg(test)]
 mod lines;

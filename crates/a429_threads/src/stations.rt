@@ -1,5 +1,6 @@
 //! Stations that run, on threads of their own. The words: 00000080 has label 001, 00000040 has 002, 80000021 has 204.
 
+mod in_turn;
 mod spacing;
 mod stopping;
 
@@ -62,11 +63,15 @@ fn bits(held: Held, point: Point) -> (u64, u64) {
     }
 }
 
-/// Holds back each point until the marks that it waits for were made, for at most 10000 turns of a millisecond.
+/// How many turns a gate waits where other threads run.
+const TURNS: u64 = 10000;
+
+/// Holds back each point until the marks that it waits for were made, for at most so many turns of a millisecond.
 #[derive(Drop)]
 struct Holds<'a, R: Clock> {
     rt: &'a R,
     held: Held,
+    turns: u64,
     made: &'a AtomicU64,
 }
 
@@ -74,7 +79,7 @@ impl<'a, R: Clock> Gate for Holds<'a, R> {
     fn pass(&self, point: Point) -> Result<(), GateFault> {
         let (own, awaited) = bits(self.held, point);
         self.made.fetch_or(own, Ordering::SeqCst);
-        for _ in 0..10000 {
+        for _ in 0..self.turns {
             if self.made.load(Ordering::SeqCst) & awaited == awaited {
                 return Ok(());
             }
@@ -90,11 +95,41 @@ struct MarksRun<'a> {
     made: &'a AtomicU64,
 }
 
+impl<'a> MarksRun<'a> {
+    fn mark(&self) {
+        self.made.fetch_or(CONTROL, Ordering::SeqCst);
+    }
+}
+
 impl<'a, R: Wait> Control<R> for MarksRun<'a> {
     fn run(&mut self, _station: &mut Station<'_, R>) -> Result<(), AllocError> {
-        self.made.fetch_or(CONTROL, Ordering::SeqCst);
+        self.mark();
         Ok(())
     }
+}
+
+/// Lines that give these words.
+fn lines_of<R: Abort>(rt: &R, alloc: Global, words: &[&[u32]]) -> Vec<MemoryLine> {
+    let mut lines = Vec::new(alloc);
+    for one in words {
+        let mut given = Vec::new(alloc);
+        for word in *one {
+            given.push(*word).expect(rt, "memory");
+        }
+        lines
+            .push(MemoryLine::from_words(given))
+            .expect(rt, "memory");
+    }
+    lines
+}
+
+/// So many empty sinks.
+fn empty_sinks<R: Abort>(rt: &R, alloc: Global, count: usize) -> Vec<MemorySink> {
+    let mut sinks = Vec::new(alloc);
+    for _ in 0..count {
+        sinks.push(MemorySink::new(alloc)).expect(rt, "memory");
+    }
+    sinks
 }
 
 /// Runs the station of a table, with these words for its receivers.
@@ -108,20 +143,8 @@ fn run_station<R: Threads + Wait + Abort, G: Gate + Sync, K: Control<R>>(
     control: &mut K,
 ) -> Result<Report<MemoryLine, MemorySink>, LiveFault> {
     let equipment = read_equipment(alloc, table.as_bytes()).expect(rt, "a table");
-    let mut lines = Vec::new(alloc);
-    for one in words {
-        let mut given = Vec::new(alloc);
-        for word in *one {
-            given.push(*word).expect(rt, "memory");
-        }
-        lines
-            .push(MemoryLine::from_words(given))
-            .expect(rt, "memory");
-    }
-    let mut sinks = Vec::new(alloc);
-    for _ in 0..equipment.groups().len() {
-        sinks.push(MemorySink::new(alloc)).expect(rt, "memory");
-    }
+    let lines = lines_of(rt, alloc, words);
+    let sinks = empty_sinks(rt, alloc, equipment.groups().len());
     assert!(rt; lines.len() == equipment.receivers().len());
     assert!(rt; sinks.len() == equipment.groups().len());
     live(rt, alloc, &equipment, lines, sinks, frames, gate, control)
@@ -147,6 +170,7 @@ fn word_taken_before_a_cell_goes_out_in_it(rt: HostRuntime) {
     let gate = Holds {
         rt: &rt,
         held: Held::InTurn,
+        turns: TURNS,
         made: &made,
     };
     let words: &[&[u32]] = &[&[FIRST, SECOND]];
@@ -166,6 +190,7 @@ fn workers_and_control_run_at_once(rt: HostRuntime) {
     let gate = Holds {
         rt: &rt,
         held: Held::UntilAll,
+        turns: TURNS,
         made: &made,
     };
     let words: &[&[u32]] = &[&[0x00000080], &[0x00000040]];
@@ -260,6 +285,7 @@ fn resubmitted_plans_come_into_force(rt: HostRuntime) {
     let gate = Holds {
         rt: &rt,
         held: Held::UntilAnswered,
+        turns: TURNS,
         made: &made,
     };
     let mut control = Resubmits {
