@@ -7,7 +7,7 @@ use Rattle.std.proofs.lemmas.List.{length-map, take_at, length-append, map-appen
 use Rattle.std.proofs.Math.Nat.{mod-eq_of_lt}
 use Rattle.std.proofs.lemmas.Bool.Decides.{nat_tests}
 use Rattle.std.proofs.lemmas.Slice.Eq.{bytes_eq-Decides}
-use Rattle.a429_word.proofs.Lists.{false_unless}
+use Rattle.a429_word.proofs.Lists.{false_unless, all_push}
 use Rattle.a429_cert.specs.declared.due.DueGroup.{DueGroup}
 use Rattle.a429_cert.specs.Spelling.{Heading, Listing, Bounding, when, says_more, group_text, output_text, bound_text, FitsHeading, FitsListing, FitsBounding}
 use Rattle.a429_cert.specs.Reading.{output_line}
@@ -103,10 +103,6 @@ get_or_at : (xs : List (List ℕ)) (y : List ℕ) (ys : List (List ℕ)) (n : �
 get_or_at [] y ys n e = rw (← e) refl
 get_or_at (x ∷ xs) y ys n e = rw (← e) (get_or_at xs y ys (length xs) refl)
 
-all_push : (version : ℕ) (xs : List Listing) (y : Listing) → AllByRecursion (FitsListing version) xs → FitsListing version y → AllByRecursion (FitsListing version) (xs ++ y ∷ [])
-all_push version [] y h p = (p, tt)
-all_push version (x ∷ xs) y h p = (h.0, all_push version xs y h.1 p)
-
 pub outputs_pass : (version : ℕ) (g : DueGroup) (buses number : ℕ) (lines rest : List (List ℕ)) (earlier todo : List Listing) → AllByRecursion (FitsListing version) earlier → AllByRecursion (FitsListing version) todo → EachHolds version g buses earlier todo
     → lines ≡ map output_text earlier ++ (map output_text todo ++ rest)
     → first_no number (output_faults version g buses lines (length earlier) (length todo)) ≡ None
@@ -118,7 +114,7 @@ outputs_pass version g buses number lines rest earlier (l ∷ ls) fits-e fits-t 
     let none : output_fault version g buses (filter_map (output_line version) (take (length earlier) lines)) (line_at lines (length earlier)) ≡ None = rw (listed, at-line) (listing_passes version g buses earlier l fits-t.0 h.0) in
     let next : length (earlier ++ l ∷ []) ≡ length earlier + 1 = length-append earlier (l ∷ []) in
     let regrouped : lines ≡ map output_text (earlier ++ l ∷ []) ++ (map output_text ls ++ rest) = e ∙ rw (map-append, append_assoc) refl in
-    rw (none, ← next) (outputs_pass version g buses (number + 1) lines rest (earlier ++ l ∷ []) ls (all_push version earlier l fits-e fits-t.0) fits-t.1 h.1 regrouped)
+    rw (none, ← next) (outputs_pass version g buses (number + 1) lines rest (earlier ++ l ∷ []) ls (all_push (FitsListing version) earlier l fits-e fits-t.0) fits-t.1 h.1 regrouped)
 
 -- ---- from pairs to each listing beside the ones before it
 

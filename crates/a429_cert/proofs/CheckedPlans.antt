@@ -8,7 +8,7 @@ use Rattle.std.proofs.lemmas.Bool.Decides.{nat_tests}
 use Rattle.std.proofs.lemmas.Slice.Eq.{bytes_eq-Decides}
 use Rattle.std.proofs.lemmas.List.{length-append}
 use Rattle.std.proofs.Math.Nat.{mul_assoc, mul-add-mod_self_left}
-use Rattle.a429_word.proofs.Lists.{all_push}
+use Rattle.a429_word.proofs.Lists.{all_push, not_false}
 use Rattle.a429_cert.specs.declared.verdicts.Reason.{Reason}
 use Rattle.a429_cert.specs.declared.due.DueTable.{DueTable}
 use Rattle.a429_cert.specs.declared.due.DueGroup.{DueGroup}
@@ -42,10 +42,6 @@ formed (Some x) f e = (x, refl, e)
 fine : (b : Bool) (r : Reason) (rs : List (Bool × Reason)) → first_reason ((b, r) ∷ rs) ≡ None → (b ≡ false) × (first_reason rs ≡ None)
 fine true r rs e = absurd cc
 fine false r rs e = (refl, e)
-
-not_false : (b : Bool) → not b ≡ false → b ≡ true
-not_false true e = refl
-not_false false e = absurd cc
 
 neither : (a b : Bool) → (a || b) ≡ false → (a ≡ false) × (b ≡ false)
 neither true b e = absurd cc

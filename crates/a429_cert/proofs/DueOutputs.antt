@@ -1,5 +1,5 @@
 -- The outputs of a planned group are those that are due for it.
-use Rattle.std.proofs.Common.{◌≡◌, ◌≢◌, ℕ, zero, suc, ◌/◌, ◌^◌, ◌<◌, ◌≤◌, max, Bool, true, false, List, [], ◌∷◌, length, get_or, map, Option, Some, None, refl, sym, ap, subst, ◌∙◌, arith, inl, inr}
+use Rattle.std.proofs.Common.{◌≡◌, ◌≢◌, ℕ, zero, suc, ◌/◌, ◌^◌, ◌<◌, ◌≤◌, max, Bool, true, false, List, [], ◌∷◌, length, get_or, map, Option, Some, None, refl, sym, ap, ◌∙◌, arith, inl, inr}
 use Rattle.std.specs.Prelude.{slice_get, option_map, option_and_then, sum}
 use Rattle.std.specs.List.{AllZip, find, fold, sum_by}
 use Rattle.std.specs.Option.{option_map_or}
@@ -7,7 +7,6 @@ use Rattle.std.specs.Str.{bytes_eq}
 use Rattle.std.proofs.Math.Nat.{pow-le-pow_right}
 use Rattle.std.proofs.lemmas.Bool.{cases_lt}
 use Rattle.std.proofs.lemmas.List.Folds.{fold-map}
-use Rattle.std.proofs.lemmas.List.FromFn.{length-map-range_with_len}
 use Rattle.std.proofs.lemmas.List.Sums.{sum-map}
 use Rattle.std.proofs.lemmas.Option.{slice_get-get_or}
 use Rattle.std.proofs.lemmas.Simd.{map-map}
@@ -18,7 +17,7 @@ use Rattle.a429_equipment.specs.declared.rows.OutputRow.{OutputRow}
 use Rattle.a429_equipment.specs.declared.rows.SourceRow.{SourceRow}
 use Rattle.a429_equipment.specs.Sound.{HaveOwn, HaveOwnSources}
 use Rattle.a429_grid.specs.Grid.{IsGridPeriod}
-use Rattle.a429_slots.specs.Tables.{Placed, SlotTable, placed_at, outputs_of}
+use Rattle.a429_slots.specs.Tables.{Placed, SlotTable, placed_at, outputs_of, unplaced}
 use Rattle.a429_slots.specs.Planned.{IsServed}
 use Rattle.a429_pack.specs.Demanded.{demand_of}
 use Rattle.a429_pack.specs.Demands.{greatest}
@@ -29,8 +28,7 @@ use Rattle.a429_cert.specs.Faults.{frame, demand, output_of, period_of, hold_of}
 use Rattle.a429_cert.specs.PlanText.{source_name}
 use Rattle.a429_cert.proofs.Again.{same_again}
 use Rattle.a429_cert.proofs.CheckedPlans.{same_bytes}
-use Rattle.a429_cert.proofs.Gathered.{blank}
-use Rattle.a429_slots.proofs.Cells.{output_at}
+use Rattle.a429_slots.proofs.Rows.{blank}
 
 abbrev pub row_at : List OutputRow → ℕ → OutputRow
 row_at rows i = get_or rows i blank
@@ -99,9 +97,6 @@ demand_is g ks some same =
 
 -- ---- the outputs by their numbers
 
-pub length-outputs : (t : SlotTable) → length (outputs_of t) ≡ length t.demands
-length-outputs t = length-map-range_with_len (placed_at t) 0 (length t.demands)
-
 -- the outputs of a planned group, and those that are due for it
 pub record AreSame (e : TableRecord) (rate : ℕ) (rows : List OutputRow) (t : SlotTable) (g : DueGroup) : Type 0 where
   pub served : AllZip (IsServed rate) rows (outputs_of t)
@@ -109,14 +104,12 @@ pub record AreSame (e : TableRecord) (rate : ℕ) (rows : List OutputRow) (t : S
   pub own : HaveOwnSources rows
   pub names : HaveOwn (λ s. s.name) e.sources
 
-pub counts : (e : TableRecord) (rate : ℕ) (rows : List OutputRow) (t : SlotTable) (g : DueGroup) → AreSame e rate rows t g → (length t.demands ≡ length rows) × (length g.outputs.items ≡ length rows)
+pub counts : (e : TableRecord) (rate : ℕ) (rows : List OutputRow) (t : SlotTable) (g : DueGroup) → AreSame e rate rows t g → (length (outputs_of t) ≡ length rows) × (length g.outputs.items ≡ length rows)
 counts e rate rows t g s =
-    (sym (length-outputs t) ∙ AllZip-long (IsServed rate) rows (outputs_of t) s.served, AllZip-long (IsDueOutput e rate) rows g.outputs.items s.due)
+    (AllZip-long (IsServed rate) rows (outputs_of t) s.served, AllZip-long (IsDueOutput e rate) rows g.outputs.items s.due)
 
 served_at : (e : TableRecord) (rate : ℕ) (rows : List OutputRow) (t : SlotTable) (g : DueGroup) → AreSame e rate rows t g → (i : ℕ) → i < length rows → IsServed rate (row_at rows i) (placed_at t i)
-served_at e rate rows t g s i below =
-    let d : Placed = placed_at t 0 in
-    subst (IsServed rate (row_at rows i)) (output_at t i d (omega (arith, (counts e rate rows t g s).0))) (zipped_at (IsServed rate) rows (outputs_of t) i blank d below s.served)
+served_at e rate rows t g s i below = zipped_at (IsServed rate) rows (outputs_of t) i blank unplaced below s.served
 
 pub due_here : (e : TableRecord) (rate : ℕ) (rows : List OutputRow) (t : SlotTable) (g : DueGroup) → AreSame e rate rows t g → (i : ℕ) → i < length rows → IsDueOutput e rate (row_at rows i) (due_at g i)
 due_here e rate rows t g s i below = zipped_at (IsDueOutput e rate) rows g.outputs.items i blank (record { source = []; period = 0; hold = None }) below s.due

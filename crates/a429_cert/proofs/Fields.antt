@@ -3,7 +3,7 @@ use Rattle.std.proofs.Common.{◌≡◌, ℕ, ◌+◌, ◌^◌, ◌<◌, ◌≤�
 use Rattle.std.specs.List.{position_or_len, list_all, AllByRecursion}
 use Rattle.std.specs.Char.{is_ascii_digit}
 use Rattle.std.specs.Fmt.{decimal}
-use Rattle.std.proofs.lemmas.Bool.{and_parts, le-leb, eqb-true, cases_lt}
+use Rattle.std.proofs.lemmas.Bool.{and_parts, le-leb, lt-ltb, eqb-true, cases_lt}
 use Rattle.std.proofs.lemmas.Bool.Decides.{nat_tests, Decides-eqb}
 use Rattle.std.proofs.lemmas.List.{take_at, drop_at, take-append-drop, length-take}
 use Rattle.std.proofs.lemmas.Slice.Eq.{starts_is}
@@ -12,8 +12,9 @@ use Rattle.std.proofs.lemmas.Fmt.{decimal-digits_value, digits_decimal, digits_v
 use Rattle.std.proofs.lemmas.List.Sums.{prefix_len-le-length}
 use Rattle.std.proofs.lemmas.Option.{some_pair_parts}
 use Rattle.a429_cert.specs.Spelling.{when, is_break, IsWord, IsShort}
-use Rattle.a429_cert.specs.Reading.{◌>>=◌, after, word, is_numeral, value_of, number, word_after, number_after}
-use Rattle.a429_cert.proofs.Words.{digits_model, numeral_digits, numeral_short, numeral_fits}
+use Rattle.a429_word.specs.Decimal.{is_numeral, decimal_number}
+use Rattle.a429_word.proofs.Numerals.{digits_model, numeral_digits, numeral_short, numeral_fits}
+use Rattle.a429_cert.specs.Reading.{◌>>=◌, after, word, number, word_after, number_after}
 
 -- the value of a step that gave one
 pub bind_some : {A B P : Type 0} (r : Option A) (f : A → Option B) (y : B) → (r >>= f) ≡ Some y → ((x : A) → r ≡ Some x → f x ≡ Some y → P) → P
@@ -91,8 +92,8 @@ leading w h zero-first =
     let o : (leb (length w) 1 || not (eqb (get_or w 0 0) 48)) ≡ true = (and_parts _ _ (and_parts _ _ h).0).1 in
     short_or_not _ _ o zero-first
 
-pub value_takes : (w : List ℕ) (n : ℕ) → IsWord w → value_of w ≡ Some n → (w ≡ decimal n) × IsShort n
-unfolding value_of
+pub value_takes : (w : List ℕ) (n : ℕ) → IsWord w → decimal_number w ≡ Some n → (w ≡ decimal n) × IsShort n
+unfolding decimal_number
 value_takes w n h e =
     let p = when_some _ _ _ e in
     let short = numeral_short w p.0 in
@@ -106,16 +107,16 @@ decimal_leading n h =
       | inr none ↦ let short = length-decimal-le 1 n (lit< tt) (omega arith) (omega arith) in grind (arith, nat_tests, short)
     ]
 
-and_three : (a b c : Bool) → a ≡ true → b ≡ true → c ≡ true → (a && b && c) ≡ true
-and_three a b c p q r = cc
+and_four : (a b c d : Bool) → a ≡ true → b ≡ true → c ≡ true → d ≡ true → (a && b && c && d) ≡ true
+and_four a b c d p q r s = cc
 
 pub decimal_numeral : (n : ℕ) → n < 10 ^ 10 → is_numeral (decimal n) ≡ true
 unfolding is_numeral
 decimal_numeral n h =
-    and_three _ _ _ (le-leb _ _ (length-decimal-le 10 n (lit< tt) h (omega arith))) (decimal_leading n h) (digits_decimal digits_model n (omega arith))
+    and_four _ _ _ _ (lt-ltb _ _ (decimal_nonempty n (omega arith))) (le-leb _ _ (length-decimal-le 10 n (lit< tt) h (omega arith))) (decimal_leading n h) (digits_decimal digits_model n (omega arith))
 
-pub value_again : (n : ℕ) → n < 10 ^ 10 → value_of (decimal n) ≡ Some n
-unfolding value_of
+pub value_again : (n : ℕ) → n < 10 ^ 10 → decimal_number (decimal n) ≡ Some n
+unfolding decimal_number
 value_again n h = rw (decimal_numeral n h, digits_value-decimal digits_model n (omega arith)) refl
 
 not_break : (c : ℕ) → is_ascii_digit c ≡ true → is_break c ≡ false
@@ -131,7 +132,7 @@ decimal_word n h = record { some_byte = decimal_nonempty n (omega arith); unbrok
 pub number_takes : (bytes : List ℕ) (n : ℕ) (rest : List ℕ) → number bytes ≡ Some (n, rest) → (bytes ≡ decimal n ++ rest) × IsShort n
 unfolding number
 number_takes bytes n rest e =
-    bind_some (word bytes) _ _ e (λ w word-is e1. bind_some (value_of w.0) _ _ e1 (λ m value-is e2.
+    bind_some (word bytes) _ _ e (λ w word-is e1. bind_some (decimal_number w.0) _ _ e1 (λ m value-is e2.
     let p = some_pair_parts m n w.1 rest e2 in
     let taken = word_takes bytes w.0 w.1 word-is in
     let spelled = value_takes w.0 m taken.1 value-is in

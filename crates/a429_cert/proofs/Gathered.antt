@@ -1,6 +1,6 @@
 -- What is due of a table, gathered row by row.
 use Rattle.std.proofs.Common.{◌≡◌, ℕ, ◌+◌, ◌∷◌, [], ◌++◌, List, take, map, ap, ◌∙◌, sym, subst}
-use Rattle.std.specs.Prelude.{Some, None, slice_get, option_map}
+use Rattle.std.specs.Prelude.{Some, slice_get, option_map}
 use Rattle.std.specs.List.{AllZip, AllByRecursion}
 use Rattle.std.proofs.lemmas.List.{map-append}
 use Rattle.a429_word.proofs.Lists.{take_next}
@@ -15,10 +15,6 @@ use Rattle.a429_cert.specs.declared.judging.NoVerdict.TheVariants as judge
 use Rattle.a429_cert.specs.Due.{IsDueOutput, IsDueGroup, AreFit}
 use Rattle.a429_cert.specs.Judged.{IsNoVerdict, IsGroupUnfit}
 use Rattle.a429_slots.proofs.Planning.{rated_at}
-
--- the row that a read past the end gives
-abbrev pub blank : OutputRow
-blank = record { source = 0; min_us = 0; max_us = 0; hold = None }
 
 -- ---- lists element by element
 

@@ -15,7 +15,6 @@ pub mod Arranged
 pub mod DueOutputs
 pub mod OwnGroups
 pub mod OwnText
-pub mod OneText
 pub mod PlanLines
 pub mod Gathered
 pub mod OnGrid

@@ -7,8 +7,8 @@ use Rattle.std.specs.List.Sorted.{IsPermutation}
 use Rattle.std.proofs.Math.Nat.{pow-le-pow_right, mul-le-mul}
 use Rattle.std.proofs.lemmas.Bool.{and_parts, leb-true}
 use Rattle.std.proofs.lemmas.Bool.Decides.{nat_tests}
-use Rattle.std.proofs.lemmas.List.{length-map, get_or-map, get_or-take}
-use Rattle.std.proofs.lemmas.List.FromFn.{get_or-map-range_with_len, length-range_with_len}
+use Rattle.std.proofs.lemmas.List.{length-map, get_or-map}
+use Rattle.std.proofs.lemmas.List.FromFn.{fill_by_all, length-range_with_len}
 use Rattle.std.proofs.lemmas.List.Sorted.{length_permutation, sum_by-IsPermutation}
 use Rattle.std.proofs.lemmas.List.Elements.{All-from_recursion}
 use Rattle.std.proofs.lemmas.List.Sums.{sum-map, sum_by_more_le}
@@ -24,7 +24,7 @@ use Rattle.a429_equipment.specs.NameForm.{is_name, is_name_byte}
 use Rattle.a429_pack.specs.Demanded.{demand_of, AreFewestBuses, IsBusCount}
 use Rattle.a429_pack.specs.Demands.{greatest, exponent_of}
 use Rattle.a429_pack.specs.Sums.{start_of}
-use Rattle.a429_slots.specs.Tables.{Placed, SlotTable, placed_at, outputs_of, order_of, frame_of, buses_of, cell_at}
+use Rattle.a429_slots.specs.Tables.{Placed, SlotTable, placed_at, outputs_of, order_of, demands_of, share_of, frame_of, buses_of, cell_at, unplaced}
 use Rattle.a429_slots.specs.Kept.{StandsJustAt}
 use Rattle.a429_slots.specs.Planned.{HasPeriod, IsServed, IsPlannedFor, asked_by, asked_of}
 use Rattle.a429_cert.specs.declared.due.DueGroup.{DueGroup}
@@ -36,10 +36,10 @@ use Rattle.a429_cert.specs.PlanText.{source_name, listing_of, stated_of}
 use Rattle.a429_cert.proofs.Again.{FitsStated, StatesBound}
 use Rattle.a429_cert.proofs.Answered.{Matches}
 use Rattle.a429_cert.proofs.Arranged.{order_below, order_once, each_pair, each_placed}
-use Rattle.a429_cert.proofs.DueOutputs.{AreSame, exponents_of, grid_same, length-outputs, counts, periods_same, frame_is, demand_is, due_here, source_there, period_due, row_at, row_hold, hold_due, names_differ}
-use Rattle.a429_cert.proofs.Gathered.{blank}
+use Rattle.a429_cert.proofs.DueOutputs.{AreSame, exponents_of, grid_same, counts, periods_same, frame_is, demand_is, due_here, source_there, period_due, row_at, row_hold, hold_due, names_differ}
 use Rattle.a429_cert.proofs.Parts.{part_said}
 use Rattle.a429_pack.proofs.Entries.{up_to_greatest}
+use Rattle.a429_slots.proofs.Rows.{blank}
 
 -- the fewest buses of a schedule carry the demand, and one fewer do not
 abbrev pub FewestCarry : Type 0
@@ -85,8 +85,8 @@ name_is_word s h =
 asked_exponents : (sources : List SourceRow) (t : SlotTable) → map exponent_of (asked_of sources t) ≡ exponents_of t
 asked_exponents sources t = map-map exponent_of (asked_by sources) (outputs_of t)
 
-length-exponents : (t : SlotTable) → length (exponents_of t) ≡ length t.demands
-length-exponents t = length-map (outputs_of t) (λ p. p.place.period) ∙ length-outputs t
+length-exponents : (t : SlotTable) → length (exponents_of t) ≡ length (outputs_of t)
+length-exponents t = length-map (outputs_of t) (λ p. p.place.period)
 
 pub frame_greatest : (e : TableRecord) (rate : ℕ) (rows : List OutputRow) (t : SlotTable) → IsPlannedFor rate e.sources rows t → frame_of t ≡ 2 ^ greatest (exponents_of t)
 frame_greatest e rate rows t p = ap (λ (k : ℕ). 2 ^ k) (p.layout.frame ∙ ap greatest (asked_exponents e.sources t))
@@ -102,19 +102,16 @@ same_exponents rate (r ∷ rows) (k ∷ ks) (o ∷ os) fit served =
     let one : k ≡ o.place.period = same_power k o.place.period (grid_same r.min_us r.max_us rate (2 ^ k) (2 ^ o.place.period) fit.0 served.0.1) in
     ap₂ (λ x xs. x ∷ xs) one (same_exponents rate rows ks os fit.1 served.1)
 
-pub carried : (e : TableRecord) (rate : ℕ) (rows : List OutputRow) (t : SlotTable) → FewestCarry → IsPlannedFor rate e.sources rows t → 1 ≤ length t.demands → IsBusCount (exponents_of t) (buses_of t)
+pub carried : (e : TableRecord) (rate : ℕ) (rows : List OutputRow) (t : SlotTable) → FewestCarry → IsPlannedFor rate e.sources rows t → 1 ≤ length (outputs_of t) → IsBusCount (exponents_of t) (buses_of t)
 carried e rate rows t law p some =
     law (exponents_of t) (buses_of t) (omega (arith, length-exponents t))
     (subst (λ (ks : List ℕ). AreFewestBuses ks (buses_of t)) (same_exponents rate rows p.fewest.exponents (outputs_of t) p.fewest.fit p.served) p.fewest.fewest)
 
-exponent_at : (t : SlotTable) (o : ℕ) → o < length t.demands → get_or (exponents_of t) o 0 ≡ (placed_at t o).place.period
-exponent_at t o below =
-    let d : Placed = placed_at t 0 in
-    get_or-map (λ p. p.place.period) (outputs_of t) o d 0 (omega (arith, length-outputs t))
-    ∙ ap (λ (p : Placed). p.place.period) (get_or-map-range_with_len (placed_at t) 0 (length t.demands) o o d below (omega arith))
+exponent_at : (t : SlotTable) (o : ℕ) → o < length (outputs_of t) → get_or (exponents_of t) o 0 ≡ (placed_at t o).place.period
+exponent_at t o below = get_or-map (λ p. p.place.period) (outputs_of t) o unplaced 0 below
 
 -- a period is at most a frame
-period_within : (e : TableRecord) (rate : ℕ) (rows : List OutputRow) (t : SlotTable) → IsPlannedFor rate e.sources rows t → (o : ℕ) → o < length t.demands → 2 ^ (placed_at t o).place.period ≤ frame_of t
+period_within : (e : TableRecord) (rate : ℕ) (rows : List OutputRow) (t : SlotTable) → IsPlannedFor rate e.sources rows t → (o : ℕ) → o < length (outputs_of t) → 2 ^ (placed_at t o).place.period ≤ frame_of t
 period_within e rate rows t p o below =
     let one : 0 < 2 = omega arith in
     let most = up_to_greatest (exponents_of t) o (omega (arith, length-exponents t)) in
@@ -124,49 +121,47 @@ period_within e rate rows t p o below =
 
 -- ---- the order and the demands
 
-pub order_moved : (e : TableRecord) (rate : ℕ) (rows : List OutputRow) (t : SlotTable) → IsPlannedFor rate e.sources rows t → IsPermutation (range_with_len 0 (length t.demands)) (order_of t)
+pub order_moved : (e : TableRecord) (rate : ℕ) (rows : List OutputRow) (t : SlotTable) → IsPlannedFor rate e.sources rows t → IsPermutation (range_with_len 0 (length (outputs_of t))) (order_of t)
 order_moved e rate rows t p =
-    let many : length (asked_of e.sources t) ≡ length t.demands = length-map (outputs_of t) (asked_by e.sources) ∙ length-outputs t in
+    let many : length (asked_of e.sources t) ≡ length (outputs_of t) = length-map (outputs_of t) (asked_by e.sources) in
     subst (λ (n : ℕ). IsPermutation (range_with_len 0 n) (order_of t)) many p.layout.order.all
 
-length-order : (e : TableRecord) (rate : ℕ) (rows : List OutputRow) (t : SlotTable) → IsPlannedFor rate e.sources rows t → length (order_of t) ≡ length t.demands
-length-order e rate rows t p = length_permutation (range_with_len 0 (length t.demands)) (order_of t) (order_moved e rate rows t p) ∙ length-range_with_len 0 (length t.demands)
+length-order : (e : TableRecord) (rate : ℕ) (rows : List OutputRow) (t : SlotTable) → IsPlannedFor rate e.sources rows t → length (order_of t) ≡ length (outputs_of t)
+length-order e rate rows t p = length_permutation (range_with_len 0 (length (outputs_of t))) (order_of t) (order_moved e rate rows t p) ∙ length-range_with_len 0 (length (outputs_of t))
 
--- how many cells of a frame an output fills
-abbrev share : SlotTable → ℕ → ℕ
-share t o = frame_of t / 2 ^ get_or t.periods o 0
-
-pub total_is : (e : TableRecord) (rate : ℕ) (rows : List OutputRow) (t : SlotTable) → IsPlannedFor rate e.sources rows t → sum t.demands ≡ demand_of (exponents_of t)
+pub total_is : (e : TableRecord) (rate : ℕ) (rows : List OutputRow) (t : SlotTable) → IsPlannedFor rate e.sources rows t → sum (demands_of t) ≡ demand_of (exponents_of t)
 total_is e rate rows t p =
-    let n = length t.demands in
-    let placed : sum t.demands ≡ sum_by (share t) (order_of t) = ap sum p.layout.demands ∙ sum-map (share t) (order_of t) in
-    let numbered : sum_by (share t) (order_of t) ≡ sum_by (share t) (range_with_len 0 n) = sum_by-IsPermutation (share t) (range_with_len 0 n) (order_of t) (order_moved e rate rows t p) in
-    let shares : map (λ k. frame_of t / 2 ^ k) (exponents_of t) ≡ map (share t) (range_with_len 0 n) =
-    map-map (λ k. frame_of t / 2 ^ k) (λ p. p.place.period) (outputs_of t) ∙ map-map (λ p. frame_of t / 2 ^ p.place.period) (placed_at t) (range_with_len 0 n) in
-    placed ∙ numbered ∙ sym (sum-map (share t) (range_with_len 0 n)) ∙ ap sum (sym shares) ∙ ap (λ (h : ℕ). sum (map (λ k. h / 2 ^ k) (exponents_of t))) (frame_greatest e rate rows t p)
+    let n = length (outputs_of t) in
+    let numbered : sum_by (share_of t) (order_of t) ≡ sum_by (share_of t) (range_with_len 0 n) = sum_by-IsPermutation (share_of t) (range_with_len 0 n) (order_of t) (order_moved e rate rows t p) in
+    let shares : map (λ k. frame_of t / 2 ^ k) (exponents_of t) ≡ map (share_of t) (range_with_len 0 n) =
+    map-map (λ k. frame_of t / 2 ^ k) (λ p. p.place.period) (outputs_of t)
+    ∙ fill_by_all (share_of t) (map (λ p. frame_of t / 2 ^ p.place.period) (outputs_of t)) n 0 (length-map (outputs_of t) (λ p. frame_of t / 2 ^ p.place.period))
+    (λ k below. get_or-map (λ p. frame_of t / 2 ^ p.place.period) (outputs_of t) k unplaced 0 below) in
+    sum-map (share_of t) (order_of t) ∙ numbered ∙ sym (sum-map (share_of t) (range_with_len 0 n)) ∙ ap sum (sym shares)
+    ∙ ap (λ (h : ℕ). sum (map (λ k. h / 2 ^ k) (exponents_of t))) (frame_greatest e rate rows t p)
 
 -- ---- the buses
 
 -- the output at a place of the layout begins within the demand
-begins_within : (e : TableRecord) (rate : ℕ) (rows : List OutputRow) (t : SlotTable) → IsPlannedFor rate e.sources rows t → (k : ℕ) → k < length t.demands → get_or (order_of t) k 0 < length t.demands
-    → start_of t.demands k < sum t.demands
+begins_within : (e : TableRecord) (rate : ℕ) (rows : List OutputRow) (t : SlotTable) → IsPlannedFor rate e.sources rows t → (k : ℕ) → k < length (order_of t) → get_or (order_of t) k 0 < length (outputs_of t)
+    → start_of (demands_of t) k < sum (demands_of t)
 begins_within e rate rows t p k below known =
     let o : ℕ = get_or (order_of t) k 0 in
-    let positive : 1 ≤ share t o = le-div 1 (frame_of t) (2 ^ get_or t.periods o 0) (pow_pos (get_or t.periods o 0)) (omega (arith, period_within e rate rows t p o known)) in
-    let fills : get_or t.demands k 0 ≡ share t o = ap (λ (ds : List ℕ). get_or ds k 0) p.layout.demands ∙ get_or-map (share t) (order_of t) k 0 0 (omega (arith, length-order e rate rows t p)) in
-    let more = sum_by_more_le (λ x. x) t.demands k 0 below in
+    let e' : ℕ = (placed_at t o).place.period in
+    let positive : 1 ≤ share_of t o = le-div 1 (frame_of t) (2 ^ e') (pow_pos e') (omega (arith, period_within e rate rows t p o known)) in
+    let fills : get_or (demands_of t) k 0 ≡ share_of t o = get_or-map (share_of t) (order_of t) k 0 0 below in
+    let more = sum_by_more_le (λ x. x) (demands_of t) k 0 (omega (arith, below, length-map (order_of t) (share_of t))) in
     omega (arith, more, positive, fills)
 
-bus_within : (e : TableRecord) (rate : ℕ) (rows : List OutputRow) (t : SlotTable) → FewestCarry → IsPlannedFor rate e.sources rows t → 1 ≤ length t.demands → (k : ℕ) → k < length t.demands → get_or (order_of t) k 0 < length t.demands
+bus_within : (e : TableRecord) (rate : ℕ) (rows : List OutputRow) (t : SlotTable) → FewestCarry → IsPlannedFor rate e.sources rows t → 1 ≤ length (outputs_of t) → (k : ℕ) → k < length (order_of t) → get_or (order_of t) k 0 < length (outputs_of t)
     → (placed_at t (get_or (order_of t) k 0)).place.bus < buses_of t
 bus_within e rate rows t law p some k below known =
-    let at : get_or (order_of t) k 0 ≡ get_or t.order k 0 = get_or-take (length t.demands) t.order k 0 below in
-    let begins : get_or t.on_bus (get_or (order_of t) k 0) 0 ≡ start_of t.demands k / frame_of t = ap (λ (o : ℕ). get_or t.on_bus o 0) at ∙ (p.layout.places k below).bus in
+    let begins = (p.layout.places k (omega (arith, below, length-order e rate rows t p))).bus in
     let within = begins_within e rate rows t p k below known in
     let most : demand_of (exponents_of t) ≤ buses_of t * 2 ^ greatest (exponents_of t) = (carried e rate rows t law p some).within in
     let framed : buses_of t * 2 ^ greatest (exponents_of t) ≡ buses_of t * frame_of t = ap (λ (h : ℕ). buses_of t * h) (sym (frame_greatest e rate rows t p)) in
-    let less : start_of t.demands k < buses_of t * frame_of t = omega (arith, within, most, framed, total_is e rate rows t p) in
-    let bus = div_below (start_of t.demands k) (frame_of t) (buses_of t) (pow_pos t.frame) less in
+    let less : start_of (demands_of t) k < buses_of t * frame_of t = omega (arith, within, most, framed, total_is e rate rows t p) in
+    let bus = div_below (start_of (demands_of t) k) (frame_of t) (buses_of t) (pow_pos t.frame) less in
     omega (arith, bus, begins)
 
 -- ---- the listings
@@ -181,28 +176,28 @@ apart_cells version t i j sources at-i at-j other bus slot fills-i fills-j =
 own_apart : (e : TableRecord) (row : GroupRow) (rows : List OutputRow) (t : SlotTable) (g : DueGroup) → IsOwnGroup e row rows t g → EachPair AreApart (stated_of e.version e.sources row t).outputs
 own_apart e row rows t g o =
     let moved = order_moved e row.rate rows t o.planned in
-    each_pair AreApart (listing_of e.version e.sources t) (length t.demands) (order_of t) (order_below (length t.demands) (order_of t) moved) (order_once (length t.demands) (order_of t) moved)
+    each_pair AreApart (listing_of e.version e.sources t) (length (outputs_of t)) (order_of t) (order_below (length (outputs_of t)) (order_of t) moved) (order_once (length (outputs_of t)) (order_of t) moved)
     (λ i j low-i low-j other.
-    apart_cells e.version t i j e.sources (o.planned.periodic i (omega (arith, length-outputs t))) (o.planned.periodic j (omega (arith, length-outputs t))) other)
+    apart_cells e.version t i j e.sources (o.planned.periodic i low-i) (o.planned.periodic j low-j) other)
 
 own_once : (e : TableRecord) (row : GroupRow) (rows : List OutputRow) (t : SlotTable) (g : DueGroup) → IsOwnGroup e row rows t g → EachPair (λ k l. k.source ≢ l.source) (stated_of e.version e.sources row t).outputs
 own_once e row rows t g o =
     let moved = order_moved e row.rate rows t o.planned in
     let s = same_outputs e row rows t g o in
     let many = (counts e row.rate rows t g s).0 in
-    each_pair (λ k l. k.source ≢ l.source) (listing_of e.version e.sources t) (length t.demands) (order_of t) (order_below (length t.demands) (order_of t) moved) (order_once (length t.demands) (order_of t) moved)
+    each_pair (λ k l. k.source ≢ l.source) (listing_of e.version e.sources t) (length (outputs_of t)) (order_of t) (order_below (length (outputs_of t)) (order_of t) moved) (order_once (length (outputs_of t)) (order_of t) moved)
     (λ i j low-i low-j other. names_differ e row.rate rows t g s i j (omega arith) (omega arith) other)
 
 -- the number at a place of the layout is that of an output
-ordered_below : (e : TableRecord) (rate : ℕ) (rows : List OutputRow) (t : SlotTable) → IsPlannedFor rate e.sources rows t → (k : ℕ) → k < length (order_of t) → get_or (order_of t) k 0 < length t.demands
+ordered_below : (e : TableRecord) (rate : ℕ) (rows : List OutputRow) (t : SlotTable) → IsPlannedFor rate e.sources rows t → (k : ℕ) → k < length (order_of t) → get_or (order_of t) k 0 < length (outputs_of t)
 ordered_below e rate rows t p k below =
-    All-from_recursion (λ o. o < length t.demands) (order_of t) (order_below (length t.demands) (order_of t) (order_moved e rate rows t p)) k 0 below
+    All-from_recursion (λ o. o < length (outputs_of t)) (order_of t) (order_below (length (outputs_of t)) (order_of t) (order_moved e rate rows t p)) k 0 below
 
 own_bus : (e : TableRecord) (row : GroupRow) (rows : List OutputRow) (t : SlotTable) (g : DueGroup) → FewestCarry → IsOwnGroup e row rows t g
     → (k : ℕ) → k < length (order_of t) → (listing_of e.version e.sources t (get_or (order_of t) k 0)).bus < buses_of t
 own_bus e row rows t g law o k below =
     let many = (counts e row.rate rows t g (same_outputs e row rows t g o)).0 in
-    bus_within e row.rate rows t law o.planned (omega (arith, many, o.some)) k (omega (arith, length-order e row.rate rows t o.planned)) (ordered_below e row.rate rows t o.planned k below)
+    bus_within e row.rate rows t law o.planned (omega (arith, many, o.some)) k below (ordered_below e row.rate rows t o.planned k below)
 
 own_placed : (e : TableRecord) (row : GroupRow) (rows : List OutputRow) (t : SlotTable) (g : DueGroup) → FewestCarry → IsOwnGroup e row rows t g → AllByRecursion (IsPlacedAsDue e.version g (buses_of t)) (stated_of e.version e.sources row t).outputs
 own_placed e row rows t g law o =
@@ -210,12 +205,12 @@ own_placed e row rows t g law o =
     let many = (counts e row.rate rows t g s).0 in
     each_placed (IsPlacedAsDue e.version g (buses_of t)) (listing_of e.version e.sources t) (order_of t) (λ k below.
     let n : ℕ = get_or (order_of t) k 0 in
-    let known : n < length t.demands = ordered_below e row.rate rows t o.planned k below in
+    let known : n < length (outputs_of t) = ordered_below e row.rate rows t o.planned k below in
     record {
       listed = period_due e row.rate rows t g s n (omega arith);
       hold = ap (λ (hold : Option ℕ). said_in e.version hold) (sym (hold_due e row.rate rows t g s n (omega arith)));
       bus = own_bus e row rows t g law o k below;
-      offset = (o.planned.periodic n (omega (arith, length-outputs t))).within;
+      offset = (o.planned.periodic n known).within;
     })
 
 -- ---- numbers have few digits
@@ -234,7 +229,7 @@ own_listings e row rows t g law o =
     let many = (counts e row.rate rows t g s).0 in
     each_placed (FitsListing e.version) (listing_of e.version e.sources t) (order_of t) (λ k below.
     let n : ℕ = get_or (order_of t) k 0 in
-    let known : n < length t.demands = ordered_below e row.rate rows t o.planned k below in
+    let known : n < length (outputs_of t) = ordered_below e row.rate rows t o.planned k below in
     let here = due_here e row.rate rows t g s n (omega arith) in
     let there = source_there e row.rate rows t g s n (omega arith) in
     let word : IsWord here.source.name = name_is_word here.source.name (all_at IsSourceRow e.sources (placed_at t n).source here.source o.words there).0 in
@@ -245,7 +240,7 @@ own_listings e row rows t g law o =
       source = subst IsWord named word;
       period = omega (arith, period, o.planned.few_slots);
       bus = omega (arith, own_bus e row rows t g law o k below, o.planned.few_buses);
-      offset = omega (arith, period, o.planned.few_slots, (o.planned.periodic n (omega (arith, length-outputs t))).within);
+      offset = omega (arith, period, o.planned.few_slots, (o.planned.periodic n known).within);
       hold = part_said IsShortLimit e.version (placed_at t n).limits.hold (subst IsShortLimit (sym (row_hold e row.rate rows t g s n (omega arith))) limit);
     })
 
@@ -259,7 +254,7 @@ own_bound : (e : TableRecord) (row : GroupRow) (rows : List OutputRow) (t : Slot
 own_bound e row rows t g law o =
     let s = same_outputs e row rows t g o in
     let many = (counts e row.rate rows t g s).0 in
-    let some : 1 ≤ length t.demands = omega (arith, many, o.some) in
+    let some : 1 ≤ length (outputs_of t) = omega (arith, many, o.some) in
     let ks = exponents_of t in
     let some-ks : 1 ≤ length ks = omega (arith, some, length-exponents t) in
     let periods = periods_same e row.rate rows (outputs_of t) g.outputs.items s.served s.due in
@@ -299,7 +294,7 @@ own_matches e row rows t g law o =
         name = sym o.named;
         rate = ap (λ (rate : ℕ). said_in e.version rate) (sym o.rated);
         greatest = bound.frame;
-        some_bus = some_bus (buses_of t) (frame_of t) (sum t.demands) bound.above bound.within;
+        some_bus = some_bus (buses_of t) (frame_of t) (sum (demands_of t)) bound.above bound.within;
         few_buses = o.planned.few_buses;
         count = omega (arith, length-map (order_of t) (listing_of e.version e.sources t), length-order e row.rate rows t o.planned, many.0, many.1);
         placed = own_placed e row rows t g law o;

@@ -9,8 +9,9 @@ use Rattle.std.proofs.lemmas.Fmt.{digits_decimal}
 use Rattle.std.proofs.lemmas.Option.{same_Some, some_pair_parts}
 use Rattle.std.proofs.lemmas.Slice.Eq.{bytes_eq-Decides}
 use Rattle.a429_cert.specs.Spelling.{says_more, said_in, when, rate_before, limit_text, hold_before, IsWord, IsShort, IsShortLimit, IsPart}
-use Rattle.a429_cert.specs.Reading.{◌>>=◌, after, word, number_after, value_of, limit_of, limit, said_rate, rate_part, said_hold, hold_part}
-use Rattle.a429_cert.proofs.Words.{digits_model}
+use Rattle.a429_cert.specs.Reading.{◌>>=◌, after, word, number_after, limit_of, limit, said_rate, rate_part, said_hold, hold_part}
+use Rattle.a429_word.specs.Decimal.{decimal_number}
+use Rattle.a429_word.proofs.Numerals.{digits_model}
 use Rattle.a429_cert.proofs.Fields.{bind_some, after_takes, after_again, EndsWord, word_takes, word_again, value_takes, value_again, decimal_word, number_after_takes, number_after_again}
 
 -- ---- what is said where a text says more
@@ -28,10 +29,10 @@ same_none : (w : List ℕ) → bytes_eq w (codes "none") ≡ true → w ≡ code
 same_none w h = search (rules, bytes_eq-Decides)
 
 limit_parts : (t : Bool) (w : List ℕ) (l : Option ℕ) → IsWord w → bytes_eq w (codes "none") ≡ t
-    → cond {A = Option (Option ℕ)} t (Some None) (value_of w >>= λ n. Some (Some n)) ≡ Some l → (w ≡ limit_text l) × IsShortLimit l
+    → cond {A = Option (Option ℕ)} t (Some None) (decimal_number w >>= λ n. Some (Some n)) ≡ Some l → (w ≡ limit_text l) × IsShortLimit l
 limit_parts true w l word e h = subst (λ (l : Option ℕ). (w ≡ limit_text l) × IsShortLimit l) (same_Some None l h) (same_none w e, tt)
 limit_parts false w l word e h =
-    bind_some (value_of w) _ _ h (λ n at-n h. subst (λ (l : Option ℕ). (w ≡ limit_text l) × IsShortLimit l) (same_Some (Some n) l h) (value_takes w n word at-n))
+    bind_some (decimal_number w) _ _ h (λ n at-n h. subst (λ (l : Option ℕ). (w ≡ limit_text l) × IsShortLimit l) (same_Some (Some n) l h) (value_takes w n word at-n))
 
 limit_of_takes : (w : List ℕ) (l : Option ℕ) → IsWord w → limit_of w ≡ Some l → (w ≡ limit_text l) × IsShortLimit l
 unfolding limit_of

@@ -1,9 +1,9 @@
 -- The lines that a plan's outputs are written with.
-use Rattle.std.proofs.Common.{◌≡◌, ℕ, zero, suc, ◌+◌, ◌<◌, ◌≤◌, List, [], ◌∷◌, ◌++◌, length, get_or, map, take, drop, Option, Some, refl, sym, ap, subst, ◌∙◌, arith, append_assoc}
+use Rattle.std.proofs.Common.{◌≡◌, ℕ, zero, suc, ◌+◌, ◌<◌, List, [], ◌∷◌, ◌++◌, length, get_or, map, take, drop, Option, Some, refl, sym, ap, subst, ◌∙◌, append_assoc}
 use Rattle.std.specs.Prelude.{slice_get, option_map}
 use Rattle.std.specs.List.{AllByRecursion, AllZip, flat_map, zip}
 use Rattle.std.specs.Option.{option_map_or}
-use Rattle.std.proofs.lemmas.List.{take_all, length-take, map-append, flat_map_more}
+use Rattle.std.proofs.lemmas.List.{map-append, flat_map_more}
 use Rattle.std.proofs.lemmas.List.Concat.{flat_map-cons}
 use Rattle.std.proofs.lemmas.Option.{same_Some, slice_get_within, slice_get-get_or}
 use Rattle.a429_word.proofs.Lists.{drop_at, take_next}
@@ -14,21 +14,15 @@ use Rattle.a429_equipment.specs.Sound.{IsSound}
 use Rattle.a429_equipment.specs.TableRecord.{TableRecord}
 use Rattle.a429_slots.specs.declared.group_plan.SlotPlace.{SlotPlace}
 use Rattle.a429_slots.specs.declared.group_plan.SendLimits.{SendLimits}
-use Rattle.a429_slots.specs.Tables.{Placed, SlotTable, PlanTable, placed_at, outputs_of, order_of, place_of, source_of, limits_of, groups_of}
+use Rattle.a429_slots.specs.Tables.{Placed, SlotTable, PlanTable, placed_at, outputs_of, place_of, source_of, limits_of, groups_of}
 use Rattle.a429_slots.specs.Planned.{IsPlannedAt, IsPlanOf}
 use Rattle.a429_cert.specs.Spelling.{Listing, output_text}
 use Rattle.a429_cert.specs.Checked.{Stated, stated_text}
 use Rattle.a429_cert.specs.PlanText.{source_name, placed_listing, listing_of, stated_of, stated_groups}
-use Rattle.a429_cert.proofs.DueOutputs.{length-outputs}
 use Rattle.a429_slots.proofs.Known.{served_known}
-use Rattle.a429_slots.proofs.Cells.{output_at}
+use Rattle.a429_slots.proofs.Cells.{output_is}
 
 -- ---- an output
-
-pub output_is : (t : SlotTable) (o : ℕ) → o < length (outputs_of t) → slice_get (outputs_of t) o ≡ Some (placed_at t o)
-output_is t o below =
-    let d : Placed = placed_at t 0 in
-    slice_get-get_or (outputs_of t) o d below ∙ ap (λ (p : Placed). Some p) (output_at t o d (omega (arith, length-outputs t)))
 
 pub listing_is : (version : ℕ) (sources : List SourceRow) (t : SlotTable) (o n : ℕ) (place : SlotPlace) (hold : Option ℕ) (row : SourceRow) → o < length (outputs_of t) → place_of t o ≡ Some place
     → source_of t o ≡ Some n → option_map (λ l. l.hold) (limits_of t o) ≡ Some hold → slice_get sources n ≡ Some row
@@ -82,10 +76,6 @@ groups_more version sources groups ts i row t text new whole here there so now =
     ∙ ap (λ (ss : List Stated). text ++ flat_map stated_text ss) (sym left) ∙ so
 
 -- ---- what is read
-
--- the whole order
-pub order_whole : (t : SlotTable) (k : ℕ) → length (outputs_of t) ≤ k → take k (order_of t) ≡ order_of t
-order_whole t k past = take_all k (order_of t) (omega (arith, length-take (length t.demands) t.order, length-outputs t))
 
 pub plan_known : (e : TableRecord) (p : PlanTable) (i : ℕ) (t : SlotTable) → IsSound e → IsPlanOf e p → slice_get (groups_of p) i ≡ Some t → AllByRecursion (λ o. o.source < length e.sources) (outputs_of t)
 plan_known e p i t sound planned there =

@@ -1,20 +1,27 @@
 -- What a verdict says, and when there is none.
 use Rattle.std.specs.Prelude.{◌≡◌, ◌+◌, ℕ, List, [], ◌∷◌, drop, length, slice_get, ⊤, Some, Ok, Err}
 use Rattle.std.specs.List.{zip}
+use Rattle.a429_equipment.specs.Sound.{IsSound}
 use Rattle.a429_equipment.specs.TableRecord.{TableRecord}
 use Rattle.a429_table.specs.Reading.{reading}
 use Rattle.a429_table.specs.declared.fault.TableFault.{TableFault}
 use Rattle.a429_table.specs.declared.fault.TableFault.TheVariants as table
 use Rattle.a429_equipment.specs.declared.rows.GroupRow.{GroupRow}
 use Rattle.a429_equipment.specs.declared.rows.OutputRow.{OutputRow}
-use Rattle.a429_slots.specs.Planned.{AreFewestBusesFor, IsFirstUnfit}
+use Rattle.a429_slots.specs.Planned.{AreFewestBusesFor, IsFirstUnfit, IsPlanOf}
+use Rattle.a429_slots.specs.Tables.{PlanTable}
 use Rattle.a429_cert.specs.declared.judging.NoVerdict.{NoVerdict}
 use Rattle.a429_cert.specs.declared.judging.NoVerdict.TheVariants as judge
 use Rattle.a429_cert.specs.declared.checking.CheckFault.{CheckFault}
 use Rattle.a429_cert.specs.declared.checking.CheckFault.TheVariants as check
-use Rattle.a429_cert.specs.Due.{IsFirstUnfitOf}
+use Rattle.a429_cert.specs.declared.due.DueTable.{DueTable}
+use Rattle.a429_cert.specs.declared.verdicts.Verdict.{Verdict}
+use Rattle.a429_cert.specs.declared.verdicts.Verdict.TheVariants.{Fewest}
+use Rattle.a429_cert.specs.Due.{IsDue, IsFirstUnfitOf}
 use Rattle.a429_cert.specs.Lines.{lines_of, lines_of_groups}
 use Rattle.a429_cert.specs.Checked.{IsChecked, Stated, StatesPlan}
+use Rattle.a429_cert.specs.PlanText.{plan_text_of}
+use Rattle.a429_cert.specs.Verdicts.{verdict}
 
 -- a checked plan of a group is on the fewest buses
 abbrev pub CheckedPlansAreFewest : Type 0
@@ -39,6 +46,20 @@ ShowsFewest e text = StateFewest e (zip e.groups e.outputs) (lines_of_groups e.r
 -- the bytes state a table, and the text shows the fewest buses of each of its groups
 abbrev pub ShowsFewestOfBytes : List ℕ → List ℕ → Type 0
 ShowsFewestOfBytes table text = (e : TableRecord) × (reading table ≡ Ok e) × ShowsFewest e text
+
+-- the text of a sound table's own plan is answered by Fewest
+abbrev pub OwnTextsAreFewest : Type 0
+OwnTextsAreFewest =
+    (e : TableRecord) (p : PlanTable) (t : DueTable) → IsSound e → IsPlanOf e p → IsDue e t → verdict t (plan_text_of e p) ≡ Fewest
+
+-- a text that is answered by Fewest shows the fewest buses of each group of the table
+abbrev pub FewestIsShown : Type 0
+FewestIsShown =
+    (e : TableRecord) (t : DueTable) (text : List ℕ) → IsSound e → IsDue e t → verdict t text ≡ Fewest → ShowsFewest e text
+
+-- the bytes of a table state what is due, and this is the verdict on a text
+abbrev pub IsVerdictOnBytes : List ℕ → List ℕ → Verdict → Type 0
+IsVerdictOnBytes table text v = (e : TableRecord) × (due : DueTable) × (reading table ≡ Ok e) × IsDue e due × (v ≡ verdict due text)
 
 -- the fault stands in the table, unless memory ran out
 abbrev pub IsNoVerdict : TableRecord → NoVerdict → Type 0

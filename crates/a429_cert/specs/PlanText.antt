@@ -6,7 +6,7 @@ use Rattle.a429_equipment.specs.TableRecord.{TableRecord}
 use Rattle.a429_equipment.specs.declared.rows.GroupRow.{GroupRow}
 use Rattle.a429_equipment.specs.declared.rows.SourceRow.{SourceRow}
 use Rattle.a429_slots.specs.declared.group_plan.SlotPlace.{SlotPlace}
-use Rattle.a429_slots.specs.Tables.{SlotTable, PlanTable, placed_at, outputs_of, order_of, frame_of, buses_of, groups_of}
+use Rattle.a429_slots.specs.Tables.{SlotTable, PlanTable, placed_at, outputs_of, order_of, demands_of, frame_of, buses_of, groups_of}
 use Rattle.a429_cert.specs.Spelling.{Heading, Listing, Bounding, said_in, version_text, rate_text, output_text}
 use Rattle.a429_cert.specs.Checked.{Stated, stated_text}
 
@@ -35,7 +35,7 @@ listing_of version sources t o =
 
 -- the group's demand, against one bus fewer than it has
 abbrev pub bound_of : SlotTable → Bounding
-bound_of t = record { demand = sum t.demands; full_buses = buses_of t - 1; frame = frame_of t }
+bound_of t = record { demand = sum (demands_of t); full_buses = buses_of t - 1; frame = frame_of t }
 
 -- a group, with its outputs in layout order
 abbrev pub stated_of : ℕ → List SourceRow → GroupRow → SlotTable → Stated

@@ -1,9 +1,8 @@
 -- How a line of a plan text is read from left to right.
-use Rattle.std.specs.Prelude.{ℕ, List, length, take, drop, codes, Option, Some, None, Bool, ◌||◌, ◌&&◌, ◌==◌, nat_eq, nat_le, not, if◌then◌else◌, slice_index}
-use Rattle.std.specs.List.{starts_with, position_or_len, list_all}
-use Rattle.std.specs.Char.{is_ascii_digit}
+use Rattle.std.specs.Prelude.{◌≡◌, ℕ, List, length, take, drop, codes, Option, Some, None, Bool, ◌||◌, ◌&&◌, ◌==◌, nat_eq, nat_le, not, if◌then◌else◌, slice_index}
+use Rattle.std.specs.List.{starts_with, position_or_len}
 use Rattle.std.specs.Str.{bytes_eq}
-use Rattle.std.specs.Str.Parse.{digits_value}
+use Rattle.a429_word.specs.Decimal.{decimal_number}
 use Rattle.a429_cert.specs.Spelling.{Heading, Listing, Bounding, when, says_more, is_break as ends_word}
 
 infixl 10 ◌>>=◌
@@ -24,19 +23,11 @@ word bytes =
     let end = position_or_len is_break bytes in
     if end == 0 then None else Some (take end bytes, drop end bytes)
 
--- at most ten digits, without leading zeros
-unfoldable pub is_numeral : List ℕ → Bool
-is_numeral w = nat_le (length w) 10 && (nat_le (length w) 1 || not (slice_index w 0 == 48)) && list_all is_ascii_digit w
-
--- the number that a word spells
-unfoldable pub value_of : List ℕ → Option ℕ
-value_of w = when (is_numeral w) (digits_value 10 w)
-
 -- the number at the front, and the bytes after it
 unfoldable pub number : List ℕ → Option (ℕ × List ℕ)
 number bytes = do
   w ← word bytes
-  n ← value_of w.0
+  n ← decimal_number w.0
   Some (n, w.1)
 
 -- the word behind a text, and the bytes after it
@@ -49,7 +40,7 @@ number_after text bytes = after text bytes >>= number
 
 -- the limit that a word spells: a number, or that there is no limit
 unfoldable pub limit_of : List ℕ → Option (Option ℕ)
-limit_of w = if bytes_eq w (codes "none") then Some None else (value_of w >>= λ n. Some (Some n))
+limit_of w = if bytes_eq w (codes "none") then Some None else (decimal_number w >>= λ n. Some (Some n))
 
 -- the limit at the front, and the bytes after it
 unfoldable pub limit : List ℕ → Option (Option ℕ × List ℕ)
@@ -120,3 +111,13 @@ bound_line line = do
   full_buses ← number_after (codes " > ") demand.1
   frame ← number_after (codes " * ") full_buses.1
   when (is_end frame.1) (record { demand = demand.0; full_buses = full_buses.0; frame = frame.0 })
+
+-- ---- what is read of a line, and how it is spelled
+
+-- a line that is read is spelled so, and what it says fits
+abbrev pub IsReadOnlyAs : {A : Type 0} → (List ℕ → Option A) → (A → List ℕ) → (A → Type 0) → Type 0
+IsReadOnlyAs {A} read spelled Fits = (line : List ℕ) (said : A) → read line ≡ Some said → (line ≡ spelled said) × Fits said
+
+-- what fits is read of the line that is spelled so
+abbrev pub IsReadAs : {A : Type 0} → (List ℕ → Option A) → (A → List ℕ) → (A → Type 0) → Type 0
+IsReadAs {A} read spelled Fits = (said : A) → Fits said → read (spelled said) ≡ Some said

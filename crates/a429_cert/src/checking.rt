@@ -1,12 +1,7 @@
 //! The check of a plan text against the bytes of an equipment table.
 
 ghost use Rattle.std.specs.Prelude.{◌≡◌, Ok, IfOk, IfErr};
-ghost use Rattle.a429_equipment.specs.TableRecord.{TableRecord};
-ghost use Rattle.a429_table.specs.Reading.{reading};
-ghost use Rattle.a429_cert.specs.declared.due.DueTable.{DueTable as Due};
-ghost use Rattle.a429_cert.specs.Due.{IsDue};
-ghost use Rattle.a429_cert.specs.Verdicts.{verdict};
-ghost use Rattle.a429_cert.specs.Judged.{IsCheckFault, ShowsFewestOfBytes};
+ghost use Rattle.a429_cert.specs.Judged.{IsCheckFault, IsVerdictOnBytes, ShowsFewestOfBytes};
 
 use crate::judging::{NoVerdict, judge};
 use crate::verdicts::Verdict;
@@ -61,7 +56,7 @@ impl From<NoVerdict> for CheckFault {
 /// admits no grid period is refused (`Unfit`), and then the text is judged as `judge` does.
 pub fn check(alloc: Global, table: &[u8], text: &[u8]) -> Result<Verdict, CheckFault>
     // The first line that fails, with its first reason.
-    ensures answer { IfOk result (λ v. (e : TableRecord) × (t : Due) × (reading table.now ≡ Ok e) × IsDue e t × (v ≡ verdict t text.now)) }
+    ensures answer { IfOk result (IsVerdictOnBytes table.now text.now) }
     // Of each group the text states a plan, and no schedule that serves the group has fewer buses.
     ensures fewest { IfOk result (λ v. v ≡ Verdict.Fewest → ShowsFewestOfBytes table.now text.now) }
     ensures fault { IfErr result (IsCheckFault table.now) }

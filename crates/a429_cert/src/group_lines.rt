@@ -1,10 +1,10 @@
 //! The lines of a group.
 
-ghost use Rattle.std.specs.Prelude.{◌≡◌, ◌≤◌, ◌<◌, ◌+◌, ◌^◌, ◌/◌, drop, length, Some, None, MatchResult, OnOk};
+ghost use Rattle.std.specs.Prelude.{◌≡◌, ◌≤◌, ◌<◌, ◌+◌, ◌^◌, ◌/◌, drop, length, Some, MatchResult, OnOk};
 ghost use Rattle.std.specs.List.{sum_by};
 ghost use Rattle.a429_cert.specs.Views.{bounding};
 ghost use Rattle.a429_cert.specs.Lines.{lines_of};
-ghost use Rattle.a429_cert.specs.Faults.{frame, says_other_rate, group_fault, bound_fault, HasPeriods, Gives, IsModest, group_faults, first_no, buses_of, bound_holds};
+ghost use Rattle.a429_cert.specs.Faults.{frame, says_other_rate, group_fault, bound_fault, HasPeriods, Gives, GivesReason, IsModest, group_faults, first_no, buses_of, bound_holds};
 
 use crate::due::DueGroup;
 use crate::line::{BoundLine, GroupLine, bound_line, group_line};
@@ -51,7 +51,7 @@ fn checked_group<'a>(
     group: &DueGroup,
     line: &'a [u8],
 ) -> Result<GroupLine<'a>, Reason>
-    ensures fault { MatchResult result (λ _. group_fault version group.now line.now ≡ None) (λ r. group_fault version group.now line.now ≡ Some r) }
+    ensures fault { GivesReason result (group_fault version group.now line.now) }
     ensures says { MatchResult result (λ l. (l.buses ≡ buses_of version line.now) × (1 ≤ l.buses) × (l.buses ≤ 16)) (λ _. Unit {0}) }
 {
     let Some(said) = group_line(version, line) else {
@@ -92,7 +92,7 @@ fn checked_bound(group: &DueGroup, buses: u64, line: &[u8]) -> Result<(), Reason
     requires modest { IsModest group.now }
     requires some { 1 ≤ buses }
     requires few { buses ≤ 16 }
-    ensures { MatchResult result (λ _. bound_fault group.now buses line.now ≡ None) (λ r. bound_fault group.now buses line.now ≡ Some r) }
+    ensures { GivesReason result (bound_fault group.now buses line.now) }
 {
     let Some(said) = bound_line(line) else {
         return Err(Reason::Form);

@@ -1,13 +1,12 @@
 //! The lines of a plan text.
 
 ghost use Rattle.std.specs.Prelude.{◌≡◌, ◌<◌, ◌^◌, option_map, Option, position, true};
-ghost use Rattle.std.specs.List.{list_all};
-ghost use Rattle.std.specs.Char.{is_ascii_digit};
-ghost use Rattle.std.specs.Str.Parse.{digits_value};
 ghost use Rattle.std.specs.Option.{option_copied};
 ghost use Rattle.a429_cert.specs.Spelling.{says_more};
-ghost use Rattle.a429_cert.specs.Reading.{after, word, word_after, number_after, is_break, is_numeral, value_of, number, limit_of, limit, is_end, number_line, plan_line, rate_line, rate_part, hold_part, group_line, output_line, bound_line};
+ghost use Rattle.a429_cert.specs.Reading.{after, word, word_after, number_after, is_break, number, limit_of, limit, is_end, number_line, plan_line, rate_line, rate_part, hold_part, group_line, output_line, bound_line};
 ghost use Rattle.a429_cert.specs.Views.{heading, listing, bounding};
+
+use a429_word::decimal_number;
 
 /// What a group's first line says.
 #[derive(Clone, Copy)]
@@ -86,53 +85,13 @@ fn word(bytes: &[u8]) -> Option<(&[u8], &[u8])>
     }
 }
 
-/// Whether each byte is a decimal digit.
-fn are_digits(word: &[u8]) -> bool
-    ensures { result ≡ list_all is_ascii_digit word.now }
-{
-    word.iter().all(|byte| byte.is_ascii_digit())
-}
-
-/// Whether a word spells a number: at most ten digits, without leading zeros.
-#[tactic(auto, unfolding(crate::specs::Reading::is_numeral))]
-fn is_numeral(word: &[u8]) -> bool
-    ensures { result ≡ is_numeral word.now }
-{
-    word.len() <= 10 && (word.len() <= 1 || word[0] != b'0') && are_digits(word)
-}
-
-/// The number that digits spell.
-fn value(digits: &[u8]) -> u64
-    requires digits { list_all is_ascii_digit digits.now ≡ true }
-    requires fits { digits_value 10 digits.now < 2 ^ 64 }
-    ensures { result ≡ digits_value 10 digits.now }
-{
-    let mut value = 0;
-    for digit in digits {
-        value = value * 10 + u64::from(*digit - b'0');
-    }
-    value
-}
-
-/// The number that a word spells.
-#[tactic(auto, using(crate::proofs::Words::numeral_digits, crate::proofs::Words::numeral_fits), unfolding(crate::specs::Reading::value_of))]
-fn value_of(word: &[u8]) -> Option<u64>
-    ensures { result ≡ value_of word.now }
-{
-    if is_numeral(word) {
-        Some(value(word))
-    } else {
-        None
-    }
-}
-
 /// The number at the front, and the bytes after it.
 #[tactic(auto, unfolding(crate::specs::Reading::number))]
 fn number(bytes: &[u8]) -> Option<(u64, &[u8])>
     ensures { option_map (λ x. (x.0, x.1.now)) result ≡ number bytes.now }
 {
     let (word, rest) = word(bytes)?;
-    Some((value_of(word)?, rest))
+    Some((decimal_number(word)?, rest))
 }
 
 /// The word behind a text, and the bytes after it.
@@ -159,7 +118,7 @@ fn limit_of(word: &[u8]) -> Option<Option<u64>>
     if word == "none".as_bytes() {
         return Some(None);
     }
-    Some(Some(value_of(word)?))
+    Some(Some(decimal_number(word)?))
 }
 
 /// The limit at the front, and the bytes after it.

@@ -1,8 +1,8 @@
 //! The lines that a table asks for.
 
-ghost use Rattle.std.specs.Prelude.{◌≡◌, ◌≤◌, ◌<◌, ◌^◌, Some, None, MatchResult, All};
+ghost use Rattle.std.specs.Prelude.{◌≤◌, ◌<◌, ◌^◌, Some, None, All};
 ghost use Rattle.a429_cert.specs.Lines.{lines_of};
-ghost use Rattle.a429_cert.specs.Faults.{rate_fault, plan_fault, end_fault, Gives, IsModest, groups_faults, first_no, faults, due};
+ghost use Rattle.a429_cert.specs.Faults.{rate_fault, plan_fault, end_fault, Gives, GivesReason, IsModest, groups_faults, first_no, faults, due};
 
 use crate::due::{DueGroup, DueTable};
 use crate::group_lines::check_group;
@@ -14,7 +14,7 @@ use std::alloc::Global;
 
 /// Checks that no line is left.
 fn checked_end(lines: &mut Lines<'_>) -> Result<(), Reason>
-    ensures { MatchResult result (λ _. end_fault (lines_of lines.old.rest.now) ≡ None) (λ r. end_fault (lines_of lines.old.rest.now) ≡ Some r) }
+    ensures { GivesReason result (end_fault (lines_of lines.old.rest.now)) }
 {
     if lines.next_line().is_empty() {
         Ok(())
@@ -26,7 +26,7 @@ fn checked_end(lines: &mut Lines<'_>) -> Result<(), Reason>
 /// Checks the first line, which states the version.
 #[tactic(auto, unfolding(crate::specs::Faults::plan_fault))]
 fn checked_plan(version: u32, line: &[u8]) -> Result<(), Reason>
-    ensures { MatchResult result (λ _. plan_fault version line.now ≡ None) (λ r. plan_fault version line.now ≡ Some r) }
+    ensures { GivesReason result (plan_fault version line.now) }
 {
     match plan_line(line) {
         Some(said) if said == u64::from(version) => Ok(()),
@@ -37,7 +37,7 @@ fn checked_plan(version: u32, line: &[u8]) -> Result<(), Reason>
 /// Checks the line of the rate that all groups have.
 #[tactic(auto, unfolding(crate::specs::Faults::rate_fault))]
 fn checked_rate(rate: u64, line: &[u8]) -> Result<(), Reason>
-    ensures { MatchResult result (λ _. rate_fault rate line.now ≡ None) (λ r. rate_fault rate line.now ≡ Some r) }
+    ensures { GivesReason result (rate_fault rate line.now) }
 {
     match rate_line(line) {
         None => Err(Reason::Form),

@@ -1,5 +1,6 @@
 //! The text of a plan.
-ghost use Rattle.std.specs.Prelude.{◌≡◌, ◌++◌, ◌<◌, codes, length, string_bytes, OnOk, IfOk, IfSome};
+ghost use Rattle.std.specs.Prelude.{◌≡◌, ◌<◌, codes, length, IfOk, IfSome};
+ghost use Rattle.a429_word.specs.Written.{Writes};
 ghost use Rattle.a429_slots.specs.Tables.{outputs_of, source_of};
 ghost use Rattle.a429_cert.specs.Spelling.{said_in, group_text, output_text, hold_before, bound_text};
 ghost use Rattle.a429_cert.specs.Checked.{stated_text};
@@ -19,7 +20,7 @@ pub fn write_heading(
     group: &GroupRow,
     table: &GroupPlan<OUTPUTS>,
 ) -> Result<(), AllocError>
-    ensures { OnOk result (string_bytes text.new ≡ string_bytes text.old ++ group_text (heading_of version group.now table.now)) }
+    ensures { Writes result text.old text.new (group_text (heading_of version group.now table.now)) }
 {
     let name = group.name.as_str();
     let rate = group.rate;
@@ -34,7 +35,7 @@ pub fn write_heading(
 
 /// Writes the hold of an output, where a text of this version says it, and ends the line.
 fn write_hold(text: &mut String, version: u32, hold: Option<u32>) -> Result<(), AllocError>
-    ensures { OnOk result (string_bytes text.new ≡ string_bytes text.old ++ hold_before (said_in version hold) (codes "\n")) }
+    ensures { Writes result text.old text.new (hold_before (said_in version hold) (codes "\n")) }
 {
     if !says_more(version) {
         return writeln!(text);
@@ -53,7 +54,7 @@ fn write_place(
     place: SlotPlace,
     hold: Option<u32>,
 ) -> Result<(), AllocError>
-    ensures { OnOk result (string_bytes text.new ≡ string_bytes text.old ++ output_text (placed_listing version source.now place hold)) }
+    ensures { Writes result text.old text.new (output_text (placed_listing version source.now place hold)) }
 {
     let period = place.period.slots();
     let bus = place.bus;
@@ -75,7 +76,7 @@ fn write_output(
 ) -> Result<(), AllocError>
     requires known { output < length (outputs_of table.now) }
     requires source { IfSome (source_of table.now output) (λ source. source < length sources.now) }
-    ensures { OnOk result (string_bytes text.new ≡ string_bytes text.old ++ output_text (listing_of version sources.now table.now output)) }
+    ensures { Writes result text.old text.new (output_text (listing_of version sources.now table.now output)) }
 {
     let source = sources[table.source(output)].name.as_str();
     write_place(
@@ -89,7 +90,7 @@ fn write_output(
 
 /// Writes a group's last line.
 fn write_bound(text: &mut String, table: &GroupPlan<OUTPUTS>) -> Result<(), AllocError>
-    ensures { OnOk result (string_bytes text.new ≡ string_bytes text.old ++ bound_text (bound_of table.now)) }
+    ensures { Writes result text.old text.new (bound_text (bound_of table.now)) }
 {
     let demand = table.demand();
     let full = table.buses().saturating_sub(1);
@@ -105,7 +106,7 @@ fn write_outputs(
     table: &GroupPlan<OUTPUTS>,
 ) -> Result<(), AllocError>
     requires known { HasSources sources.now table.now }
-    ensures { OnOk result (string_bytes text.new ≡ string_bytes text.old ++ outputs_text version sources.now table.now) }
+    ensures { Writes result text.old text.new (outputs_text version sources.now table.now) }
 {
     for place in 0..table.outputs() {
         write_output(text, version, sources, table, table.output_at_place(place))?;
@@ -122,7 +123,7 @@ fn write_group(
     table: &GroupPlan<OUTPUTS>,
 ) -> Result<(), AllocError>
     requires known { HasSources sources.now table.now }
-    ensures { OnOk result (string_bytes text.new ≡ string_bytes text.old ++ stated_text (stated_of version sources.now group.now table.now)) }
+    ensures { Writes result text.old text.new (stated_text (stated_of version sources.now group.now table.now)) }
 {
     write_heading(text, version, group, table)?;
     write_outputs(text, version, sources, table)?;
@@ -131,7 +132,7 @@ fn write_group(
 
 /// Writes the lines of all groups, in table order.
 fn write_groups(text: &mut String, proposal: &Proposal<OUTPUTS>) -> Result<(), AllocError>
-    ensures { OnOk result (string_bytes text.new ≡ string_bytes text.old ++ groups_text proposal.now.station proposal.now.plan) }
+    ensures { Writes result text.old text.new (groups_text proposal.now.station proposal.now.plan) }
 {
     let equipment = proposal.equipment();
     let version = equipment.version();
@@ -151,7 +152,7 @@ fn write_groups(text: &mut String, proposal: &Proposal<OUTPUTS>) -> Result<(), A
 
 /// Writes the lines before the groups: the version, and the rate in bit/s where all groups have one.
 fn write_head(text: &mut String, equipment: &Equipment) -> Result<(), AllocError>
-    ensures { OnOk result (string_bytes text.new ≡ string_bytes text.old ++ head_text equipment.now) }
+    ensures { Writes result text.old text.new (head_text equipment.now) }
 {
     let version = equipment.version();
     writeln!(text, "plan {version}")?;

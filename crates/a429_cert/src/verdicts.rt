@@ -56,7 +56,7 @@ pub enum Verdict {
 impl Reason {
     /// Its name in answers: `form` to `hold`.
     #[tactic(auto, unfolding(crate::specs::Printed::reason_text))]
-    fn text(self) -> &'static str
+    pub fn text(self) -> &'static str
         ensures { result.now ≡ reason_text self }
     {
         match self {

@@ -66,14 +66,14 @@ below_frame (d ∷ ds) (suc i) = omega (arith, below_frame ds i, le-max_right (e
 
 -- ---- inputs and demands of entries
 
-pub inputs_more : (n : ℕ) (xs : List ℕ) (es : List Entry) (i : ℕ) → i < length es → length es ≤ n → xs ≡ padded n (inputs_of (take i es))
-    → set xs i (get_or es i blank).input ≡ padded n (inputs_of (take (i + 1) es))
+pub inputs_more : (n : ℕ) (xs : List ℕ) (es : List Entry) (i : ℕ) → i < length es → length es ≤ n → xs ≡ padded 0 n (inputs_of (take i es))
+    → set xs i (get_or es i blank).input ≡ padded 0 n (inputs_of (take (i + 1) es))
 inputs_more n xs es i below room same =
     let front : List ℕ = inputs_of (take i es) in
     let v : ℕ = (get_or es i blank).input in
     let long : length front ≡ i = length-map (take i es) (λ e. e.input) ∙ omega (arith, length-take i es) in
-    ap (λ ys. set ys i v) same ∙ ap (λ k. set (padded n front) k v) (sym long) ∙ padded-set n front v (omega arith)
-    ∙ ap (padded n) (sym (map_more (λ e. e.input) es i blank below))
+    ap (λ ys. set ys i v) same ∙ ap (λ k. set (padded 0 n front) k v) (sym long) ∙ padded-set 0 n front v (omega arith)
+    ∙ ap (padded 0 n) (sym (map_more (λ e. e.input) es i blank below))
 
 pub length-demands : (h i : ℕ) (es : List Entry) → i ≤ length es → length (demands_of h (take i es)) ≡ i
 length-demands h i es few = length-map (take i es) (λ e. 2 ^ (h - e.exponent)) ∙ omega (arith, length-take i es)

@@ -219,11 +219,11 @@ sound h n ds is demands buses p is-buses some low few =
 
 -- ---- what the arrays keep
 
-pub kept_in : (n h : ℕ) (es : List Entry) (sums array : List ℕ) → sums ≡ demands_of h es → array ≡ padded n (inputs_of es)
+pub kept_in : (n h : ℕ) (es : List Entry) (sums array : List ℕ) → sums ≡ demands_of h es → array ≡ padded 0 n (inputs_of es)
     → take (length sums) array ≡ inputs_of es
 kept_in n h es sums array demands same =
     let long : length (inputs_of es) ≡ length sums = length-map es (λ e. e.input) ∙ sym (ap length demands ∙ length-map es (λ e. 2 ^ (h - e.exponent))) in
-    ap (take (length sums)) same ∙ padded-front n (inputs_of es) (length sums) long
+    ap (take (length sums)) same ∙ padded-front 0 n (inputs_of es) (length sums) long
 
 -- few buses have few slots
 pub sum_small : (h total buses : ℕ) → h ≤ 13 → buses ≡ div_ceil total (2 ^ h) → buses ≤ 16 → total < 2 ^ 32

@@ -12,18 +12,18 @@ use Rattle.a429_pack.specs.Sums.{start_of, Holds}
 
 -- ---- padded lists
 
-pub padded-set : (n : ℕ) (xs : List ℕ) (x : ℕ) → length xs < n → set (padded n xs) (length xs) x ≡ padded n (xs ++ x ∷ [])
-padded-set n xs x room =
+pub padded-set : {A : Type 0} (d : A) (n : ℕ) (xs : List A) (x : A) → length xs < n → set (padded d n xs) (length xs) x ≡ padded d n (xs ++ x ∷ [])
+padded-set d n xs x room =
     let rest : ℕ = n - length xs - 1 in
     let more : n - length xs ≡ suc rest = omega arith in
     let less : rest ≡ n - length (xs ++ x ∷ []) = omega (arith, length-append xs (x ∷ [])) in
-    ap (λ k. set (xs ++ replicate k 0) (length xs) x) more
-    ∙ set-append_seam xs 0 (replicate rest 0) x
-    ∙ sym (append_assoc xs (x ∷ []) (replicate rest 0))
-    ∙ ap (λ k. (xs ++ x ∷ []) ++ replicate k 0) less
+    ap (λ k. set (xs ++ replicate k d) (length xs) x) more
+    ∙ set-append_seam xs d (replicate rest d) x
+    ∙ sym (append_assoc xs (x ∷ []) (replicate rest d))
+    ∙ ap (λ k. (xs ++ x ∷ []) ++ replicate k d) less
 
-pub padded-front : (n : ℕ) (xs : List ℕ) (k : ℕ) → length xs ≡ k → take k (padded n xs) ≡ xs
-padded-front n xs k long = ap (λ j. take j (padded n xs)) (sym long) ∙ take-append_seam xs (replicate (n - length xs) 0)
+pub padded-front : {A : Type 0} (d : A) (n : ℕ) (xs : List A) (k : ℕ) → length xs ≡ k → take k (padded d n xs) ≡ xs
+padded-front d n xs k long = ap (λ j. take j (padded d n xs)) (sym long) ∙ take-append_seam xs (replicate (n - length xs) d)
 
 -- ---- running sums
 
@@ -76,14 +76,14 @@ stretch_within ds x i (inside, low, high) = omega (arith, start_more ds i inside
 -- ---- a table
 
 -- what an array has in front is what it keeps
-pub kept_read : (n : ℕ) (xs : List ℕ) (i : ℕ) → i < length xs → get_or (padded n xs) i 0 ≡ get_or xs i 0
-kept_read n xs i below = get_or-append xs (replicate (n - length xs) 0) 0 i below
+pub kept_read : {A : Type 0} (d : A) (n : ℕ) (xs : List A) (i : ℕ) → i < length xs → get_or (padded d n xs) i d ≡ get_or xs i d
+kept_read d n xs i below = get_or-append xs (replicate (n - length xs) d) d i below
 
 pub start_kept : (n : ℕ) (first second : List ℕ) (count end i : ℕ) → AreKept n first second count end → i < count → get_or second i 0 ≡ start_of (take count first) i
 start_kept n first second count end i kept below =
-    let long : length (take count first) ≡ count = length-kept n first count kept.room kept.demands in
+    let long : length (take count first) ≡ count = length-kept 0 n first count kept.room kept.demands in
     ap (λ xs. get_or xs i 0) kept.starts
-    ∙ kept_read n (starts_from 0 (take count first)) i (omega (arith, length-starts 0 (take count first)))
+    ∙ kept_read 0 n (starts_from 0 (take count first)) i (omega (arith, length-starts 0 (take count first)))
     ∙ start_at 0 (take count first) i (omega arith)
     ∙ omega arith
 
@@ -91,17 +91,17 @@ pub kept_more : (n : ℕ) (first second : List ℕ) (count end d : ℕ) → AreK
     → AreKept n (set first count d) (set second count end) (count + 1) (end + d)
 kept_more n first second count end d kept room wide some =
     let ds : List ℕ = take count first in
-    let long : length ds ≡ count = length-kept n first count kept.room kept.demands in
+    let long : length ds ≡ count = length-kept 0 n first count kept.room kept.demands in
     let more : take (count + 1) (set first count d) ≡ ds ++ d ∷ [] = take_more_set first count d (omega arith) in
     let behind : starts_from 0 (ds ++ d ∷ []) ≡ starts_from 0 ds ++ end ∷ [] =
     starts-push 0 ds d ∙ ap (λ s. starts_from 0 ds ++ s ∷ []) (omega (arith, kept.total)) in
     let place : length (starts_from 0 ds) ≡ count = length-starts 0 ds ∙ long in
     record {
       room = omega arith;
-      demands = ap (λ xs. set xs count d) kept.demands ∙ ap (λ k. set (padded n ds) k d) (sym long)
-          ∙ padded-set n ds d (omega arith) ∙ ap (padded n) (sym more);
-      starts = ap (λ xs. set xs count end) kept.starts ∙ ap (λ k. set (padded n (starts_from 0 ds)) k end) (sym place)
-          ∙ padded-set n (starts_from 0 ds) end (omega arith) ∙ ap (padded n) (sym behind) ∙ ap (λ xs. padded n (starts_from 0 xs)) (sym more);
+      demands = ap (λ xs. set xs count d) kept.demands ∙ ap (λ k. set (padded 0 n ds) k d) (sym long)
+          ∙ padded-set 0 n ds d (omega arith) ∙ ap (padded 0 n) (sym more);
+      starts = ap (λ xs. set xs count end) kept.starts ∙ ap (λ k. set (padded 0 n (starts_from 0 ds)) k end) (sym place)
+          ∙ padded-set 0 n (starts_from 0 ds) end (omega arith) ∙ ap (padded 0 n) (sym behind) ∙ ap (λ xs. padded 0 n (starts_from 0 xs)) (sym more);
       total = omega (arith, kept.total, sum-push ds d, ap sum more);
       some = subst (All (λ x. 1 ≤ x)) (sym more) (All-push (λ x. 1 ≤ x) ds d kept.some some);
     }

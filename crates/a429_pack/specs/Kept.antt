@@ -5,9 +5,9 @@ use Rattle.std.proofs.Common.{ap, arith, length-append}
 use Rattle.std.proofs.lemmas.List.{length-replicate, length-take-le}
 use Rattle.a429_pack.specs.Layout.{Layout}
 
--- numbers in an array of n, with zeros behind them
-abbrev pub padded : ℕ → List ℕ → List ℕ
-padded n xs = xs ++ replicate (n - length xs) 0
+-- a list in an array of n, with one value in all places behind it
+abbrev pub padded : {A : Type 0} → A → ℕ → List A → List A
+padded d n xs = xs ++ replicate (n - length xs) d
 
 -- where each stretch begins, the first one at s
 abbrev pub starts_from : ℕ → List ℕ → List ℕ
@@ -17,8 +17,8 @@ starts_from s (d ∷ demands) = s ∷ starts_from (s + d) demands
 -- two arrays of n keep the first `count` demands and their starts, and zeros behind them
 pub record AreKept (n : ℕ) (first second : List ℕ) (count end : ℕ) : Type 0 where
   pub room : count ≤ n
-  pub demands : first ≡ padded n (take count first)
-  pub starts : second ≡ padded n (starts_from 0 (take count first))
+  pub demands : first ≡ padded 0 n (take count first)
+  pub starts : second ≡ padded 0 n (starts_from 0 (take count first))
   pub total : end ≡ sum (take count first)
   pub some : All (λ d. 1 ≤ d) (take count first)
 
@@ -26,9 +26,9 @@ pub record AreKept (n : ℕ) (first second : List ℕ) (count end : ℕ) : Type 
 abbrev pub kept_layout : ℕ → ℕ → List ℕ → List ℕ → Layout
 kept_layout frame buses demands inputs = record { frame = frame; buses = buses; inputs = take (length demands) inputs; demands = demands }
 
-pub length-padded : (n : ℕ) (xs : List ℕ) → n ≤ length (padded n xs)
-length-padded n xs = omega (arith, length-append xs (replicate (n - length xs) 0), length-replicate {A = ℕ} (n - length xs) 0)
+pub length-padded : {A : Type 0} (d : A) (n : ℕ) (xs : List A) → n ≤ length (padded d n xs)
+length-padded {A} d n xs = omega (arith, length-append xs (replicate (n - length xs) d), length-replicate {A = A} (n - length xs) d)
 
 -- an array that is kept so has the count's length
-pub length-kept : (n : ℕ) (xs : List ℕ) (count : ℕ) → count ≤ n → xs ≡ padded n (take count xs) → length (take count xs) ≡ count
-length-kept n xs count room kept = length-take-le count xs (omega (arith, ap length kept, length-padded n (take count xs)))
+pub length-kept : {A : Type 0} (d : A) (n : ℕ) (xs : List A) (count : ℕ) → count ≤ n → xs ≡ padded d n (take count xs) → length (take count xs) ≡ count
+length-kept d n xs count room kept = length-take-le count xs (omega (arith, ap length kept, length-padded d n (take count xs)))

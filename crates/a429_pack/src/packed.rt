@@ -25,9 +25,9 @@ impl<const N: usize> Model for Packed<N> {
 
     ghost view = { λ p. kept_layout p.frame p.buses p.sums p.inputs };
 
-    ghost invariant = { λ p. (p.inputs ≡ padded N (take (length p.sums) p.inputs)) × IsLaidOut (kept_layout p.frame p.buses p.sums p.inputs) };
+    ghost invariant = { λ p. (p.inputs ≡ padded 0 N (take (length p.sums) p.inputs)) × IsLaidOut (kept_layout p.frame p.buses p.sums p.inputs) };
 
-    ghost inverse = { λ l. record { frame = l.frame; buses = l.buses; sums = l.demands; inputs = padded N l.inputs } };
+    ghost inverse = { λ l. record { frame = l.frame; buses = l.buses; sums = l.demands; inputs = padded 0 N l.inputs } };
 
     ghost inverse_ok = { λ p h i. record { frame = p.frame; buses = p.buses; sums = p.sums; inputs = sym h.0 i } };
 }

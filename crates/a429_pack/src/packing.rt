@@ -111,7 +111,7 @@ fn sums_of<const N: usize>(entries: &[Entry], frame: Period) -> SumTable<N>
 /// The outputs' numbers in the order given, zeros behind them.
 fn inputs_in<const N: usize>(entries: &[Entry]) -> [usize; N]
     requires { length entries.now ≤ N }
-    ensures { result ≡ padded N (inputs_of entries.now) }
+    ensures { result ≡ padded 0 N (inputs_of entries.now) }
 {
     let mut inputs = [0; N];
     for (place, entry) in entries.iter().enumerate() {

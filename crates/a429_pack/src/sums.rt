@@ -25,12 +25,12 @@ impl<const N: usize> Model for SumTable<N> {
 
     ghost invariant = { λ t. AreKept N t.demands t.starts t.count t.total };
 
-    ghost inverse = { λ ds. record { demands = padded N ds; starts = padded N (starts_from 0 ds); count = length ds; total = sum ds } };
+    ghost inverse = { λ ds. record { demands = padded 0 N ds; starts = padded 0 N (starts_from 0 ds); count = length ds; total = sum ds } };
 
     ghost inverse_ok = { λ t h i. record {
       demands = sym h.demands i;
       starts = sym h.starts i;
-      count = length-kept N t.demands t.count h.room h.demands i;
+      count = length-kept 0 N t.demands t.count h.room h.demands i;
       total = sym h.total i;
     } };
 }

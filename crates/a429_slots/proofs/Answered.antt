@@ -16,10 +16,10 @@ use Rattle.a429_slots.proofs.Histories.{take_following}
 
 -- ---- one more event
 
-abbrev more_cells : List AnsweredCell → Option AnsweredCell → List AnsweredCell
+abbrev pub more_cells : List AnsweredCell → Option AnsweredCell → List AnsweredCell
 more_cells earlier next = earlier ++ option_map_or (λ c. c ∷ []) next []
 
-abbrev next_of : ℕ → Opening → ℕ → SlotTable → List Event → Option AnsweredCell
+abbrev pub next_of : ℕ → Opening → ℕ → SlotTable → List Event → Option AnsweredCell
 next_of C o g p E = next_answered C o E g (current o g p E) (answered_cells C o g p E)
 
 pub answered_push : (C : ℕ) (o : Opening) (g : ℕ) (p : SlotTable) (E : List Event) (e : Event)

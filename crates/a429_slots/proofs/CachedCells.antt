@@ -1,43 +1,46 @@
 -- What is kept of cells that were looked up.
-use Rattle.std.proofs.Common.{◌≡◌, ℕ, ◌/◌, ◌%◌, ◌<◌, ◌≤◌, Bool, List, length, get_or, replicate, arith, refl, ap, ◌∙◌, sym, true, false, not, inl, inr, ⊎_elim}
-use Rattle.std.specs.Prelude.{nat_eq}
-use Rattle.std.specs.List.{position_or_len}
-use Rattle.std.proofs.lemmas.List.{get_or-replicate, get_or_past, length-replicate}
-use Rattle.std.proofs.lemmas.Bool.{cases_lt}
+use Rattle.std.proofs.Common.{◌≡◌, ℕ, ◌+◌, ◌/◌, ◌%◌, ◌^◌, Bool, List, [], ◌∷◌, length, get_or, map, refl, ap, ap₂, ◌∙◌, sym, true, false, not, inl, inr, ⊎_elim}
+use Rattle.std.specs.Prelude.{◌&&◌, Some, None, cond, nat_eq, nat_lt, position}
+use Rattle.std.specs.List.{prefix_len, range_with_len}
+use Rattle.std.proofs.lemmas.List.{length-map}
 use Rattle.std.proofs.lemmas.Slice.Eq.{slice_eq-Decides}
 use Rattle.std.specs.Cmp.{unsigned_Decides}
 use Rattle.std.specs.Cmp.Lexicographic.{pointwise}
-use Rattle.std.proofs.lemmas.List.Sums.{position_or_len_is, fails_before_first, passes_at_first, prefix_len-le-length}
-use Rattle.a429_slots.specs.Tables.{Placed, SlotTable, placed_at, outputs_of, stands_in, cell_at}
+use Rattle.a429_word.proofs.Lists.{not_false}
+use Rattle.a429_slots.specs.declared.group_plan.GroupPlan.TheInside.{Inside}
+use Rattle.a429_slots.specs.Columns.{placed_in, table_in}
+use Rattle.a429_slots.specs.Tables.{SlotTable, stands_in, cell_at}
 use Rattle.a429_slots.specs.Cached.{AreCached, IsForgotten, cached}
-use Rattle.a429_slots.proofs.Cells.{length-outputs, output_at}
 
--- the outputs of two tables stand in the same cells
-pub record StandAlike (t u : SlotTable) : Type 0 where
-  pub count : length t.demands ≡ length u.demands
-  pub on_bus : t.on_bus ≡ u.on_bus
-  pub offsets : t.offsets ≡ u.offsets
-  pub periods : t.periods ≡ u.periods
+-- the first of some values that passes
+prefix-map : {A B : Type 0} (p : B → Bool) (f : A → B) (xs : List A) → prefix_len p (map f xs) ≡ prefix_len (λ x. p (f x)) xs
+prefix-map p f [] = refl
+prefix-map p f (x ∷ xs) = ap (λ n. cond (p (f x)) (1 + n) 0) (prefix-map p f xs)
 
-stands_alike : (t u : SlotTable) → StandAlike t u → (bus slot o : ℕ) → stands_in bus slot (placed_at t o) ≡ stands_in bus slot (placed_at u o)
-stands_alike t u same bus slot o = rw (same.on_bus, same.offsets, same.periods) refl
+position-map : {A B : Type 0} (p : B → Bool) (f : A → B) (xs : List A) → position p (map f xs) ≡ position (λ x. p (f x)) xs
+position-map p f xs = ap₂ (λ n m. cond (nat_lt n m) (Some n) None) (prefix-map (λ x. not (p x)) f xs) (length-map xs f)
 
-pub same_cells : (t u : SlotTable) → StandAlike t u → (bus slot : ℕ) → cell_at t bus slot ≡ cell_at u bus slot
+-- the columns of two tables have the same places
+pub record StandAlike {n : ℕ} (p q : Inside n) : Type 0 where
+  pub count : length p.sums ≡ length q.sums
+  pub on_bus : p.on_bus ≡ q.on_bus
+  pub offsets : p.offsets ≡ q.offsets
+  pub periods : p.periods ≡ q.periods
+
+-- whether the output of this number stands in a cell
+abbrev stands : ℕ → ℕ → List ℕ → List ℕ → List ℕ → ℕ → Bool
+stands bus slot on_bus offsets periods o = nat_eq (get_or on_bus o 0) bus && nat_eq (slot % 2 ^ get_or periods o 0) (get_or offsets o 0)
+
+-- so their outputs stand in the same cells
+pub same_cells : {n : ℕ} (p q : Inside n) → StandAlike p q → (bus slot : ℕ) → cell_at (table_in p) bus slot ≡ cell_at (table_in q) bus slot
 unfolding cell_at
-same_cells t u same bus slot =
-    let p : Placed → Bool = stands_in bus slot in
-    let n : ℕ = length (outputs_of t) in
-    let d : Placed = placed_at t 0 in
-    let i : ℕ = position_or_len p (outputs_of t) in
-    let long : n ≡ length t.demands = length-outputs t in
-    let as_long : length (outputs_of u) ≡ n = omega (arith, length-outputs u, long, same.count) in
-    let alike : (k : ℕ) → k < n → p (get_or (outputs_of u) k d) ≡ p (get_or (outputs_of t) k d) = λ k below.
-    ap p (output_at u k d (omega (arith, same.count))) ∙ sym (stands_alike t u same bus slot k) ∙ sym (ap p (output_at t k d (omega arith))) in
-    let few : i ≤ n = prefix_len-le-length (λ x. not (p x)) (outputs_of t) in
-    let first : position_or_len p (outputs_of u) ≡ i = position_or_len_is p (outputs_of u) i d (omega (arith, as_long))
-    (λ k before. alike k (omega arith) ∙ fails_before_first p (outputs_of t) k d before)
-    (λ within. alike i (omega (arith, as_long)) ∙ passes_at_first p (outputs_of t) d (omega (arith, as_long))) in
-    rw (first, as_long) refl
+same_cells p q same bus slot =
+    position-map (stands_in bus slot) (placed_in p) (range_with_len 0 (length p.sums))
+    ∙ ap (λ (xs : List ℕ). position (stands bus slot xs p.offsets p.periods) (range_with_len 0 (length p.sums))) same.on_bus
+    ∙ ap (λ (xs : List ℕ). position (stands bus slot q.on_bus xs p.periods) (range_with_len 0 (length p.sums))) same.offsets
+    ∙ ap (λ (xs : List ℕ). position (stands bus slot q.on_bus q.offsets xs) (range_with_len 0 (length p.sums))) same.periods
+    ∙ ap (λ (n : ℕ). position (stands bus slot q.on_bus q.offsets q.periods) (range_with_len 0 n)) same.count
+    ∙ sym (position-map (stands_in bus slot) (placed_in q) (range_with_len 0 (length q.sums)))
 
 -- nothing kept is kept rightly of any table
 pub forgotten_cached : (t : SlotTable) (cells : List ℕ) → IsForgotten cells → AreCached t cells
@@ -47,19 +50,9 @@ forgotten_cached t cells none i = inl (none i)
 pub cached_alike : (t u : SlotTable) (cells : List ℕ) → ((bus slot : ℕ) → cell_at t bus slot ≡ cell_at u bus slot) → AreCached t cells → AreCached u cells
 cached_alike t u cells same kept i = ⊎_elim (λ none. inl none) (λ is. inr (is ∙ ap cached (same (i % 16) (i / 16)))) (kept i)
 
-pub none_kept : (n : ℕ) → IsForgotten (replicate n 0)
-none_kept n i = elim (cases_lt i n) [
-  | inl below ↦ get_or-replicate n i 0 0 below
-  | inr past ↦ get_or_past (replicate n 0) i 0 (omega (arith, length-replicate {A = ℕ} n 0))
-]
-
 -- what `==` and `!=` say of two arrays of numbers
 pub arrays_same : (xs ys : List ℕ) (r : Bool) → r ≡ pointwise nat_eq xs ys → r ≡ true → xs ≡ ys
 arrays_same xs ys r is told = (slice_eq-Decides unsigned_Decides xs ys r is).0 told
-
-not_false : (b : Bool) → not b ≡ false → b ≡ true
-not_false true h = refl
-not_false false h = sym h
 
 pub arrays_not_other : (xs ys : List ℕ) (r : Bool) → r ≡ not (pointwise nat_eq xs ys) → r ≡ false → xs ≡ ys
 arrays_not_other xs ys r is told = arrays_same xs ys (pointwise nat_eq xs ys) refl (not_false (pointwise nat_eq xs ys) (sym is ∙ told))

@@ -13,11 +13,10 @@ use Rattle.a429_slots.proofs.Answered.{answered_push}
 
 -- ---- where the group stands
 
-sent_at : ℕ → Current → ℕ → FrameState
+abbrev pub sent_at : ℕ → Current → ℕ → FrameState
 sent_at g f n = record { table = f.table; first = f.first; sent = n }
 
 pub still : (g : ℕ) (f : Current) (e : Event) → is_cell g e ≡ false → frame_state_of g (goes_on f e) ≡ frame_state_of g f
-unfolding sent_at
 still g f e other =
     let same : cells_since g (goes_on f e) ≡ cells_since g f = cells_next g f e ∙ rw other (omega arith) in
     ap (λ (m : ℕ). sent_at g f (min m (cells_of f.table))) same
@@ -26,7 +25,6 @@ pub others_pass : OthersPass
 others_pass o g p E e h k = ap (frame_state_of g) (current_next o g p E e) ∙ rw h (still g (current o g p E) e k)
 
 pub cells_count : CellsCount
-unfolding sent_at
 cells_count o g p E =
     let f = current o g p E in
     let c = cells_since g f in

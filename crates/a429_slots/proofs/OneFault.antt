@@ -1,9 +1,10 @@
 -- Two faults of a table are the same.
 use Rattle.std.proofs.Common.{◌≡◌, ℕ, zero, suc, ◌^◌, ◌<◌, List, [], ◌∷◌, take, refl, sym, ap, ap₂, ◌∙◌, subst, arith, inl, inr}
 use Rattle.std.specs.Prelude.{Some, slice_get}
-use Rattle.std.specs.List.{AllZip, AllByRecursion}
+use Rattle.std.specs.List.{AllByRecursion}
 use Rattle.std.proofs.lemmas.Bool.{cases_lt}
 use Rattle.std.proofs.lemmas.Option.{none-some, same_Some}
+use Rattle.a429_word.proofs.Lists.{partner}
 use Rattle.a429_equipment.specs.TableRecord.{TableRecord}
 use Rattle.a429_equipment.specs.declared.rows.OutputRow.{OutputRow}
 use Rattle.a429_pack.specs.Demanded.{AreFewestBuses}
@@ -21,12 +22,6 @@ all_taken P [] i j x less there all = absurd (none-some x there)
 all_taken P (y ∷ ys) i zero x less there all = absurd (omega arith)
 all_taken P (y ∷ ys) zero (suc j) x less there all = subst P (same_Some y x there) all.0
 all_taken P (y ∷ ys) (suc i) (suc j) x less there all = all_taken P ys i j x (omega arith) there all.1
-
-partner : {A B : Type 0} (R : A → B → Type 0) (xs : List A) (ys : List B) (i : ℕ) (x : A) → AllZip R xs ys → slice_get xs i ≡ Some x → (y : B) × R x y
-partner R [] ys i x all there = absurd (none-some x there)
-partner R (a ∷ xs) [] i x all there = absurd all
-partner {A} {B} R (a ∷ xs) (b ∷ ys) zero x all there = (b, subst (λ (z : A). R z b) (same_Some a x there) all.0)
-partner R (a ∷ xs) (b ∷ ys) (suc i) x all there = partner R xs ys i x all.1 there
 
 -- ---- one group
 

@@ -1,11 +1,11 @@
 -- A table of what the rows ask for is the plan of a group.
-use Rattle.std.proofs.Common.{◌≡◌, ℕ, suc, ◌/◌, ◌^◌, ◌<◌, ◌≤◌, ◌∷◌, [], List, length, take, get_or, map, arith, refl, ap, ◌∙◌, sym, subst}
+use Rattle.std.proofs.Common.{◌≡◌, ℕ, suc, ◌/◌, ◌^◌, ◌<◌, ◌≤◌, ◌∷◌, [], List, length, get_or, map, arith, refl, ap, ◌∙◌, sym, subst}
 use Rattle.std.specs.Prelude.{Option, Some, None, IsSome, slice_get, option_and_then, unwrap_or}
 use Rattle.std.specs.List.{AllZip}
 use Rattle.std.specs.Option.{option_map_or}
 use Rattle.std.proofs.Math.Nat.{pow-le-pow_right}
 use Rattle.std.proofs.lemmas.Bool.{false≢true}
-use Rattle.std.proofs.lemmas.List.{length-map, get_or-map, get_or-take}
+use Rattle.std.proofs.lemmas.List.{ext_get_or, get_or-map, length-map}
 use Rattle.std.proofs.lemmas.Slice.Zip.{AllZip-long}
 use Rattle.a429_word.proofs.Lists.{zipped_at}
 use Rattle.a429_grid.specs.Grid.{HasNoGridPeriod, IsLeastSpacing, least_spacing}
@@ -21,13 +21,13 @@ use Rattle.a429_pack.specs.Orders.{NamesEachOnce}
 use Rattle.a429_equipment.specs.declared.rows.OutputRow.{OutputRow}
 use Rattle.a429_equipment.specs.declared.rows.SourceRow.{SourceRow}
 use Rattle.a429_slots.specs.declared.group_plan.SendLimits.{SendLimits}
-use Rattle.a429_slots.specs.Tables.{Placed, SlotTable, placed_at, outputs_of, order_of, frame_of, buses_of}
+use Rattle.a429_slots.specs.Tables.{Placed, SlotTable, placed_at, outputs_of, order_of, buses_of, unplaced}
 use Rattle.a429_slots.specs.Kept.{IsTable}
 use Rattle.a429_slots.specs.Asked.{IsAsked, IsTableOf, limits_at}
 use Rattle.a429_slots.specs.Planned.{HasPeriod, IsServed, IsLayout, IsPlannedFor, AreFewestBusesFor, asked_by, asked_of}
 use Rattle.a429_slots.specs.Faults.{IsGroupFault}
-use Rattle.a429_slots.proofs.Cells.{HasEach, AreApart, length-outputs, output_at, stands_just_at}
-use Rattle.a429_slots.proofs.Tabled.{limits_read}
+use Rattle.a429_slots.proofs.Cells.{HasEach, AreApart, stands_just_at}
+use Rattle.a429_slots.proofs.Columns.{mapped_at}
 use Rattle.a429_slots.proofs.Rows.{blank, unasked, period_from, first_unfit, have_periods}
 
 zip_by : {A B : Type 0} (R : A → B → Type 0) (xs : List A) (ys : List B) (d : A) (e : B) → length ys ≡ length xs → ((i : ℕ) → i < length xs → R (get_or xs i d) (get_or ys i e)) → AllZip R xs ys
@@ -35,17 +35,6 @@ zip_by R [] [] d e same all = tt
 zip_by R [] (y ∷ ys) d e same all = absurd (omega arith)
 zip_by R (x ∷ xs) [] d e same all = absurd (omega arith)
 zip_by R (x ∷ xs) (y ∷ ys) d e same all = (all 0 (omega arith), zip_by R xs ys d e (omega arith) (λ i below. all (suc i) (omega arith)))
-
-pub same_lists : {A : Type 0} (xs ys : List A) (d : A) → length xs ≡ length ys → ((i : ℕ) → i < length ys → get_or xs i d ≡ get_or ys i d) → xs ≡ ys
-same_lists [] [] d same all = refl
-same_lists [] (y ∷ ys) d same all = absurd (omega arith)
-same_lists (x ∷ xs) [] d same all = absurd (omega arith)
-same_lists (x ∷ xs) (y ∷ ys) d same all =
-    ap (λ z. z ∷ xs) (all 0 (omega arith)) ∙ ap (λ zs. y ∷ zs) (same_lists xs ys d (omega arith) (λ i below. all (suc i) (omega arith)))
-
-pub map_where : (f g : ℕ → ℕ) (xs : List ℕ) → ((k : ℕ) → k < length xs → f (get_or xs k 0) ≡ g (get_or xs k 0)) → map f xs ≡ map g xs
-map_where f g [] same = refl
-map_where f g (x ∷ xs) same = ap (λ z. z ∷ map f xs) (same 0 (omega arith)) ∙ ap (λ zs. g x ∷ zs) (map_where f g xs (λ k below. same (suc k) (omega arith)))
 
 -- what is known of a table when it was made of what the rows ask
 pub record IsMade (n rate : ℕ) (sources : List SourceRow) (rows : List OutputRow) (ds : List Demand) (l : Layout) (t : SlotTable) : Type 0 where
@@ -64,22 +53,22 @@ pub record IsMade (n rate : ℕ) (sources : List SourceRow) (rows : List OutputR
   pub apart : AreApart t
 
 counts : (n rate : ℕ) (sources : List SourceRow) (rows : List OutputRow) (ds : List Demand) (l : Layout) (t : SlotTable) → IsMade n rate sources rows ds l t
-    → (length t.demands ≡ length ds) × (length ds ≡ length rows)
+    → (length t.outputs ≡ length ds) × (length ds ≡ length rows)
 counts n rate sources rows ds l t m =
     let same : length ds ≡ length rows = AllZip-long (IsAsked rate sources) rows ds m.asked in
     (sym m.each.length ∙ ap length m.table.order ∙ m.inputs.length, same)
 
 source_at : (n rate : ℕ) (sources : List SourceRow) (rows : List OutputRow) (ds : List Demand) (l : Layout) (t : SlotTable) → IsMade n rate sources rows ds l t
-    → (i : ℕ) → i < length rows → get_or t.sources i 0 ≡ (get_or rows i blank).source
+    → (i : ℕ) → i < length rows → (placed_at t i).source ≡ (get_or rows i blank).source
 source_at n rate sources rows ds l t m i below =
     let (many, same) = counts n rate sources rows ds l t m in
-    sym (get_or-take (length t.demands) t.sources i 0 (omega arith)) ∙ ap (λ xs. get_or xs i 0) m.table.sources ∙ get_or-map (λ (r : OutputRow). r.source) rows i blank 0 below
+    mapped_at (λ (x : Placed). x.source) (λ (r : OutputRow). r.source) t.outputs rows i unplaced blank m.table.sources (omega arith) below
 
 period_at : (n rate : ℕ) (sources : List SourceRow) (rows : List OutputRow) (ds : List Demand) (l : Layout) (t : SlotTable) → IsMade n rate sources rows ds l t
-    → (i : ℕ) → i < length rows → get_or t.periods i 0 ≡ exponent_of (demand_at ds i)
+    → (i : ℕ) → i < length rows → (placed_at t i).place.period ≡ exponent_of (demand_at ds i)
 period_at n rate sources rows ds l t m i below =
     let (many, same) = counts n rate sources rows ds l t m in
-    sym (get_or-take (length t.demands) t.periods i 0 (omega arith)) ∙ ap (λ xs. get_or xs i 0) m.table.periods ∙ get_or-map exponent_of ds i unasked 0 (omega arith)
+    mapped_at (λ (x : Placed). x.place.period) exponent_of t.outputs ds i unplaced unasked m.table.periods (omega arith) (omega arith)
 
 -- ---- each output as its row asks
 
@@ -103,40 +92,28 @@ asked_is rate sources row d o asked some source period =
 asked_same : (n rate : ℕ) (sources : List SourceRow) (rows : List OutputRow) (ds : List Demand) (l : Layout) (t : SlotTable) → IsMade n rate sources rows ds l t → asked_of sources t ≡ ds
 asked_same n rate sources rows ds l t m =
     let (many, same) = counts n rate sources rows ds l t m in
-    same_lists (asked_of sources t) ds unasked (length-map (outputs_of t) (asked_by sources) ∙ length-outputs t ∙ many) (λ i below.
-    let inside : i < length rows = omega arith in
-    get_or-map (asked_by sources) (outputs_of t) i (placed_at t 0) unasked (omega (arith, length-outputs t))
-    ∙ ap (asked_by sources) (output_at t i (placed_at t 0) (omega arith))
-    ∙ asked_is rate sources (get_or rows i blank) (demand_at ds i) (placed_at t i) (zipped_at (IsAsked rate sources) rows ds i blank unasked inside m.asked) (m.fit i below)
+    let long : length (asked_of sources t) ≡ length t.outputs = length-map t.outputs (asked_by sources) in
+    ext_get_or unasked (asked_of sources t) ds (long ∙ many) (λ i below.
+    let inside : i < length rows = omega (arith, long) in
+    get_or-map (asked_by sources) t.outputs i unplaced unasked (omega (arith, long))
+    ∙ asked_is rate sources (get_or rows i blank) (demand_at ds i) (placed_at t i) (zipped_at (IsAsked rate sources) rows ds i blank unasked inside m.asked) (m.fit i (omega (arith, long)))
     (source_at n rate sources rows ds l t m i inside) (period_at n rate sources rows ds l t m i inside))
 
 served : (n rate : ℕ) (sources : List SourceRow) (rows : List OutputRow) (ds : List Demand) (l : Layout) (t : SlotTable) → IsMade n rate sources rows ds l t → AllZip (IsServed rate) rows (outputs_of t)
 served n rate sources rows ds l t m =
     let (many, same) = counts n rate sources rows ds l t m in
-    zip_by (IsServed rate) rows (outputs_of t) blank (placed_at t 0) (length-outputs t ∙ many ∙ same) (λ i below.
+    zip_by (IsServed rate) rows t.outputs blank unplaced (many ∙ same) (λ i below.
     let row : OutputRow = get_or rows i blank in
     let asked : IsAsked rate sources row (demand_at ds i) = zipped_at (IsAsked rate sources) rows ds i blank unasked below m.asked in
     let period : HasPeriod rate row (exponent_of (demand_at ds i)) =
     period_from (demand_at ds i).period (HasNoGridPeriod row.min_us row.max_us rate) (HasPeriod rate row) asked.period (m.fit i (omega arith)) in
     let limits : (placed_at t i).limits ≡ limits_at rate row =
-    limits_read rate rows t.limits i (ap (λ k. take k t.limits) (sym (many ∙ same)) ∙ m.table.limits) below in
-    subst (IsServed rate row) (sym (output_at t i (placed_at t 0) (omega arith))) (
+    mapped_at (λ (x : Placed). x.limits) (limits_at rate) t.outputs rows i unplaced blank m.table.limits (omega arith) below in (
       source_at n rate sources rows ds l t m i below,
       subst (HasPeriod rate row) (sym (period_at n rate sources rows ds l t m i below)) period,
       ap (λ (k : SendLimits). k.hold) limits,
       subst (λ (k : SendLimits). IsLeastSpacing row.min_us rate k.spacing) (sym limits) (m.least row.min_us rate),
     ))
-
-shares : (n rate : ℕ) (sources : List SourceRow) (rows : List OutputRow) (ds : List Demand) (l : Layout) (t : SlotTable) → IsMade n rate sources rows ds l t
-    → t.demands ≡ map (λ o. frame_of t / 2 ^ get_or t.periods o 0) (order_of t)
-shares n rate sources rows ds l t m =
-    let (many, same) = counts n rate sources rows ds l t m in
-    m.table.demands ∙ m.shares ∙ map_where (λ i. 2 ^ l.frame / period_of (demand_at ds i)) (λ o. frame_of t / 2 ^ get_or t.periods o 0) l.inputs (λ k below.
-    let o : ℕ = get_or l.inputs k 0 in
-    let known : o < length ds = m.inputs.below k (omega (arith, m.inputs.length)) in
-    ap (λ h. 2 ^ h / period_of (demand_at ds o)) (sym m.table.frame)
-    ∙ ap (λ e. frame_of t / 2 ^ e) (sym (period_at n rate sources rows ds l t m o (omega arith))))
-    ∙ ap (map (λ o. frame_of t / 2 ^ get_or t.periods o 0)) (sym m.table.order)
 
 layout : (n rate : ℕ) (sources : List SourceRow) (rows : List OutputRow) (ds : List Demand) (l : Layout) (t : SlotTable) → IsMade n rate sources rows ds l t → IsLayout sources t
 layout n rate sources rows ds l t m =
@@ -144,7 +121,6 @@ layout n rate sources rows ds l t m =
     record {
       frame = m.table.frame ∙ m.frame ∙ ap (λ xs. greatest (map exponent_of xs)) back;
       order = subst (λ (xs : List Demand). IsLayoutOrder xs (order_of t)) back (subst (IsLayoutOrder ds) (sym m.table.order) m.order);
-      demands = shares n rate sources rows ds l t m;
       places = m.table.places;
     }
 
@@ -158,7 +134,7 @@ pub planned : (n rate : ℕ) (sources : List SourceRow) (rows : List OutputRow) 
 planned n rate sources rows ds l t m = record {
   served = served n rate sources rows ds l t m;
   layout = layout n rate sources rows ds l t m;
-  periodic = λ o below. stands_just_at n t m.sound m.each m.apart o (omega (arith, length-outputs t));
+  periodic = λ o below. stands_just_at n t m.sound m.each m.apart o below;
   fewest = fewest_for rate sources rows ds (buses_of t) m.asked m.fit (subst (AreFewestBuses (exponents_of ds)) (sym m.table.buses) m.fewest);
   few_buses = m.sound.few;
   few_slots = let one : 0 < 2 = omega arith in pow-le-pow_right {n = 2} one {i = t.frame} {j = 13} m.sound.frame;

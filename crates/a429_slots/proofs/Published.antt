@@ -1,10 +1,11 @@
 -- Where the plans in force come from.
-use Rattle.std.proofs.Common.{◌≡◌, ℕ, zero, suc, ◌+◌, ◌<◌, ◌≤◌, true, false, List, [], ◌∷◌, ◌++◌, length, take, ◌∙◌, sym, ap, subst, refl, inl, inr, ◌⊎◌, arith, append-nil, append_assoc}
+use Rattle.std.proofs.Common.{◌≡◌, ℕ, ◌+◌, ◌<◌, ◌≤◌, true, false, List, [], ◌∷◌, ◌++◌, length, take, ◌∙◌, sym, ap, subst, refl, inl, inr, ◌⊎◌, arith, append-nil, append_assoc}
 use Rattle.std.specs.Prelude.{Option, Some, None, filter_map, slice_get, unwrap_or}
 use Rattle.std.specs.Option.{option_map_or}
 use Rattle.std.proofs.lemmas.List.{length_push, take-append-le, take_all}
 use Rattle.std.proofs.lemmas.List.Elements.{filter_map-append}
 use Rattle.std.proofs.lemmas.Bool.{cases_Bool, cases_lt}
+use Rattle.a429_word.proofs.Lists.{none_cut}
 use Rattle.a429_equipment.specs.SameStation.{same_station}
 use Rattle.a429_slots.specs.Tables.{SlotTable, PlanTable, groups_of}
 use Rattle.a429_slots.specs.Proposed.{Proposed}
@@ -87,10 +88,6 @@ origin_next o E (Publish q) P = elim (cases_Bool (same_station o.proposal.statio
   ]
   | inr other ↦ Origin-same_published o E (Publish q) (published-no_proposal o E (Publish q) (rw other refl)) P
 ]
-
-none_cut : (n : ℕ) → ◌≡◌ {A = List Proposed} (take n []) []
-none_cut zero = refl
-none_cut (suc n) = refl
 
 Origin-nil : (o : Opening) → Origin o []
 unfolding Origin

@@ -7,7 +7,14 @@ use Rattle.std.proofs.lemmas.List.Sums.{sum_by-append}
 use Rattle.std.proofs.lemmas.List.Folds.{list_any-append}
 use Rattle.std.proofs.lemmas.Bool.{cases_eq, cases_lt, eq-eqb, ne_eqb, lt-ltb, le-ltb}
 use Rattle.a429_slots.specs.History.{AnsweredCell, has_sent, times_sent, is_held, is_too_close, sent_word}
-use Rattle.a429_slots.specs.Recalling.{Recent, Recalls, never, times_of, may_send, sent_again}
+use Rattle.a429_slots.specs.Recalling.{Recent, Recalls, never, times_of, may_send, sent_again, RecentCountsSends, RecentDecides, RecentPassesOtherCells}
+
+-- what the law of sends says, in one
+pub record AreRecalled : Type 0 where
+  pub none : (source : ℕ) → Recalls [] source never
+  pub decides : RecentDecides
+  pub sent : RecentCountsSends
+  pub other : RecentPassesOtherCells
 
 -- ---- one more cell
 

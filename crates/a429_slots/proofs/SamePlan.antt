@@ -161,7 +161,7 @@ plan_spaced o g p E j k earlier now u t there after A B same number S =
 
 -- ---- the first cell after a change
 
-number_later : (g : ℕ) (f h : Current) → IsLater g f h → f.number ≤ h.number
+pub number_later : (g : ℕ) (f h : Current) → IsLater g f h → f.number ≤ h.number
 number_later g f h (inl S) = omega (arith, S.number)
 number_later g f h (inr M) = M.number
 

@@ -12,7 +12,7 @@ use Rattle.a429_slots.specs.Tables.{Placed, SlotTable, buses_of, outputs_of, pla
 use Rattle.a429_slots.specs.Kept.{StandsJustAt}
 use Rattle.a429_slots.specs.Planned.{IsServed, IsPlannedFor, asked_by, asked_of}
 use Rattle.a429_slots.specs.Spacing.{IsSpacedTable}
-use Rattle.a429_slots.proofs.Cells.{length-outputs, output_is}
+use Rattle.a429_slots.proofs.Cells.{output_is}
 use Rattle.a429_slots.proofs.OnBuses.{IsPacked, on_a_bus}
 use Rattle.a429_slots.proofs.Rows.{unasked}
 
@@ -34,8 +34,7 @@ row_of R (x ∷ xs) (z ∷ ys) (suc n) y all h =
 -- what stands under a number
 placed_is : (t : SlotTable) (n : ℕ) (x : Placed) → slice_get (outputs_of t) n ≡ Some x → x ≡ placed_at t n
 placed_is t n x h =
-    let inside : n < length (outputs_of t) = slice_get_within (outputs_of t) n x h in
-    same_Some x (placed_at t n) (sym h ∙ output_is t n (omega (arith, inside, length-outputs t)))
+    same_Some x (placed_at t n) (sym h ∙ output_is t n (slice_get_within (outputs_of t) n x h))
 
 pub spaced_table : IsPacked → (rate : ℕ) (sources : List SourceRow) (rows : List OutputRow) (t : SlotTable) → IsPlannedFor rate sources rows t
     → HaveOwnSources rows → IsSpacedTable t
@@ -45,8 +44,7 @@ spaced_table law rate sources rows t P own = record {
       let B = row_of (IsServed rate) rows (outputs_of t) b y P.served at_b in
       own a b A.row B.row A.there B.there (sym A.related.0 ∙ (same ∙ B.related.0));
   on_a_bus = λ n x h.
-      let inside : n < length (outputs_of t) = slice_get_within (outputs_of t) n x h in
-      subst (λ (y : Placed). y.place.bus < buses_of t) (sym (placed_is t n x h)) (on_a_bus law rate sources rows t P n (omega (arith, inside, length-outputs t)));
+      subst (λ (y : Placed). y.place.bus < buses_of t) (sym (placed_is t n x h)) (on_a_bus law rate sources rows t P n (slice_get_within (outputs_of t) n x h));
   periodic = λ n x h.
       let inside : n < length (outputs_of t) = slice_get_within (outputs_of t) n x h in
       subst (λ (y : Placed). StandsJustAt t n y.place.bus y.place.offset (2 ^ y.place.period)) (sym (placed_is t n x h)) (P.periodic n inside);

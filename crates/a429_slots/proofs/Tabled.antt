@@ -1,54 +1,36 @@
 -- A layout of demands makes a slot table.
 use Rattle.std.proofs.Common.{◌≡◌, ℕ, zero, suc, ◌+◌, ◌-◌, ◌*◌, ◌/◌, ◌%◌, ◌^◌, ◌<◌, ◌≤◌, List, length, take, get_or, map, sum, arith, refl, ap, ◌∙◌, sym, subst}
-use Rattle.std.specs.Prelude.{Option, slice_get, unwrap_or}
 use Rattle.std.specs.List.{AllByRecursion, range_with_len}
 use Rattle.std.specs.List.Sorted.{IsPermutation}
-use Rattle.std.proofs.lemmas.List.{length-map, length-take, get_or-map, get_or-take}
-use Rattle.std.proofs.lemmas.Option.{slice_get-get_or}
+use Rattle.std.proofs.lemmas.List.{length-map, get_or-map}
+use Rattle.std.proofs.lemmas.Nat.{pow-add, pow_pos, shl-shr, div_below}
 use Rattle.std.proofs.Math.Nat.{one-le-mul}
 use Rattle.a429_grid.specs.Grid.{IsLeastSpacing, least_spacing}
-use Rattle.a429_equipment.specs.Sound.{IsInterval}
-use Rattle.std.proofs.lemmas.Nat.{pow-add, pow_pos, shl-shr, div_below}
 use Rattle.a429_grid.specs.Reversal.{reversed}
+use Rattle.a429_equipment.specs.Sound.{IsInterval}
+use Rattle.a429_equipment.specs.declared.rows.OutputRow.{OutputRow}
 use Rattle.a429_pack.specs.declared.demands.Demand.{Demand}
 use Rattle.a429_pack.specs.Demands.{demand_at, exponent_of, period_of, frame_of}
+use Rattle.a429_pack.specs.Kept.{length-kept, padded}
 use Rattle.a429_pack.specs.Layout.{Layout, IsLaidOut}
 use Rattle.a429_pack.specs.Orders.{NamesEachOnce}
 use Rattle.a429_pack.specs.Schedules.{IsExactlyPeriodic}
 use Rattle.a429_pack.specs.Sums.{start_of, Holds}
-use Rattle.a429_equipment.specs.declared.rows.OutputRow.{OutputRow}
-use Rattle.a429_slots.specs.declared.group_plan.SendLimits.{SendLimits}
-use Rattle.a429_slots.specs.Tables.{SlotTable, unlimited}
-use Rattle.a429_slots.specs.Kept.{HoldsCell, IsTable}
-use Rattle.a429_slots.specs.Asked.{IsTableOf, limits_at}
-use Rattle.a429_slots.proofs.Rows.{blank, unasked, all_below}
 use Rattle.a429_pack.proofs.Packings.{demand_over}
-
--- the columns of a table, by the outputs' numbers but the first
-pub record Columns : Type 0 where
-  pub order : List ℕ
-  pub sources : List ℕ
-  pub on_bus : List ℕ
-  pub offsets : List ℕ
-  pub periods : List ℕ
-  pub limits : List SendLimits
-
-abbrev pub table : ℕ → ℕ → List ℕ → Columns → SlotTable
-table frame buses demands c = record {
-  frame = frame;
-  buses = buses;
-  demands = demands;
-  order = c.order;
-  sources = c.sources;
-  on_bus = c.on_bus;
-  offsets = c.offsets;
-  periods = c.periods;
-  limits = c.limits;
-}
+use Rattle.a429_pack.proofs.Tables.{padded-front}
+use Rattle.a429_slots.specs.declared.group_plan.GroupPlan.TheInside.{Inside}
+use Rattle.a429_slots.specs.declared.group_plan.SendLimits.{SendLimits}
+use Rattle.a429_slots.specs.Tables.{Placed, SlotTable, demands_of, placed_at, share_of, unlimited, unplaced}
+use Rattle.a429_slots.specs.Kept.{BeginsAt, HoldsCell, HoldsJustCellsOf, IsTable}
+use Rattle.a429_slots.specs.Columns.{AreColumns, placed_in, table_in}
+use Rattle.a429_slots.specs.Asked.{AreBusesOf, AreOffsetsOf, IsTableOf, limits_at}
+use Rattle.a429_slots.proofs.Columns.{column_is, length-table, map_where, mapped_at, placed_kept}
+use Rattle.a429_slots.proofs.Rows.{blank, unasked, all_below}
 
 -- what is known of the columns when a table is made of them
-pub record AreColumns (l : Layout) (rows : List OutputRow) (ds : List Demand) (c : Columns) : Type 0 where
+pub record AreFilled (n : ℕ) (l : Layout) (rows : List OutputRow) (ds : List Demand) (c : Inside n) : Type 0 where
   pub rate : ℕ
+  pub room : length l.inputs ≤ n
   pub laid : IsLaidOut l
   pub each : NamesEachOnce (length l.demands) l.inputs
   pub within : (x k : ℕ) → Holds l.demands x k → x < sum l.demands
@@ -57,24 +39,17 @@ pub record AreColumns (l : Layout) (rows : List OutputRow) (ds : List Demand) (c
   pub asked_long : length ds ≡ length l.inputs
   pub greatest : l.frame ≡ frame_of ds
   pub shares : l.demands ≡ map (λ i. 2 ^ l.frame / period_of (demand_at ds i)) l.inputs
-  pub order : take (length l.inputs) c.order ≡ l.inputs
-  pub sources : take (length rows) c.sources ≡ map (λ (r : OutputRow). r.source) rows
-  pub periods : take (length ds) c.periods ≡ map exponent_of ds
-  pub limits : take (length rows) c.limits ≡ map (limits_at rate) rows
+  pub order : c.order ≡ padded 0 n l.inputs
+  pub sources : c.sources ≡ padded 0 n (map (λ (r : OutputRow). r.source) rows)
+  pub periods : c.periods ≡ padded 0 n (map exponent_of ds)
+  pub limits : c.limits ≡ padded unlimited n (map (limits_at rate) rows)
   pub least : (min_us rate : ℕ) → IsLeastSpacing min_us rate (least_spacing min_us rate)
   pub intervals : AllByRecursion IsInterval rows
   pub some_rate : 1 ≤ rate
-  pub bus : (k : ℕ) → k < length l.inputs → get_or c.on_bus (get_or l.inputs k 0) 0 ≡ start_of l.demands k / 2 ^ l.frame
-  pub offset : (k : ℕ) → k < length l.inputs → get_or c.offsets (get_or l.inputs k 0) 0 ≡ reversed l.frame (start_of l.demands k % 2 ^ l.frame)
-
--- what is kept of the limits of an output
-pub limits_read : (rate : ℕ) (rows : List OutputRow) (xs : List SendLimits) (o : ℕ) → take (length rows) xs ≡ map (limits_at rate) rows → o < length rows
-    → unwrap_or (slice_get xs o) unlimited ≡ limits_at rate (get_or rows o blank)
-limits_read rate rows xs o are below =
-    let many : length (take (length rows) xs) ≡ length rows = ap (λ (zs : List SendLimits). length zs) are ∙ length-map rows (limits_at rate) in
-    let inside : o < length xs = omega (arith, many, length-take (length rows) xs) in
-    ap (λ (x : Option SendLimits). unwrap_or x unlimited) (slice_get-get_or xs o unlimited inside)
-    ∙ (sym (get_or-take (length rows) xs o unlimited below) ∙ (ap (λ (zs : List SendLimits). get_or zs o unlimited) are ∙ get_or-map (limits_at rate) rows o blank unlimited below))
+  pub bus : AreBusesOf l c.on_bus
+  pub offset : AreOffsetsOf l c.offsets
+  pub bus_rest : c.on_bus ≡ padded 0 n (take (length l.inputs) c.on_bus)
+  pub offset_rest : c.offsets ≡ padded 0 n (take (length l.inputs) c.offsets)
 
 -- words of an interval of some microseconds are some slots apart
 some_spacing : (min_us rate q : ℕ) → IsLeastSpacing min_us rate q → 1 ≤ min_us → 1 ≤ rate → 1 ≤ q
@@ -89,97 +64,165 @@ period_back h e few =
     let digits : e + (h - e) ≡ h = omega arith in
     ap (λ z. 2 ^ h / z) (demand_over h e few) ∙ ap (λ z. z / 2 ^ (h - e)) (ap (λ z. 2 ^ z) (sym digits) ∙ pow-add 2 e (h - e)) ∙ shl-shr (2 ^ e) (h - e)
 
--- the output at a place
-order_at : (l : Layout) (rows : List OutputRow) (ds : List Demand) (c : Columns) → AreColumns l rows ds c → (k : ℕ) → k < length l.inputs → get_or c.order k 0 ≡ get_or l.inputs k 0
-order_at l rows ds c p k below = sym (get_or-take (length l.inputs) c.order k 0 below) ∙ ap (λ xs. get_or xs k 0) p.order
+-- the columns with the frame, the buses and the demands of a layout, and their table
+abbrev pub laid_in : {n : ℕ} → Layout → Inside n → Inside n
+laid_in l c = record c { frame = l.frame; buses = l.buses; sums = l.demands }
 
--- the period of an output
-period_at : (l : Layout) (rows : List OutputRow) (ds : List Demand) (c : Columns) → AreColumns l rows ds c → (o : ℕ) → o < length l.inputs → get_or c.periods o 0 ≡ exponent_of (demand_at ds o)
-period_at l rows ds c p o below =
-    sym (get_or-take (length ds) c.periods o 0 (omega (arith, p.asked_long))) ∙ ap (λ xs. get_or xs o 0) p.periods
-    ∙ get_or-map exponent_of ds o unasked 0 (omega (arith, p.asked_long))
+abbrev table : {n : ℕ} → Layout → Inside n → SlotTable
+table l c = table_in (laid_in l c)
 
-few_exponent : (l : Layout) (rows : List OutputRow) (ds : List Demand) (c : Columns) → AreColumns l rows ds c → (o : ℕ) → o < length l.inputs → get_or c.periods o 0 ≤ l.frame
-few_exponent l rows ds c p o below =
-    let there : get_or c.periods o 0 ≡ get_or (map exponent_of ds) o 0 =
-    sym (get_or-take (length ds) c.periods o 0 (omega (arith, p.asked_long))) ∙ ap (λ xs. get_or xs o 0) p.periods in
-    omega (arith, there, p.longest o (omega (arith, length-map ds exponent_of, p.asked_long)), p.greatest)
+module _ (n : ℕ) (l : Layout) (rows : List OutputRow) (ds : List Demand) (c : Inside n) (p : AreFilled n l rows ds c) where
+  long : length (table l c).outputs ≡ length l.inputs
+  long = length-table (laid_in l c) ∙ sym p.each.length
 
--- the share of the output at a place
-share_at : (l : Layout) (rows : List OutputRow) (ds : List Demand) (c : Columns) → AreColumns l rows ds c → (k : ℕ) → k < length l.inputs
-    → get_or l.demands k 0 ≡ 2 ^ l.frame / 2 ^ get_or c.periods (get_or l.inputs k 0) 0
-share_at l rows ds c p k below =
-    let o : ℕ = get_or l.inputs k 0 in
-    let known : o < length l.inputs = omega (arith, p.each.below k (omega (arith, p.each.length)), p.each.length) in
-    ap (λ xs. get_or xs k 0) p.shares ∙ get_or-map (λ i. 2 ^ l.frame / period_of (demand_at ds i)) l.inputs k 0 0 below
-    ∙ ap (λ e. 2 ^ l.frame / 2 ^ e) (sym (period_at l rows ds c p o known))
+  placed : (o : ℕ) → o < length l.inputs → placed_at (table l c) o ≡ placed_in (laid_in l c) o
+  placed o below = placed_kept (laid_in l c) o (omega (arith, p.each.length))
 
--- a stretch begins before the end of the last bus
-begins_inside : (l : Layout) (rows : List OutputRow) (ds : List Demand) (c : Columns) → AreColumns l rows ds c → (k : ℕ) → k < length l.inputs → start_of l.demands k / 2 ^ l.frame < l.buses
-begins_inside l rows ds c p k below =
-    let o : ℕ = get_or l.inputs k 0 in
-    let known : o < length l.inputs = omega (arith, p.each.below k (omega (arith, p.each.length)), p.each.length) in
-    let share : get_or l.demands k 0 ≡ 2 ^ (l.frame - get_or c.periods o 0) =
-    share_at l rows ds c p k below ∙ demand_over l.frame (get_or c.periods o 0) (few_exponent l rows ds c p o known) in
-    let holds : Holds l.demands (start_of l.demands k) k = (omega (arith, p.each.length), omega arith, omega (arith, share, pow_pos (l.frame - get_or c.periods o 0))) in
-    div_below (start_of l.demands k) (2 ^ l.frame) l.buses (pow_pos l.frame) (omega (arith, p.within (start_of l.demands k) k holds, p.laid.room))
+  known : (k : ℕ) → k < length l.inputs → get_or l.inputs k 0 < length l.inputs
+  known k below = omega (arith, p.each.below k (omega (arith, p.each.length)), p.each.length)
 
-periodic_at : (l : Layout) (rows : List OutputRow) (ds : List Demand) (c : Columns) → AreColumns l rows ds c → (k : ℕ) → k < length l.inputs
-    → IsExactlyPeriodic (HoldsCell (table l.frame l.buses l.demands c) k) (get_or c.on_bus (get_or l.inputs k 0) 0) (get_or c.offsets (get_or l.inputs k 0) 0) (2 ^ get_or c.periods (get_or l.inputs k 0) 0)
-periodic_at l rows ds c p k below =
-    let o : ℕ = get_or l.inputs k 0 in
-    let known : o < length l.inputs = omega (arith, p.each.below k (omega (arith, p.each.length)), p.each.length) in
-    let period : 2 ^ l.frame / get_or l.demands k 0 ≡ 2 ^ get_or c.periods o 0 =
-    ap (λ z. 2 ^ l.frame / z) (share_at l rows ds c p k below) ∙ period_back l.frame (get_or c.periods o 0) (few_exponent l rows ds c p o known) in
-    subst (λ (z : ℕ). IsExactlyPeriodic (HoldsCell (table l.frame l.buses l.demands c) k) z (get_or c.offsets o 0) (2 ^ get_or c.periods o 0)) (sym (p.bus k below))
-    (subst (λ (z : ℕ). IsExactlyPeriodic (HoldsCell (table l.frame l.buses l.demands c) k) (start_of l.demands k / 2 ^ l.frame) z (2 ^ get_or c.periods o 0)) (sym (p.offset k below))
-    (subst (λ (z : ℕ). IsExactlyPeriodic (HoldsCell (table l.frame l.buses l.demands c) k) (start_of l.demands k / 2 ^ l.frame) (reversed l.frame (start_of l.demands k % 2 ^ l.frame)) z) period
-    (p.laid.periodic k (omega (arith, p.each.length)))))
+  -- ---- each column
 
-pub is_table : (n : ℕ) (l : Layout) (rows : List OutputRow) (ds : List Demand) (c : Columns) → AreColumns l rows ds c → length l.inputs ≤ n → IsTable n (table l.frame l.buses l.demands c)
-is_table n l rows ds c p room =
-    let count : length l.inputs ≡ length l.demands = p.each.length in
-    let order : take (length l.demands) c.order ≡ l.inputs = ap (λ m. take m c.order) (sym count) ∙ p.order in
-    record {
-      room = omega arith;
-      frame = p.laid.frame;
-      few = p.laid.few;
-      order = subst (λ (is : List ℕ). IsPermutation (range_with_len 0 (length l.demands)) is) (sym order) p.laid.inputs;
-      fits = p.laid.room;
-      within = λ o below. few_exponent l rows ds c p o (omega arith);
-      spaced = λ o below.
-          let inside : o < length rows = omega (arith, p.rows_long) in
-          let row : OutputRow = get_or rows o blank in
-          let is : unwrap_or (slice_get c.limits o) unlimited ≡ limits_at p.rate row = limits_read p.rate rows c.limits o p.limits inside in
-          let some : 1 ≤ least_spacing row.min_us p.rate =
-          some_spacing row.min_us p.rate (least_spacing row.min_us p.rate) (p.least row.min_us p.rate) (all_below IsInterval rows o blank inside p.intervals).0 p.some_rate in
-          subst (λ (k : SendLimits). 1 ≤ k.spacing) (sym is) some;
-      on_bus = λ o below.
-          let (k, here, is) = p.each.place o below in
-          let inside : k < length l.inputs = omega arith in
-          subst (λ (z : ℕ). get_or c.on_bus z 0 < l.buses) is (omega (arith, p.bus k inside, begins_inside l rows ds c p k inside));
-      periodic = λ k below.
-          let inside : k < length l.inputs = omega arith in
-          subst (λ (z : ℕ). IsExactlyPeriodic (HoldsCell (table l.frame l.buses l.demands c) k) (get_or c.on_bus z 0) (get_or c.offsets z 0) (2 ^ get_or c.periods z 0))
-          (sym (order_at l rows ds c p k inside)) (periodic_at l rows ds c p k inside);
-    }
+  order : (table l c).order ≡ l.inputs
+  order = ap (take (length l.demands)) p.order ∙ padded-front 0 n l.inputs (length l.demands) p.each.length
 
-pub is_table_of : (l : Layout) (rows : List OutputRow) (ds : List Demand) (c : Columns) → (p : AreColumns l rows ds c) → IsTableOf p.rate l rows ds (table l.frame l.buses l.demands c)
-is_table_of l rows ds c p =
-    let count : length l.inputs ≡ length l.demands = p.each.length in
-    record {
-      frame = refl;
-      buses = refl;
-      demands = refl;
-      order = ap (λ m. take m c.order) (sym count) ∙ p.order;
-      sources = ap (λ m. take m c.sources) (sym count ∙ sym p.rows_long) ∙ p.sources;
-      periods = ap (λ m. take m c.periods) (sym count ∙ sym p.asked_long) ∙ p.periods;
-      limits = ap (λ m. take m c.limits) (sym count ∙ sym p.rows_long) ∙ p.limits;
-      places = λ k below.
-          let inside : k < length l.inputs = omega arith in
-          let there : get_or c.order k 0 ≡ get_or l.inputs k 0 = order_at l rows ds c p k inside in
-          record {
-            bus = ap (λ z. get_or c.on_bus z 0) there ∙ p.bus k inside;
-            offset = ap (λ z. get_or c.offsets z 0) there ∙ p.offset k inside;
-          };
-    }
+  sources : map (λ x. x.source) (table l c).outputs ≡ map (λ (r : OutputRow). r.source) rows
+  sources =
+      column_is 0 n (length l.demands) (λ x. x.source) (placed_in (laid_in l c)) c.sources (map (λ (r : OutputRow). r.source) rows) (λ o. refl) p.sources
+      (length-map rows (λ (r : OutputRow). r.source) ∙ p.rows_long ∙ p.each.length)
+
+  periods : map (λ x. x.place.period) (table l c).outputs ≡ map exponent_of ds
+  periods =
+      column_is 0 n (length l.demands) (λ x. x.place.period) (placed_in (laid_in l c)) c.periods (map exponent_of ds) (λ o. refl) p.periods
+      (length-map ds exponent_of ∙ p.asked_long ∙ p.each.length)
+
+  limits : map (λ x. x.limits) (table l c).outputs ≡ map (limits_at p.rate) rows
+  limits =
+      column_is unlimited n (length l.demands) (λ x. x.limits) (placed_in (laid_in l c)) c.limits (map (limits_at p.rate) rows) (λ o. refl) p.limits
+      (length-map rows (limits_at p.rate) ∙ p.rows_long ∙ p.each.length)
+
+  buses : map (λ x. x.place.bus) (table l c).outputs ≡ take (length l.inputs) c.on_bus
+  buses =
+      column_is 0 n (length l.demands) (λ x. x.place.bus) (placed_in (laid_in l c)) c.on_bus (take (length l.inputs) c.on_bus) (λ o. refl) p.bus_rest
+      (length-kept 0 n c.on_bus (length l.inputs) p.room p.bus_rest ∙ p.each.length)
+
+  offsets : map (λ x. x.place.offset) (table l c).outputs ≡ take (length l.inputs) c.offsets
+  offsets =
+      column_is 0 n (length l.demands) (λ x. x.place.offset) (placed_in (laid_in l c)) c.offsets (take (length l.inputs) c.offsets) (λ o. refl) p.offset_rest
+      (length-kept 0 n c.offsets (length l.inputs) p.room p.offset_rest ∙ p.each.length)
+
+  -- ---- each output
+
+  period_at : (o : ℕ) → o < length l.inputs → (placed_at (table l c) o).place.period ≡ exponent_of (demand_at ds o)
+  period_at o below =
+      mapped_at (λ (x : Placed). x.place.period) exponent_of (table l c).outputs ds o unplaced unasked periods (omega (arith, long)) (omega (arith, p.asked_long))
+
+  few_exponent : (o : ℕ) → o < length l.inputs → (placed_at (table l c) o).place.period ≤ l.frame
+  few_exponent o below =
+      let inside : o < length ds = omega (arith, p.asked_long) in
+      let least : get_or (map exponent_of ds) o 0 ≤ frame_of ds = p.longest o (omega (arith, length-map ds exponent_of)) in
+      omega (arith, period_at o below, get_or-map exponent_of ds o unasked 0 inside, least, p.greatest)
+
+  bus_at : (k : ℕ) → k < length l.inputs → (placed_at (table l c) (get_or l.inputs k 0)).place.bus ≡ start_of l.demands k / 2 ^ l.frame
+  bus_at k below = ap (λ (x : Placed). x.place.bus) (placed (get_or l.inputs k 0) (known k below)) ∙ p.bus k below
+
+  offset_at : (k : ℕ) → k < length l.inputs → (placed_at (table l c) (get_or l.inputs k 0)).place.offset ≡ reversed l.frame (start_of l.demands k % 2 ^ l.frame)
+  offset_at k below = ap (λ (x : Placed). x.place.offset) (placed (get_or l.inputs k 0) (known k below)) ∙ p.offset k below
+
+  spaced_at : (o : ℕ) → o < length l.inputs → 1 ≤ (placed_at (table l c) o).limits.spacing
+  spaced_at o below =
+      let inside : o < length rows = omega (arith, p.rows_long) in
+      let row : OutputRow = get_or rows o blank in
+      let is : (placed_at (table l c) o).limits ≡ limits_at p.rate row =
+      mapped_at (λ (x : Placed). x.limits) (limits_at p.rate) (table l c).outputs rows o unplaced blank limits (omega (arith, long)) inside in
+      let some : 1 ≤ least_spacing row.min_us p.rate =
+      some_spacing row.min_us p.rate (least_spacing row.min_us p.rate) (p.least row.min_us p.rate) (all_below IsInterval rows o blank inside p.intervals).0 p.some_rate in
+      subst (λ (k : SendLimits). 1 ≤ k.spacing) (sym is) some
+
+  -- ---- the demands
+
+  demands : demands_of (table l c) ≡ l.demands
+  demands =
+      ap (map (share_of (table l c))) order
+      ∙ map_where (share_of (table l c)) (λ i. 2 ^ l.frame / period_of (demand_at ds i)) l.inputs (λ k below.
+      ap (λ e. 2 ^ l.frame / 2 ^ e) (period_at (get_or l.inputs k 0) (known k below)))
+      ∙ sym p.shares
+
+  -- the share of the output at a place
+  share_at : (k : ℕ) → k < length l.inputs → get_or l.demands k 0 ≡ share_of (table l c) (get_or l.inputs k 0)
+  share_at k below =
+      ap (λ xs. get_or xs k 0) (sym demands ∙ ap (map (share_of (table l c))) order) ∙ get_or-map (share_of (table l c)) l.inputs k 0 0 below
+
+  -- a stretch begins before the end of the last bus
+  begins_inside : (k : ℕ) → k < length l.inputs → start_of l.demands k / 2 ^ l.frame < l.buses
+  begins_inside k below =
+      let o : ℕ = get_or l.inputs k 0 in
+      let e : ℕ = (placed_at (table l c) o).place.period in
+      let share : get_or l.demands k 0 ≡ 2 ^ (l.frame - e) = share_at k below ∙ demand_over l.frame e (few_exponent o (known k below)) in
+      let holds : Holds l.demands (start_of l.demands k) k = (omega (arith, p.each.length), omega arith, omega (arith, share, pow_pos (l.frame - e))) in
+      div_below (start_of l.demands k) (2 ^ l.frame) l.buses (pow_pos l.frame) (omega (arith, p.within (start_of l.demands k) k holds, p.laid.room))
+
+  periodic : (k : ℕ) → k < length l.inputs → HoldsJustCellsOf (table l c) k (placed_at (table l c) (get_or l.inputs k 0))
+  periodic k below =
+      let o : ℕ = get_or l.inputs k 0 in
+      let x : Placed = placed_at (table l c) o in
+      let first : ℕ = start_of l.demands k / 2 ^ l.frame in
+      let second : ℕ = reversed l.frame (start_of l.demands k % 2 ^ l.frame) in
+      let period : 2 ^ l.frame / get_or l.demands k 0 ≡ 2 ^ x.place.period =
+      ap (λ z. 2 ^ l.frame / z) (share_at k below) ∙ period_back l.frame x.place.period (few_exponent o (known k below)) in
+      subst (λ (z : ℕ). IsExactlyPeriodic (HoldsCell (table l c) k) z x.place.offset (2 ^ x.place.period)) (sym (bus_at k below))
+      (subst (λ (z : ℕ). IsExactlyPeriodic (HoldsCell (table l c) k) first z (2 ^ x.place.period)) (sym (offset_at k below))
+      (subst (λ (z : ℕ). IsExactlyPeriodic (HoldsCell (table l c) k) first second z) period
+      (subst (λ (zs : List ℕ). IsExactlyPeriodic (λ bus slot. Holds zs (bus * 2 ^ l.frame + reversed l.frame (slot % 2 ^ l.frame)) k) first second (2 ^ l.frame / get_or l.demands k 0)) (sym demands)
+      (p.laid.periodic k (omega (arith, p.each.length))))))
+
+  -- ---- the table
+
+  pub is_table_of : IsTableOf p.rate l rows ds (table_in (laid_in l c))
+  is_table_of = record {
+    frame = refl;
+    buses = refl;
+    demands = demands;
+    order = order;
+    sources = sources;
+    periods = periods;
+    limits = limits;
+    places = λ k below.
+        let inside : k < length l.inputs = omega (arith, long) in
+        subst (λ (ds : List ℕ). BeginsAt (table l c) (get_or (table l c).order k 0) (start_of ds k)) (sym demands)
+        (subst (λ (is : List ℕ). BeginsAt (table l c) (get_or is k 0) (start_of l.demands k)) (sym order) (record { bus = bus_at k inside; offset = offset_at k inside }));
+  }
+
+  pub is_table : IsTable n (table_in (laid_in l c))
+  is_table = record {
+    room = omega (arith, long, p.room);
+    frame = p.laid.frame;
+    few = p.laid.few;
+    order = subst (λ (m : ℕ). IsPermutation (range_with_len 0 m) (table l c).order) (sym (length-table (laid_in l c)))
+        (subst (λ (is : List ℕ). IsPermutation (range_with_len 0 (length l.demands)) is) (sym order) p.laid.inputs);
+    fits = subst (λ (zs : List ℕ). sum zs ≤ l.buses * 2 ^ l.frame) (sym demands) p.laid.room;
+    within = λ o below. few_exponent o (omega (arith, long));
+    spaced = λ o below. spaced_at o (omega (arith, long));
+    on_bus = λ o below.
+        let (k, here, is) = p.each.place o (omega (arith, long, p.each.length)) in
+        let inside : k < length l.inputs = omega (arith, p.each.length) in
+        subst (λ (z : ℕ). (placed_at (table l c) z).place.bus < l.buses) is (omega (arith, bus_at k inside, begins_inside k inside));
+    periodic = λ k below.
+        subst (λ (is : List ℕ). HoldsJustCellsOf (table l c) k (placed_at (table l c) (get_or is k 0))) (sym order) (periodic k (omega (arith, long)));
+  }
+
+  pub are_columns : AreColumns n (laid_in l c)
+  are_columns = record {
+    kept = λ i. record {
+      frame = l.frame;
+      buses = l.buses;
+      sums = demands i;
+      order = (ap (padded 0 n) order ∙ sym p.order) i;
+      sources = (ap (padded 0 n) sources ∙ sym p.sources) i;
+      on_bus = (ap (padded 0 n) buses ∙ sym p.bus_rest) i;
+      offsets = (ap (padded 0 n) offsets ∙ sym p.offset_rest) i;
+      periods = (ap (padded 0 n) periods ∙ sym p.periods) i;
+      limits = (ap (padded unlimited n) limits ∙ sym p.limits) i;
+    };
+    table = is_table;
+  }

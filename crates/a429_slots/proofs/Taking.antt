@@ -122,7 +122,7 @@ reached o g p E T agrees (suc k) within =
 
 -- ---- what takes a Frame
 
-frame_event : (g : ℕ) (e : Event) → is_frame g e ≡ true → e ≡ Frame g
+pub frame_event : (g : ℕ) (e : Event) → is_frame g e ≡ true → e ≡ Frame g
 frame_event g (Arrive r raw) h = absurd (clash h)
 frame_event g (Cell k) h = absurd (clash h)
 frame_event g (Frame k) h = ap Frame (eqb-true k g h)

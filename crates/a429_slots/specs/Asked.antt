@@ -1,5 +1,5 @@
 -- What the rows of a group ask of its layout.
-use Rattle.std.specs.Prelude.{◌≡◌, ◌/◌, ◌%◌, ◌^◌, ◌<◌, ℕ, List, Some, MatchOption, length, map, slice_get, slice_index, take}
+use Rattle.std.specs.Prelude.{◌≡◌, ◌/◌, ◌%◌, ◌^◌, ◌<◌, ℕ, List, Some, MatchOption, length, map, slice_get, slice_index}
 use Rattle.a429_grid.specs.Grid.{HasNoGridPeriod, least_spacing}
 use Rattle.a429_grid.specs.Reversal.{reversed}
 use Rattle.a429_pack.specs.declared.demands.Demand.{Demand}
@@ -9,7 +9,7 @@ use Rattle.a429_pack.specs.Sums.{start_of}
 use Rattle.a429_equipment.specs.declared.rows.OutputRow.{OutputRow}
 use Rattle.a429_equipment.specs.declared.rows.SourceRow.{SourceRow}
 use Rattle.a429_slots.specs.declared.group_plan.SendLimits.{SendLimits}
-use Rattle.a429_slots.specs.Tables.{SlotTable, order_of}
+use Rattle.a429_slots.specs.Tables.{SlotTable, demands_of}
 use Rattle.a429_slots.specs.Kept.{BeginsAt}
 use Rattle.a429_slots.specs.Planned.{HasPeriod}
 
@@ -38,9 +38,9 @@ AreOffsetsOf l offsets =
 pub record IsTableOf (rate : ℕ) (l : Layout) (rows : List OutputRow) (asked : List Demand) (t : SlotTable) : Type 0 where
   pub frame : t.frame ≡ l.frame
   pub buses : t.buses ≡ l.buses
-  pub demands : t.demands ≡ l.demands
-  pub order : order_of t ≡ l.inputs
-  pub sources : take (length t.demands) t.sources ≡ map (λ (r : OutputRow). r.source) rows
-  pub periods : take (length t.demands) t.periods ≡ map exponent_of asked
-  pub limits : take (length t.demands) t.limits ≡ map (limits_at rate) rows
-  pub places : (k : ℕ) → k < length t.demands → BeginsAt t (slice_index t.order k) (start_of t.demands k)
+  pub demands : demands_of t ≡ l.demands
+  pub order : t.order ≡ l.inputs
+  pub sources : map (λ x. x.source) t.outputs ≡ map (λ (r : OutputRow). r.source) rows
+  pub periods : map (λ x. x.place.period) t.outputs ≡ map exponent_of asked
+  pub limits : map (λ x. x.limits) t.outputs ≡ map (limits_at rate) rows
+  pub places : (k : ℕ) → k < length t.outputs → BeginsAt t (slice_index t.order k) (start_of (demands_of t) k)

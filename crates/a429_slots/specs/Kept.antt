@@ -5,31 +5,34 @@ use Rattle.std.specs.List.Sorted.{IsPermutation}
 use Rattle.a429_grid.specs.Reversal.{reversed}
 use Rattle.a429_pack.specs.Schedules.{IsExactlyPeriodic}
 use Rattle.a429_pack.specs.Sums.{Holds}
-use Rattle.a429_slots.specs.Tables.{SlotTable, placed_at, cell_at, frame_of, buses_of, order_of}
+use Rattle.a429_slots.specs.Tables.{Placed, SlotTable, placed_at, cell_at, frame_of, buses_of, demands_of}
 
 -- the stretch of the output at place k of the layout has the cell: cells are counted bus by bus, and on a bus by the slot with its digits
 -- in reverse
 abbrev pub HoldsCell : SlotTable → ℕ → ℕ → ℕ → Type 0
-HoldsCell t k bus slot = Holds t.demands (bus * frame_of t + reversed t.frame (slot % frame_of t)) k
+HoldsCell t k bus slot = Holds (demands_of t) (bus * frame_of t + reversed t.frame (slot % frame_of t)) k
 
 -- one bus and one offset: the output stands in the cells of that bus once in every period, and in no others
 abbrev pub StandsJustAt : SlotTable → ℕ → ℕ → ℕ → ℕ → Type 0
 StandsJustAt t o bus offset period = IsExactlyPeriodic (λ row slot. cell_at t row slot ≡ Some o) bus offset period
 
+-- the stretch at place k of the layout has just the cells of this output
+abbrev pub HoldsJustCellsOf : SlotTable → ℕ → Placed → Type 0
+HoldsJustCellsOf t k o = IsExactlyPeriodic (HoldsCell t k) o.place.bus o.place.offset (2 ^ o.place.period)
+
 -- the stretch of an output begins at a place: so many places on from the first bus's, and the slot has the digits of the rest in reverse
 pub record BeginsAt (t : SlotTable) (o start : ℕ) : Type 0 where
-  pub bus : slice_index t.on_bus o ≡ start / frame_of t
-  pub offset : slice_index t.offsets o ≡ reversed t.frame (start % frame_of t)
+  pub bus : (placed_at t o).place.bus ≡ start / frame_of t
+  pub offset : (placed_at t o).place.offset ≡ reversed t.frame (start % frame_of t)
 
 -- a table of at most n outputs, each with the cells of its stretch
 pub record IsTable (n : ℕ) (t : SlotTable) : Type 0 where
-  pub room : length t.demands ≤ n
+  pub room : length t.outputs ≤ n
   pub frame : t.frame ≤ 13
   pub few : buses_of t ≤ 16
-  pub order : IsPermutation (range_with_len 0 (length t.demands)) (order_of t)
-  pub fits : sum t.demands ≤ buses_of t * frame_of t
-  pub within : (o : ℕ) → o < length t.demands → slice_index t.periods o ≤ t.frame
-  pub on_bus : (o : ℕ) → o < length t.demands → slice_index t.on_bus o < buses_of t
-  pub spaced : (o : ℕ) → o < length t.demands → 1 ≤ (placed_at t o).limits.spacing
-  pub periodic : (k : ℕ) → k < length t.demands
-      → IsExactlyPeriodic (HoldsCell t k) (slice_index t.on_bus (slice_index t.order k)) (slice_index t.offsets (slice_index t.order k)) (2 ^ slice_index t.periods (slice_index t.order k))
+  pub order : IsPermutation (range_with_len 0 (length t.outputs)) t.order
+  pub fits : sum (demands_of t) ≤ buses_of t * frame_of t
+  pub within : (o : ℕ) → o < length t.outputs → (placed_at t o).place.period ≤ t.frame
+  pub on_bus : (o : ℕ) → o < length t.outputs → (placed_at t o).place.bus < buses_of t
+  pub spaced : (o : ℕ) → o < length t.outputs → 1 ≤ (placed_at t o).limits.spacing
+  pub periodic : (k : ℕ) → k < length t.outputs → HoldsJustCellsOf t k (placed_at t (slice_index t.order k))

@@ -1,5 +1,6 @@
 pub mod Tables
 pub mod Kept
+pub mod Columns
 pub mod Planned
 pub mod OnePlan
 pub mod Changes

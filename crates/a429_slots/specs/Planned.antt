@@ -1,5 +1,5 @@
 -- What holds of every plan, and when a station has none (profile: layout).
-use Rattle.std.specs.Prelude.{◌≡◌, ◌<◌, ◌≤◌, ◌/◌, ◌^◌, ℕ, List, Some, length, map, take, slice_get, slice_index, option_and_then}
+use Rattle.std.specs.Prelude.{◌≡◌, ◌<◌, ◌≤◌, ◌^◌, ℕ, List, Some, length, map, take, slice_get, slice_index, option_and_then}
 use Rattle.std.specs.List.{AllZip, AllByRecursion, zip}
 use Rattle.std.specs.Option.{option_map_or}
 use Rattle.a429_grid.specs.Grid.{IsGridPeriod, HasNoGridPeriod, IsLeastSpacing}
@@ -10,7 +10,7 @@ use Rattle.a429_pack.specs.Sums.{start_of}
 use Rattle.a429_equipment.specs.TableRecord.{TableRecord}
 use Rattle.a429_equipment.specs.declared.rows.OutputRow.{OutputRow}
 use Rattle.a429_equipment.specs.declared.rows.SourceRow.{SourceRow}
-use Rattle.a429_slots.specs.Tables.{Placed, SlotTable, PlanTable, placed_at, outputs_of, order_of, frame_of, buses_of, groups_of}
+use Rattle.a429_slots.specs.Tables.{Placed, SlotTable, PlanTable, placed_at, outputs_of, order_of, demands_of, frame_of, buses_of, groups_of}
 use Rattle.a429_slots.specs.Kept.{BeginsAt, StandsJustAt}
 
 -- 2^k is the grid period of the output's interval at this rate
@@ -35,12 +35,11 @@ abbrev pub asked_of : List SourceRow → SlotTable → List Demand
 asked_of sources t = map (asked_by sources) (outputs_of t)
 
 -- The layout: the frame is the greatest period, and the outputs follow one another by period, then label as a number, then SDI with any
--- before 0, then place in the table. An output has as many places as slots of a frame, and begins where those before it end.
+-- before 0, then place in the table. An output has as many places as slots of a frame, its demand, and begins where those before it end.
 pub record IsLayout (sources : List SourceRow) (t : SlotTable) : Type 0 where
   pub frame : t.frame ≡ greatest (exponents_of (asked_of sources t))
   pub order : IsLayoutOrder (asked_of sources t) (order_of t)
-  pub demands : t.demands ≡ map (λ o. frame_of t / 2 ^ slice_index t.periods o) (order_of t)
-  pub places : (k : ℕ) → k < length t.demands → BeginsAt t (slice_index t.order k) (start_of t.demands k)
+  pub places : (k : ℕ) → k < length (outputs_of t) → BeginsAt t (slice_index (order_of t) k) (start_of (demands_of t) k)
 
 -- So many buses are the fewest for these rows: each has a grid period at this rate, in some schedule of so many buses each output recurs
 -- within its own, and in none of fewer. A schedule is of any form, and at least as long as the greatest of the periods.

@@ -1,6 +1,5 @@
 -- Slot tables as contracts see them, and which output stands in which cell (profile: layout).
-use Rattle.std.specs.Prelude.{◌==◌, ◌&&◌, ◌*◌, ◌%◌, ◌^◌, ℕ, Bool, List, Option, None, length, map, option_and_then, option_map, position, slice_get, slice_index, take, unwrap_or}
-use Rattle.std.specs.List.{range_with_len}
+use Rattle.std.specs.Prelude.{◌==◌, ◌&&◌, ◌*◌, ◌/◌, ◌%◌, ◌^◌, [], ℕ, Bool, List, Option, None, get_or, map, option_and_then, option_map, position, slice_get}
 use Rattle.a429_slots.specs.declared.group_plan.SendLimits.{SendLimits}
 use Rattle.a429_slots.specs.declared.group_plan.SlotPlace.{SlotPlace}
 
@@ -10,38 +9,32 @@ pub record Placed : Type 0 where
   pub place : SlotPlace
   pub limits : SendLimits
 
--- The slot table of a group: its frame has 2^frame slots on each of its buses. The demands are those of its outputs in layout order,
--- how many slots of a frame each one has. As many elements of the other lists are in use: `order` has the outputs in layout order,
--- the lists below it are by the outputs' numbers, and a period is kept as its exponent.
+-- The slot table of a group: its frame has 2^frame slots on each of its buses. It has the outputs by their numbers, and these numbers in
+-- layout order.
 pub record SlotTable : Type 0 where
   pub frame : ℕ
   pub buses : ℕ
-  pub demands : List ℕ
+  pub outputs : List Placed
   pub order : List ℕ
-  pub sources : List ℕ
-  pub on_bus : List ℕ
-  pub offsets : List ℕ
-  pub periods : List ℕ
-  pub limits : List SendLimits
 
 abbrev pub unlimited : SendLimits
 unlimited = record { hold = None; spacing = 0 }
 
--- what the table keeps of an output
-abbrev pub placed_at : SlotTable → ℕ → Placed
-placed_at t o = record {
-  source = slice_index t.sources o;
-  place = record { bus = slice_index t.on_bus o; offset = slice_index t.offsets o; period = slice_index t.periods o };
-  limits = unwrap_or (slice_get t.limits o) unlimited;
-}
+-- the output that a read past the end gives
+abbrev pub unplaced : Placed
+unplaced = record { source = 0; place = record { bus = 0; offset = 0; period = 0 }; limits = unlimited }
 
 -- the outputs by their numbers
 abbrev pub outputs_of : SlotTable → List Placed
-outputs_of t = map (placed_at t) (range_with_len 0 (length t.demands))
+outputs_of t = t.outputs
+
+-- the output of this number
+abbrev pub placed_at : SlotTable → ℕ → Placed
+placed_at t o = get_or t.outputs o unplaced
 
 -- the numbers of the outputs in layout order
 abbrev pub order_of : SlotTable → List ℕ
-order_of t = take (length t.demands) t.order
+order_of t = t.order
 
 -- how many slots the frame has
 abbrev pub frame_of : SlotTable → ℕ
@@ -53,6 +46,14 @@ buses_of t = t.buses
 -- how many cells a frame has: its slots on each bus
 abbrev pub cells_of : SlotTable → ℕ
 cells_of t = buses_of t * frame_of t
+
+-- how many slots of a frame an output has
+abbrev pub share_of : SlotTable → ℕ → ℕ
+share_of t o = frame_of t / 2 ^ (placed_at t o).place.period
+
+-- the demands: the shares of the outputs in layout order
+abbrev pub demands_of : SlotTable → List ℕ
+demands_of t = map (share_of t) t.order
 
 -- the output stands on this bus in this slot, counted from the frame's start
 abbrev pub stands_in : ℕ → ℕ → Placed → Bool
@@ -82,11 +83,14 @@ output_in t bus slot = option_and_then (λ o. slice_get (outputs_of t) o) (cell_
 abbrev pub source_at : SlotTable → ℕ → ℕ → Option ℕ
 source_at t bus slot = option_and_then (source_of t) (cell_at t bus slot)
 
--- the plans of the groups, in order: of `groups` the first `count`
+-- the table of a group without outputs
+abbrev pub no_table : SlotTable
+no_table = record { frame = 0; buses = 0; outputs = []; order = [] }
+
+-- the slot tables of the groups, in table order, and the number of the plan
 pub record PlanTable : Type 0 where
-  pub count : ℕ
   pub groups : List SlotTable
   pub number : ℕ
 
 abbrev pub groups_of : PlanTable → List SlotTable
-groups_of p = take p.count p.groups
+groups_of p = p.groups

@@ -11,9 +11,6 @@ use a429_pack::laws::{none_is_above_the_greatest, orders_name_each_once, stretch
 use a429_pack::{Demand, Packed, SumTable};
 use std::marker::Model;
 
-/// How many outputs a group can have (profile).
-pub const OUTPUTS: usize = 128;
-
 /// Where an output stands: on one bus of its group, in the slots that leave this offset when they are
 /// divided by the period. Buses and slots are counted from 0, slots from the frame's start.
 #[derive(Clone, Copy, Debug, PartialEq, Eq)]
@@ -49,58 +46,31 @@ pub struct GroupPlan<const N: usize> {
 
 impl<const N: usize> Model for GroupPlan<N> {
     ghost use Rattle.a429_slots.specs.Tables.{SlotTable};
-    ghost use Rattle.a429_slots.specs.Kept.{IsTable};
 
     ghost Value = { SlotTable };
 
-    ghost view = { λ p. record {
-      frame = p.frame;
-      buses = p.buses;
-      demands = p.sums;
-      order = p.order;
-      sources = p.sources;
-      on_bus = p.on_bus;
-      offsets = p.offsets;
-      periods = p.periods;
-      limits = p.limits;
-    } };
+    ghost use Rattle.a429_slots.specs.Columns.{AreColumns, columns_of, table_in};
 
-    ghost invariant = { λ p. IsTable N (record {
-      frame = p.frame;
-      buses = p.buses;
-      demands = p.sums;
-      order = p.order;
-      sources = p.sources;
-      on_bus = p.on_bus;
-      offsets = p.offsets;
-      periods = p.periods;
-      limits = p.limits;
-    }) };
+    ghost view = { table_in };
 
-    ghost inverse = { λ t. record {
-      frame = t.frame;
-      buses = t.buses;
-      sums = t.demands;
-      order = t.order;
-      sources = t.sources;
-      on_bus = t.on_bus;
-      offsets = t.offsets;
-      periods = t.periods;
-      limits = t.limits;
-    } };
+    ghost invariant = { AreColumns N };
+
+    ghost inverse = { columns_of N };
+
+    ghost inverse_ok = { λ p h. h.kept };
 }
 
 impl<const N: usize> GroupPlan<N> {
     ghost use Rattle.a429_pack.specs.Demands.{demand_at, frame_of as greatest_period, period_of};
     ghost use Rattle.std.specs.List.{AllByRecursion};
     ghost use Rattle.a429_equipment.specs.Sound.{IsInterval};
-    ghost use Rattle.a429_slots.specs.Tables.{outputs_of, order_of, frame_of, buses_of, place_of, source_of, limits_of, cell_at};
+    ghost use Rattle.a429_slots.specs.Tables.{outputs_of, order_of, demands_of, frame_of, buses_of, place_of, source_of, limits_of, cell_at, no_table};
     ghost use Rattle.a429_slots.specs.Kept.{IsTable, StandsJustAt};
     ghost use Rattle.a429_slots.specs.Asked.{IsTableOf};
 
     /// The table of a group without outputs: no bus, and a frame of one slot.
     pub(crate) fn empty() -> GroupPlan<N>
-        ensures { outputs_of result ≡ [] }
+        ensures { result ≡ no_table }
     {
         let unlimited = SendLimits {
             hold: None,
@@ -176,6 +146,7 @@ impl<const N: usize> GroupPlan<N> {
     /// How many outputs the group has, at most `N`.
     pub fn outputs(&self) -> usize
         ensures value { result ≡ length (outputs_of self.now) }
+        ensures ordered { result ≡ length (order_of self.now) }
         ensures few { result ≤ N }
     {
         let _limits = &self.limits;
@@ -184,7 +155,7 @@ impl<const N: usize> GroupPlan<N> {
 
     /// How many cells of a frame its outputs fill.
     pub fn demand(&self) -> u32
-        ensures { result ≡ sum self.now.demands }
+        ensures { result ≡ sum (demands_of self.now) }
     {
         let _limits = &self.limits;
         self.sums.total()

@@ -15,9 +15,8 @@ use a429_pack::laws::{
     stretches_are_apart,
 };
 
-/// A table has one plan or one fault. Two plans of it have the same output in every cell of every group, on the same
-/// buses, with the same frames, places, limits and layout order; and want of memory apart, no two faults of it differ,
-/// and a table that has a plan has none.
+/// A table has one plan or one fault: two plans of it are equal; want of memory apart, so are two faults of it; and a
+/// table that has a plan has no other fault.
 pub fn plans_are_unique()
     ensures plan { PlansAreUnique }
     ensures fault { FaultsAreUnique }

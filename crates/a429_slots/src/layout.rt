@@ -2,6 +2,7 @@
 ghost use Rattle.std.specs.Prelude.{◌≡◌, ◌+◌, ◌<◌, ◌≤◌, ◌*◌, ◌%◌, ◌^◌, length, map, take};
 ghost use Rattle.a429_grid.specs.Reversal.{reversed};
 ghost use Rattle.a429_pack.specs.Demands.{exponent_of};
+ghost use Rattle.a429_pack.specs.Kept.{padded};
 ghost use Rattle.a429_slots.specs.Asked.{AreBusesOf, AreOffsetsOf};
 
 use a429_equipment::OutputRow;
@@ -11,7 +12,7 @@ use a429_pack::{Demand, Packed};
 
 /// The numbers of the outputs in layout order.
 pub fn order_in<const N: usize>(packed: &Packed<N>) -> [usize; N]
-    ensures { take (length packed.now.inputs) result ≡ packed.now.inputs }
+    ensures { result ≡ padded 0 N packed.now.inputs }
 {
     let mut order = [0; N];
     for place in 0..packed.len() {
@@ -23,7 +24,7 @@ pub fn order_in<const N: usize>(packed: &Packed<N>) -> [usize; N]
 /// The sources of the outputs, by their numbers.
 pub fn sources_in<const N: usize>(outputs: &[OutputRow]) -> [usize; N]
     requires { length outputs.now ≤ N }
-    ensures { take (length outputs.now) result ≡ map (λ r. r.source) outputs.now }
+    ensures { result ≡ padded 0 N (map (λ r. r.source) outputs.now) }
 {
     let mut sources = [0; N];
     for (number, output) in outputs.iter().enumerate() {
@@ -45,7 +46,7 @@ fn exponent(demand: &Demand) -> u32
 /// The exponents of the periods that the outputs ask for, by their numbers.
 pub fn periods_in<const N: usize>(demands: &[Demand]) -> [u32; N]
     requires { length demands.now ≤ N }
-    ensures { take (length demands.now) result ≡ map exponent_of demands.now }
+    ensures { result ≡ padded 0 N (map exponent_of demands.now) }
 {
     let mut periods = [0; N];
     for (number, demand) in demands.iter().enumerate() {
@@ -76,6 +77,8 @@ pub fn place_of_cell(bus: u32, slot: u64, frame: Period) -> u32
 pub fn places_in<const N: usize>(packed: &Packed<N>) -> ([u32; N], [u32; N])
     ensures bus { AreBusesOf packed.now result.0 }
     ensures offset { AreOffsetsOf packed.now result.1 }
+    ensures bus_rest { result.0 ≡ padded 0 N (take (length packed.now.inputs) result.0) }
+    ensures offset_rest { result.1 ≡ padded 0 N (take (length packed.now.inputs) result.1) }
 {
     orders_name_each_once();
     let frame = packed.frame();

@@ -15,14 +15,15 @@ mod proposals;
 mod senders;
 mod sends;
 
+pub use a429_equipment::{GROUPS, OUTPUTS};
 pub use a429_pack::BUSES;
 pub use answers::{Answer, Refusal};
 pub use changes::gap;
-pub use group_plan::{GroupPlan, OUTPUTS, SendLimits, SlotPlace};
+pub use group_plan::{GroupPlan, SendLimits, SlotPlace};
 pub use group_sends::GroupSends;
 pub use outputs::OutputId;
 pub use planner::{PlanFault, plan};
-pub use plans::{GROUPS, Plan};
+pub use plans::Plan;
 pub use proposals::{NoProposal, Proposal};
 pub use senders::cached::CachedSender;
 pub use senders::{Due, Sender};

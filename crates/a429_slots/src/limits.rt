@@ -1,8 +1,10 @@
 //! What limits the sends of an output.
-ghost use Rattle.std.specs.Prelude.{◌≡◌, ℕ, ◌≤◌, length, map, take};
+ghost use Rattle.std.specs.Prelude.{◌≡◌, ℕ, ◌≤◌, length, map};
 ghost use Rattle.std.specs.List.{AllByRecursion};
 ghost use Rattle.a429_equipment.specs.Sound.{IsInterval};
+ghost use Rattle.a429_pack.specs.Kept.{padded};
 ghost use Rattle.a429_slots.specs.Asked.{limits_at};
+ghost use Rattle.a429_slots.specs.Tables.{unlimited};
 
 use crate::group_plan::SendLimits;
 use a429_equipment::OutputRow;
@@ -25,7 +27,7 @@ pub fn limits_in<const N: usize>(rate: u32, outputs: &[OutputRow]) -> [SendLimit
     requires room { length outputs.now ≤ N }
     requires intervals { AllByRecursion IsInterval outputs.now }
     requires rate { (1 ≤ rate) × (rate ≤ 100000) }
-    ensures { take (length outputs.now) result ≡ map (limits_at rate) outputs.now }
+    ensures { result ≡ padded unlimited N (map (limits_at rate) outputs.now) }
 {
     let unlimited = SendLimits {
         hold: None,

@@ -3,10 +3,8 @@ ghost use Rattle.std.specs.Prelude.{◌≡◌, ◌<◌, ◌≤◌, ◌++◌, ◌
 ghost use Rattle.a429_slots.specs.Tables.{groups_of};
 
 use crate::group_plan::GroupPlan;
+use a429_equipment::GROUPS;
 use std::marker::Model;
-
-/// How many groups a station can have (profile).
-pub const GROUPS: usize = 8;
 
 /// A plan: a slot table for each group, in table order, and the number under which it was published.
 #[derive(Clone, Copy)]
@@ -17,16 +15,24 @@ pub struct Plan<const N: usize> {
 }
 
 impl<const N: usize> Model for Plan<N> {
-    ghost use Rattle.std.specs.Prelude.{◌≡◌, ◌≤◌, length};
-    ghost use Rattle.a429_slots.specs.Tables.{PlanTable};
+    ghost use Rattle.std.specs.Prelude.{◌≡◌, ◌≤◌, length, take};
+    ghost use Rattle.std.proofs.Common.{sym};
+    ghost use Rattle.a429_pack.specs.Kept.{length-kept, padded};
+    ghost use Rattle.a429_slots.specs.Tables.{PlanTable, no_table};
 
     ghost Value = { PlanTable };
 
-    ghost view = { λ p. record { count = p.count; groups = p.groups; number = p.number } };
+    ghost view = { λ p. record { groups = take p.count p.groups; number = p.number } };
 
-    ghost invariant = { λ p. (p.count ≤ 8) × (length p.groups ≡ 8) };
+    ghost invariant = { λ p. (p.count ≤ 8) × (p.groups ≡ padded no_table 8 (take p.count p.groups)) };
 
-    ghost inverse = { λ t. record { count = t.count; groups = t.groups; number = t.number } };
+    ghost inverse = { λ t. record { count = length t.groups; groups = padded no_table 8 t.groups; number = t.number } };
+
+    ghost inverse_ok = { λ p h i. record {
+      count = length-kept no_table 8 p.groups p.count h.0 h.1 i;
+      groups = sym h.1 i;
+      number = p.number;
+    } };
 }
 
 /// Sets the slot table of a group.

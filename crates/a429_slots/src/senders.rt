@@ -5,8 +5,9 @@ ghost use Rattle.std.specs.Prelude.{◌≡◌, ◌≤◌, ◌+◌, ◌<◌, ◌^
 ghost use Rattle.a429_slots.specs.Tables.{cells_of, frame_of, outputs_of, output_in};
 ghost use Rattle.a429_slots.specs.FrameStates.{begun, next_cell, after_cell, fits_next, turned, due_of};
 
-use crate::group_plan::{GroupPlan, OUTPUTS, SendLimits};
+use crate::group_plan::{GroupPlan, SendLimits};
 use crate::outputs::OutputId;
+use a429_equipment::OUTPUTS;
 use std::marker::Model;
 
 /// An output whose cell is due: the number of its source, and what limits its sends.

@@ -4,9 +4,10 @@ ghost use Rattle.a429_slots.specs.Tables.{cell_at, cells_of, frame_of, outputs_o
 ghost use Rattle.a429_slots.specs.FrameStates.{begun, next_cell, after_cell, fits_next, turned, due_of};
 ghost use Rattle.a429_slots.specs.Cached.{AreCached, IsForgotten, cached};
 
-use crate::group_plan::{GroupPlan, OUTPUTS};
+use crate::group_plan::GroupPlan;
 use crate::outputs::OutputId;
 use crate::senders::{Due, Sender};
+use a429_equipment::OUTPUTS;
 use std::alloc::{AllocError, Global};
 use std::marker::Model;
 
@@ -78,7 +79,7 @@ fn look_up(cells: &mut Vec<u8>, plan: &GroupPlan<OUTPUTS>, bus: u32, slot: u64) 
 }
 
 /// So many cells, of which nothing is known.
-#[tactic(auto, using(crate::proofs::CachedCells::none_kept))]
+#[tactic(auto, using(crate::proofs::Columns::zeros))]
 fn empty_cells(alloc: Global, many: usize) -> Result<Vec<u8>, AllocError>
     ensures { IfOk result (λ cells. IsForgotten cells.items) }
 {

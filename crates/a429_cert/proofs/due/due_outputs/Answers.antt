@@ -6,9 +6,10 @@ use Rattle.a429_word.proofs.Lists.{zip_next}
 use Rattle.a429_grid.specs.Grid.{HasNoGridPeriod}
 use Rattle.a429_equipment.specs.TableRecord.{TableRecord}
 use Rattle.a429_equipment.specs.declared.rows.OutputRow.{OutputRow}
+use Rattle.a429_slots.proofs.Rows.{blank}
 use Rattle.a429_cert.specs.declared.due.DueOutput.{DueOutput}
 use Rattle.a429_cert.specs.Due.{IsDueOutput}
-use Rattle.a429_cert.proofs.Gathered.{blank, fits_of}
+use Rattle.a429_cert.proofs.Gathered.{fits_of}
 use Rattle.a429_cert.proofs.due.due_outputs.Goals as goal
 
 pub returns-in-None-clause-fault : goal.returns-in-None-clause-fault

@@ -33,7 +33,7 @@ invariant_of-result g c =
     let front : take (length c.sums_of.result) c.inputs_in.result ≡ is = kept_in g.row.N h es c.sums_of.result c.inputs_in.result c.sums_of.ensures c.inputs_in.ensures in
     let laid : IsLaidOut (record { frame = h; buses = buses; inputs = is; demands = demands_of h es }) =
     sound h (length ds) ds is (demands_of h es) buses p c.requires.needed c.requires.some c.requires.short c.requires.few in (
-      c.inputs_in.ensures ∙ ap (padded g.row.N) (sym front),
+      c.inputs_in.ensures ∙ ap (padded 0 g.row.N) (sym front),
       subst (λ (xs : List ℕ). IsLaidOut (record { frame = h; buses = buses; inputs = xs; demands = c.sums_of.result })) (sym front)
           (subst (λ (xs : List ℕ). IsLaidOut (record { frame = h; buses = buses; inputs = is; demands = xs })) (sym c.sums_of.ensures) laid),
     )

@@ -1,10 +1,10 @@
 use Rattle.std.proofs.Common.{◌≡◌, ◌<◌, ◌∙◌, ◌/◌, ◌%◌, ◌^◌, ℕ, List, ap, arith, length, rules}
-use Rattle.std.proofs.lemmas.List.{length-set}
+use Rattle.std.proofs.lemmas.List.{length-replicate, length-set}
 use Rattle.a429_grid.specs.Reversal.{reversed}
 use Rattle.a429_pack.specs.Layout.{IsLaidOut}
 use Rattle.a429_pack.specs.Orders.{NamesEachOnce}
 use Rattle.a429_pack.specs.Sums.{start_of}
-use Rattle.a429_slots.proofs.Columns.{placed_more}
+use Rattle.a429_slots.proofs.Columns.{kept_from_zeros, placed_more, zeros, zeros_more}
 use Rattle.a429_slots.proofs.layout.places_in.Goals as goal
 
 pub start-start-requires : goal.start-start-requires
@@ -13,6 +13,16 @@ start-start-requires g c =
     let each : NamesEachOnce (length c.args.packed.now.demands) c.args.packed.now.inputs =
     c.orders_name_each_once.ensures (length c.args.packed.now.demands) c.args.packed.now.inputs laid.inputs in
     (search rules, omega (arith, each.length, ap length c.sums.ensures.value))
+
+pub loop-place-init : goal.loop-place-init
+loop-place-init g c = record {
+  wide_buses = length-replicate {A = ℕ} g.row.N 0;
+  wide_offsets = length-replicate {A = ℕ} g.row.N 0;
+  bus = λ k none. absurd (omega arith);
+  offset = λ k none. absurd (omega arith);
+  bus_rest = λ k past. zeros g.row.N k;
+  offset_rest = λ k past. zeros g.row.N k;
+}
 
 pub loop-place-preserved : goal.loop-place-preserved
 loop-place-preserved g c =
@@ -35,4 +45,14 @@ loop-place-preserved g c =
       offset = placed_more (length l.demands) l.inputs c.loop-place.offsets (λ k. reversed l.frame (start_of l.demands k % 2 ^ l.frame)) c.loop-place.place c.input-output.result
           c.offset_at.result each below c.input-output.ensures.value
           (omega (arith, c.input-output.ensures.known, c.len-place-end.ensures.room, c.loop-place.invariant.wide_offsets)) offset c.loop-place.invariant.offset;
+      bus_rest = zeros_more (length l.inputs) c.loop-place.buses c.input-output.result (c.start-start.result / c.slots.result) c.input-output.ensures.known c.loop-place.invariant.bus_rest;
+      offset_rest = zeros_more (length l.inputs) c.loop-place.offsets c.input-output.result c.offset_at.result c.input-output.ensures.known c.loop-place.invariant.offset_rest;
     }
+
+pub returns-clause-bus_rest : goal.returns-clause-bus_rest
+returns-clause-bus_rest g c =
+    kept_from_zeros g.row.N (length c.args.packed.now.inputs) c.loop-place.buses c.loop-place.invariant.wide_buses (omega (arith, c.len-place-end.ensures.value, c.len-place-end.ensures.room)) c.loop-place.invariant.bus_rest
+
+pub returns-clause-offset_rest : goal.returns-clause-offset_rest
+returns-clause-offset_rest g c =
+    kept_from_zeros g.row.N (length c.args.packed.now.inputs) c.loop-place.offsets c.loop-place.invariant.wide_offsets (omega (arith, c.len-place-end.ensures.value, c.len-place-end.ensures.room)) c.loop-place.invariant.offset_rest

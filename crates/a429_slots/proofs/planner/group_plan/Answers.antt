@@ -10,7 +10,7 @@ use Rattle.a429_pack.specs.Demanded.{AreFewestBuses}
 use Rattle.a429_slots.specs.Asked.{IsAsked}
 use Rattle.a429_slots.specs.Faults.{IsGroupFault}
 use Rattle.a429_slots.specs.Planned.{IsPlannedFor}
-use Rattle.a429_slots.specs.Tables.{order_of}
+use Rattle.a429_slots.specs.Tables.{demands_of, order_of}
 use Rattle.a429_slots.proofs.Planned.{IsMade, planned, group_fault}
 use Rattle.a429_slots.proofs.planner.group_plan.Goals as goal
 
@@ -77,7 +77,7 @@ returns g c =
       least = c.spacings_are_least.ensures.least;
       sound = c.of.ensures.sound;
       inputs = c.orders_name_each_once.ensures (length c.deref-2.result.now) l.inputs (subst (λ (ds : List Demand). IsLayoutOrder ds l.inputs) same p.order).all;
-      each = c.orders_name_each_once.ensures (length c.of.result.demands) (order_of c.of.result) c.of.ensures.sound.order;
-      apart = c.stretches_are_apart.ensures.apart c.of.result.demands;
+      each = c.orders_name_each_once.ensures (length c.of.result.outputs) (order_of c.of.result) c.of.ensures.sound.order;
+      apart = c.stretches_are_apart.ensures.apart (demands_of c.of.result);
     } in
     planned g.row.N c.args.rate c.args.sources.now c.args.outputs.now c.deref-2.result.now l c.of.result made

@@ -1,13 +1,16 @@
-use Rattle.std.proofs.Common.{◌≡◌, ◌∙◌, ℕ, List, ap, arith, length, map, subst, sym}
+use Rattle.std.proofs.Common.{◌≡◌, arith, length, map, subst, sym}
 use Rattle.a429_pack.specs.Demands.{exponent_of}
-use Rattle.a429_slots.specs.Tables.{SlotTable}
-use Rattle.a429_slots.specs.Kept.{IsTable}
+use Rattle.a429_slots.specs.declared.group_plan.GroupPlan.TheInside.{Inside}
+use Rattle.a429_slots.specs.Columns.{AreColumns, table_in}
 use Rattle.a429_slots.specs.Asked.{IsTableOf}
-use Rattle.a429_slots.proofs.Tabled.{Columns, AreColumns, table, is_table, is_table_of}
+use Rattle.a429_slots.proofs.Tabled.{AreFilled, are_columns, is_table_of, laid_in}
 use Rattle.a429_slots.proofs.group_plan.GroupPlan.of.Goals as goal
 
-abbrev columns : (g : _) (c : goal.After-limits_in g) → Columns
+abbrev columns : (g : _) (c : goal.After-limits_in g) → Inside g.row.N
 columns g c = record {
+  frame = c.frame.result;
+  buses = c.buses.result;
+  sums = c.sums.result.now;
   order = c.order_in.result;
   sources = c.sources_in.result;
   on_bus = c.places_in-on_bus.result.0;
@@ -16,9 +19,10 @@ columns g c = record {
   limits = c.limits_in.result;
 }
 
-are_columns : (g : _) (c : goal.After-limits_in g) → AreColumns c.args.packed.now c.args.outputs.now c.args.demands.now (columns g c)
-are_columns g c = record {
+are_filled : (g : _) (c : goal.After-limits_in g) → AreFilled g.row.N c.args.packed.now c.args.outputs.now c.args.demands.now (columns g c)
+are_filled g c = record {
   rate = c.args.rate;
+  room = omega arith;
   laid = c.frame.ensures.laid_out;
   each = c.orders_name_each_once.ensures (length c.args.packed.now.demands) c.args.packed.now.inputs c.frame.ensures.laid_out.inputs;
   within = c.stretches_are_apart.ensures.within c.args.packed.now.demands;
@@ -36,22 +40,22 @@ are_columns g c = record {
   some_rate = c.requires.rate.0;
   bus = c.places_in-on_bus.ensures.bus;
   offset = c.places_in-on_bus.ensures.offset;
+  bus_rest = c.places_in-on_bus.ensures.bus_rest;
+  offset_rest = c.places_in-on_bus.ensures.offset_rest;
 }
 
-parts : (g : _) (c : goal.After-limits_in g) → table c.args.packed.now.frame c.args.packed.now.buses c.args.packed.now.demands (columns g c) ≡ table c.frame.result c.buses.result c.sums.result.now (columns g c)
-parts g c =
-    ap (λ (h : ℕ). table h c.args.packed.now.buses c.args.packed.now.demands (columns g c)) (sym c.frame.ensures.value)
-    ∙ ap (λ (m : ℕ). table c.frame.result m c.args.packed.now.demands (columns g c)) (sym c.buses.ensures.value)
-    ∙ ap (λ (ds : List ℕ). table c.frame.result c.buses.result ds (columns g c)) (sym c.sums.ensures.value)
+parts : (g : _) (c : goal.After-limits_in g) → laid_in c.args.packed.now (columns g c) ≡ columns g c
+parts g c = λ i. record (columns g c) { frame = sym c.frame.ensures.value i; buses = sym c.buses.ensures.value i; sums = sym c.sums.ensures.value i }
 
 pub invariant_of-result : goal.invariant_of-result
 invariant_of-result g c =
-    subst (λ (t : SlotTable). IsTable g.row.N t) (parts g c) (is_table g.row.N c.args.packed.now c.args.outputs.now c.args.demands.now (columns g c) (are_columns g c) (omega arith))
+    subst (AreColumns g.row.N) (parts g c) (are_columns g.row.N c.args.packed.now c.args.outputs.now c.args.demands.now (columns g c) (are_filled g c))
 
 pub returns-clause-table : goal.returns-clause-table
-unfolding are_columns
+unfolding are_filled
 returns-clause-table g c =
-    subst (IsTableOf c.args.rate c.args.packed.now c.args.outputs.now c.args.demands.now) (parts g c) (is_table_of c.args.packed.now c.args.outputs.now c.args.demands.now (columns g c) (are_columns g c))
+    subst (λ (p : Inside g.row.N). IsTableOf c.args.rate c.args.packed.now c.args.outputs.now c.args.demands.now (table_in p)) (parts g c)
+    (is_table_of g.row.N c.args.packed.now c.args.outputs.now c.args.demands.now (columns g c) (are_filled g c))
 
 pub returns-clause-sound : goal.returns-clause-sound
-returns-clause-sound g c = invariant_of-result g c
+returns-clause-sound g c = (invariant_of-result g c).table

@@ -1,31 +1,33 @@
-use Rattle.std.proofs.Common.{◌≡◌, ◌<◌, ◌∙◌, ℕ, ap, arith, length, sym, subst}
+use Rattle.std.proofs.Common.{◌≡◌, ◌<◌, ◌∙◌, ℕ, ap, arith, get_or, length, sym, subst}
 use Rattle.std.specs.Prelude.{Some, slice_get}
+use Rattle.std.proofs.lemmas.List.{get_or-take}
+use Rattle.std.proofs.lemmas.Option.{slice_get-get_or}
+use Rattle.a429_slots.specs.Columns.{table_in}
 use Rattle.a429_slots.specs.Tables.{SlotTable, outputs_of, order_of}
-use Rattle.a429_slots.specs.Kept.{IsTable}
-use Rattle.a429_slots.proofs.Cells.{HasEach, length-outputs, order_is, ordered_below}
+use Rattle.a429_slots.proofs.Cells.{HasEach}
+use Rattle.a429_slots.proofs.Columns.{count_kept, length-table}
 use Rattle.a429_slots.proofs.group_plan.GroupPlan.output_at_place.Goals as goal
 
 pub prove-unreachable-requires : goal.prove-unreachable-requires
-prove-unreachable-requires g c =
-    let many : length c.self.inside.sums ≡ length c.args.self.now.demands = ap (λ (t : SlotTable). length t.demands) c.self.view_is in
-    omega (arith, length-outputs c.args.self.now, c.requires, c.len.ensures.value, c.if-prove.true)
+prove-unreachable-requires g c = omega (arith, count_kept c.self.inside c.args.self.now c.self.view_is, c.requires, c.len.ensures.value, c.if-prove.true)
+
+below : (g : _) (c : goal.After-new g) → c.args.k < length c.self.inside.sums
+below g c = omega (arith, c.len.ensures.value, c.if-prove.false)
+
+each : (g : _) (c : goal.After-new g) → HasEach (table_in c.self.inside)
+each g c = c.orders_name_each_once.ensures (length (table_in c.self.inside).outputs) (table_in c.self.inside).order c.self.invariant.table.order
+
+read : (g : _) (c : goal.After-new g) → get_or (table_in c.self.inside).order c.args.k 0 ≡ c.new.result
+read g c = get_or-take (length c.self.inside.sums) c.self.inside.order c.args.k 0 (below g c) ∙ sym c.new.ensures
 
 pub returns-clause-value : goal.returns-clause-value
 returns-clause-value g c =
-    let p = c.self.inside in
-    let t : SlotTable = record { frame = p.frame; buses = p.buses; demands = p.sums; order = p.order; sources = p.sources; on_bus = p.on_bus; offsets = p.offsets; periods = p.periods; limits = p.limits } in
-    let w : IsTable g.row.N t = c.self.invariant in
-    let each : HasEach t = c.orders_name_each_once.ensures (length t.demands) (order_of t) w.order in
-    let below : c.args.k < length t.demands = omega (arith, c.len.ensures.value, c.if-prove.false) in
-    subst (λ (u : SlotTable). slice_get (order_of u) c.args.k ≡ Some c.new.result) c.self.view_is
-    (order_is t each c.args.k below ∙ ap (λ (o : ℕ). Some o) (sym c.new.ensures))
+    let many : length (table_in c.self.inside).order ≡ length c.self.inside.sums = (each g c).length ∙ length-table c.self.inside in
+    subst (λ (t : SlotTable). slice_get (order_of t) c.args.k ≡ Some c.new.result) c.self.view_is
+    (slice_get-get_or (table_in c.self.inside).order c.args.k 0 (omega (arith, many, below g c)) ∙ ap (λ (o : ℕ). Some o) (read g c))
 
 pub returns-clause-known : goal.returns-clause-known
 returns-clause-known g c =
-    let p = c.self.inside in
-    let t : SlotTable = record { frame = p.frame; buses = p.buses; demands = p.sums; order = p.order; sources = p.sources; on_bus = p.on_bus; offsets = p.offsets; periods = p.periods; limits = p.limits } in
-    let w : IsTable g.row.N t = c.self.invariant in
-    let each : HasEach t = c.orders_name_each_once.ensures (length t.demands) (order_of t) w.order in
-    let below : c.args.k < length t.demands = omega (arith, c.len.ensures.value, c.if-prove.false) in
-    let inside : c.new.result < length (outputs_of t) = omega (arith, c.new.ensures, ordered_below t each c.args.k below, length-outputs t) in
-    subst (λ (u : SlotTable). c.new.result < length (outputs_of u)) c.self.view_is inside
+    let inside : c.new.result < length (outputs_of (table_in c.self.inside)) =
+    omega (arith, read g c, (each g c).below c.args.k (omega (arith, length-table c.self.inside, below g c))) in
+    subst (λ (t : SlotTable). c.new.result < length (outputs_of t)) c.self.view_is inside

@@ -1,10 +1,8 @@
-use Rattle.std.proofs.Common.{◌≡◌, length, take, arith, subst, sym}
-use Rattle.std.proofs.lemmas.List.{length-take}
-use Rattle.a429_slots.specs.Tables.{PlanTable, groups_of}
+use Rattle.std.proofs.Common.{◌∙◌, ap, length, sym}
+use Rattle.a429_pack.specs.Kept.{length-kept}
+use Rattle.a429_slots.specs.Tables.{PlanTable, no_table}
 use Rattle.a429_slots.proofs.plans.Plan.groups.Goals as goal
 
 pub returns-clause-value : goal.returns-clause-value
 returns-clause-value g c =
-    let p = c.self.inside in
-    let long : length (take p.count p.groups) ≡ p.count = omega (arith, length-take p.count p.groups, c.self.invariant.0, c.self.invariant.1) in
-    subst (λ (t : PlanTable). p.count ≡ length (groups_of t)) c.self.view_is (sym long)
+    sym (length-kept no_table 8 c.self.inside.groups c.self.inside.count c.self.invariant.0 c.self.invariant.1) ∙ ap (λ (t : PlanTable). length t.groups) c.self.view_is
