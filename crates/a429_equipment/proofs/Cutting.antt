@@ -57,7 +57,7 @@ reach_within s (suc n) (e ∷ A) = go (eqb e.0 s) (reach_within s n A) (reach_wi
     go false h k = omega arith
 
 -- the words of a list that begins with e, where the test of e gave b
-abbrev words_from : ℕ → ℕ × ℕ → Bool → List (ℕ × ℕ) → List ℕ
+abbrev pub words_from : ℕ → ℕ × ℕ → Bool → List (ℕ × ℕ) → List ℕ
 words_from s e b A = map (λ (x : ℕ × ℕ). x.1) (cond b (e ∷ filter (λ (x : ℕ × ℕ). eqb x.0 s) A) (filter (λ (x : ℕ × ℕ). eqb x.0 s) A))
 
 reach_counts : (s n : ℕ) (A : List (ℕ × ℕ)) → n ≤ length (words_of s A) → length (words_of s (take (reach s n A) A)) ≡ n
@@ -154,6 +154,6 @@ pub least : (mine : ℕ → Bool) (A : List (ℕ × ℕ)) (before from : ℕ) (l
     → (least : ℕ) × (last_cut mine A (Some from) ls ≡ Some least) × (least ≤ last)
 least mine A before from [] last le within h = (from, refl, omega (arith, h))
 least mine A before from (l ∷ ls) last le within h =
-    let step = least_step (mine l.source) A before from l h.0 le within h.1 in
-    let rest = least mine A h.0 step.0 ls last step.2 step.3 h.2 in
-    (rest.0, ap (λ (o : Option ℕ). last_cut mine A o ls) step.1 ∙ rest.1, rest.2)
+    let (next, cut_is, low, inside) = least_step (mine l.source) A before from l h.0 le within h.1 in
+    let rest = least mine A h.0 next ls last low inside h.2 in
+    (rest.0, ap (λ (o : Option ℕ). last_cut mine A o ls) cut_is ∙ rest.1, rest.2)

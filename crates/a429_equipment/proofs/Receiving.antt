@@ -77,7 +77,7 @@ is_accepted t r raw i range h =
 pub words_same : (s w : ℕ) (A : List (ℕ × ℕ)) → words_of s (A ++ (s, w) ∷ []) ≡ words_of s A ++ w ∷ []
 words_same s w A = words_append s A ((s, w) ∷ []) ∙ ap (λ (ws : List ℕ). words_of s A ++ ws) (rw (eq-eqb s s refl) refl)
 
-words_other : (s x w : ℕ) (A : List (ℕ × ℕ)) → (x ≡ s → ⊥) → words_of s (A ++ (x, w) ∷ []) ≡ words_of s A
+pub words_other : (s x w : ℕ) (A : List (ℕ × ℕ)) → (x ≡ s → ⊥) → words_of s (A ++ (x, w) ∷ []) ≡ words_of s A
 words_other s x w A ne = words_append s A ((x, w) ∷ []) ∙ ap (λ (ws : List ℕ). words_of s A ++ ws) (rw (ne_eqb x s ne) refl) ∙ append-nil (words_of s A)
 
 -- what the source accepts of one word

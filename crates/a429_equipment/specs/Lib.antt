@@ -1,3 +1,4 @@
+pub mod Limits
 pub mod Version
 pub mod TableRecord
 pub mod Arrivals

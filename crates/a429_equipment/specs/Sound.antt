@@ -9,6 +9,7 @@ use Rattle.a429_equipment.specs.declared.rows.GroupRow.{GroupRow}
 use Rattle.a429_equipment.specs.declared.rows.OutputRow.{OutputRow}
 use Rattle.a429_equipment.specs.TableRecord.{TableRecord}
 use Rattle.a429_equipment.specs.Arrivals.{AreApart}
+use Rattle.a429_equipment.specs.Limits.{most_sends}
 use Rattle.a429_equipment.specs.NameForm.{is_name}
 
 -- 100000 bit/s, or 12000 to 14500
@@ -23,9 +24,9 @@ HasOneRate t = (rate : ℕ) × (t.rate ≡ Some rate) × AllByRecursion (λ g. g
 abbrev pub IsInterval : OutputRow → Type 0
 IsInterval o = (1 ≤ o.min_us) × (o.min_us ≤ o.max_us) × (o.max_us ≤ 30000000)
 
--- 1 to 1000000, where there is a hold (profile: equipment table, version 2)
+-- 1 to a million, if there is a hold (profile: equipment table, version 2)
 abbrev pub IsHold : OutputRow → Type 0
-IsHold o = IfSome o.hold (λ hold. (1 ≤ hold) × (hold ≤ 1000000))
+IsHold o = IfSome o.hold (λ hold. (1 ≤ hold) × (hold ≤ most_sends))
 
 -- no output has a hold
 abbrev pub HaveNoHolds : List (List OutputRow) → Type 0

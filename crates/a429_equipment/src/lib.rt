@@ -6,6 +6,7 @@ mod copies;
 mod equipment;
 mod index;
 pub mod laws;
+mod limits;
 mod loads;
 mod rows;
 mod same;
@@ -13,6 +14,7 @@ mod version;
 
 pub use arrivals::ArrivalRefusal;
 pub use equipment::Equipment;
+pub use limits::{COUNT_BITS, FRAMES, GROUPS, HOLD, OUTPUTS, RECEIVERS, SOURCES, WORDS};
 pub use loads::Load;
 pub use rows::{GroupRow, Name, OutputRow, ReceiverRow, SourceRow, StationRows};
 pub use version::TableVersion;

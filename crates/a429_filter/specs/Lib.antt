@@ -1,4 +1,5 @@
 pub mod Filters
+pub mod FilterTexts
 pub mod Passing
 pub mod Receiving
 pub mod Sources

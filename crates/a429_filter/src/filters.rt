@@ -1,6 +1,7 @@
 //! Filters of labels.
-ghost use Rattle.std.specs.Prelude.{◌≡◌, ◌≤◌, ◌++◌, ◌∷◌, [], ◌↔◌, Some, None, length, IsErr, OnOk, OnErr, option_map, if◌then◌else◌};
+ghost use Rattle.std.specs.Prelude.{◌≡◌, ◌≤◌, ◌++◌, ◌∷◌, [], ◌↔◌, Some, None, length, IsErr, MatchResult, OnOk, OnErr, option_map, if◌then◌else◌};
 ghost use Rattle.a429_filter.specs.Filters.{passes, set_passes, filters_of};
+ghost use Rattle.a429_filter.specs.FilterTexts.{filter_read};
 
 use crate::passing::Passing;
 use a429_word::Label;
@@ -17,7 +18,31 @@ pub struct Filter {
     pub mask: u8,
 }
 
+/// The text is not of the form `LLL/MMM`, each three octal digits, 000 to 377.
+#[derive(Clone, Copy, Debug, PartialEq, Eq, Error)]
+#[error("a filter is a label and a mask of three octal digits each: 203/377")]
+pub struct FilterText;
+
 impl Filter {
+    /// Reads a label, a slash and a mask, each of three octal digits from 000 to 377, as in `203/377` (profile: filters).
+    /// Error: the text is not of this form.
+    #[tactic(auto, unfolding(crate::specs::FilterTexts::is_filter, crate::specs::FilterTexts::filter_read, a429_word::specs::Texts::octal_number))]
+    pub fn parse(text: &str) -> Result<Filter, FilterText>
+        ensures { MatchResult result (λ filter. filter_read text.now ≡ Some filter) (λ _. filter_read text.now ≡ None) }
+    {
+        let bytes = text.as_bytes();
+        if bytes.len() != 7 || bytes[3] != b'/' {
+            return Err(FilterText);
+        }
+        match (Label::of_digits(&bytes[..3]), Label::of_digits(&bytes[4..])) {
+            (Some(label), Some(mask)) => Ok(Filter {
+                label,
+                mask: mask.value(),
+            }),
+            _ => Err(FilterText),
+        }
+    }
+
     /// Whether a label agrees with the filter's in the bits of the mask.
     pub fn passes(self, label: Label) -> bool
         ensures { result ≡ passes self label }

@@ -7,7 +7,7 @@ mod passing;
 mod sockets;
 mod sources;
 
-pub use filters::{FILTERS, Filter, FilterSet, Full};
+pub use filters::{FILTERS, Filter, FilterSet, FilterText, Full};
 pub use lines::MemoryLine;
 pub use sockets::Socket;
 pub use sources::{LineSource, SourceFault};

@@ -123,10 +123,6 @@ pub all_from : {X : Type 0} (P : X → Type 0) (xs : List X) → ((i : ℕ) (x :
 all_from P [] h = tt
 all_from P (x ∷ xs) h = (h 0 x refl, all_from P xs (λ i y e. h (suc i) y e))
 
-pub all_mapped : {X Y : Type 0} (f : X → Y) (Q : Y → Type 0) (xs : List X) → AllByRecursion (λ x. Q (f x)) xs → AllByRecursion Q (map f xs)
-all_mapped f Q [] h = tt
-all_mapped f Q (x ∷ xs) h = (h.0, all_mapped f Q xs h.1)
-
 -- what holds of each row holds of each value of the code that stands for one
 pub all_views : {X Y : Type 0} (P : Y → Type 0) (v : X → Y) (xs : List X) → AllByRecursion P (map v xs) → (k : ℕ) (d : X) → k < length xs → P (v (get_or xs k d))
 all_views P v [] h k d below = absurd (omega arith)

@@ -1,8 +1,8 @@
 -- The sources of a table without faults are apart.
 use Rattle.std.proofs.Common.{◌≡◌, ◌==◌, ℕ, zero, suc, ◌+◌, ◌-◌, ◌*◌, ◌<◌, ◌≤◌, ⊎_elim, ℤ, pos, negsuc, Bool, true, false, List, [], ◌∷◌, map, take, codes, Option, Some, None, option_map, is_none, unwrap_or, refl, sym, ap, subst, ◌∙◌, arith}
-use Rattle.std.proofs.lemmas.Bool.{or_parts, and_parts, and_from, eqb-true, both_ways, cases_order, leb-true}
+use Rattle.std.proofs.lemmas.Bool.{or_parts, and_parts, and_from, eqb-true, both_ways, cases_order}
 use Rattle.std.proofs.lemmas.Bool.Decides.{Decides-int_eq}
-use Rattle.std.proofs.lemmas.Option.{cond_some, same_Some}
+use Rattle.std.proofs.lemmas.Option.{same_Some}
 use Rattle.std.proofs.lemmas.Slice.Eq.{bytes_eq-Decides}
 use Rattle.std.specs.List.{list_any, slice_get, AllByRecursion}
 use Rattle.std.specs.Option.{option_map_or}
@@ -15,67 +15,17 @@ use Rattle.a429_equipment.specs.declared.rows.SourceRow.{SourceRow}
 use Rattle.a429_table.specs.declared.fault.FaultKind.TheVariants.{DuplicateSource}
 use Rattle.a429_table.specs.declared.walk.Rows.TheVariants.{Sources}
 use Rattle.a429_table.specs.Tree.{text_at, rows_at}
-use Rattle.a429_table.specs.Texts.{label_value, is_octal}
+use Rattle.a429_word.specs.Texts.{label_value, octal_number}
+use Rattle.a429_word.proofs.LabelTexts.{one_label}
 use Rattle.a429_table.specs.Names.{number_named}
 use Rattle.a429_table.specs.Walk.{earlier, numbered}
 use Rattle.a429_table.specs.Faults.{stands, is_sdi, is_within, sdi_of, sdi_at, sdis_meet, sources_meet, repeats_source}
 use Rattle.a429_table.specs.Least.{StandsAtNone}
-use Rattle.a429_table.specs.Stated.{natural, source_row, label_of}
+use Rattle.a429_table.specs.Stated.{natural, source_row}
 use Rattle.a429_equipment.specs.Arrivals.{is_for, AreApart}
 use Rattle.a429_table.proofs.SoundValues.{natural-pos, within}
 use Rattle.a429_table.proofs.Absence.{row_holds}
 use Rattle.a429_table.proofs.Places.{one_name}
-
--- ---- labels of one value are one text
-
--- what three digits with a value are
-pub record AreDigits (a b c v : ℕ) : Type 0 where
-  pub high : (48 ≤ a) × (a ≤ 51)
-  pub middle : (48 ≤ b) × (b ≤ 55)
-  pub low : (48 ≤ c) × (c ≤ 55)
-  pub value : 64 * (a - 48) + 8 * (b - 48) + (c - 48) ≡ v
-
-octal_digit : (b : ℕ) → is_octal b ≡ true → (48 ≤ b) × (b ≤ 55)
-octal_digit b h = let p = and_parts _ _ h in (leb-true 48 b p.0, leb-true b 55 p.1)
-
-digits_are : (a b c v : ℕ) → label_value (a ∷ b ∷ c ∷ []) ≡ Some v → AreDigits a b c v
-unfolding label_value
-digits_are a b c v h =
-    let (passes, value) = cond_some _ _ _ h in
-    let (first, others) = and_parts _ _ passes in
-    let (high, few) = and_parts _ _ first in
-    let (middle, low) = and_parts _ _ others in
-    let (least, _) = octal_digit a high in
-    record { high = (least, leb-true a 51 few); middle = octal_digit b middle; low = octal_digit c low; value = value }
-
--- the digits of a text with a value
-pub record IsLabel (text : List ℕ) (v : ℕ) : Type 0 where
-  pub a : ℕ
-  pub b : ℕ
-  pub c : ℕ
-  pub is : text ≡ a ∷ b ∷ c ∷ []
-  pub digits : AreDigits a b c v
-
-pub label_is : (text : List ℕ) (v : ℕ) → label_value text ≡ Some v → IsLabel text v
-unfolding label_value
-label_is [] v h = cc
-label_is (a ∷ []) v h = cc
-label_is (a ∷ b ∷ []) v h = cc
-label_is (a ∷ b ∷ c ∷ []) v h = record { a = a; b = b; c = c; is = refl; digits = digits_are a b c v h }
-label_is (a ∷ b ∷ c ∷ d ∷ ds) v h = cc
-
-one_label : (s t : List ℕ) (v : ℕ) → label_value s ≡ Some v → label_value t ≡ Some v → s ≡ t
-one_label s t v h i =
-    let x = label_is s v h in
-    let y = label_is t v i in
-    let d = x.digits in
-    let e = y.digits in
-    let high : x.a ≡ y.a = omega arith in
-    let middle : x.b ≡ y.b = omega arith in
-    let low : x.c ≡ y.c = omega arith in
-    let written : s ≡ x.a ∷ x.b ∷ x.c ∷ [] = x.is in
-    let other : t ≡ y.a ∷ y.b ∷ y.c ∷ [] = y.is in
-    cc
 
 -- ---- two sources that a word is for meet
 
@@ -122,7 +72,7 @@ record IsFor (root : Data) (d : Data) (r raw : ℕ) : Type 0 where
   sdi : Agrees (sdi_at d) (word_sdi raw)
 
 for_parts : (root : Data) (d : Data) (r raw : ℕ) → IsTrue (is_for r raw (source_row root d)) → IsFor root d r raw
-unfolding source_row label_of
+unfolding source_row octal_number
 for_parts root d r raw h =
     let (receiver, rest) = and_parts _ _ h in
     let (label, sdi) = and_parts _ _ rest in

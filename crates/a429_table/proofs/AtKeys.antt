@@ -8,19 +8,19 @@ use Rattle.std.specs.Str.{bytes_eq}
 use Rattle.std.proofs.lemmas.Bool.{or_parts, or_cases, and_parts, not-false, eqb-true}
 use Rattle.std.proofs.lemmas.Slice.Eq.{bytes_eq-Decides}
 use Rattle.toml.specs.Data.{Data, Items, string, integer, float, boolean, datetime, array, table, get, as_integer}
-use Rattle.a429_word.specs.Texts.{octal}
+use Rattle.a429_word.specs.Texts.{label_value, octal, octal_number}
 use Rattle.a429_table.specs.Columns.{Column, must, columns}
 use Rattle.a429_table.specs.declared.columns.Shape.TheVariants.{Integer, Text, Texts, Tables}
 use Rattle.a429_equipment.specs.declared.version.TableVersion.{TableVersion}
 use Rattle.a429_table.specs.declared.fault.TablePlace.{TablePlace}
-use Rattle.a429_table.specs.Texts.{label_value, is_filter}
+use Rattle.a429_filter.specs.FilterTexts.{filter_of, filter_read, is_filter}
 use Rattle.a429_table.specs.Names.{name_of, number_named}
 use Rattle.a429_table.specs.Tree.{elements, is_table, text_of, text_at, integer_at, rows_of, rows_at}
 use Rattle.a429_table.specs.Faults.{has_shape, is_text, misfits, lacks_key, has_wrong_kind, is_within, is_rate, is_hold, is_sdi, sdi_of}
-use Rattle.a429_table.specs.Stated.{natural, label_of, filter_of, filter_row, rate_at}
+use Rattle.a429_table.specs.Stated.{natural, filter_row, rate_at}
 use Rattle.a429_table.specs.AsWritten.{HasText, HasInteger, AreOf, HasRows, HasSdi, HasHold, HasFilters, IsFilterText}
 use Rattle.a429_table.proofs.Absence.{all_from}
-use Rattle.a429_table.proofs.Labels.{written}
+use Rattle.a429_word.proofs.LabelTexts.{written}
 use Rattle.a429_table.proofs.SoundValues.{natural-pos, within}
 
 -- ---- what stands at a key
@@ -182,15 +182,15 @@ hold_in (Some (datetime t)) d e fits h = cc
 hold_in (Some (array ds)) d e fits h = cc
 hold_in (Some (table ms)) d e fits h = cc
 
-some_label : (text : List ℕ) → is_some (label_value text) ≡ true → text ≡ octal (label_of text)
-unfolding label_of
+some_label : (text : List ℕ) → is_some (label_value text) ≡ true → text ≡ octal (octal_number text)
+unfolding octal_number
 some_label text h = go (label_value text) refl h
   where
     go : (o : Option ℕ) → label_value text ≡ o → is_some o ≡ true → text ≡ octal (unwrap_or o 0)
     go None e some = cc
     go (Some n) e some = (written text n e).1
 
-filter_text : (s : List ℕ) → is_filter s ≡ true → s ≡ octal (label_of (take 3 s)) ++ 47 ∷ octal (label_of (drop 4 s))
+filter_text : (s : List ℕ) → is_filter s ≡ true → s ≡ octal (octal_number (take 3 s)) ++ 47 ∷ octal (octal_number (drop 4 s))
 unfolding is_filter
 filter_text s h =
     let p = and_parts _ _ h in
@@ -200,15 +200,19 @@ filter_text s h =
     let slash : get_or s 3 0 ≡ 47 = eqb-true (get_or s 3 0) 47 q.1 in
     let label = some_label (take 3 s) r.0 in
     let mask = some_label (drop 4 s) r.1 in
-    let rest : drop 3 s ≡ 47 ∷ octal (label_of (drop 4 s)) = drop-cons s 3 0 (omega (arith, long)) ∙ (λ i. slash i ∷ mask i) in
+    let rest : drop 3 s ≡ 47 ∷ octal (octal_number (drop 4 s)) = drop-cons s 3 0 (omega (arith, long)) ∙ (λ i. slash i ∷ mask i) in
     sym (take-append-drop 3 s) ∙ (λ i. label i ++ rest i)
 
+filter_stated : (s : List ℕ) → is_filter s ≡ true → filter_of s ≡ record { label = octal_number (take 3 s); mask = octal_number (drop 4 s) }
+unfolding filter_of filter_read
+filter_stated s h = rw h refl
+
 each_filter : (ds : List Data) → list_all is_text ds ≡ true → list_any (λ f. not (is_filter (text_of (Some f)))) ds ≡ false → AreOf IsFilterText ds (map filter_row ds)
-unfolding filter_of
 each_filter [] texts good = tt
 each_filter (string s ∷ ds) texts good =
     let q = or_parts (not (is_filter s)) (list_any (λ f. not (is_filter (text_of (Some f)))) ds) good in
-    (ap (λ (t : List ℕ). string t) (filter_text s (not-false _ q.0)), each_filter ds texts q.1)
+    let is = not-false _ q.0 in
+    (subst (IsFilterText (string s)) (sym (filter_stated s is)) (ap (λ (t : List ℕ). string t) (filter_text s is)), each_filter ds texts q.1)
 each_filter (integer z ∷ ds) texts good = cc
 each_filter (float f ∷ ds) texts good = cc
 each_filter (boolean b ∷ ds) texts good = cc

@@ -13,6 +13,5 @@ pub mod SoundRows
 pub mod Soundness
 pub mod Chained
 pub mod TriplePairs
-pub mod Labels
 pub mod AtKeys
 pub mod Written

@@ -1,40 +1,34 @@
 -- The rows of a table without faults are of their forms.
-use Rattle.std.proofs.Common.{◌≡◌, ℕ, ◌<◌, ◌≤◌, ℤ, pos, negsuc, true, false, cond, List, [], ◌∷◌, length, map, codes, is_none, Bool, Option, Some, None, option_map, unwrap_or, ltb, refl, sym, arith}
+use Rattle.std.proofs.Common.{◌≡◌, ℕ, ◌<◌, ◌≤◌, take, drop, ℤ, pos, negsuc, true, false, cond, List, [], ◌∷◌, length, map, codes, is_none, Bool, Option, Some, None, option_map, unwrap_or, ltb, refl, sym, arith}
 use Rattle.std.proofs.lemmas.Bool.{ltb-true, not-false}
 use Rattle.std.proofs.Math.ListN.{length-map}
 use Rattle.std.specs.List.{AllByRecursion}
 use Rattle.std.specs.Prelude.{IfSome, IsTrue}
 use Rattle.toml.specs.Data.{Data, get}
+use Rattle.a429_word.proofs.Lists.{all_mapped}
 use Rattle.a429_filter.specs.Filters.{filters_of as listed}
 use Rattle.a429_table.specs.declared.fault.FaultKind.TheVariants.{Name}
 use Rattle.a429_table.specs.declared.fault.TablePlace.{TablePlace}
 use Rattle.a429_table.specs.declared.walk.Rows.TheVariants.{Receivers, Sources}
-use Rattle.a429_table.specs.Tree.{rows_at}
+use Rattle.a429_table.specs.Tree.{rows_at, text_of}
 use Rattle.a429_equipment.specs.NameForm.{is_name}
-use Rattle.a429_table.specs.Texts.{label_value}
+use Rattle.a429_filter.specs.FilterTexts.{filter_of, filter_read, is_filter}
 use Rattle.a429_table.specs.Names.{name_of}
 use Rattle.a429_table.specs.Faults.{stands, is_named, has_bad_name, sdi_at}
-use Rattle.a429_table.specs.Stated.{natural, label_of, filter_of, filter_row, receiver_row, source_row, rate_at, group_row}
+use Rattle.a429_table.specs.Stated.{natural, filter_row, receiver_row, source_row, rate_at, group_row}
 use Rattle.a429_equipment.specs.Sound.{IsRate, IsFilter, IsReceiverRow, IsSourceRow, IsGroupRow}
-use Rattle.a429_table.proofs.Absence.{IsAbsent, rows_hold, groups_hold, all_mapped}
-use Rattle.a429_table.proofs.Apart.{label_is}
+use Rattle.a429_table.proofs.Absence.{IsAbsent, rows_hold, groups_hold}
+use Rattle.a429_word.proofs.LabelTexts.{octal_number-below}
 
 -- ---- labels and SDIs
 
-value_below : (text : List ℕ) (o : Option ℕ) → label_value text ≡ o → unwrap_or o 0 < 256
-value_below text None e = omega arith
-value_below text (Some v) e =
-    let x = label_is text v e in
-    let d = x.digits in
-    omega arith
-
-label_below : (text : List ℕ) → label_of text < 256
-unfolding label_of
-label_below text = value_below text (label_value text) refl
+text_below : (text : List ℕ) (b : Bool) → is_filter text ≡ b → IsFilter (filter_of text)
+unfolding filter_of filter_read
+text_below text true e = rw e (octal_number-below (take 3 text), octal_number-below (drop 4 text))
+text_below text false e = rw e (omega arith, omega arith)
 
 filter_is : (d : Data) → IsFilter (filter_row d)
-unfolding filter_of
-filter_is d = (label_below _, label_below _)
+filter_is d = text_below (text_of (Some d)) (is_filter (text_of (Some d))) refl
 
 filters_are : (ds : List Data) → AllByRecursion IsFilter (map filter_row ds)
 filters_are [] = tt
@@ -78,7 +72,7 @@ receivers_are (d ∷ ds) h i = (receiver_is d h.0 i.0, receivers_are ds h.1 i.1)
 
 source_is : (root : Data) (d : Data) → IsTrue (is_name (name_of d)) → IsSourceRow (source_row root d)
 unfolding source_row
-source_is root d named = (named, label_below _, sdi_below (sdi_at d))
+source_is root d named = (named, octal_number-below _, sdi_below (sdi_at d))
 
 group_is : (rate : Option ℕ) (d : Data) → IsTrue (is_name (name_of d)) → IsRate (unwrap_or rate (rate_at d)) → IsGroupRow (group_row rate d)
 unfolding group_row

@@ -5,13 +5,14 @@ use Rattle.std.proofs.lemmas.Bool.Decides.{nat_tests}
 use Rattle.std.proofs.Math.ListN.{length-map}
 use Rattle.std.specs.List.{flat_map, enumerate_from, AllByRecursion}
 use Rattle.toml.specs.Data.{Data, get}
+use Rattle.a429_word.proofs.Lists.{all_mapped}
 use Rattle.a429_table.specs.declared.fault.FaultKind.{FaultKind}
 use Rattle.a429_table.specs.declared.fault.FaultKind.TheVariants.{Rate, TooMany, Name, DuplicateName, Label, Sdi, Interval, UnknownName, DuplicateSource, DuplicateOutput, EmptyGroup, Hold}
 use Rattle.a429_table.specs.declared.fault.TablePlace.TheVariants.{Root, Receiver, Source, Group, Output}
 use Rattle.a429_equipment.specs.declared.rows.OutputRow.{OutputRow}
 use Rattle.a429_table.specs.declared.walk.Rows.TheVariants.{Receivers, Sources, Outputs}
 use Rattle.a429_table.specs.Tree.{text_at, rows_at, integer_at}
-use Rattle.a429_table.specs.Texts.{label_value}
+use Rattle.a429_word.specs.Texts.{label_value}
 use Rattle.a429_table.specs.Version.{version_of}
 use Rattle.a429_table.specs.Names.{number_named}
 use Rattle.a429_table.specs.Walk.{group_stops}
@@ -19,7 +20,7 @@ use Rattle.a429_table.specs.Faults.{first, faults, stands, is_sdi, has_too_many,
 use Rattle.a429_table.specs.Least.{StandsAtNone}
 use Rattle.a429_table.specs.Stated.{stated, source_row, rate_of, output_row, output_rows}
 use Rattle.a429_equipment.specs.Sound.{IsInterval, IsHold, IsSound}
-use Rattle.a429_table.proofs.Absence.{IsFaultless, is_faultless, is_absent, rows_hold, groups_hold, all_mapped}
+use Rattle.a429_table.proofs.Absence.{IsFaultless, is_faultless, is_absent, rows_hold, groups_hold}
 use Rattle.a429_table.proofs.SoundValues.{is_interval_within}
 use Rattle.a429_table.proofs.Versions.{one_or_two, root_rate, group_rates, one_rate, own_rates, hold_at, no_holds}
 use Rattle.a429_table.proofs.Places.{number-lt-length}

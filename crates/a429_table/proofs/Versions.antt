@@ -3,6 +3,7 @@ use Rattle.std.proofs.Common.{◌≡◌, ℕ, ◌≤◌, ◌⊎◌, inl, inr, Li
 use Rattle.std.specs.List.{AllByRecursion}
 use Rattle.std.specs.Prelude.{IfSome}
 use Rattle.toml.specs.Data.{Data}
+use Rattle.a429_word.proofs.Lists.{all_mapped}
 use Rattle.a429_table.specs.declared.fault.FaultKind.TheVariants.{Rate, Hold}
 use Rattle.a429_table.specs.declared.fault.TablePlace.TheVariants.{Root, Group, Output}
 use Rattle.a429_equipment.specs.declared.version.TableVersion.{TableVersion}
@@ -13,7 +14,7 @@ use Rattle.a429_table.specs.Version.{version_of}
 use Rattle.a429_table.specs.Faults.{stands, has_wrong_rate, has_bad_hold}
 use Rattle.a429_table.specs.Stated.{rate_at, rate_of, group_row, hold_of, output_row, output_rows}
 use Rattle.a429_equipment.specs.Sound.{IsRate, IsHold, HaveNoHolds}
-use Rattle.a429_table.proofs.Absence.{IsAbsent, groups_hold, all_mapped, all_from}
+use Rattle.a429_table.proofs.Absence.{IsAbsent, groups_hold, all_from}
 use Rattle.a429_table.proofs.SoundValues.{rate_within, hold_within}
 
 pub one_or_two : (v : TableVersion) → (version_number v ≡ 1) ⊎ (version_number v ≡ 2)

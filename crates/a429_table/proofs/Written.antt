@@ -5,7 +5,6 @@ use Rattle.std.specs.Ordering.{int_eq}
 use Rattle.std.proofs.lemmas.Bool.{or_cases, and_parts, not-false}
 use Rattle.std.proofs.lemmas.Bool.Decides.{Decides-int_eq}
 use Rattle.toml.specs.Data.{Data, string, integer, get}
-use Rattle.a429_word.specs.Texts.{octal}
 use Rattle.a429_table.specs.declared.fault.FaultKind.{FaultKind}
 use Rattle.a429_table.specs.declared.fault.FaultKind.TheVariants.{Version, MissingKey, WrongKind, Rate, Label, Sdi, Interval, UnknownName, Hold}
 use Rattle.a429_table.specs.declared.fault.TablePlace.{TablePlace}
@@ -19,14 +18,14 @@ use Rattle.a429_equipment.specs.TableRecord.{TableRecord}
 use Rattle.a429_table.specs.Columns.{may, columns}
 use Rattle.a429_table.specs.declared.columns.Shape.TheVariants.{Integer, Texts}
 use Rattle.a429_table.specs.Tree.{text_at, integer_at, get_integer, rows_at}
-use Rattle.a429_table.specs.Texts.{label_value}
+use Rattle.a429_word.specs.Texts.{label_value, octal, octal_number}
 use Rattle.a429_table.specs.Names.{name_of, number_named}
 use Rattle.a429_equipment.specs.Version.{version_number}
 use Rattle.a429_table.specs.Version.{version_of}
 use Rattle.a429_table.specs.Walk.{numbered}
 use Rattle.a429_table.specs.Faults.{stands, first, faults, misfits, has_wrong_version, has_wrong_rate, has_bad_label, has_bad_sdi, has_bad_interval, has_bad_hold, names_nothing, is_within, is_interval, sdi_at}
 use Rattle.a429_table.specs.Least.{StandsAtNone}
-use Rattle.a429_table.specs.Stated.{stated, natural, number_of, label_of, receiver_row, source_row, group_row, output_row, output_rows, rate_at, rate_of, hold_of, filters_of}
+use Rattle.a429_table.specs.Stated.{stated, natural, number_of, receiver_row, source_row, group_row, output_row, output_rows, rate_at, rate_of, hold_of, filters_of}
 use Rattle.a429_table.specs.Reading.{document, reading, judged, root_of, read_root}
 use Rattle.a429_table.specs.AsWritten.{HasText, HasInteger, HasRows, HasSdi, HasHold, HasFilters, IsReceiverOf, IsSourceOf, IsGroupOf, IsOutputOf, IsAsWritten}
 use Rattle.a429_table.proofs.Absence.{IsAbsent, is_faultless, is_absent, row_holds, group_holds}
@@ -146,8 +145,8 @@ receiver_is : (root : Data) (n : ℕ) (d : Data) → IsShaped (version_of root) 
 unfolding receiver_row
 receiver_is root n d s good = let r = receiver_at (version_of root) n d s in record { name = r.0; filters = filters_stand root n d r.1 good }
 
-label_stands : (root : Data) (n : ℕ) (d : Data) → HasText (codes "label") d (text_at (codes "label") d) → stands root Label (Source n, d) ≡ false → HasText (codes "label") d (octal (label_of (text_at (codes "label") d)))
-unfolding stands has_bad_label label_of
+label_stands : (root : Data) (n : ℕ) (d : Data) → HasText (codes "label") d (text_at (codes "label") d) → stands root Label (Source n, d) ≡ false → HasText (codes "label") d (octal (octal_number (text_at (codes "label") d)))
+unfolding stands has_bad_label octal_number
 label_stands root n d text good = text ∙ ap (λ (t : List ℕ). Some (string t)) (written_label (text_at (codes "label") d) (label_value (text_at (codes "label") d)) refl good)
 
 sdi_stands : (root : Data) (n : ℕ) (d : Data) → stands root Sdi (Source n, d) ≡ false → HasSdi d (option_map (natural 4) (sdi_at d))

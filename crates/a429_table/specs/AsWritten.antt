@@ -9,6 +9,7 @@ use Rattle.a429_equipment.specs.declared.rows.GroupRow.{GroupRow}
 use Rattle.a429_equipment.specs.declared.rows.OutputRow.{OutputRow}
 use Rattle.a429_equipment.specs.TableRecord.{TableRecord}
 use Rattle.a429_table.specs.Tree.{elements}
+use Rattle.a429_table.specs.Reading.{document}
 
 -- this text stands at the key
 abbrev pub HasText : List ℕ → Data → List ℕ → Type 0
@@ -76,3 +77,7 @@ pub record IsAsWritten (root : Data) (t : TableRecord) : Type 0 where
   pub sources : HasRows (codes "source") root (IsSourceOf t) t.sources
   pub groups : HasRows (codes "group") root (IsGroupOf root t) t.groups
   pub outputs : HasRows (codes "group") root (λ d. HasRows (codes "output") d (IsOutputOf t)) t.outputs
+
+-- the bytes are a TOML document, and the record says what is written in it
+abbrev pub IsWrittenIn : List ℕ → TableRecord → Type 0
+IsWrittenIn bytes t = (root : Data) × (document bytes ≡ Some root) × IsAsWritten root t

@@ -17,8 +17,10 @@ use Rattle.a429_table.specs.Columns.{Column, columns}
 use Rattle.a429_table.specs.Tree.{elements, keys_of, is_table, text_of, text_at, integer_at, get_integer, rows_at}
 use Rattle.a429_table.specs.Version.{version_of}
 use Rattle.a429_table.specs.Walk.{Stop, walk, earlier}
+use Rattle.a429_equipment.specs.Limits.{most_sends}
 use Rattle.a429_equipment.specs.NameForm.{is_name}
-use Rattle.a429_table.specs.Texts.{label_value, is_filter}
+use Rattle.a429_word.specs.Texts.{label_value}
+use Rattle.a429_filter.specs.FilterTexts.{is_filter}
 use Rattle.a429_table.specs.Names.{name_of, number_named}
 
 -- low to high
@@ -118,9 +120,9 @@ unfoldable pub has_bad_interval : TablePlace → Data → Bool
 has_bad_interval (Output i j) d = not (is_interval (integer_at (codes "min_us") d) (integer_at (codes "max_us") d))
 has_bad_interval _ d = false
 
--- none, or 1 to 1000000
+-- none, or 1 to a million
 abbrev pub is_hold : Option ℤ → Bool
-is_hold hold = option_map_or (is_within 1 1000000) hold true
+is_hold hold = option_map_or (is_within 1 most_sends) hold true
 
 -- an output's hold is out of range (profile: equipment table, version 2)
 unfoldable pub has_bad_hold : TablePlace → Data → Bool

@@ -3,7 +3,6 @@ pub mod Version
 pub mod Columns
 pub mod Walk
 pub mod Stops
-pub mod Texts
 pub mod LabelCodes
 pub mod Chains
 pub mod Names
@@ -13,7 +12,6 @@ pub mod TripleBuckets
 pub mod SourceTriples
 pub mod Least
 pub mod Stated
-pub mod FilterTexts
 pub mod Reading
 pub mod Printed
 pub mod AsWritten

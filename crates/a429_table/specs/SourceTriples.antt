@@ -11,6 +11,7 @@ use Rattle.a429_table.specs.declared.output_sources.OutputSources.{OutputSources
 use Rattle.a429_table.specs.Tree.{text_at, rows_at}
 use Rattle.a429_table.specs.Numbers.{NumbersNames}
 use Rattle.a429_table.specs.Faults.{sdi_at, sdis_meet, same_sdi, source_of}
+use Rattle.a429_table.specs.Chains.{passes_before}
 
 -- the receiver, the label and the SDI
 abbrev pub Triple : Type 0
@@ -65,6 +66,15 @@ AreTriplesOfOutputs numbers triples outputs output_sources =
 abbrev pub AreTriplesOfGroups : {S : Type 0} → IndexMap (String Global) ℕ S → List SourceTriple → List Data → List OutputSources → Type 0
 AreTriplesOfGroups numbers triples groups output_sources =
     (root : Data) → AreOfSources numbers triples root → output_sources_view output_sources ≡ map (triples_of_outputs root) groups
+
+-- the same of all groups of a table
+abbrev pub AreTriplesOfTable : {S : Type 0} → IndexMap (String Global) ℕ S → List SourceTriple → Data → List OutputSources → Type 0
+AreTriplesOfTable numbers triples root output_sources = AreTriplesOfGroups numbers triples (rows_at (codes "group") root) output_sources
+
+-- the source at a place, before this row, has the label and the SDI of this one
+abbrev pub is_same_before : List (Option SourceTriple) → ℕ → ℕ → Option SourceTriple → Bool
+is_same_before output_sources row at source =
+    passes_before (λ k. same_label_and_sdi (option_map triple_view k) (option_map triple_view source)) output_sources row at
 
 -- some of these sources has the label and the SDI of this one
 abbrev pub any_same : List (Option SourceTriple) → Option SourceTriple → Bool

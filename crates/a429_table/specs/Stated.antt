@@ -1,7 +1,9 @@
 -- The record that a table without faults states.
 use Rattle.std.specs.Prelude.{codes, ℕ, ◌^◌, ℤ, pos, negsuc, List, map, take, drop, Option, Some, None, option_map, unwrap_or, is_none, nat_lt, if◌then◌else◌}
 use Rattle.toml.specs.Data.{Data, get}
+use Rattle.a429_word.specs.Texts.{octal_number}
 use Rattle.a429_filter.specs.declared.filters.Filter.{Filter}
+use Rattle.a429_filter.specs.FilterTexts.{filter_of}
 use Rattle.a429_equipment.specs.declared.rows.ReceiverRow.{ReceiverRow}
 use Rattle.a429_equipment.specs.declared.rows.SourceRow.{SourceRow}
 use Rattle.a429_equipment.specs.declared.rows.GroupRow.{GroupRow}
@@ -12,7 +14,6 @@ use Rattle.a429_equipment.specs.TableRecord.{TableRecord}
 use Rattle.a429_table.specs.Tree.{text_of, text_at, integer_at, get_integer, rows_at}
 use Rattle.a429_equipment.specs.Version.{version_number}
 use Rattle.a429_table.specs.Version.{version_of}
-use Rattle.a429_table.specs.Texts.{label_value}
 use Rattle.a429_table.specs.Names.{name_of, number_named}
 use Rattle.a429_table.specs.Faults.{sdi_at}
 
@@ -24,12 +25,6 @@ natural limit (negsuc n) = 0
 -- the number of the first table with the name, which there is in a table without faults
 abbrev pub number_of : List ℕ → List Data → ℕ
 number_of name ds = unwrap_or (number_named name ds) 0
-
-unfoldable pub label_of : List ℕ → ℕ
-label_of text = unwrap_or (label_value text) 0
-
-unfoldable pub filter_of : List ℕ → Filter
-filter_of text = record { label = label_of (take 3 text); mask = label_of (drop 4 text) }
 
 abbrev pub filter_row : Data → Filter
 filter_row d = filter_of (text_of (Some d))
@@ -45,7 +40,7 @@ unfoldable pub source_row : Data → Data → SourceRow
 source_row root d = record {
   name = name_of d;
   receiver = number_of (text_at (codes "receiver") d) (rows_at (codes "receiver") root);
-  label = label_of (text_at (codes "label") d);
+  label = octal_number (text_at (codes "label") d);
   sdi = option_map (natural 4) (sdi_at d);
 }
 

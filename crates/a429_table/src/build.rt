@@ -4,12 +4,13 @@ ghost use Rattle.std.specs.Prelude.{◌≡◌, ◌≤◌, ◌^◌, All, map, len
 ghost use Rattle.toml.specs.View.{view};
 ghost use Rattle.a429_table.specs.Tree.{rows_at};
 ghost use Rattle.a429_table.specs.Stops.{table_of};
-ghost use Rattle.a429_table.specs.Stated.{natural, label_of, filter_of, filter_row, filters_of, receiver_row, source_row, rate_at, rate_of, group_row, hold_of, output_row, output_rows};
+ghost use Rattle.a429_word.specs.Texts.{octal_number};
+ghost use Rattle.a429_filter.specs.FilterTexts.{filter_of};
+ghost use Rattle.a429_table.specs.Stated.{natural, filter_row, filters_of, receiver_row, source_row, rate_at, rate_of, group_row, hold_of, output_row, output_rows};
 
 use crate::table_index::TableIndex;
 use crate::tree::{get_integer, integer_at, rows_at, text_at, text_of};
 use crate::triples::sdi_at;
-use crate::values::label_value;
 use a429_equipment::{GroupRow, Name, OutputRow, ReceiverRow, SourceRow, TableVersion};
 use a429_filter::{Filter, FilterSet};
 use a429_word::{Label, Sdi};
@@ -52,27 +53,25 @@ fn sdi_number(value: i64) -> Sdi
     }
 }
 
-#[tactic(auto, unfolding(crate::specs::Stated::label_of))]
-fn label_of(text: &[u8]) -> u8
-    ensures { result ≡ label_of text.now }
+/// The label of a text that states one, as each does in a table without faults.
+#[tactic(auto, unfolding(a429_word::specs::Texts::octal_number))]
+fn label_of(text: &str) -> Label
+    ensures { result ≡ octal_number text.now }
 {
-    label_value(text).unwrap_or(0)
+    Label::of_digits(text.as_bytes()).unwrap_or(Label::new(0))
 }
 
-#[tactic(auto, unfolding(crate::specs::Stated::filter_of))]
-pub fn filter_of(text: &str) -> Filter
+/// The filter of a text that states one, as each does in a table without faults.
+#[tactic(auto, unfolding(a429_filter::specs::FilterTexts::filter_of))]
+fn filter_of(text: &str) -> Filter
     ensures { result ≡ filter_of text.now }
 {
-    let bytes = text.as_bytes();
-    if bytes.len() < 4 {
-        return Filter {
-            label: Label::new(label_of(bytes)),
-            mask: label_of(&[]),
-        };
-    }
-    Filter {
-        label: Label::new(label_of(&bytes[..3])),
-        mask: label_of(&bytes[4..]),
+    match Filter::parse(text) {
+        Ok(filter) => filter,
+        Err(_) => Filter {
+            label: Label::new(0),
+            mask: 0,
+        },
     }
 }
 
@@ -125,7 +124,7 @@ fn source_row(alloc: Global, index: &TableIndex<'_>, table: &Value) -> Result<So
 {
     let name = Name::copy_of(alloc, text_at(table, "name"))?;
     let receiver = index.receiver(text_at(table, "receiver")).unwrap_or(0);
-    let label = Label::new(label_of(text_at(table, "label").as_bytes()));
+    let label = label_of(text_at(table, "label"));
     let sdi = sdi_at(table).map(sdi_number);
     Ok(SourceRow {
         name,

@@ -134,7 +134,7 @@ static OUTPUT_2: [Column; 4] = [ITS_SOURCE, MIN_US, MAX_US, HOLD];
 
 /// The keys of a table of this place, in this version.
 #[tactic(auto, unfolding(crate::specs::Columns::columns))]
-pub fn columns(version: TableVersion, place: TablePlace) -> &'static [Column]
+pub fn columns_of(version: TableVersion, place: TablePlace) -> &'static [Column]
     ensures { map column_view result.now ≡ columns version place }
 {
     match (version, place) {

@@ -7,8 +7,8 @@ ghost use Rattle.a429_table.specs.declared.fault.FaultKind.{FaultKind};
 ghost use Rattle.a429_table.specs.declared.fault.TablePlace.{TablePlace};
 ghost use Rattle.a429_table.specs.Faults.{first, faults};
 ghost use Rattle.a429_table.specs.Least.{IsLeast};
-ghost use Rattle.a429_table.specs.Reading.{document, reading};
-ghost use Rattle.a429_table.specs.AsWritten.{IsAsWritten};
+ghost use Rattle.a429_table.specs.Reading.{reading};
+ghost use Rattle.a429_table.specs.AsWritten.{IsWrittenIn};
 
 /// The first fault is the least: no earlier kind stands anywhere, and its kind at no earlier place.
 #[tactic(auto, using(crate::proofs::Leastness::is_least))]
@@ -20,5 +20,5 @@ pub fn first_is_least()
 /// filter and a label are the text that is printed of them, and the row that a name stands for has that name.
 #[tactic(auto, using(crate::proofs::Written::is_as_written))]
 pub fn record_is_as_written()
-    ensures { (bytes : List ℕ) (t : TableRecord) → reading bytes ≡ Ok t → (root : Data) × (document bytes ≡ Some root) × IsAsWritten root t }
+    ensures { (bytes : List ℕ) (t : TableRecord) → reading bytes ≡ Ok t → IsWrittenIn bytes t }
 {}

@@ -8,7 +8,7 @@ ghost use Rattle.a429_table.specs.Stated.{stated};
 ghost use Rattle.a429_table.specs.Stops.{table_of};
 
 use crate::build::{group_outputs, group_rows, rate_of, receiver_rows, source_rows};
-use crate::document::document;
+use crate::document::{RefusedTable, document};
 use crate::fault::TableFault;
 use crate::search::fault_of;
 use crate::table_index::TableIndex;
@@ -22,12 +22,29 @@ use toml::Value;
 /// first by kind, and of its kind the first in walk order: root, receivers, sources, then each group
 /// followed by its outputs. It is `NoMemory` only where memory ran out, and for bytes that are UTF-8: others are
 /// `NotToml`.
-#[tactic(auto, using(crate::proofs::Documents::judged_gives))]
 pub fn read_equipment(alloc: Global, bytes: &[u8]) -> Result<Equipment, TableFault>
     ensures { GivesUnlessMemory (λ e. e) bytes.now result (reading bytes.now) }
 {
-    let root = document(alloc, bytes)?;
-    equipment_of_root(alloc, &root)
+    let mut unused = None;
+    read_or_keep(alloc, bytes, &mut unused)
+}
+
+/// Reads an equipment table as `read_equipment` does. If the table is refused, `kept` gets what it was read as, for a hint
+/// to a person.
+#[tactic(auto, using(crate::proofs::Documents::judged_gives))]
+pub fn read_or_keep(
+    alloc: Global,
+    bytes: &[u8],
+    kept: &mut Option<RefusedTable>,
+) -> Result<Equipment, TableFault>
+    ensures { GivesUnlessMemory (λ e. e) bytes.now result (reading bytes.now) }
+{
+    let root = document(alloc, bytes, kept)?;
+    let answer = equipment_of_root(alloc, &root);
+    if answer.is_err() {
+        *kept = Some(RefusedTable::Tree(root));
+    }
+    answer
 }
 
 /// The equipment of a root table, or its first fault.

@@ -1,11 +1,11 @@
 //! Words that two sources would be for, and words that a group would send twice.
 
-ghost use Rattle.std.specs.Prelude.{◌≡◌, map, option_map, take, slice_get};
+ghost use Rattle.std.specs.Prelude.{◌≡◌, map, take, slice_get};
 ghost use Rattle.std.specs.List.{list_any};
 ghost use Rattle.toml.specs.View.{view};
 ghost use Rattle.a429_table.specs.Stops.{table_of};
 ghost use Rattle.a429_table.specs.Faults.{repeats_source, repeats_output};
-ghost use Rattle.a429_table.specs.SourceTriples.{any_same, triple_view, triples_meet, triples_in, same_label_and_sdi};
+ghost use Rattle.a429_table.specs.SourceTriples.{any_same, is_same_before, triple_view, triples_meet, triples_in};
 ghost use Rattle.a429_table.specs.Chains.{AreChained, passes_before};
 ghost use Rattle.a429_table.specs.TripleBuckets.{triple_bucket, output_bucket};
 
@@ -68,7 +68,7 @@ fn sends_at(
     at: usize,
     source: &Option<SourceTriple<'_>>,
 ) -> bool
-    ensures { result ≡ passes_before (λ k. same_label_and_sdi (option_map triple_view k) (option_map triple_view source.now)) output_sources.now row at }
+    ensures { result ≡ is_same_before output_sources.now row at source.now }
 {
     match output_sources.get(at) {
         Some(other) => at < row && same_label_and_sdi(other, source),

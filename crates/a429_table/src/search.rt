@@ -17,6 +17,7 @@ use crate::values::{
 };
 use crate::walk::{Stop, walk};
 use std::alloc::{AllocError, Global};
+use toml::Value;
 
 /// The kinds that a document can have, in the order in which they are asked.
 const KINDS: [FaultKind; 16] = [
@@ -94,6 +95,24 @@ fn first_fault(index: &TableIndex<'_>, stops: &[Stop]) -> Option<(FaultKind, Tab
     ensures { result ≡ first (faults (table_of index.now)) }
 {
     first_of_kinds(index, stops, &KINDS)
+}
+
+/// All places of a root table with a fault of this kind, in walk order: for a hint, so it has no clause. The error is that
+/// memory was refused.
+pub fn places_of(
+    alloc: Global,
+    root: &Value,
+    kind: FaultKind,
+) -> Result<Vec<TablePlace>, AllocError> {
+    let index = TableIndex::of(alloc, root)?;
+    let stops = walk(alloc, root)?;
+    let mut places = Vec::new(alloc);
+    for stop in &stops {
+        if stands(&index, kind, stop) {
+            places.push(stop.place)?;
+        }
+    }
+    Ok(places)
 }
 
 /// The first fault of a table.

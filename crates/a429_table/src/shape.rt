@@ -8,7 +8,7 @@ ghost use Rattle.a429_table.specs.Tree.{is_table, member_keys};
 ghost use Rattle.a429_table.specs.Columns.{column_view};
 ghost use Rattle.a429_table.specs.Faults.{is_text, has_shape, misfits, is_column_key, has_wrong_version, has_unknown_key, lacks_key, has_wrong_kind};
 
-use crate::columns::{Column, Shape, columns};
+use crate::columns::{Column, Shape, columns_of};
 use crate::fault::TablePlace;
 use crate::tree::integer_at;
 use crate::walk::Stop;
@@ -29,7 +29,7 @@ pub fn has_wrong_version(stop: &Stop) -> bool
 fn is_column_key(version: TableVersion, place: TablePlace, key: &str) -> bool
     ensures { result ≡ is_column_key version place key.now }
 {
-    columns(version, place)
+    columns_of(version, place)
         .iter()
         .any(|column| column.key == key)
 }
@@ -59,7 +59,7 @@ pub fn lacks_key(version: TableVersion, stop: &Stop) -> bool
     ensures { result ≡ lacks_key version stop.now.place (view stop.now.value.now) }
 {
     stop.value.is_table()
-        && columns(version, stop.place).iter().any(|column| column.required
+        && columns_of(version, stop.place).iter().any(|column| column.required
             && stop.value.get(column.key).is_none())
 }
 
@@ -96,7 +96,7 @@ pub fn has_wrong_kind(version: TableVersion, stop: &Stop) -> bool
     ensures { result ≡ has_wrong_kind version stop.now.place (view stop.now.value.now) }
 {
     !stop.value.is_table()
-        || columns(version, stop.place)
+        || columns_of(version, stop.place)
             .iter()
             .any(|column| misfits(stop.value, column))
 }

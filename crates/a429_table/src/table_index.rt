@@ -7,7 +7,7 @@ ghost use Rattle.toml.specs.View.{view};
 ghost use Rattle.a429_table.specs.Names.{number_named};
 ghost use Rattle.a429_table.specs.Numbers.{NumbersNames, NumbersOneMore};
 ghost use Rattle.a429_table.specs.Tree.{rows_at};
-ghost use Rattle.a429_table.specs.SourceTriples.{triple_view, triple_of, triple_of_output, triples_of_outputs, output_sources_view, AreTriplesOfGroups};
+ghost use Rattle.a429_table.specs.SourceTriples.{triple_view, triple_of, triple_of_output, triples_of_outputs, output_sources_view, AreTriplesOfTable};
 ghost use Rattle.a429_table.specs.Version.{version_of};
 ghost use Rattle.a429_table.specs.Chains.{AreChained};
 ghost use Rattle.a429_table.specs.TripleBuckets.{triple_bucket};
@@ -141,7 +141,7 @@ fn words_of<'a>(
 ) -> Result<SourceWords<'a>, AllocError>
     ensures triples { IfOk result (λ all. map triple_view all.triples.items ≡ map triple_of (rows_at (codes "source") (view root.now))) }
     ensures chains { IfOk result (λ all. AreChained (map triple_bucket all.triples.items) all.chains.last.items all.chains.before.items) }
-    ensures output_sources { IfOk result (λ all. AreTriplesOfGroups numbers.now all.triples.items (rows_at (codes "group") (view root.now)) all.output_sources.items) }
+    ensures output_sources { IfOk result (λ all. AreTriplesOfTable numbers.now all.triples.items (view root.now) all.output_sources.items) }
 {
     let triples = source_triples(alloc, rows_at(root, "source"))?;
     let chains = triple_chains(alloc, &triples)?;

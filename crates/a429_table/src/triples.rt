@@ -165,7 +165,7 @@ fn output_triples<'a>(
     triples: &[SourceTriple<'a>],
     outputs: &[Value],
 ) -> Result<Vec<Option<SourceTriple<'a>>>, AllocError>
-    ensures { IfOk result (λ output_sources. AreTriplesOfOutputs numbers.now triples.now (map view outputs.now) output_sources.items) }
+    ensures { IfOk result (λ all. AreTriplesOfOutputs numbers.now triples.now (map view outputs.now) all.items) }
 {
     let mut output_sources = Vec::new(alloc);
     for output in outputs {
@@ -180,7 +180,7 @@ fn group_output_sources<'a>(
     triples: &[SourceTriple<'a>],
     outputs: &[Value],
 ) -> Result<OutputSources<'a>, AllocError>
-    ensures { IfOk result (λ output_sources. AreTriplesOfOutputs numbers.now triples.now (map view outputs.now) output_sources.triples.items) }
+    ensures { IfOk result (λ all. AreTriplesOfOutputs numbers.now triples.now (map view outputs.now) all.triples.items) }
 {
     let output_sources = output_triples(alloc, numbers, triples, outputs)?;
     let chains = output_chains(alloc, &output_sources)?;
@@ -197,7 +197,7 @@ pub fn groups_output_sources<'a>(
     triples: &[SourceTriple<'a>],
     groups: &[Value],
 ) -> Result<Vec<OutputSources<'a>>, AllocError>
-    ensures { IfOk result (λ output_sources. AreTriplesOfGroups numbers.now triples.now (map view groups.now) output_sources.items) }
+    ensures { IfOk result (λ all. AreTriplesOfGroups numbers.now triples.now (map view groups.now) all.items) }
 {
     let mut output_sources = Vec::new(alloc);
     for group in groups {

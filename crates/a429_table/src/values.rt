@@ -5,16 +5,16 @@ ghost use Rattle.std.specs.List.{list_any};
 ghost use Rattle.toml.specs.Data.{get};
 ghost use Rattle.toml.specs.View.{view};
 ghost use Rattle.a429_equipment.specs.NameForm.{is_name_byte, is_name};
-ghost use Rattle.a429_table.specs.Texts.{label_value, is_filter};
+ghost use Rattle.a429_filter.specs.FilterTexts.{is_filter};
 ghost use Rattle.a429_table.specs.Tree.{text_of};
 ghost use Rattle.a429_table.specs.Faults.{is_sdi, is_within, is_rate, is_interval, is_hold, is_named, has_wrong_rate, has_too_many, has_bad_name, has_bad_label, has_bad_sdi, has_bad_interval, has_bad_hold, is_empty_group};
 
 use crate::fault::TablePlace;
 use crate::tree::{get_integer, integer_at, rows_at, text_at, text_of};
 use crate::walk::Stop;
-use a429_equipment::TableVersion;
+use a429_equipment::{GROUPS, HOLD, OUTPUTS, RECEIVERS, SOURCES, TableVersion};
+use a429_filter::{FILTERS, Filter};
 use a429_word::Label;
-use std::str;
 use toml::Value;
 
 /// Whether a number lies from `low` to `high`.
@@ -50,12 +50,12 @@ pub fn has_too_many(stop: &Stop) -> bool
 {
     match stop.place {
         TablePlace::Root => {
-            rows_at(stop.value, "receiver").len() > 16
-                || rows_at(stop.value, "source").len() > 256
-                || rows_at(stop.value, "group").len() > 8
+            rows_at(stop.value, "receiver").len() > RECEIVERS
+                || rows_at(stop.value, "source").len() > SOURCES
+                || rows_at(stop.value, "group").len() > GROUPS
         }
-        TablePlace::Receiver(_) => rows_at(stop.value, "filters").len() > 32,
-        TablePlace::Group(_) => rows_at(stop.value, "output").len() > 128,
+        TablePlace::Receiver(_) => rows_at(stop.value, "filters").len() > FILTERS,
+        TablePlace::Group(_) => rows_at(stop.value, "output").len() > OUTPUTS,
         _ => false,
     }
 }
@@ -92,28 +92,12 @@ pub fn has_bad_name(stop: &Stop) -> bool
     is_named(stop.place) && !is_name(text_at(stop.value, "name"))
 }
 
-/// The value of three octal digits, `000` to `377`, and none of any other text.
-pub fn label_value(text: &[u8]) -> Option<u8>
-    ensures { result ≡ label_value text.now }
-{
-    let Ok(text) = str::from_utf8(text) else {
-        return None;
-    };
-    match Label::parse(text) {
-        Ok(label) => Some(label.value()),
-        Err(_) => None,
-    }
-}
-
-#[tactic(auto, unfolding(crate::specs::Texts::is_filter))]
-pub fn is_filter(text: &str) -> bool
+/// The text is a filter.
+#[tactic(auto, unfolding(a429_filter::specs::FilterTexts::filter_read))]
+fn is_filter(text: &str) -> bool
     ensures { result ≡ is_filter text.now }
 {
-    let bytes = text.as_bytes();
-    bytes.len() == 7
-        && bytes[3] == b'/'
-        && label_value(&bytes[..3]).is_some()
-        && label_value(&bytes[4..]).is_some()
+    Filter::parse(text).is_ok()
 }
 
 fn has_bad_filter(filters: &[Value]) -> bool
@@ -129,7 +113,9 @@ pub fn has_bad_label(stop: &Stop) -> bool
 {
     match stop.place {
         TablePlace::Receiver(_) => has_bad_filter(rows_at(stop.value, "filters")),
-        TablePlace::Source(_) => label_value(text_at(stop.value, "label").as_bytes()).is_none(),
+        TablePlace::Source(_) => Label::of_digits(text_at(
+            stop.value, "label",
+        ).as_bytes()).is_none(),
         _ => false,
     }
 }
@@ -181,7 +167,7 @@ pub fn has_bad_interval(stop: &Stop) -> bool
 fn is_hold(hold: Option<i64>) -> bool
     ensures { result ≡ is_hold hold }
 {
-    hold.is_none_or(|hold| is_within(1, 1000000, hold))
+    hold.is_none_or(|hold| is_within(1, HOLD, hold))
 }
 
 /// There is a hold, and it is out of range.

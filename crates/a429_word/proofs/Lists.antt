@@ -1,13 +1,13 @@
 -- What holds of any lists, options and tests. The libraries above use these too.
 use Rattle.std.proofs.Common.{◌≡◌, ℕ, zero, suc, ◌+◌, ◌*◌, ◌/◌, ◌^◌, ◌<◌, ◌≤◌, List, [], ◌∷◌, ◌++◌, length, take, drop, get_or, Bool, true, false, true≢false, refl, sym, ap, ap₂, subst, ◌∙◌, inl, inr, ◌⊎◌, arith, append-nil, append_assoc, length-append}
-use Rattle.std.specs.Prelude.{Option, Some, None, Result, Ok, if◌then◌else◌, is_some, slice_get, slice_set, position, ◌&&◌, ◌||◌}
+use Rattle.std.specs.Prelude.{Option, Some, None, Result, Ok, map, not, if◌then◌else◌, is_some, slice_get, slice_set, position, ◌&&◌, ◌||◌}
 use Rattle.std.specs.List.{AllByRecursion, AllZip, position_or_len, range_with_len, zip}
-use Rattle.std.proofs.Math.Nat.{div-lt_iff_lt-mul, mul_comm}
+use Rattle.std.proofs.Math.Nat.{div-lt_iff_lt-mul, div-mul-le_self, div-zero, mul_comm}
 use Rattle.std.proofs.lemmas.Bool.{cases_lt, lt-ltb}
-use Rattle.std.proofs.lemmas.Nat.{pow_below}
+use Rattle.std.proofs.lemmas.Nat.{le-div, pow_below}
 use Rattle.std.proofs.lemmas.List.{drop_more, get_or-set_same, length-set, length-take, take-append-le, take_all, take_more}
 use Rattle.std.proofs.lemmas.List.Sums.{fails_before_first}
-use Rattle.std.proofs.lemmas.Option.{get_or_from_slice_get, none-some, same_Some, slice_get-get_or, slice_get_within}
+use Rattle.std.proofs.lemmas.Option.{get_or_from_slice_get, none-some, same_Some, slice_get-get_or, slice_get_cases, slice_get_within}
 use Rattle.std.proofs.lemmas.Slice.Zip.{all_zipped_more}
 use mathlib.Core.List.{IsPrefix}
 
@@ -23,6 +23,10 @@ false_unless false h = refl
 pub and_false : (a b : Bool) → b ≡ false → (a && b) ≡ false
 and_false true b h = h
 and_false false b h = refl
+
+pub not_false : (b : Bool) → not b ≡ false → b ≡ true
+not_false true h = refl
+not_false false h = sym h
 
 pub or_parts : (a b : Bool) → (a || b) ≡ true → (a ≡ true) ⊎ (b ≡ true)
 or_parts true b h = inl refl
@@ -54,6 +58,10 @@ pub positive : (k m H : ℕ) → k < m * H → 0 < m
 positive k zero H lt = let none : zero * H ≡ zero = omega arith in absurd (omega (arith, lt, none))
 positive k (suc m) H lt = omega arith
 
+pub div_more : (c m : ℕ) → c / m ≤ (c + 1) / m
+div_more c zero = omega (arith, div-zero c)
+div_more c (suc m) = le-div (c / suc m) (c + 1) (suc m) (omega arith) (omega (arith, div-mul-le_self c (suc m)))
+
 -- the number of a frame of H is that of a slot over H
 pub in_frame : (k m H : ℕ) → k < m * H → k / m < H
 in_frame k m H lt = (div-lt_iff_lt-mul (positive k m H lt)).1 (subst (λ (n : ℕ). k < n) (mul_comm m H) lt)
@@ -68,6 +76,16 @@ range_next a (suc n) =
 
 pub read_is : {X : Type 0} (xs : List X) (i : ℕ) (x : X) → i < length xs → x ≡ get_or xs i x → slice_get xs i ≡ Some x
 read_is xs i x below is = slice_get-get_or xs i x below ∙ ap (λ y. Some y) (sym is)
+
+pub none_cut : {X : Type 0} (n : ℕ) → ◌≡◌ {A = List X} (take n []) []
+none_cut zero = refl
+none_cut (suc n) = refl
+
+pub get_within : {X : Type 0} (xs : List X) (i : ℕ) → i < length xs → (x : X) × (slice_get xs i ≡ Some x)
+get_within xs i below = elim (slice_get_cases xs i).1 [
+  | inl hit ↦ (hit.0, hit.2)
+  | inr miss ↦ absurd (omega (arith, below, miss.0))
+]
 
 pub take_next : {X : Type 0} (xs : List X) (i : ℕ) (x : X) → slice_get xs i ≡ Some x → take (i + 1) xs ≡ take i xs ++ x ∷ []
 take_next xs i x h = take_more xs i x (slice_get_within xs i x h) ∙ ap (λ y. take i xs ++ y ∷ []) (get_or_from_slice_get xs i x x h)
@@ -126,6 +144,13 @@ all_parts P (x ∷ xs) ys all = let rest = all_parts P xs ys all.1 in ((all.0, r
 pub all_front : {A : Type 0} (P : A → Type 0) (xs ys : List A) → AllByRecursion P (xs ++ ys) → AllByRecursion P xs
 all_front P xs ys all = (all_parts P xs ys all).0
 
+pub all_back : {A : Type 0} (P : A → Type 0) (xs ys : List A) → AllByRecursion P (xs ++ ys) → AllByRecursion P ys
+all_back P xs ys all = (all_parts P xs ys all).1
+
+pub all_mapped : {X Y : Type 0} (f : X → Y) (Q : Y → Type 0) (xs : List X) → AllByRecursion (λ x. Q (f x)) xs → AllByRecursion Q (map f xs)
+all_mapped f Q [] h = tt
+all_mapped f Q (x ∷ xs) h = (h.0, all_mapped f Q xs h.1)
+
 pub all_beginning : {A : Type 0} (P : A → Type 0) (xs ys : List A) → IsPrefix xs ys → AllByRecursion P ys → AllByRecursion P xs
 all_beginning P xs ys p all = all_front P xs p.0 (subst (AllByRecursion P) (sym p.1) all)
 
@@ -154,3 +179,10 @@ zipped_at R (x ∷ xs) (y ∷ ys) (suc i) d e below all = zipped_at R xs ys i d 
 pub zip_next : {A B : Type 0} (R : A → B → Type 0) (xs : List A) (ys : List B) (i : ℕ) (x : A) (y : B) → slice_get xs i ≡ Some x → AllZip R (take i xs) ys → R x y → AllZip R (take (i + 1) xs) (ys ++ y ∷ [])
 zip_next {A} {B} R xs ys i x y h old new =
     subst (λ (zs : List A). AllZip R zs (ys ++ y ∷ [])) (sym (take_next xs i x h)) (all_zipped_more R (take i xs) ys x y old new)
+
+-- the element of the other list at the same place
+pub partner : {A B : Type 0} (R : A → B → Type 0) (xs : List A) (ys : List B) (i : ℕ) (x : A) → AllZip R xs ys → slice_get xs i ≡ Some x → (y : B) × R x y
+partner R [] ys i x all there = absurd (none-some x there)
+partner R (a ∷ xs) [] i x all there = absurd all
+partner {A} {B} R (a ∷ xs) (b ∷ ys) zero x all there = (b, subst (λ (z : A). R z b) (same_Some a x there) all.0)
+partner R (a ∷ xs) (b ∷ ys) (suc i) x all there = partner R xs ys i x all.1 there

@@ -1,6 +1,6 @@
 //! Labels, and how they are written.
 ghost use Rattle.std.specs.Prelude.{◌≡◌, ◌<◌, ◌^◌, ℕ, Ok, IfOk, Some};
-ghost use Rattle.a429_word.specs.Texts.{octal};
+ghost use Rattle.a429_word.specs.Texts.{label_value, octal};
 
 use std::fmt;
 use std::marker::Model;
@@ -38,16 +38,25 @@ impl Label {
 
     /// Reads three octal digits, `000` to `377`, as labels are written (ARINC 429 Part 1).
     /// Every other text is refused.
+    #[tactic(auto, using(crate::proofs::LabelTexts::written, crate::proofs::LabelTexts::value_of_written))]
     pub fn parse(text: &str) -> Result<Label, LabelText>
         ensures printed { IfOk result (λ label. text.now ≡ octal label) }
         ensures each { (value : ℕ) → value < 2 ^ 8 → text.now ≡ octal value → result ≡ Ok value }
     {
-        match text.as_bytes() {
+        Label::of_digits(text.as_bytes()).ok_or(LabelText)
+    }
+
+    /// The label of three octal digits, `000` to `377`; `None` for all other bytes.
+    #[tactic(auto, unfolding(crate::specs::Texts::label_value))]
+    pub fn of_digits(digits: &[u8]) -> Option<Label>
+        ensures { result ≡ label_value digits.now }
+    {
+        match digits {
             [high @ b'0'..=b'3', middle @ b'0'..=b'7', low @ b'0'..=b'7'] => {
                 let value = (high - b'0') * 64 + (middle - b'0') * 8 + (low - b'0');
-                Ok(Label { value })
+                Some(Label { value })
             }
-            _ => Err(LabelText),
+            _ => None,
         }
     }
 

@@ -10,5 +10,5 @@ use Rattle.a429_table.proofs.shape.has_wrong_kind.Goals as goal
 pub returns-else-not-is_table : goal.returns-else-not-is_table
 unfolding has_wrong_kind
 returns-else-not-is_table c =
-    let found = any_from_yields_List (λ x. misfits (view c.args.stop.now.value.now) (column_view x)) _ _ c.any.result c.any.ensures.ran (YieldsList-from_slice c.columns.result.now cc) (λ x b q k. search (rules, tests)) in
-    rw (found, ← c.if-not-is_table.ensures, ← c.columns.ensures, list_any_map)
+    let found = any_from_yields_List (λ x. misfits (view c.args.stop.now.value.now) (column_view x)) _ _ c.any.result c.any.ensures.ran (YieldsList-from_slice c.columns_of.result.now cc) (λ x b q k. search (rules, tests)) in
+    rw (found, ← c.if-not-is_table.ensures, ← c.columns_of.ensures, list_any_map)

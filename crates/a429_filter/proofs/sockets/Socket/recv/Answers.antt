@@ -18,16 +18,16 @@ pub loop-look-preserved : goal.loop-look-preserved
 loop-look-preserved g c =
     let so_far = c.loop-look.invariant.asked in
     let given = rw c.in-Ok-Some.field-0-is at c.in-Ok-Some.ensures.given in
-    let refused = c.loop-look.invariant.taken in
+    let (refused, given_so, left_so, none, many) = c.loop-look.invariant.taken in
     let left = rw c.in-Ok-Some.field-0-is at c.in-Ok-Some.ensures.left in
     let step = rw c.in-Ok-Some.field-0-is at c.in-Ok-Some.ensures.step in
     record {
       taken = (
-        refused.0 ++ c.in-Ok-Some.raw ∷ [],
-        given_next _ refused.0 _ _ c.in-Ok-Some.raw refused.1 given,
-        left_next refused.0 c.in-Ok-Some.raw _ _ _ refused.2 left,
-        refused_next _ refused.0 c.in-Ok-Some.raw _ refused.3 c.accepted_word.ensures c.in_default.is,
-        length-append refused.0 (c.in-Ok-Some.raw ∷ []) ∙ ap (λ (n : ℕ). n + 1) refused.4,
+        refused ++ c.in-Ok-Some.raw ∷ [],
+        given_next _ refused _ _ c.in-Ok-Some.raw given_so given,
+        left_next refused c.in-Ok-Some.raw _ _ _ left_so left,
+        refused_next _ refused c.in-Ok-Some.raw _ none c.accepted_word.ensures c.in_default.is,
+        length-append refused (c.in-Ok-Some.raw ∷ []) ∙ ap (λ (n : ℕ). n + 1) many,
       );
       filters = search rules;
       failed = search rules;

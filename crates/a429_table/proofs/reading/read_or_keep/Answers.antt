@@ -1,7 +1,7 @@
 use Rattle.std.proofs.lemmas.Result.{err_from_is_err_and}
 use Rattle.toml.specs.View.{view}
 use Rattle.a429_table.proofs.Documents.{no_root_passes}
-use Rattle.a429_table.proofs.reading.read_equipment.Goals as goal
+use Rattle.a429_table.proofs.reading.read_or_keep.Goals as goal
 
 pub returns-in_err-root : goal.returns-in_err-root
 returns-in_err-root c =
