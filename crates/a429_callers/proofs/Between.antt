@@ -15,7 +15,7 @@ between t r s count last A loads rest word own whole agrees =
     let l : Load = record { source = s; count = count; word = word } in
     let flat : AgreesTo t r A (loads ++ l ∷ rest) last = subst (λ (ls : List Load). AgreesTo t r A ls last) (append_assoc loads (l ∷ []) rest) agrees in
     let all : Cuts (is_of t r) (A ++ []) 0 (loads ++ l ∷ rest) last = subst (λ (B : List (ℕ × ℕ)). Cuts (is_of t r) B 0 (loads ++ l ∷ rest) last) (sym (append-nil A)) flat in
-    let found = whole [] (l ∷ rest) last all in
-    let later : Cuts (is_of t r) A found.0 (l ∷ rest) last = subst (λ (B : List (ℕ × ℕ)). Cuts (is_of t r) B found.0 (l ∷ rest) last) (append-nil A) found.3 in
-    let is : IsCut true A found.0 l later.0 = subst (λ (b : Bool). IsCut b A found.0 l later.0) own later.1 in
-    ap (λ (x : Load). x.word) is.2 ∙ ap (λ (B : List (ℕ × ℕ)). last_of (words_of s B)) (take_all later.0 A (omega (arith, found.1, is.0)))
+    let (cut, within, before, cuts) = whole [] (l ∷ rest) last all in
+    let later : Cuts (is_of t r) A cut (l ∷ rest) last = subst (λ (B : List (ℕ × ℕ)). Cuts (is_of t r) B cut (l ∷ rest) last) (append-nil A) cuts in
+    let is : IsCut true A cut l later.0 = subst (λ (b : Bool). IsCut b A cut l later.0) own later.1 in
+    ap (λ (x : Load). x.word) is.2 ∙ ap (λ (B : List (ℕ × ℕ)). last_of (words_of s B)) (take_all later.0 A (omega (arith, within, is.0)))

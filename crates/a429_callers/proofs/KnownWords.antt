@@ -8,7 +8,7 @@ use Rattle.std.proofs.lemmas.Bool.{cases_eq, cases_lt}
 use Rattle.std.proofs.lemmas.List.{length-append, length-take}
 use Rattle.std.proofs.lemmas.Nat.{pow_pos}
 use Rattle.std.proofs.lemmas.Option.{none-some, same_Some, slice_get_within}
-use Rattle.a429_word.proofs.Lists.{all_at}
+use Rattle.a429_word.proofs.Lists.{all_at, get_within}
 use Rattle.a429_equipment.specs.Arrivals.{AreApart}
 use Rattle.a429_equipment.specs.declared.loads.Load.{Load}
 use Rattle.a429_equipment.specs.declared.rows.SourceRow.{SourceRow}
@@ -24,12 +24,14 @@ use Rattle.a429_slots.specs.declared.answers.Answer.{Answer}
 use Rattle.a429_slots.specs.declared.answers.Answer.TheVariants.{Accepted, Sent, Published, Refused}
 use Rattle.a429_slots.specs.declared.answers.Refusal.TheVariants.{FrameEnd}
 use Rattle.a429_slots.specs.Answers.{answer, answers}
+use Rattle.a429_slots.proofs.Histories.{take_following}
 use Rattle.a429_core.specs.Sends.{WordsAreAcceptedOneByOne}
+use Rattle.a429_core.specs.Histories.{history_of}
 use Rattle.a429_core.specs.Latency.{AcceptedWordsGoOutInTime, IsAcceptedAt, next_on, next_slot_on, period_of}
 use Rattle.a429_workers.specs.Calls.{Call, Carried, Asks, Turns, Meets, GroupState, AreLawful, IsAnswered, IsLawful, after, before_calls, loads_of, state_after, word_of}
 use Rattle.a429_workers.specs.Runs.{IsRun, IsWorking, WorkIsOneRun, answered, event_of, is_publish, is_sending, turn_answer}
-use Rattle.a429_callers.specs.KnownWords.{HasSpacedOutput, IsKnown, KnownWordsGoOutInTime, SendsKnown, StaysInCalls, frame_after, next_after}
-use Rattle.a429_callers.proofs.RunPlaces.{CutsAlike, adds_one, at_count, count_at, count_grows, earlier, get_within, length-answers, nth, on_the_way, same_place, stands_alike, take_next}
+use Rattle.a429_callers.specs.KnownWords.{GroupCalls, HasSpacedOutput, IsKnown, KnownWordsGoOutInTime, SendsKnown, StaysInCalls, calls_of, frame_after, next_after}
+use Rattle.a429_callers.proofs.RunPlaces.{CutsAlike, adds_one, at_count, count_at, count_grows, earlier, length-answers, nth, on_the_way, same_place, stands_alike}
 
 -- what the crates below promise
 pub record AreLaws : Type 0 where
@@ -102,7 +104,7 @@ none_yet C o source = by (slice_get o.proposal.station.sources source)
 words_next : WordsAreAcceptedOneByOne → (C : ℕ) (o : Opening) (E : List Event) (source m : ℕ) → AreApart o.proposal.station.sources → m < length E → words_at C o E source m ≤ words_at C o E source (suc m)
 words_next law C o E source m apart below =
     let (e, there) = get_within E m below in
-    let on : words_at C o E source (suc m) ≡ length (accepted_by C o source (take m E ++ e ∷ [])) = ap (λ (F : List Event). length (accepted_by C o source F)) (take_next E m e there) in
+    let on : words_at C o E source (suc m) ≡ length (accepted_by C o source (take m E ++ e ∷ [])) = ap (λ (F : List Event). length (accepted_by C o source F)) (take_following E m e there) in
     elim (law C o (take m E) source e apart) [
       | inl W ↦ omega (arith, on, ap (λ (ws : List ℕ). length ws) W.more, length-append (accepted_by C o source (take m E)) (W.word ∷ []))
       | inr N ↦ omega (arith, on, ap (λ (ws : List ℕ). length ws) N.same)
@@ -132,7 +134,7 @@ accepted_at : WordsAreAcceptedOneByOne → (C : ℕ) (o : Opening) (E : List Eve
 accepted_at law C o E source n zero apart few some enough = absurd (omega (arith, some, enough, none_yet C o source))
 accepted_at law C o E source n (suc m) apart few some enough =
     let (e, there) = get_within E m (omega (arith, few)) in
-    let on : words_at C o E source (suc m) ≡ length (accepted_by C o source (take m E ++ e ∷ [])) = ap (λ (F : List Event). length (accepted_by C o source F)) (take_next E m e there) in
+    let on : words_at C o E source (suc m) ≡ length (accepted_by C o source (take m E ++ e ∷ [])) = ap (λ (F : List Event). length (accepted_by C o source F)) (take_following E m e there) in
     elim (cases_lt (words_at C o E source m) n) [
       | inr there' ↦
           let A = accepted_at law C o E source n m apart (omega (arith, few)) some there' in
@@ -191,6 +193,9 @@ loaded_for earlier slot w output (Some l) word is sent = (l, refl)
 
 module _ (law : AreLaws) (C : ℕ) (o : Opening) (g : ℕ) (p : SlotTable) (later : List Proposed) (calls : List Call) (heard : ℕ → List (ℕ × ℕ)) (W : IsWorking C o g p later calls heard)
     (E : List Event) (R : IsRun C o g later calls heard E) where
+  abbrev made : GroupCalls
+  made = calls_of o g p calls
+
   abbrev place_of : ℕ → ℕ
   place_of n = (R.places p n W.opens).place
 
@@ -204,11 +209,11 @@ module _ (law : AreLaws) (C : ℕ) (o : Opening) (g : ℕ) (p : SlotTable) (late
   counted n = ap (λ (xs : List (Event × Answer)). length xs) (R.places p n W.opens).sends
 
   -- where as many cells and frames come before, the group stands where the calls led
-  stands : (m n : ℕ) → m ≤ length E → count_at law.alike C o E m ≡ many n → stands_after o g p (take m E) ≡ frame_after o g p calls n
+  stands : (m n : ℕ) → m ≤ length E → count_at law.alike C o E m ≡ many n → stands_after o g p (take m E) ≡ frame_after made n
   stands m n within same = stands_alike law.alike C o E law.pass g p m (place_of n) within (few n) (same ∙ sym (counted n)) ∙ (R.places p n W.opens).frame
 
   -- so its output stays from place to place
-  sender_at : (h k source : ℕ) (at : SlotPlace) (q : ℕ) → h ≤ k → StaysInCalls o g p calls h k source at q → (m : ℕ) → place_of h ≤ m → m ≤ place_of k → HasSpacedOutput (current o g p (take m E)).table source at q
+  sender_at : (h k source : ℕ) (at : SlotPlace) (q : ℕ) → h ≤ k → StaysInCalls made h k source at q → (m : ℕ) → place_of h ≤ m → m ≤ place_of k → HasSpacedOutput (current o g p (take m E)).table source at q
   sender_at h k source at q after stays m from to =
       let within : m ≤ length E = omega (arith, to, few k) in
       let S = on_the_way (event_of g) calls h k (count_at law.alike C o E m) after
@@ -216,12 +221,12 @@ module _ (law : AreLaws) (C : ℕ) (o : Opening) (g : ℕ) (p : SlotTable) (late
       subst (λ (s : FrameState). HasSpacedOutput s.table source at q) (sym (stands m S.number within (sym S.many))) (stays S.number S.from S.to)
 
   -- a slot passes only where a cell or a frame does
-  later_place : (a b bus : ℕ) → a ≤ b → next_after o g p calls a bus < next_after o g p calls b bus → place_of a < place_of b
+  later_place : (a b bus : ℕ) → a ≤ b → next_after made a bus < next_after made b bus → place_of a < place_of b
   later_place a b bus after less = elim (cases_lt (many a) (many b)) [
     | inl more ↦ earlier law.alike C o E (place_of a) (place_of b) (few a) (omega (arith, more, counted a, counted b))
     | inr none ↦
         let same : many a ≡ many b = omega (arith, none, many_grow (event_of g) calls a b after) in
-        let frames : frame_after o g p calls a ≡ frame_after o g p calls b = sym (R.places p a W.opens).frame ∙ stands (place_of a) b (few a) (counted a ∙ same) in
+        let frames : frame_after made a ≡ frame_after made b = sym (R.places p a W.opens).frame ∙ stands (place_of a) b (few a) (counted a ∙ same) in
         absurd (omega (arith, less, ap (λ (s : FrameState). next_on s bus) frames))
   ]
 
@@ -243,12 +248,12 @@ module _ (law : AreLaws) (C : ℕ) (o : Opening) (g : ℕ) (p : SlotTable) (late
       let c = D.cell in
       let call : slice_get calls j ≡ Some (Asks (Some c)) = J.there ∙ ap (λ (z : Call). Some z) D.is in
       let L : IsAnswered (state_after g p (before_calls o.proposal.plan p o.first) (take j calls)) c = lawful_at g p (before_calls o.proposal.plan p o.first) calls j (Asks (Some c)) W.lawful call in
-      let (l, loaded) = loaded_for (state_after g p (before_calls o.proposal.plan p o.first) (take j calls)).earlier c.slot word (output_in (frame_after o g p calls j).table L.cell.0 L.cell.1) c.load c.word L.word D.word_is in
+      let (l, loaded) = loaded_for (state_after g p (before_calls o.proposal.plan p o.first) (take j calls)).earlier c.slot word (output_in (frame_after made j).table L.cell.0 L.cell.1) c.load c.word L.word D.word_is in
       let stand = stands m j (omega (arith, below)) (sym J.before) in
-      let due_here : next_cell (frame_after o g p calls j) ≡ Some cell = ap next_cell (sym stand) ∙ (sym (law.next g (current o g p (take m E))) ∙ due) in
+      let due_here : next_cell (frame_after made j) ≡ Some cell = ap next_cell (sym stand) ∙ (sym (law.next g (current o g p (take m E))) ∙ due) in
       let one : L.cell ≡ cell = same_Some L.cell cell (sym L.due ∙ due_here) in
-      let output : output_in (frame_after o g p calls j).table L.cell.0 L.cell.1 ≡ Some x =
-      ap (λ (z : ℕ × ℕ). output_in (frame_after o g p calls j).table z.0 z.1) one ∙ (ap (λ (s : FrameState). output_in s.table cell.0 cell.1) (sym stand) ∙ there) in
+      let output : output_in (frame_after made j).table L.cell.0 L.cell.1 ≡ Some x =
+      ap (λ (z : ℕ × ℕ). output_in (frame_after made j).table z.0 z.1) one ∙ (ap (λ (s : FrameState). output_in s.table cell.0 cell.1) (sym stand) ∙ there) in
       let sources : Some l.source ≡ Some x.source = ap (option_map (λ (y : Load). y.source)) (sym loaded) ∙ (L.load ∙ ap (option_map (λ (y : Placed). y.source)) output) in
       let own : l.source ≡ source = same_Some l.source x.source sources ∙ same in
       let K = R.cells j c l call loaded in
@@ -271,19 +276,19 @@ module _ (law : AreLaws) (C : ℕ) (o : Opening) (g : ℕ) (p : SlotTable) (late
         sent = D.word_is;
       }
 
-  out_in_time : (h i k source : ℕ) (at : SlotPlace) (q count : ℕ) → AreApart o.proposal.station.sources → IsOwnPlan o.proposal → AllByRecursion IsOwnPlan later → h ≤ i → i ≤ k → StaysInCalls o g p calls h k source at q
-      → IsKnown calls i source count → 1 ≤ count → next_after o g p calls h at.bus + period_of at ≤ next_after o g p calls i at.bus → next_after o g p calls i at.bus + period_of at ≤ next_after o g p calls k at.bus
-      → SendsKnown calls k source count (next_after o g p calls i at.bus + period_of at)
+  out_in_time : (h i k source : ℕ) (at : SlotPlace) (q count : ℕ) → AreApart o.proposal.station.sources → IsOwnPlan o.proposal → AllByRecursion IsOwnPlan later → h ≤ i → i ≤ k → StaysInCalls made h k source at q
+      → IsKnown calls i source count → 1 ≤ count → next_after made h at.bus + period_of at ≤ next_after made i at.bus → next_after made i at.bus + period_of at ≤ next_after made k at.bus
+      → SendsKnown calls k source count (next_after made i at.bus + period_of at)
   out_in_time h i k source at q count apart opened own low after stays K some settled passes =
       let period : 0 < period_of at = pow_pos at.period in
       let first = later_place h i at.bus low (omega (arith, settled, period)) in
       let then' = later_place i k at.bus after (omega (arith, passes, period)) in
-      let next_is : (n : ℕ) → next_slot_on o g p E (place_of n) at.bus ≡ next_after o g p calls n at.bus = λ n. ap (λ (s : FrameState). next_on s at.bus) (R.places p n W.opens).frame in
+      let next_is : (n : ℕ) → next_slot_on (history_of o g p E) (place_of n) at.bus ≡ next_after made n at.bus = λ n. ap (λ (s : FrameState). next_on s at.bus) (R.places p n W.opens).frame in
       let shown : K.load.count ≤ words_at C o E K.load.source (place_of i) = all_at (λ (l : Load). l.count ≤ words_at C o E l.source (place_of i)) (loads_of (take i calls)) K.number K.load (R.places p i W.opens).loaded K.there in
       let enough : count ≤ words_at C o E source (place_of i) = omega (arith, K.enough, shown, ap (λ (z : ℕ). words_at C o E z (place_of i)) K.same) in
       let A = accepted_at law.words C o E source count (place_of i) apart (few i) some enough in
       let by : A.place < place_of i = A.before in
-      let G = law.out C o g p E (place_of h) A.place (place_of i) (place_of k) source at q (record { apart = apart; opens = W.opens; own = own_plans C o g later calls heard E R opened own })
+      let G = law.out C (history_of o g p E) (place_of h) A.place (place_of i) (place_of k) source at q (record { apart = apart; opens = W.opens; own = own_plans C o g later calls heard E R opened own })
       (record { word = A.accepted; after = omega (arith, by, then'); few = few k }) (omega (arith, by)) (omega (arith, then')) (omega (arith, first))
       (λ m from below. (sender_at h k source at q (omega (arith, low, after)) stays m from (omega (arith, below))).output)
       (λ m from below. (sender_at h k source at q (omega (arith, low, after)) stays m (omega (arith, from, first)) (omega (arith, below))).may)
@@ -295,9 +300,9 @@ module _ (law : AreLaws) (C : ℕ) (o : Opening) (g : ℕ) (p : SlotTable) (late
         | inr differs ↦ omega (arith, from, differs)
         | inl is ↦ let no' : Arrive A.accepted.receiver A.accepted.word ≡ Cell g = same_Some (Arrive A.accepted.receiver A.accepted.word) (Cell g) (sym A.accepted.came ∙ (ap (slice_get E) is ∙ I.asked)) in absurd (cc)
       ] in
-      let high : G.cell.slot < next_slot_on o g p E (place_of i) at.bus + period_of at = G.cell.high in
+      let high : G.cell.slot < next_slot_on (history_of o g p E) (place_of i) at.bus + period_of at = G.cell.high in
       let before : m < place_of k = G.cell.before in
-      sent_in_call m k source G.cell.slot G.word count (next_after o g p calls i at.bus + period_of at) G.cell.output G.sent.cell.cell.0 I.cell apart I.asked I.due I.stands G.cell.same G.sent.answered before
+      sent_in_call m k source G.cell.slot G.word count (next_after made i at.bus + period_of at) G.cell.output G.sent.cell.cell.0 I.cell apart I.asked I.due I.stands G.cell.same G.sent.answered before
       (omega (arith, high, next_is i))
       (λ l words same. omega (arith, A.enough, words_grow law.words C o E source (suc A.place) m apart (omega (arith, past)) (omega (arith, before, few k)), words, ap (λ (z : ℕ). words_at C o E z m) same))
 

@@ -1,8 +1,9 @@
 -- The latest of two words.
 use Rattle.std.proofs.Common.{◌≡◌, ◌∙◌, ◌++◌, ℕ, List, [], ◌∷◌, length, refl, sym, subst, ap, arith}
-use Rattle.std.specs.Prelude.{Some, None, Option, Result, Ok, Err, drop, slice_get}
+use Rattle.std.specs.Prelude.{Some, None, Option, Result, Ok, drop, slice_get}
 use Rattle.std.specs.Option.{option_map_or}
 use Rattle.std.proofs.lemmas.Option.{none-some, same_Some}
+use Rattle.a429_word.proofs.Lists.{same_Ok}
 use Rattle.a429_equipment.specs.Arrivals.{AreApart}
 use Rattle.a429_slots.specs.Answers.{answer, cell_answer}
 use Rattle.a429_slots.specs.Events.{Event, Arrive, Cell, Frame, Publish}
@@ -75,11 +76,6 @@ second_sent C o r first second a bus slot w law apart one other sent =
     second_of C o first second a carried.source w (Arrive r first) (Arrive r second) r refl refl one other carried.latest.before carried.latest.receiver carried.latest.after carried.latest.split
     carried.latest.accepted carried.latest.none_later
 
-given : {E : Type 0} → Answer → Result Answer E → Answer
-given d (Ok a) = a
-given d (Err e) = d
-
 -- an answer that a step gives is the one of the definition
 pub answered : {E : Type 0} (a b : Answer) → ◌≡◌ {A = Result Answer E} (Ok b) (Ok a) → a ≡ b
-unfolding given
-answered {E} a b h = ap (given {E = E} a) (sym h)
+answered a b h = sym (same_Ok b a h)

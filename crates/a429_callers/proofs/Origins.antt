@@ -7,6 +7,7 @@ use Rattle.std.proofs.lemmas.List.Quantifiers.{position-Some}
 use Rattle.std.proofs.lemmas.Option.{none-some, same_Some, slice_get-get_or}
 use Rattle.std.proofs.lemmas.Bool.{and_from, and_parts, cases_lt, cases_eq, lt-ltb, le-ltb, eq-eqb, eqb-true, ne_eqb}
 use Rattle.a429_word.specs.Bits.{has_odd_parity}
+use Rattle.a429_word.proofs.Lists.{all_at, all_back, all_front}
 use Rattle.a429_equipment.specs.declared.arrivals.ArrivalRefusal.{ArrivalRefusal}
 use Rattle.a429_equipment.specs.declared.arrivals.ArrivalRefusal.TheVariants.{Parity, Filtered, NoSource}
 use Rattle.a429_equipment.specs.declared.loads.Load.{Load}
@@ -15,6 +16,8 @@ use Rattle.a429_equipment.specs.TableRecord.{TableRecord}
 use Rattle.a429_equipment.specs.Arrivals.{AreApart, accepts, is_for, passes_at, sorted}
 use Rattle.a429_equipment.specs.Receiving.{with_word, accepted_after}
 use Rattle.a429_equipment.specs.Agreement.{Agrees, Cuts, IsCut, is_of, words_of}
+use Rattle.a429_filter.specs.declared.sources.LineSource as LineSource
+use Rattle.a429_workers.specs.declared.sinks.BusSink as BusSink
 use Rattle.a429_slots.specs.Tables.{Placed, SlotTable, output_in}
 use Rattle.a429_slots.specs.History.{AnsweredCell}
 use Rattle.a429_workers.specs.Calls.{Call, Carried, Asks, Turns, Meets, IsAnswered, IsLawful, GroupState, AreLawful, after, loads_in, loads_of, state_after, word_of}
@@ -27,7 +30,7 @@ use Rattle.a429_workers.specs.declared.sending.SendTotals.{SendTotals}
 use Rattle.a429_core.specs.Sends.{SentWordsWereAccepted}
 use Rattle.a429_station.specs.Numbered.{AllOfThree}
 use Rattle.a429_station.specs.Resubmitting.{opening}
-use Rattle.a429_station.specs.Course.{Course, HasRun, IsHeardIn, IsSentIn, heard_in, meetings}
+use Rattle.a429_station.specs.Course.{Course, HasRun, IsHeardIn, IsSentIn, RunAsk, heard_in, meetings}
 use Rattle.a429_station.specs.declared.reports.Report.{Report}
 use Rattle.a429_slots.specs.Spacing.{IsOwnPlan}
 use Rattle.a429_callers.specs.KnownWords.{KnownWordsGoOutInTime}
@@ -35,22 +38,9 @@ use Rattle.a429_callers.specs.Origins.{AreOwnWords, HasRunInTime, HasRunOnLatest
 
 -- ---- lists
 
-all_at : {X : Type 0} (P : X → Type 0) (xs : List X) (k : ℕ) (x : X) → slice_get xs k ≡ Some x → AllByRecursion P xs → P x
-all_at P [] k x h all = absurd (none-some x h)
-all_at P (y ∷ xs) zero x h all = subst P (same_Some y x h) all.0
-all_at P (y ∷ xs) (suc k) x h all = all_at P xs k x h all.1
-
 all_of : {X : Type 0} (P : X → Type 0) (xs : List X) → ((k : ℕ) (x : X) → slice_get xs k ≡ Some x → P x) → AllByRecursion P xs
 all_of P [] each = tt
 all_of P (x ∷ xs) each = (each 0 x refl, all_of P xs (λ k y h. each (suc k) y h))
-
-all_front : {X : Type 0} (P : X → Type 0) (xs ys : List X) → AllByRecursion P (xs ++ ys) → AllByRecursion P xs
-all_front P [] ys all = tt
-all_front P (x ∷ xs) ys all = (all.0, all_front P xs ys all.1)
-
-all_back : {X : Type 0} (P : X → Type 0) (xs ys : List X) → AllByRecursion P (xs ++ ys) → AllByRecursion P ys
-all_back P [] ys all = all
-all_back P (x ∷ xs) ys all = all_back P xs ys all.1
 
 there_is : {X : Type 0} (xs : List X) (k : ℕ) → k < length xs → (x : X) × (slice_get xs k ≡ Some x)
 there_is [] k lt = absurd (omega (arith, lt))
@@ -138,7 +128,7 @@ cuts_tell mine A before last [] P h all = tt
 cuts_tell mine A before last (l ∷ ls) P h all = (
   λ own w is.
       let c : IsCut true A before l h.0 = subst (λ (b : Bool). IsCut b A before l h.0) own h.1 in
-      all_at (P l.source) (words_of l.source (take h.0 A)) (length (words_of l.source (take h.0 A)) - 1) w (sym (ap (λ (m : Load). m.word) c.2) ∙ is) (all_words P l.source h.0 A all),
+      all_at (P l.source) (words_of l.source (take h.0 A)) (length (words_of l.source (take h.0 A)) - 1) w (all_words P l.source h.0 A all) (sym (ap (λ (m : Load). m.word) c.2) ∙ is),
   cuts_tell mine A h.0 last ls P h.2 all,
 )
 
@@ -153,11 +143,11 @@ loads_tell : (t : TableRecord) (loads : List Load) (heard : ℕ → List (ℕ ×
     → AllByRecursion (LoadIs Q) loads
 loads_tell t loads heard Q received known agree all =
     all_of (LoadIs Q) loads (λ k l there.
-    let found = there_is t.sources l.source (all_at (λ (m : Load). m.source < length t.sources) loads k l there known) in
+    let found = there_is t.sources l.source (all_at (λ (m : Load). m.source < length t.sources) loads k l known there) in
     let r : ℕ = found.0.receiver in
     let inside : r < length t.receivers = received l.source found.0 found.1 in
     let agreed = agree r inside in
-    all_at (λ (m : Load). is_of t r m.source ≡ true → LoadIs Q m) loads k l there (cuts_tell (is_of t r) (heard r) 0 agreed.0 loads Q agreed.1 (all r inside))
+    all_at (λ (m : Load). is_of t r m.source ≡ true → LoadIs Q m) loads k l (cuts_tell (is_of t r) (heard r) 0 agreed.0 loads Q agreed.1 (all r inside)) there
     (own_source t l.source found.0 found.1))
 
 -- ---- cells
@@ -228,14 +218,23 @@ zipped P Q f (x ∷ xs) [] (z ∷ zs) h = absurd h
 zipped P Q f (x ∷ xs) (y ∷ ys) [] h = absurd h
 zipped P Q f (x ∷ xs) (y ∷ ys) (z ∷ zs) h = (f 0 x y z h.0, zipped (λ k. P (suc k)) Q (λ k. f (suc k)) xs ys zs h.1)
 
-at_place : {X Y Z : Type 0} (P : ℕ → X → Y → Z → Type 0) (xs : List X) (ys : List Y) (zs : List Z) → AllOfThree P xs ys zs → (r : ℕ) → r < length xs
-    → (x : X) × (y : Y) × (z : Z) × (slice_get ys r ≡ Some y) × P r x y z
+-- what stands at a place of three lists
+record HasPlace {X Y Z : Type 0} (P : ℕ → X → Y → Z → Type 0) (ys : List Y) (r : ℕ) : Type 0 where
+  pub first : X
+  pub second : Y
+  pub third : Z
+  pub there : slice_get ys r ≡ Some second
+  pub holds : P r first second third
+
+at_place : {X Y Z : Type 0} (P : ℕ → X → Y → Z → Type 0) (xs : List X) (ys : List Y) (zs : List Z) → AllOfThree P xs ys zs → (r : ℕ) → r < length xs → HasPlace P ys r
 at_place P [] ys zs h r lt = absurd (omega (arith, lt))
 at_place P (x ∷ xs) [] [] h r lt = absurd h
 at_place P (x ∷ xs) [] (z ∷ zs) h r lt = absurd h
 at_place P (x ∷ xs) (y ∷ ys) [] h r lt = absurd h
-at_place P (x ∷ xs) (y ∷ ys) (z ∷ zs) h zero lt = (x, y, z, refl, h.0)
-at_place P (x ∷ xs) (y ∷ ys) (z ∷ zs) h (suc r) lt = at_place (λ k. P (suc k)) xs ys zs h.1 r (omega (arith, lt))
+at_place P (x ∷ xs) (y ∷ ys) (z ∷ zs) h zero lt = record { first = x; second = y; third = z; there = refl; holds = h.0 }
+at_place P (x ∷ xs) (y ∷ ys) (z ∷ zs) h (suc r) lt =
+    let next = at_place (λ k. P (suc k)) xs ys zs h.1 r (omega (arith, lt)) in
+    record { first = next.first; second = next.second; third = next.third; there = next.there; holds = next.holds }
 
 -- what a group that takes part in a run sends are its own words
 own_words : {B : Type 0} (taken : B → Option (List Sent)) (frames : ℕ) (t : TableRecord) (c : Course) (g : ℕ) (before after : B) (totals : SendTotals)
@@ -248,67 +247,67 @@ own_words taken frames t c g before after totals S =
     let found = own_at g S.table _ S.calls (meetings t c) Q S.works.lawful told k d w there is in
     record { output = found.0; stands = found.1; word = found.2 }
 
-module _ {L B : Type 0} (given : L → List ℕ) (left : L → Option (List ℕ)) (ended : L → Bool) (taken : B → Option (List Sent)) (t : TableRecord) (frames : ℕ) where
-  pub all_own : (sources : List L) (sinks : List B) (report : Report L B) → HasRun (Gives given left) ended taken t frames sources sinks report
-      → HasRunOnOwnWords (Gives given left) ended taken t frames sources sinks report
-  all_own sources sinks report H = record {
+module _ {L B : Type 0} (source : LineSource.Ghosts L) (sink : BusSink.Ghosts B) (ask : RunAsk L B) where
+  pub all_own : (report : Report L B) → HasRun source sink ask report
+      → HasRunOnOwnWords source sink ask report
+  all_own report H = record {
     ran = H;
-    sent = weaker (IsSentIn taken frames t H.course) (SendsOwnWords taken frames t H.course)
-        (λ g before after totals S. record { sent = S; own = own_words taken frames t H.course g before after totals S }) sinks report.sinks.items report.groups.items H.sent;
+    sent = weaker (IsSentIn sink.taken ask.frames ask.table H.course) (SendsOwnWords sink.taken ask.frames ask.table H.course)
+        (λ g before after totals S. record { sent = S; own = own_words sink.taken ask.frames ask.table H.course g before after totals S }) ask.sinks report.sinks.items report.groups.items H.sent;
   }
 
   -- the line of the receiver of a source gave each word of the source
-  given_by : (c : Course) (sources lines : List L) (totals : _) → length sources ≡ length t.receivers → AllOfThree (IsHeardIn (Gives given left) ended t c) sources lines totals
-      → ((i : ℕ) (row : SourceRow) → slice_get t.sources i ≡ Some row → row.receiver < length t.receivers)
-      → (s w : ℕ) → IsWordOf t c.came s w → IsGiven given lines w
+  given_by : (c : Course) (sources lines : List L) (totals : _) → length sources ≡ length ask.table.receivers → AllOfThree (IsHeardIn (Gives source.given source.left) source.ended ask.table c) sources lines totals
+      → ((i : ℕ) (row : SourceRow) → slice_get ask.table.sources i ≡ Some row → row.receiver < length ask.table.receivers)
+      → (s w : ℕ) → IsWordOf ask.table c.came s w → IsGiven source.given lines w
   given_by c sources lines totals few heard received s w own =
       let inside = received s own.row own.there in
-      let one = at_place (IsHeardIn (Gives given left) ended t c) sources lines totals heard own.row.receiver (omega (arith, few, inside)) in
+      let one = at_place (IsHeardIn (Gives source.given source.left) source.ended ask.table c) sources lines totals heard own.row.receiver (omega (arith, few, inside)) in
       record {
         receiver = own.row.receiver;
-        line = one.1;
-        there = one.3;
-        gave = subst (λ (ws : List ℕ). Contains ws w) (sym one.4.gave.gave) (back_in w (given one.0) (c.came own.row.receiver) own.arrived);
+        line = one.second;
+        there = one.there;
+        gave = subst (λ (ws : List ℕ). Contains ws w) (sym one.holds.gave.gave) (back_in w (source.given one.first) (c.came own.row.receiver) own.arrived);
       }
 
-  pub all_given : (sources : List L) (sinks : List B) (report : Report L B) → length sources ≡ length t.receivers
-      → HasRun (Gives given left) ended taken t frames sources sinks report → AllZip (TookGivenWords given taken report.sources.items) sinks report.sinks.items
-  all_given sources sinks report few H =
+  pub all_given : (report : Report L B) → length ask.sources ≡ length ask.table.receivers
+      → HasRun source sink ask report → AllZip (TookGivenWords source.given sink.taken report.sources.items) ask.sinks report.sinks.items
+  all_given report few H =
       let c : Course = H.course in
       let lines : List L = report.sources.items in
-      zipped (IsSentIn taken frames t c) (TookGivenWords given taken lines) (λ g before after totals S.
+      zipped (IsSentIn sink.taken ask.frames ask.table c) (TookGivenWords source.given sink.taken lines) (λ g before after totals S.
       record {
         cells = sent_in S.calls;
         took = S.took;
-        words = sent_all (IsGiven given lines) S.calls (λ k d w there is.
-            let found = own_words taken frames t c g before after totals S k d w there is in
-            given_by c sources lines report.receivers.items few H.heard S.works.wired.received found.output.source w found.word);
-      }) sinks report.sinks.items report.groups.items H.sent
+        words = sent_all (IsGiven source.given lines) S.calls (λ k d w there is.
+            let found = own_words sink.taken ask.frames ask.table c g before after totals S k d w there is in
+            given_by c ask.sources lines report.receivers.items few H.heard S.works.wired.received found.output.source w found.word);
+      }) ask.sinks report.sinks.items report.groups.items H.sent
 
   -- by the laws of a429_workers and of a429_core
-  pub all_latest : WorkIsOneRun → SentWordsWereAccepted → AreApart t.sources → (sources : List L) (sinks : List B) (report : Report L B)
-      → HasRun (Gives given left) ended taken t frames sources sinks report → HasRunOnLatestWords (Gives given left) ended taken t frames sources sinks report
-  all_latest one_run accepted apart sources sinks report H =
+  pub all_latest : WorkIsOneRun → SentWordsWereAccepted → AreApart ask.table.sources → (report : Report L B)
+      → HasRun source sink ask report → HasRunOnLatestWords source sink ask report
+  all_latest one_run accepted apart report H =
       let c : Course = H.course in
       record {
         ran = H;
-        sent = weaker (IsSentIn taken frames t c) (SendsLatestWords taken frames t c) (λ g before after totals S.
-            let run = one_run 41 (opening t c.opened) g S.table c.later (S.calls ++ meetings t c) (heard_in t c) S.works in
+        sent = weaker (IsSentIn sink.taken ask.frames ask.table c) (SendsLatestWords sink.taken ask.frames ask.table c) (λ g before after totals S.
+            let run = one_run 41 (opening ask.table c.opened) g S.table c.later (S.calls ++ meetings ask.table c) (heard_in ask.table c) S.works in
             record {
               sent = S;
               run = run;
-              latest = λ k bus slot w there answered. accepted 41 (opening t c.opened) (take k run.events) g S.table bus slot w apart S.works.opens answered;
-            }) sinks report.sinks.items report.groups.items H.sent;
+              latest = λ k bus slot w there answered. accepted 41 (opening ask.table c.opened) (take k run.events) g S.table bus slot w apart S.works.opens answered;
+            }) ask.sinks report.sinks.items report.groups.items H.sent;
       }
 
   -- by the law of this crate
-  pub all_in_time : KnownWordsGoOutInTime → AreApart t.sources → (sources : List L) (sinks : List B) (report : Report L B)
-      → HasRun (Gives given left) ended taken t frames sources sinks report → HasRunInTime (Gives given left) ended taken t frames sources sinks report
-  all_in_time law apart sources sinks report H =
+  pub all_in_time : KnownWordsGoOutInTime → AreApart ask.table.sources → (report : Report L B)
+      → HasRun source sink ask report → HasRunInTime source sink ask report
+  all_in_time law apart report H =
       let c : Course = H.course in
-      let opened : IsOwnPlan (opening t c.opened).proposal = record { plan = record { number = refl; count = H.planned.count; groups = H.planned.groups }; own = H.own_sources } in
+      let opened : IsOwnPlan (opening ask.table c.opened).proposal = record { plan = record { number = refl; count = H.planned.count; groups = H.planned.groups }; own = H.own_sources } in
       record {
         ran = H;
-        sent = weaker (IsSentIn taken frames t c) (SendsInTime taken frames t c) (λ g before after totals S.
-            record { sent = S; in_time = law 41 (opening t c.opened) g S.table c.later (S.calls ++ meetings t c) (heard_in t c) S.works apart opened H.own_plans }) sinks report.sinks.items report.groups.items H.sent;
+        sent = weaker (IsSentIn sink.taken ask.frames ask.table c) (SendsInTime sink.taken ask.frames ask.table c) (λ g before after totals S.
+            record { sent = S; in_time = law 41 (opening ask.table c.opened) g S.table c.later (S.calls ++ meetings ask.table c) (heard_in ask.table c) S.works apart opened H.own_plans }) ask.sinks report.sinks.items report.groups.items H.sent;
       }

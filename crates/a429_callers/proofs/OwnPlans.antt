@@ -1,9 +1,7 @@
 -- The text of a table's own plan is answered by `fewest`.
-use Rattle.std.proofs.Common.{inl, inr, ◌≡◌, ◌∙◌, ◌^◌, ℕ, zero, suc, List, [], ◌∷◌, refl, sym, subst, ap}
-use Rattle.std.specs.Prelude.{◌⊎◌, Some, Result, Ok, Err, IfOk, IfErr, slice_get}
-use Rattle.std.specs.List.{AllZip}
-use Rattle.std.proofs.lemmas.Option.{none-some, same_Some}
-use Rattle.a429_word.proofs.Lists.{same_Ok}
+use Rattle.std.proofs.Common.{inl, inr, ◌≡◌, ◌∙◌, ◌^◌, ℕ, List, refl, sym, subst, ap}
+use Rattle.std.specs.Prelude.{◌⊎◌, Result, Ok, Err, IfOk, IfErr}
+use Rattle.a429_word.proofs.Lists.{same_Ok, partner}
 use Rattle.a429_equipment.specs.TableRecord.{TableRecord}
 use Rattle.a429_table.specs.Reading.{reading}
 use Rattle.a429_equipment.specs.Sound.{IsSound}
@@ -20,26 +18,12 @@ use Rattle.a429_cert.specs.Verdicts.{verdict}
 use Rattle.a429_cert.specs.PlanText.{plan_text_of}
 use Rattle.a429_cert.specs.Judged.{IsCheckFault}
 
--- an element of the first list has one beside it in the second
-record Partner {A B : Type 0} (R : A → B → Type 0) (x : A) : Type 0 where
-  pub y : B
-  pub pair : R x y
-
-partner : {A B : Type 0} (R : A → B → Type 0) (xs : List A) (ys : List B) (i : ℕ) (x : A) → AllZip R xs ys → slice_get xs i ≡ Some x → Partner R x
-partner R [] [] i x all h = absurd (none-some x h)
-partner R [] (z ∷ ys) i x all h = absurd all
-partner R (w ∷ xs) [] i x all h = absurd all
-partner R (w ∷ xs) (z ∷ ys) zero x all h = record { y = z; pair = subst (λ u. R u z) (same_Some w x h) all.0 }
-partner R (w ∷ xs) (z ∷ ys) (suc i) x all h = partner R xs ys i x all.1 h
-
 -- a table with a plan has no unfit output
 planned_fit : (e : TableRecord) (p : PlanTable) (g o : ℕ) → IsPlanOf e p → IsFirstUnfitOf e g o → ⊥
 planned_fit e p g o plan unfit =
-    let group : Partner (IsPlannedAt e.sources) (unfit.rate, unfit.rows) =
-    partner (IsPlannedAt e.sources) (rated_outputs e) (groups_of p) g (unfit.rate, unfit.rows) plan.groups unfit.there in
-    let row : Partner (IsServed unfit.rate) unfit.unfit.row =
-    partner (IsServed unfit.rate) unfit.rows (outputs_of group.y) o unfit.unfit.row group.pair.served unfit.unfit.there in
-    unfit.unfit.unfit (2 ^ row.y.place.period) row.pair.1.0 row.pair.1.1
+    let (table, planned) = partner (IsPlannedAt e.sources) (rated_outputs e) (groups_of p) g (unfit.rate, unfit.rows) plan.groups unfit.there in
+    let (placed, served) = partner (IsServed unfit.rate) unfit.rows (outputs_of table) o unfit.unfit.row planned.served unfit.unfit.there in
+    unfit.unfit.unfit (2 ^ placed.place.period) served.1.0 served.1.1
 
 is_ok : {X E : Type 0} → Result X E → Type 0
 is_ok (Ok x) = Unit {0}
@@ -58,9 +42,9 @@ pub own : (bytes text : List ℕ) (e : TableRecord) (p : PlanTable) (r : Result 
     → reading bytes ≡ Ok e → IsSound e → IsPlanOf e p → text ≡ plan_text_of e p
     → IfOk r (λ v. (f : TableRecord) × (t : DueTable) × (reading bytes ≡ Ok f) × IsDue f t × (v ≡ verdict t text))
     → IfErr r (IsCheckFault bytes) → (r ≡ Ok Fewest) ⊎ (r ≡ Err check.NoMemory)
-own bytes text e p (Ok v) law read sound plan is ok err =
-    let due : IsDue e ok.1 = subst (λ (f : TableRecord). IsDue f ok.1) (same_Ok ok.0 e (sym ok.2 ∙ read)) ok.3 in
-    inl (ap Ok (ok.4 ∙ ap (verdict ok.1) is ∙ law e p ok.1 sound plan due))
+own bytes text e p (Ok v) law read sound plan is (f, t, stated, due, judged) err =
+    let due_here : IsDue e t = subst (λ (x : TableRecord). IsDue x t) (same_Ok f e (sym stated ∙ read)) due in
+    inl (ap Ok (judged ∙ ap (verdict t) is ∙ law e p t sound plan due_here))
 own bytes text e p (Err (check.Table (table.At kind place))) law read sound plan is ok err = absurd (ok_err e (kind, place) (sym read ∙ err))
 own bytes text e p (Err (check.Table table.NoMemory)) law read sound plan is ok err = absurd err
 own bytes text e p (Err (check.Unfit g o)) law read sound plan is ok err =

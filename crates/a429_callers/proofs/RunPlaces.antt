@@ -7,27 +7,18 @@ use Rattle.std.proofs.lemmas.List.{length-append}
 use Rattle.std.proofs.lemmas.List.Elements.{filter-append, filter_map-append}
 use Rattle.std.proofs.lemmas.Option.{none-some, same_Some, slice_get_within}
 use mathlib.Core.List.{IsPrefix}
-use Rattle.a429_word.proofs.Lists.{prefix_on, prefix_self}
+use Rattle.a429_word.proofs.Lists.{prefix_on, prefix_self, get_within}
 use Rattle.a429_slots.specs.Tables.{SlotTable}
 use Rattle.a429_slots.specs.Events.{Event, Arrive, Cell, Frame, Publish}
 use Rattle.a429_slots.specs.History.{Opening, is_cell, is_frame}
 use Rattle.a429_slots.specs.GoingOn.{OthersPass, stands_after}
 use Rattle.a429_slots.specs.declared.answers.Answer.{Answer}
 use Rattle.a429_slots.specs.Answers.{answer, answers}
+use Rattle.a429_slots.proofs.Histories.{take_following}
 use Rattle.a429_workers.specs.Runs.{answered, is_sending}
 
 abbrev pub CutsAlike : Type 0
 CutsAlike = (C : ℕ) (o : Opening) (E xs ys : List Event) → answers C o E (xs ++ ys) ≡ answers C o E xs ++ answers C o (E ++ xs) ys
-
-pub take_next : {X : Type 0} (xs : List X) (i : ℕ) (x : X) → slice_get xs i ≡ Some x → take (suc i) xs ≡ take i xs ++ x ∷ []
-take_next [] i x h = absurd (none-some x h)
-take_next (y ∷ ys) zero x h = ap (λ z. z ∷ []) (same_Some y x h)
-take_next (y ∷ ys) (suc i) x h = ap (λ zs. y ∷ zs) (take_next ys i x h)
-
-pub get_within : {X : Type 0} (xs : List X) (i : ℕ) → i < length xs → (x : X) × (slice_get xs i ≡ Some x)
-get_within [] i below = absurd (omega (arith, below))
-get_within (x ∷ xs) zero below = (x, refl)
-get_within (x ∷ xs) (suc i) below = get_within xs i (omega (arith, below))
 
 zip_push : {A B : Type 0} (xs : List A) (ys : List B) (a : A) (b : B) → length xs ≡ length ys → zip (xs ++ a ∷ []) (ys ++ b ∷ []) ≡ zip xs ys ++ (a, b) ∷ []
 zip_push [] [] a b same = refl
@@ -136,7 +127,7 @@ module _ (alike : CutsAlike) (C : ℕ) (o : Opening) (E : List Event) where
   one_more : (m : ℕ) (e : Event) → slice_get E m ≡ Some e → answered C o (take (suc m) E) ≡ answered C o (take m E) ++ (e, answer C o (take m E) e) ∷ []
   one_more m e there =
       let F = take m E in
-      ap (answered C o) (take_next E m e there)
+      ap (answered C o) (take_following E m e there)
       ∙ (ap (λ (replies : List Answer). zip (F ++ e ∷ []) replies) (alike C o [] F (e ∷ []))
       ∙ zip_push F (answers C o [] F) e (answer C o F e) (sym (length-answers C o [] F)))
 
@@ -229,7 +220,7 @@ module _ (alike : CutsAlike) (C : ℕ) (o : Opening) (E : List Event) where
             let none = sends_none (d + a) e there no' in
             let (frame, cell) = still g e no' in
             ap (λ (k : ℕ). stands_after o g p (take k E)) on
-            ∙ (ap (stands_after o g p) (take_next E (d + a) e there)
+            ∙ (ap (stands_after o g p) (take_following E (d + a) e there)
             ∙ (pass o g p (take (d + a) E) e frame cell
             ∙ stands_by pass g p a d (omega (arith, few)) (omega (arith, same, at, ap (λ (xs : List (Event × Answer)). length xs) none))))
       ]

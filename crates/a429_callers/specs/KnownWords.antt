@@ -13,12 +13,22 @@ use Rattle.a429_core.specs.Latency.{HasOutput, MaySend, next_on, period_of}
 use Rattle.a429_workers.specs.Calls.{Call, Carried, Asks, loads_of}
 use Rattle.a429_workers.specs.Runs.{IsWorking, led_to}
 
--- the frame that the group is in after n calls, and the slot that is next on a bus then
-abbrev pub frame_after : Opening → ℕ → SlotTable → List Call → ℕ → FrameState
-frame_after o g p calls n = (led_to o g p (take n calls)).frame
+-- the calls of a group's transmitter, from its opening on by this slot table
+pub record GroupCalls : Type 0 where
+  pub opening : Opening
+  pub group : ℕ
+  pub table : SlotTable
+  pub calls : List Call
 
-abbrev pub next_after : Opening → ℕ → SlotTable → List Call → ℕ → ℕ → ℕ
-next_after o g p calls n bus = next_on (frame_after o g p calls n) bus
+abbrev pub calls_of : Opening → ℕ → SlotTable → List Call → GroupCalls
+calls_of o g p calls = record { opening = o; group = g; table = p; calls = calls }
+
+-- the frame that the group is in after n of them, and the slot that is next on a bus then
+abbrev pub frame_after : GroupCalls → ℕ → FrameState
+frame_after made n = (led_to made.opening made.group made.table (take n made.calls)).frame
+
+abbrev pub next_after : GroupCalls → ℕ → ℕ → ℕ
+next_after made n bus = next_on (frame_after made n) bus
 
 -- the slot table has an output of the source at this place, and each output of it may send, with a least spacing of q slots at most
 pub record HasSpacedOutput (t : SlotTable) (source : ℕ) (at : SlotPlace) (q : ℕ) : Type 0 where
@@ -26,8 +36,8 @@ pub record HasSpacedOutput (t : SlotTable) (source : ℕ) (at : SlotPlace) (q : 
   pub may : (n : ℕ) (x : Placed) → slice_get (outputs_of t) n ≡ Some x → x.source ≡ source → MaySend q x
 
 -- the output stays: from h calls on and up to k calls, the table in force has it
-abbrev pub StaysInCalls : Opening → ℕ → SlotTable → List Call → ℕ → ℕ → ℕ → SlotPlace → ℕ → Type 0
-StaysInCalls o g p calls h k source at q = (n : ℕ) → h ≤ n → n ≤ k → HasSpacedOutput (frame_after o g p calls n).table source at q
+abbrev pub StaysInCalls : GroupCalls → ℕ → ℕ → ℕ → SlotPlace → ℕ → Type 0
+StaysInCalls made h k source at q = (n : ℕ) → h ≤ n → n ≤ k → HasSpacedOutput (frame_after made n).table source at q
 
 -- in the first n calls, by a cell or by meeting a receiver, the source was loaded when it had accepted `count` words or more
 pub record IsKnown (calls : List Call) (n source count : ℕ) : Type 0 where
@@ -53,16 +63,16 @@ pub record SendsKnown (calls : List Call) (k source count end : ℕ) : Type 0 wh
 
 -- Where an output had stayed for a period before call i, a word that the transmitter knew of by then has gone out, or a later one of its source,
 -- before one period of slots has passed from there on.
-abbrev pub GoOutInTime : Opening → ℕ → SlotTable → List Call → Type 0
-GoOutInTime o g p calls =
-    (h i k source : ℕ) (at : SlotPlace) (q count : ℕ) → h ≤ i → i ≤ k → k ≤ length calls → StaysInCalls o g p calls h k source at q
-    → IsKnown calls i source count → 1 ≤ count → next_after o g p calls h at.bus + period_of at ≤ next_after o g p calls i at.bus
-    → next_after o g p calls i at.bus + period_of at ≤ next_after o g p calls k at.bus
-    → SendsKnown calls k source count (next_after o g p calls i at.bus + period_of at)
+abbrev pub GoOutInTime : GroupCalls → Type 0
+GoOutInTime made =
+    (h i k source : ℕ) (at : SlotPlace) (q count : ℕ) → h ≤ i → i ≤ k → k ≤ length made.calls → StaysInCalls made h k source at q
+    → IsKnown made.calls i source count → 1 ≤ count → next_after made h at.bus + period_of at ≤ next_after made i at.bus
+    → next_after made i at.bus + period_of at ≤ next_after made k at.bus
+    → SendsKnown made.calls k source count (next_after made i at.bus + period_of at)
 
 -- So it is in the calls of a working transmitter, where each plan is that of its own table.
 abbrev pub KnownWordsGoOutInTime : Type 0
 KnownWordsGoOutInTime =
     (C : ℕ) (o : Opening) (g : ℕ) (p : SlotTable) (later : List Proposed) (calls : List Call) (heard : ℕ → List (ℕ × ℕ))
     → IsWorking C o g p later calls heard → AreApart o.proposal.station.sources → IsOwnPlan o.proposal → AllByRecursion IsOwnPlan later
-    → GoOutInTime o g p calls
+    → GoOutInTime (calls_of o g p calls)

@@ -1,26 +1,28 @@
 -- Where the words that a running station sends come from.
-use Rattle.std.specs.Prelude.{◌≡◌, ◌++◌, ℕ, List, Bool, Option, Some, Contains, IsTrue, slice_get, take}
+use Rattle.std.specs.Prelude.{◌≡◌, ◌++◌, ℕ, List, Option, Some, Contains, IsTrue, slice_get, take}
 use Rattle.std.specs.List.{AllByRecursion}
 use Rattle.a429_equipment.specs.Arrivals.{accepts}
 use Rattle.a429_equipment.specs.TableRecord.{TableRecord}
 use Rattle.a429_equipment.specs.declared.rows.SourceRow.{SourceRow}
+use Rattle.a429_filter.specs.declared.sources.LineSource as LineSource
 use Rattle.a429_slots.specs.Tables.{SlotTable, Placed}
 use Rattle.a429_slots.specs.Answers.{answer}
 use Rattle.a429_slots.specs.Events.{Event, Cell}
 use Rattle.a429_slots.specs.History.{Opening, current}
 use Rattle.a429_slots.specs.declared.answers.Answer.TheVariants.{Sent}
 use Rattle.a429_core.specs.Sends.{CarriesLatest}
-use Rattle.a429_station.specs.Course.{Course, HasRun, IsSentIn, heard_in, meetings}
+use Rattle.a429_station.specs.Course.{Course, HasRun, IsSentIn, RunAsk, heard_in, meetings}
 use Rattle.a429_station.specs.Numbered.{AllOfThree}
 use Rattle.a429_station.specs.Resubmitting.{opening}
 use Rattle.a429_station.specs.declared.reports.Report.{Report}
-use Rattle.a429_callers.specs.KnownWords.{GoOutInTime}
+use Rattle.a429_callers.specs.KnownWords.{GoOutInTime, calls_of}
 use Rattle.a429_workers.specs.Calls.{Asks, Call, Carried, GroupState}
 use Rattle.a429_workers.specs.Runs as machine
 use Rattle.a429_workers.specs.Runs.{led_to}
 use Rattle.a429_workers.specs.SentWords.{output_due}
 use Rattle.a429_workers.specs.Sends.{with_cells}
 use Rattle.a429_workers.specs.declared.cells.Sent as cells
+use Rattle.a429_workers.specs.declared.sinks.BusSink as BusSink
 use Rattle.a429_workers.specs.declared.sending.SendTotals.{SendTotals}
 
 -- ---- lines
@@ -70,9 +72,9 @@ pub record SendsOwnWords {B : Type 0} (taken : B → Option (List cells.Sent)) (
   pub own : AreOwnWords t course g sent.table sent.calls
 
 -- the station ran, and each of its groups sent no other words
-pub record HasRunOnOwnWords {L B : Type 0} (gives : L → List ℕ → L → Type 0) (ended : L → Bool) (taken : B → Option (List cells.Sent)) (t : TableRecord) (frames : ℕ) (sources : List L) (sinks : List B) (report : Report L B) : Type 0 where
-  pub ran : HasRun gives ended taken t frames sources sinks report
-  pub sent : AllOfThree (SendsOwnWords taken frames t ran.course) sinks report.sinks.items report.groups.items
+pub record HasRunOnOwnWords {L B : Type 0} (source : LineSource.Ghosts L) (sink : BusSink.Ghosts B) (ask : RunAsk L B) (report : Report L B) : Type 0 where
+  pub ran : HasRun source sink ask report
+  pub sent : AllOfThree (SendsOwnWords sink.taken ask.frames ask.table ran.course) ask.sinks report.sinks.items report.groups.items
 
 -- ---- the latest words
 
@@ -89,18 +91,18 @@ pub record SendsLatestWords {B : Type 0} (taken : B → Option (List cells.Sent)
   pub latest : CarriesLatestWords (opening t course.opened) g sent.table run.events
 
 -- the station ran, and each of its groups sent latest words
-pub record HasRunOnLatestWords {L B : Type 0} (gives : L → List ℕ → L → Type 0) (ended : L → Bool) (taken : B → Option (List cells.Sent)) (t : TableRecord) (frames : ℕ) (sources : List L) (sinks : List B) (report : Report L B) : Type 0 where
-  pub ran : HasRun gives ended taken t frames sources sinks report
-  pub sent : AllOfThree (SendsLatestWords taken frames t ran.course) sinks report.sinks.items report.groups.items
+pub record HasRunOnLatestWords {L B : Type 0} (source : LineSource.Ghosts L) (sink : BusSink.Ghosts B) (ask : RunAsk L B) (report : Report L B) : Type 0 where
+  pub ran : HasRun source sink ask report
+  pub sent : AllOfThree (SendsLatestWords sink.taken ask.frames ask.table ran.course) ask.sinks report.sinks.items report.groups.items
 
 -- ---- in time
 
 -- what the group's transmitter knows of goes out in time
 pub record SendsInTime {B : Type 0} (taken : B → Option (List cells.Sent)) (frames : ℕ) (t : TableRecord) (course : Course) (g : ℕ) (before after : B) (totals : SendTotals) : Type 0 where
   pub sent : IsSentIn taken frames t course g before after totals
-  pub in_time : GoOutInTime (opening t course.opened) g sent.table (sent.calls ++ meetings t course)
+  pub in_time : GoOutInTime (calls_of (opening t course.opened) g sent.table (sent.calls ++ meetings t course))
 
 -- the station ran, and so it was in each of its groups
-pub record HasRunInTime {L B : Type 0} (gives : L → List ℕ → L → Type 0) (ended : L → Bool) (taken : B → Option (List cells.Sent)) (t : TableRecord) (frames : ℕ) (sources : List L) (sinks : List B) (report : Report L B) : Type 0 where
-  pub ran : HasRun gives ended taken t frames sources sinks report
-  pub sent : AllOfThree (SendsInTime taken frames t ran.course) sinks report.sinks.items report.groups.items
+pub record HasRunInTime {L B : Type 0} (source : LineSource.Ghosts L) (sink : BusSink.Ghosts B) (ask : RunAsk L B) (report : Report L B) : Type 0 where
+  pub ran : HasRun source sink ask report
+  pub sent : AllOfThree (SendsInTime sink.taken ask.frames ask.table ran.course) ask.sinks report.sinks.items report.groups.items

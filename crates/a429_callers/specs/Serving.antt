@@ -30,6 +30,10 @@ pub record HasGroup (e : TableRecord) (g : ℕ) (row : GroupRow) (rows : List Ou
   pub group : slice_get e.groups g ≡ Some row
   pub outputs : slice_get e.outputs g ≡ Some rows
 
+-- no schedule that serves group g of a table has fewer buses
+abbrev pub AreFewestOfGroup : TableRecord → ℕ → ℕ → Type 0
+AreFewestOfGroup e g buses = (row : GroupRow) × (rows : List OutputRow) × HasGroup e g row rows × NoneHasFewer row.rate rows buses
+
 -- a line of the text is the first of a group of this name, and says how many buses it has
 pub record HasHeading (e : TableRecord) (text : List ℕ) (name : List ℕ) (h : Heading) : Type 0 where
   pub line : ℕ

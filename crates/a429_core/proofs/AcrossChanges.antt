@@ -16,8 +16,9 @@ use Rattle.a429_slots.specs.FrameStates.{frame_state_of}
 use Rattle.a429_slots.specs.Spacing.{IsOutputCell, IsSentWithin}
 use Rattle.a429_slots.proofs.Answered.{event_at}
 use Rattle.a429_slots.proofs.Histories.{new_frame, take_following}
+use Rattle.a429_core.specs.Histories.{history_of}
 use Rattle.a429_core.specs.Spaced.{AreSpaced, IsAnswered}
-use Rattle.a429_core.specs.Latency.{Changes, EachOutput, GoesOut, GoesOutWithin, HasCell, HasOutput, IsAcceptedBefore, IsPlannedHistory, IsUnheld, KeepsTime, MaySend, Passes, SendsOne, next_on, next_slot_on, period_of}
+use Rattle.a429_core.specs.Latency.{Changes, Clock, EachOutput, GoesOut, GoesOutWithin, HasCell, HasOutput, IsAcceptedBefore, IsPlannedHistory, IsUnheld, KeepsTime, MaySend, Passes, SendsOne, move_of, next_on, next_slot_on, period_of, wait_of}
 use Rattle.a429_core.proofs.SpacedWords.{answered_by, word_of}
 use Rattle.a429_core.proofs.Passing.{goes}
 use Rattle.a429_core.proofs.Rounds.{AreSpacedTables, cell_here, comes_round, fewer, in_order, set_of, sooner}
@@ -31,7 +32,7 @@ no_cell : (o : Opening) (g : ℕ) (p : SlotTable) (E : List Event) (c : ℕ) →
 no_cell o g p E c taken asked = clash (sym (ap (λ (x : Option Event). option_map_or (is_taken_after o g p (take c E)) x false) asked) ∙ taken)
 
 -- from the first slot of the frame on, each slot is next, on each bus
-pub begins : (o : Opening) (g : ℕ) (p : SlotTable) (E : List Event) (c bus : ℕ) → c < length E → is_taken_at o g p E c ≡ true → next_slot_on o g p E (suc c) bus ≡ (current o g p (take (suc c) E)).first
+pub begins : (o : Opening) (g : ℕ) (p : SlotTable) (E : List Event) (c bus : ℕ) → c < length E → is_taken_at o g p E c ≡ true → next_slot_on (history_of o g p E) (suc c) bus ≡ (current o g p (take (suc c) E)).first
 begins o g p E c bus below taken =
     let (e, there) = event_at E c below in
     let F = take c E in
@@ -57,7 +58,7 @@ begins o g p E c bus below taken =
 
 -- the slots of the old frame are all past there
 pub turns : (o : Opening) (g : ℕ) (p : SlotTable) (E : List Event) (c bus other : ℕ) → c < length E → is_taken_at o g p E c ≡ true → bus < buses_of (current o g p (take c E)).table
-    → next_slot_on o g p E (suc c) other ≡ next_slot_on o g p E c bus
+    → next_slot_on (history_of o g p E) (suc c) other ≡ next_slot_on (history_of o g p E) c bus
 turns o g p E c bus other below taken inside =
     begins o g p E c other below taken ∙ (sym (begins o g p E c bus below taken) ∙ elim (goes o g p E c bus below inside) [
       | inl same ↦ same
@@ -83,11 +84,11 @@ no_later o g p E a b y x v s there before A B = elim (cases_lt a b) [
 
 module _ (o : Opening) (g : ℕ) (p : SlotTable) (E : List Event) (spaced : AreSpacedTables o g p E) where
   -- the slot that is next by the old plan at the change is next by the new one
-  turns_to : (c source : ℕ) (old : SlotPlace) (bus : ℕ) → c < length E → is_taken_at o g p E c ≡ true → HasOutput (current o g p (take c E)).table source old → next_slot_on o g p E (c + 1) bus ≡ next_slot_on o g p E c old.bus
+  turns_to : (c source : ℕ) (old : SlotPlace) (bus : ℕ) → c < length E → is_taken_at o g p E c ≡ true → HasOutput (current o g p (take c E)).table source old → next_slot_on (history_of o g p E) (c + 1) bus ≡ next_slot_on (history_of o g p E) c old.bus
   turns_to c source old bus below taken here =
       let step : c + 1 ≡ suc c = omega arith in
       let inside = (set_of (current o g p (take c E)).table source old (spaced c) here).on_a_bus in
-      ap (λ (z : ℕ). next_slot_on o g p E z bus) step ∙ turns o g p E c old.bus bus below taken inside
+      ap (λ (z : ℕ). next_slot_on (history_of o g p E) z bus) step ∙ turns o g p E c old.bus bus below taken inside
 
   -- a cell is not where the change is
   before_change : (j c : ℕ) (x : Placed) (s : ℕ) → j ≤ c → is_taken_at o g p E c ≡ true → IsOutputCell o g p E j x s → j < c
@@ -97,8 +98,8 @@ module _ (o : Opening) (g : ℕ) (p : SlotTable) (E : List Event) (spaced : AreS
   ]
 
   -- after a cell by the old plan
-  pub recurs_across : (j c k source : ℕ) (old new : SlotPlace) (x : Placed) (s : ℕ) → Changes o g p E j c k source old new → IsOutputCell o g p E j x s → x.source ≡ source
-      → s + (period_of old + period_of new) ≤ next_slot_on o g p E k new.bus → HasCell o g p E (j + 1) k source (s + (period_of old + period_of new))
+  pub recurs_across : (j c k source : ℕ) (old new : SlotPlace) (x : Placed) (s : ℕ) → Changes (history_of o g p E) j k source (move_of c old new) → IsOutputCell o g p E j x s → x.source ≡ source
+      → s + (period_of old + period_of new) ≤ next_slot_on (history_of o g p E) k new.bus → HasCell (history_of o g p E) (j + 1) k source (s + (period_of old + period_of new))
   recurs_across j c k source old new x s K J same passes =
       let before : c < k = K.before in
       let few : k ≤ length E = K.few in
@@ -107,7 +108,7 @@ module _ (o : Opening) (g : ℕ) (p : SlotTable) (E : List Event) (spaced : AreS
       let some : 0 < period_of new = pow_pos new.period in
       let next = (cell_here o g p E spaced j source old x s (K.stays j (omega arith) (omega (arith, less))) J same).after in
       let turn = turns_to c source old new.bus (omega (arith, before, few)) K.taken (K.stays c from (omega arith)) in
-      elim (cases_lt (next_slot_on o g p E c old.bus) (s + 1 + period_of old)) [
+      elim (cases_lt (next_slot_on (history_of o g p E) c old.bus) (s + 1 + period_of old)) [
         | inr long ↦
             let R = (comes_round o g p E spaced (suc j) c source old (omega (arith, less)) (omega (arith, before, few)) (fewer o g p E j (suc j) c (c + 1) source old (omega arith) (omega arith) K.stays) (omega (arith, next, long))).cell in
             sooner o g p E (j + 1) (suc j) c k source _ _ (omega arith) (omega (arith, before)) (omega (arith, next, some)) R
@@ -116,15 +117,15 @@ module _ (o : Opening) (g : ℕ) (p : SlotTable) (E : List Event) (spaced : AreS
             sooner o g p E (j + 1) (c + 1) k k source _ _ (omega (arith, from)) (omega arith) (omega (arith, turn, short)) R
       ]
 
-module _ (law : AreSpaced) (C : ℕ) (o : Opening) (g : ℕ) (p : SlotTable) (E : List Event) (H : IsPlannedHistory o g p E) (spaced : AreSpacedTables o g p E) where
+module _ (law : AreSpaced) (C : ℕ) (o : Opening) (g : ℕ) (p : SlotTable) (E : List Event) (H : IsPlannedHistory (history_of o g p E)) (spaced : AreSpacedTables o g p E) where
   -- the last word of the source where one was sent
-  last_at : (j source slot w : ℕ) (x : Placed) → IsAnswered C o g p E j x slot (Some w) → x.source ≡ source → last_of (accepted_by C o source (take j E)) ≡ Some w
+  last_at : (j source slot w : ℕ) (x : Placed) → IsAnswered C (history_of o g p E) j x slot (Some w) → x.source ≡ source → last_of (accepted_by C o source (take j E)) ≡ Some w
   last_at j source slot w x A same =
       ap (λ (z : ℕ). last_of (accepted_by C o z (take j E))) (sym same) ∙ last_sent _ (last_of (accepted_by C o x.source (take j E))) w (word_of C o g p E j x slot (Some w) H.opens A)
 
   -- A cell of a source that holds no words, after one in which a word was sent: it is close to none sent before, so by then one is sent.
-  pub sent_by : (j k source end q slot w : ℕ) (x : Placed) → k ≤ length E → IsAnswered C o g p E j x slot (Some w) → x.source ≡ source → (R : HasCell o g p E (j + 1) k source end) → IsUnheld q R.output
-      → ((W : IsSentWithin C o g p E R.place R.output R.slot) → W.place < j + 1 → ⊥) → SendsOne C o g p E (j + 1) k source end
+  pub sent_by : (j k source end q slot w : ℕ) (x : Placed) → k ≤ length E → IsAnswered C (history_of o g p E) j x slot (Some w) → x.source ≡ source → (R : HasCell (history_of o g p E) (j + 1) k source end) → IsUnheld q R.output
+      → ((W : IsSentWithin C o g p E R.place R.output R.slot) → W.place < j + 1 → ⊥) → SendsOne C (history_of o g p E) (j + 1) k source end
   sent_by j k source end q slot w x few A same R free far =
       let before : R.place < k = R.before in
       let high : R.slot < end = R.high in
@@ -154,15 +155,15 @@ module _ (law : AreSpaced) (C : ℕ) (o : Opening) (g : ℕ) (p : SlotTable) (E 
       ]
 
   -- a cell that is so many slots after the one in which a word was sent is close to none before
-  pub far_from : (j l q slot s w : ℕ) (x y : Placed) → IsAnswered C o g p E j x slot (Some w) → IsUnheld q y → slot + q ≤ s → (W : IsSentWithin C o g p E l y s) → W.place < j + 1 → ⊥
+  pub far_from : (j l q slot s w : ℕ) (x y : Placed) → IsAnswered C (history_of o g p E) j x slot (Some w) → IsUnheld q y → slot + q ≤ s → (W : IsSentWithin C o g p E l y s) → W.place < j + 1 → ⊥
   far_from j l q slot s w x y A free far W past =
       let close : s < W.at + y.limits.spacing = W.close in
       let spacing : y.limits.spacing ≤ q = free.spacing in
       omega (arith, close, spacing, far, no_later o g p E W.place j W.earlier x W.at slot H.opens (omega (arith, past)) W.sends.cell A.cell)
 
-  pub sends_across : (j c k source : ℕ) (old new : SlotPlace) (x : Placed) (slot w q span : ℕ) → Changes o g p E j c k source old new → EachOutput o g p E j k source (IsUnheld q)
-      → IsAnswered C o g p E j x slot (Some w) → x.source ≡ source → period_of old + period_of new ≤ span → q + period_of new ≤ span → slot + span ≤ next_slot_on o g p E k new.bus
-      → SendsOne C o g p E (j + 1) k source (slot + span)
+  pub sends_across : (j c k source : ℕ) (old new : SlotPlace) (x : Placed) (slot w q span : ℕ) → Changes (history_of o g p E) j k source (move_of c old new) → EachOutput (history_of o g p E) j k source (IsUnheld q)
+      → IsAnswered C (history_of o g p E) j x slot (Some w) → x.source ≡ source → period_of old + period_of new ≤ span → q + period_of new ≤ span → slot + span ≤ next_slot_on (history_of o g p E) k new.bus
+      → SendsOne C (history_of o g p E) (j + 1) k source (slot + span)
   sends_across j c k source old new x slot w q span K free A same both wide passes =
       let before : c < k = K.before in
       let few : k ≤ length E = K.few in
@@ -171,17 +172,17 @@ module _ (law : AreSpaced) (C : ℕ) (o : Opening) (g : ℕ) (p : SlotTable) (E 
       let some : 0 < period_of new = pow_pos new.period in
       let next = (cell_here o g p E spaced j source old x slot (K.stays j (omega arith) (omega (arith, less))) A.cell same).after in
       let turn = turns_to o g p E spaced c source old new.bus (omega (arith, before, few)) K.taken (K.stays c from (omega arith)) in
-      elim (cases_lt (next_slot_on o g p E c old.bus) (slot + 1 + period_of old)) [
+      elim (cases_lt (next_slot_on (history_of o g p E) c old.bus) (slot + 1 + period_of old)) [
         | inr long ↦
             let keeps = fewer o g p E j j c (c + 1) source old (omega arith) (omega arith) K.stays in
             let F = (comes_round o g p E spaced (suc j) c source old (omega (arith, less)) (omega (arith, before, few)) (fewer o g p E j (suc j) c c source old (omega arith) (omega arith) keeps) (omega (arith, next, long))).cell in
             let on : suc j ≤ F.place = F.from in
             let soon : F.place < c = F.before in
-            let R = sooner o g p E (j + 1) (suc j) c k source (next_slot_on o g p E (suc j) old.bus + period_of old) (slot + span) (omega arith) (omega (arith, before)) (omega (arith, next, both, some)) F in
+            let R = sooner o g p E (j + 1) (suc j) c k source (next_slot_on (history_of o g p E) (suc j) old.bus + period_of old) (slot + span) (omega arith) (omega (arith, before)) (omega (arith, next, both, some)) F in
             sent_by j k source (slot + span) q slot w x few A same R (fits_cell o g p E j k source F.place (IsUnheld q) F.output F.slot free (omega (arith, on)) (omega (arith, soon, before)) F.cell F.same)
             (far_after law C o g p E H spaced j c source old (omega (arith, before, few)) keeps j F.place x F.output slot F.slot (omega arith) (omega (arith, on)) soon A.cell same F.cell F.same)
         | inl short ↦
-            let least : ℕ = max (next_slot_on o g p E c old.bus) (slot + q) in
+            let least : ℕ = max (next_slot_on (history_of o g p E) c old.bus) (slot + q) in
             let F = comes_from law C o g p E H spaced (c + 1) k source least new (omega (arith, before)) few K.goes_on (omega (arith, turn)) (omega (arith, short, both, wide, passes)) in
             let low : least ≤ F.cell.slot = F.low in
             let on : c + 1 ≤ F.cell.place = F.cell.from in
@@ -190,11 +191,11 @@ module _ (law : AreSpaced) (C : ℕ) (o : Opening) (g : ℕ) (p : SlotTable) (E 
             sent_by j k source (slot + span) q slot w x few A same R fits (far_from j F.cell.place q slot F.cell.slot w x F.cell.output A fits (omega (arith, low)))
       ]
 
-  pub out_across : (h i c k source : ℕ) (old new : SlotPlace) (q n : ℕ) → IsAcceptedBefore C o E i c source → h ≤ i → Changes o g p E h c k source old new → EachOutput o g p E i k source (MaySend q)
-      → Passes o g p E h i old (period_of old) → period_of old + period_of new ≤ n + 1 → q + period_of new ≤ n + 1 → next_slot_on o g p E i old.bus + n ≤ next_slot_on o g p E k new.bus
-      → GoesOut C o g p E i k source (next_slot_on o g p E i old.bus + n)
+  pub out_across : (h i c k source : ℕ) (old new : SlotPlace) (q n : ℕ) → IsAcceptedBefore C o E i c source → h ≤ i → Changes (history_of o g p E) h k source (move_of c old new) → EachOutput (history_of o g p E) i k source (MaySend q)
+      → Passes (history_of o g p E) h i old (period_of old) → period_of old + period_of new ≤ n + 1 → q + period_of new ≤ n + 1 → next_slot_on (history_of o g p E) i old.bus + n ≤ next_slot_on (history_of o g p E) k new.bus
+      → GoesOut C (history_of o g p E) i k source (next_slot_on (history_of o g p E) i old.bus + n)
   out_across h i c k source old new q n A settled K may passes both wide enough =
-      let first : ℕ = next_slot_on o g p E i old.bus in
+      let first : ℕ = next_slot_on (history_of o g p E) i old.bus in
       let before : c < k = K.before in
       let few : k ≤ length E = K.few in
       let after : i ≤ c = A.after in
@@ -202,7 +203,7 @@ module _ (law : AreSpaced) (C : ℕ) (o : Opening) (g : ℕ) (p : SlotTable) (E 
       let old_some : 0 < period_of old = pow_pos old.period in
       let keeps = fewer o g p E h h c (c + 1) source old (omega arith) (omega arith) K.stays in
       let turn = turns_to o g p E spaced c source old new.bus (omega (arith, before, few)) K.taken (K.stays c (omega (arith, settled, after)) (omega arith)) in
-      elim (cases_lt (next_slot_on o g p E c old.bus) (first + period_of old)) [
+      elim (cases_lt (next_slot_on (history_of o g p E) c old.bus) (first + period_of old)) [
         | inr long ↦
             let G = in_time law C o g p E H spaced h i i c source q old settled (omega arith) after A keeps (λ j from below. may j from (omega (arith, below, before))) passes long in
             record {
@@ -212,7 +213,7 @@ module _ (law : AreSpaced) (C : ℕ) (o : Opening) (g : ℕ) (p : SlotTable) (E 
               fresh = G.fresh;
             }
         | inl short ↦
-            let least : ℕ = max (next_slot_on o g p E c old.bus) (first + (q - 1)) in
+            let least : ℕ = max (next_slot_on (history_of o g p E) c old.bus) (first + (q - 1)) in
             let F = comes_from law C o g p E H spaced (c + 1) k source least new (omega (arith, before)) few K.goes_on (omega (arith, turn)) (omega (arith, short, both, wide, enough, old_some)) in
             let low : least ≤ F.cell.slot = F.low in
             let on : c + 1 ≤ F.cell.place = F.cell.from in
@@ -222,14 +223,14 @@ module _ (law : AreSpaced) (C : ℕ) (o : Opening) (g : ℕ) (p : SlotTable) (E 
             (far_on law C o g p E H spaced i source q old (omega (arith, after, before, few)) (K.stays i settled (omega (arith, after))) F.cell.place F.cell.output F.cell.slot F.cell.same fits (omega (arith, low)))
       ]
 
-  pub latency_across : (h i c k source : ℕ) (old new : SlotPlace) (q n : ℕ) (time : ℕ → ℕ) (slot_time : ℕ) → IsAcceptedBefore C o E i c source → h ≤ i → Changes o g p E h c k source old new → EachOutput o g p E i k source (MaySend q)
-      → Passes o g p E h i old (period_of old) → period_of old + period_of new ≤ n + 1 → q + period_of new ≤ n + 1 → next_slot_on o g p E i old.bus + n ≤ next_slot_on o g p E k new.bus → KeepsTime o g p E time slot_time
-      → GoesOutWithin C o g p E i k source (next_slot_on o g p E i old.bus + n) time slot_time ((n + 1) * slot_time)
-  latency_across h i c k source old new q n time slot_time A settled K may passes both wide enough T =
+  pub latency_across : (h i c k source : ℕ) (old new : SlotPlace) (q n : ℕ) (clock : Clock) → IsAcceptedBefore C o E i c source → h ≤ i → Changes (history_of o g p E) h k source (move_of c old new) → EachOutput (history_of o g p E) i k source (MaySend q)
+      → Passes (history_of o g p E) h i old (period_of old) → period_of old + period_of new ≤ n + 1 → q + period_of new ≤ n + 1 → next_slot_on (history_of o g p E) i old.bus + n ≤ next_slot_on (history_of o g p E) k new.bus → KeepsTime (history_of o g p E) clock
+      → GoesOutWithin C (history_of o g p E) (wait_of source i k (next_slot_on (history_of o g p E) i old.bus + n)) clock ((n + 1) * clock.slot_time)
+  latency_across h i c k source old new q n clock A settled K may passes both wide enough T =
       let G = out_across h i c k source old new q n A settled K may passes both wide enough in
       let after : i ≤ c = A.after in
       let few : c ≤ length E = A.few in
       record {
         out = G;
-        soon = settled_time law C o g p E H spaced h i source (next_slot_on o g p E i old.bus) n G.cell.slot old time slot_time settled (omega (arith, after, few)) (fewer o g p E h h i (c + 1) source old (omega arith) (omega (arith, after)) K.stays) passes refl G.cell.high T;
+        soon = settled_time law C o g p E H spaced h i source (next_slot_on (history_of o g p E) i old.bus) n G.cell.slot old clock settled (omega (arith, after, few)) (fewer o g p E h h i (c + 1) source old (omega arith) (omega (arith, after)) K.stays) passes refl G.cell.high T;
       }

@@ -1,37 +1,23 @@
 -- How the cells that a group has answered, and what is kept of them, go on by an event.
-use Rattle.std.proofs.Common.{◌≡◌, ℕ, zero, suc, ◌+◌, ◌/◌, ◌≤◌, ◌-◌, ◌^◌, false, List, [], ◌∷◌, ◌++◌, length, ◌∙◌, sym, ap, subst, refl, inl, inr, arith, append-nil}
+use Rattle.std.proofs.Common.{◌≡◌, ℕ, ◌+◌, ◌/◌, ◌≤◌, ◌-◌, ◌^◌, false, List, [], ◌∷◌, ◌++◌, length, ◌∙◌, sym, ap, subst, refl, inl, inr, arith, append-nil}
 use Rattle.std.specs.Prelude.{Option, Some, None, slice_get}
 use Rattle.std.specs.Option.{option_map_or}
-use Rattle.std.proofs.Math.Nat.{div-mul-le_self, div-zero}
-use Rattle.std.proofs.lemmas.Nat.{le-div}
 use Rattle.std.proofs.lemmas.List.{length-take, length-append}
 use Rattle.std.proofs.lemmas.Bool.{cases_Bool, cases_eq, eq-eqb, ne_eqb}
 use Rattle.std.proofs.lemmas.Option.{same_Some}
+use Rattle.a429_word.proofs.Lists.{div_more}
 use Rattle.a429_equipment.specs.declared.rows.SourceRow.{SourceRow}
 use Rattle.a429_slots.specs.Tables.{SlotTable, groups_of, frame_of, buses_of}
 use Rattle.a429_slots.specs.Events.{Event, Cell}
-use Rattle.a429_slots.specs.History.{Opening, Current, AnsweredCell, current, is_cell, is_taken, cells_since, accepted_in, accepted_by, newest_number, newest_table, answered_cells, next_answered, has_sent}
-use Rattle.a429_slots.specs.Recalling.{Recalls, Recent, RecentCountsSends, RecentDecides, RecentPassesOtherCells, never, sent_again}
+use Rattle.a429_slots.specs.History.{Opening, Current, AnsweredCell, current, is_cell, is_taken, cells_since, accepted_in, accepted_by, newest_number, newest_table, answered_cells, has_sent}
+use Rattle.a429_slots.specs.Recalling.{Recalls, Recent, sent_again}
 use Rattle.a429_core.specs.MachineStates.{Remembers, recent_at}
 use Rattle.a429_core.proofs.Words.{words_in, words_append}
-use Rattle.a429_core.proofs.Frames.{gone_on, goes_on}
-use Rattle.a429_slots.proofs.Answered.{answered_push}
-use Rattle.a429_slots.proofs.Histories.{cells_next, current_next}
-
--- what the law of the crate below says of sends
-pub record AreRecalled : Type 0 where
-  pub none : (source : ℕ) → Recalls [] source never
-  pub decides : RecentDecides
-  pub sent : RecentCountsSends
-  pub other : RecentPassesOtherCells
+use Rattle.a429_slots.proofs.Answered.{answered_push, more_cells, next_of}
+use Rattle.a429_slots.proofs.Histories.{cells_next, current_next, gone_on, goes_on}
+use Rattle.a429_slots.proofs.Remembering.{AreRecalled}
 
 -- ---- the answered cells
-
-abbrev pub more_cells : List AnsweredCell → Option AnsweredCell → List AnsweredCell
-more_cells earlier next = earlier ++ option_map_or (λ c. c ∷ []) next []
-
-abbrev pub next_of : ℕ → Opening → ℕ → SlotTable → List Event → Option AnsweredCell
-next_of C o g p E = next_answered C o E g (current o g p E) (answered_cells C o g p E)
 
 pub answered_stay : (C : ℕ) (o : Opening) (g : ℕ) (p : SlotTable) (E : List Event) (e : Event) → is_cell g e ≡ false → answered_cells C o g p (E ++ e ∷ []) ≡ answered_cells C o g p E
 answered_stay C o g p E e quiet = answered_push C o g p E e ∙ rw quiet refl
@@ -52,10 +38,6 @@ counts_grow C o i E e = go (slice_get o.proposal.station.sources i)
         ap (λ (ws : List ℕ). length ws) (words_append o s E (e ∷ [])) ∙ length-append (words_in o s E) (words_in o s (e ∷ [])) in
         omega (arith, more, length-take (2 ^ C - 1) (words_in o s E), length-take (2 ^ C - 1) (words_in o s (E ++ e ∷ [])))
 
-div_more : (c m : ℕ) → c / m ≤ (1 + c) / m
-div_more c zero = omega (arith, div-zero c)
-div_more c (suc m) = le-div (c / suc m) (1 + c) (suc m) (omega arith) (omega (arith, div-mul-le_self c (suc m)))
-
 -- the slot is not past the group's next cell
 pub record IsReached (g : ℕ) (f : Current) (slot : ℕ) : Type 0 where
   pub passed : slot ≤ f.first + cells_since g f / buses_of f.table
@@ -66,7 +48,7 @@ reached_on g f e slot R =
     let m = buses_of f.table in
     elim (cases_Bool (is_cell g e)) [
       | inl own ↦
-          let more : cells_since g (goes_on f e) ≡ 1 + cells_since g f = cells_next g f e ∙ rw own refl in
+          let more : cells_since g (goes_on f e) ≡ cells_since g f + 1 = cells_next g f e ∙ rw own (omega arith) in
           let further : cells_since g f / m ≤ cells_since g (goes_on f e) / m = subst (λ (n : ℕ). cells_since g f / m ≤ n / m) (sym more) (div_more (cells_since g f) m) in
           record { passed = omega (arith, R.passed, further); in_frame = R.in_frame }
       | inr other ↦

@@ -18,13 +18,16 @@ use Rattle.a429_slots.specs.declared.answers.Answer.TheVariants.{Sent, Refused}
 use Rattle.a429_slots.specs.declared.answers.Refusal.TheVariants.{NoSuch}
 use Rattle.a429_slots.specs.Answers.{cell_answer}
 use Rattle.a429_slots.specs.FrameStates.{due_of, FrameState, frame_state_of, next_cell, after_cell}
-use Rattle.a429_core.specs.MachineStates.{MachineState, StandsForHistory, Remembers, recent_at, kept_of, placed_cell, asked_cell, after_asked, group_sends, group_after, send_last, send_kept, word_at, sent_due, sent_in, cell_asked}
+use Rattle.a429_core.specs.MachineStates.{MachineState, StandsForHistory, Remembers, recent_at, kept_of}
+use Rattle.a429_core.specs.MachineSteps.{placed_cell, asked_cell, after_asked, group_sends, group_after, send_last, send_kept, word_at, sent_due, sent_in, cell_asked}
 use Rattle.a429_core.proofs.Places.{inside, outside}
 use Rattle.a429_core.proofs.Words.{accepted_none, kept_none}
 use Rattle.a429_core.proofs.Frames.{cell_push}
-use Rattle.a429_core.proofs.Answering.{AreRecalled, AllRemember, IsReached, next_of, reached_by, remembers_unsent, remembers_sent, all_from_own}
+use Rattle.a429_core.proofs.Answering.{AllRemember, IsReached, reached_by, remembers_unsent, remembers_sent, all_from_own}
 use Rattle.a429_core.proofs.Leaving.{IsGroup, NoneCame, group_stays, with_groups, with_cell, Stepped, step_from}
 use Rattle.a429_slots.proofs.Histories.{current_next}
+use Rattle.a429_slots.proofs.Remembering.{AreRecalled}
+use Rattle.a429_slots.proofs.Answered.{next_of}
 
 -- what a group does in a cell, where v already counts the cell as asked for
 pub record CellDone (C : ℕ) (o : Opening) (E : List Event) (k : ℕ) (p : SlotTable) (v : MachineState) (x : Answer × MachineState) : Type 0 where

@@ -1,25 +1,15 @@
 -- How the frame of a group goes on by an event.
-use Rattle.std.proofs.Common.{◌≡◌, ℕ, ◌+◌, true, false, ◌∷◌, ◌∙◌, ap, refl, inl, inr, arith}
-use Rattle.std.specs.Prelude.{if◌then◌else◌, min, nat_lt, nat_le}
+use Rattle.std.proofs.Common.{◌≡◌, ℕ, ◌+◌, true, false, ◌∙◌, ap, refl, inl, inr, arith}
+use Rattle.std.specs.Prelude.{min, nat_lt, nat_le}
 use Rattle.std.proofs.lemmas.Bool.{cases_lt, cases_Bool, lt-ltb, le-ltb, lt-leb, le-leb}
 use Rattle.a429_slots.specs.Tables.{SlotTable, cells_of}
 use Rattle.a429_slots.specs.Events.{Event}
-use Rattle.a429_slots.specs.History.{Current, is_taken, next_frame, is_cell, is_frame, cells_since, has_room}
+use Rattle.a429_slots.specs.History.{Current, is_cell, is_frame, cells_since, has_room}
 use Rattle.a429_slots.specs.Answers.{frame_answer}
-use Rattle.a429_slots.specs.FrameStates.{FrameState, after_cell, frame_state_of}
-use Rattle.a429_core.specs.MachineStates.{framed}
-use Rattle.a429_slots.proofs.Histories.{cells_next}
-use Rattle.a429_slots.proofs.GoingOn.{still}
-
-abbrev pub goes_on : Current → Event → Current
-goes_on f e = record f { since = e ∷ f.since }
-
--- the frame after one more event, where this is the newest table
-abbrev pub gone_on : ℕ → ℕ → SlotTable → Current → Event → Current
-gone_on g n now f e = if is_taken g now f e then next_frame n now f else goes_on f e
-
-abbrev sent_at : ℕ → Current → ℕ → FrameState
-sent_at g f n = record { table = f.table; first = f.first; sent = n }
+use Rattle.a429_slots.specs.FrameStates.{after_cell, frame_state_of}
+use Rattle.a429_core.specs.MachineSteps.{framed}
+use Rattle.a429_slots.proofs.Histories.{cells_next, goes_on, gone_on}
+use Rattle.a429_slots.proofs.GoingOn.{still, sent_at}
 
 pub not_taken : (g n : ℕ) (now : SlotTable) (f : Current) (e : Event) → is_frame g e ≡ false → is_cell g e ≡ false → frame_state_of g (gone_on g n now f e) ≡ frame_state_of g f
 not_taken g n now f e h k = rw h (still g f e k)

@@ -17,8 +17,9 @@ use Rattle.a429_slots.specs.Spacing.{IsOutputCell, IsSentWithin, IsTooClose, Sen
 use Rattle.a429_slots.specs.declared.answers.Answer.TheVariants.{Sent}
 use Rattle.a429_slots.proofs.Answered.{some_place}
 use Rattle.a429_slots.proofs.SamePlan.{is_at}
+use Rattle.a429_core.specs.Histories.{history_of}
 use Rattle.a429_core.specs.Spaced.{AreSpaced, IsAnswered, is_held_at, last_word_at}
-use Rattle.a429_core.specs.Latency.{AnswersOn, EachOutput, GoesOut, GoesOutWithin, HasCell, HasOutput, IsAcceptedAt, IsAcceptedBefore, IsEmptiedFirst, IsFresh, IsPlannedHistory, KeepsOutput, KeepsTime, MaySend, Passes, next_slot_on, period_of}
+use Rattle.a429_core.specs.Latency.{AnswersOn, Clock, EachOutput, GoesOut, GoesOutWithin, HasCell, HasOutput, IsAcceptedAt, IsAcceptedBefore, IsEmptiedFirst, IsFresh, IsPlannedHistory, KeepsOutput, KeepsTime, MaySend, Passes, next_slot_on, period_of, wait_of}
 use Rattle.a429_core.proofs.SpacedWords.{answer_is, answered_by, emptied, sends_last}
 use Rattle.a429_core.proofs.Passing.{next_after}
 use Rattle.a429_core.proofs.Rounds.{AreSpacedTables, HasCellFrom, apart_here, before_next, cell_here, comes_round, fewer, in_order, passes_on, set_of, sooner}
@@ -27,7 +28,7 @@ use Rattle.a429_core.proofs.Latest.{HasLatest, count_above, count_at, count_grow
 -- ---- cells
 
 -- what is said of each output of the source holds of the one that stands in a cell
-pub fits_cell : (o : Opening) (g : ℕ) (p : SlotTable) (E : List Event) (i k source l : ℕ) (Is : Placed → Type 0) (x : Placed) (s : ℕ) → EachOutput o g p E i k source Is → i ≤ l → l < k → IsOutputCell o g p E l x s → x.source ≡ source → Is x
+pub fits_cell : (o : Opening) (g : ℕ) (p : SlotTable) (E : List Event) (i k source l : ℕ) (Is : Placed → Type 0) (x : Placed) (s : ℕ) → EachOutput (history_of o g p E) i k source Is → i ≤ l → l < k → IsOutputCell o g p E l x s → x.source ≡ source → Is x
 fits_cell o g p E i k source l Is x s each from before I same =
     let A = is_at (current o g p (take l E)).table I.cell.0 I.cell.1 x I.stands in
     each l from before A.number x A.row same
@@ -56,7 +57,7 @@ free_where_unsent : (hold : Option ℕ) (times : ℕ) → ((most : ℕ) → hold
 free_where_unsent None times some none = refl
 free_where_unsent (Some most) times some none = let low : 0 < most = some most refl in lt-leb most times (omega (arith, low, none))
 
-pub unheld : (C : ℕ) (o : Opening) (g : ℕ) (p : SlotTable) (E : List Event) (l : ℕ) (x : Placed) → x.limits.hold ≡ None → is_held_at C o g p E l x ≡ false
+pub unheld : (C : ℕ) (o : Opening) (g : ℕ) (p : SlotTable) (E : List Event) (l : ℕ) (x : Placed) → x.limits.hold ≡ None → is_held_at C (history_of o g p E) l x ≡ false
 unheld C o g p E l x none = ap (λ (h : Option ℕ). is_held (answered_cells C o g p (take l E)) x.source h (length (accepted_by C o x.source (take l E)))) none
 
 emptied_where_close : (held close : Bool) (x : Option ℕ) → held ≡ false → close ≡ true → (if held || close then None else x) ≡ None
@@ -69,7 +70,7 @@ last_sent false x w h = h
 
 -- ---- in a planned history
 
-module _ (law : AreSpaced) (C : ℕ) (o : Opening) (g : ℕ) (p : SlotTable) (E : List Event) (H : IsPlannedHistory o g p E) (spaced : AreSpacedTables o g p E) where
+module _ (law : AreSpaced) (C : ℕ) (o : Opening) (g : ℕ) (p : SlotTable) (E : List Event) (H : IsPlannedHistory (history_of o g p E)) (spaced : AreSpacedTables o g p E) where
   -- from place i on and before place l the group sends a word of the source
   record SendsSince (i l source : ℕ) : Type 0 where
     pub place : ℕ
@@ -104,17 +105,17 @@ module _ (law : AreSpaced) (C : ℕ) (o : Opening) (g : ℕ) (p : SlotTable) (E 
             ]
       ]
 
-  free_or_sent : (i l q : ℕ) (x : Placed) → i < l → l ≤ length E → MaySend q x → IsAcceptedAt C o E i x.source → SendsSince i l x.source ⊎ (is_held_at C o g p E l x ≡ false)
+  free_or_sent : (i l q : ℕ) (x : Placed) → i < l → l ≤ length E → MaySend q x → IsAcceptedAt C o E i x.source → SendsSince i l x.source ⊎ (is_held_at C (history_of o g p E) l x ≡ false)
   free_or_sent i l q x after few may A = elim (sent_or_not i l x.source after few A) [
     | inl S ↦ inl S
     | inr none ↦ inr (free_where_unsent x.limits.hold (times_sent (answered_cells C o g p (take l E)) x.source (count_at C o E x.source l)) may.hold none)
   ]
 
-  pub sends_latest : (l n : ℕ) (x : Placed) (s : ℕ) → IsOutputCell o g p E l x s → is_held_at C o g p E l x ≡ false → (IsTooClose C o g p E l x s → ⊥) → (L : HasLatest C o (take l E) x.source n) → IsAnswered C o g p E l x s (Some L.word)
-  sends_latest l n x s I free far L = subst (λ (w : Option ℕ). IsAnswered C o g p E l x s w) L.last (sends_last C o g p E l x s H.opens I free far)
+  pub sends_latest : (l n : ℕ) (x : Placed) (s : ℕ) → IsOutputCell o g p E l x s → is_held_at C (history_of o g p E) l x ≡ false → (IsTooClose C o g p E l x s → ⊥) → (L : HasLatest C o (take l E) x.source n) → IsAnswered C (history_of o g p E) l x s (Some L.word)
+  sends_latest l n x s I free far L = subst (λ (w : Option ℕ). IsAnswered C (history_of o g p E) l x s w) L.last (sends_last C o g p E l x s H.opens I free far)
 
   -- a word of the source that was sent since is the latest
-  sent_since : (i k source end : ℕ) → k ≤ length E → IsAcceptedAt C o E i source → (a : ℕ) (y : Placed) (v w : ℕ) → i ≤ a → a < k → Sends C o g p E a y v w → y.source ≡ source → v < end → GoesOut C o g p E i k source end
+  sent_since : (i k source end : ℕ) → k ≤ length E → IsAcceptedAt C o E i source → (a : ℕ) (y : Placed) (v w : ℕ) → i ≤ a → a < k → Sends C o g p E a y v w → y.source ≡ source → v < end → GoesOut C (history_of o g p E) i k source end
   sent_since i k source end few A a y v w from before S same high =
       let L = latest_since C o E source i a H.apart A (arrived_before C o g p E i a source y v A from S.cell) (omega (arith, before, few)) in
       let last : last_of (accepted_by C o y.source (take a E)) ≡ Some w = last_sent _ (last_of (accepted_by C o y.source (take a E))) w S.sent in
@@ -127,8 +128,8 @@ module _ (law : AreSpaced) (C : ℕ) (o : Opening) (g : ℕ) (p : SlotTable) (E 
       }
 
   -- A cell of the source that is close to no word sent before place i: by then the word goes out.
-  pub out_by : (i k source end q : ℕ) → k ≤ length E → IsAcceptedAt C o E i source → (R : HasCell o g p E i k source end) → MaySend q R.output
-      → ((W : IsSentWithin C o g p E R.place R.output R.slot) → W.place < i → ⊥) → GoesOut C o g p E i k source end
+  pub out_by : (i k source end q : ℕ) → k ≤ length E → IsAcceptedAt C o E i source → (R : HasCell (history_of o g p E) i k source end) → MaySend q R.output
+      → ((W : IsSentWithin C o g p E R.place R.output R.slot) → W.place < i → ⊥) → GoesOut C (history_of o g p E) i k source end
   out_by i k source end q few A R may far =
       let before : R.place < k = R.before in
       let high : R.slot < end = R.high in
@@ -165,7 +166,7 @@ module _ (law : AreSpaced) (C : ℕ) (o : Opening) (g : ℕ) (p : SlotTable) (E 
   -- ---- cells far from those before
 
   -- where a cell of an output that stays comes between, those before it are a period before the next
-  pub far_after : (h k source : ℕ) (at : SlotPlace) → k ≤ length E → KeepsOutput o g p E h k source at → (j l : ℕ) (x y : Placed) (u s : ℕ) → h ≤ j → j < l → l < k → IsOutputCell o g p E j x u → x.source ≡ source
+  pub far_after : (h k source : ℕ) (at : SlotPlace) → k ≤ length E → KeepsOutput (history_of o g p E) h k source at → (j l : ℕ) (x y : Placed) (u s : ℕ) → h ≤ j → j < l → l < k → IsOutputCell o g p E j x u → x.source ≡ source
       → IsOutputCell o g p E l y s → y.source ≡ source → (W : IsSentWithin C o g p E l y s) → W.place < j + 1 → ⊥
   far_after h k source at few keeps j l x y u s from after before J own L same W past =
       let here = keeps l (omega (arith, from, after)) before in
@@ -182,7 +183,7 @@ module _ (law : AreSpaced) (C : ℕ) (o : Opening) (g : ℕ) (p : SlotTable) (E 
       ]
 
   -- so are those since it stays
-  far_since : (h k source : ℕ) (at : SlotPlace) → k ≤ length E → KeepsOutput o g p E h k source at → (l : ℕ) (y : Placed) (s : ℕ) → l < k → IsOutputCell o g p E l y s → y.source ≡ source
+  far_since : (h k source : ℕ) (at : SlotPlace) → k ≤ length E → KeepsOutput (history_of o g p E) h k source at → (l : ℕ) (y : Placed) (s : ℕ) → l < k → IsOutputCell o g p E l y s → y.source ≡ source
       → (W : IsSentWithin C o g p E l y s) → h ≤ W.place → ⊥
   far_since h k source at few keeps l y s before L same W from =
       let early : W.place < l = W.before in
@@ -193,8 +194,8 @@ module _ (law : AreSpaced) (C : ℕ) (o : Opening) (g : ℕ) (p : SlotTable) (E 
       omega (arith, fits, apart, close)
 
   -- so an output's cells are full, from the second on for which it stays
-  pub full : (j k source : ℕ) (at : SlotPlace) (x now : Placed) (s t : ℕ) → j < k → KeepsOutput o g p E j (k + 1) source at → IsOutputCell o g p E j x s → x.source ≡ source → IsOutputCell o g p E k now t → now.source ≡ source
-      → is_held_at C o g p E k now ≡ false → IsAnswered C o g p E k now t (last_word_at C o E k now)
+  pub full : (j k source : ℕ) (at : SlotPlace) (x now : Placed) (s t : ℕ) → j < k → KeepsOutput (history_of o g p E) j (k + 1) source at → IsOutputCell o g p E j x s → x.source ≡ source → IsOutputCell o g p E k now t → now.source ≡ source
+      → is_held_at C (history_of o g p E) k now ≡ false → IsAnswered C (history_of o g p E) k now t (last_word_at C (history_of o g p E) k now)
   full j k source at x now s t after keeps J own K same free =
       let below : k < length E = slice_get_within E k (Cell g) K.asked in
       sends_last C o g p E k now t H.opens K free (λ close.
@@ -205,7 +206,7 @@ module _ (law : AreSpaced) (C : ℕ) (o : Opening) (g : ℕ) (p : SlotTable) (E 
       ])
 
   -- a cell in a slot that is so far on is close to none before place i
-  pub far_on : (i source q : ℕ) (at : SlotPlace) → i ≤ length E → HasOutput (current o g p (take i E)).table source at → (l : ℕ) (y : Placed) (s : ℕ) → y.source ≡ source → MaySend q y → next_slot_on o g p E i at.bus + q ≤ s + 1
+  pub far_on : (i source q : ℕ) (at : SlotPlace) → i ≤ length E → HasOutput (current o g p (take i E)).table source at → (l : ℕ) (y : Placed) (s : ℕ) → y.source ≡ source → MaySend q y → next_slot_on (history_of o g p E) i at.bus + q ≤ s + 1
       → (W : IsSentWithin C o g p E l y s) → W.place < i → ⊥
   far_on i source q at few here l y s same may far W past =
       let close : s < W.at + y.limits.spacing = W.close in
@@ -214,10 +215,10 @@ module _ (law : AreSpaced) (C : ℕ) (o : Opening) (g : ℕ) (p : SlotTable) (E 
 
   -- ---- in one period
 
-  pub in_time : (h a i k source q : ℕ) (at : SlotPlace) → h ≤ i → a ≤ i → i ≤ k → IsAcceptedBefore C o E a k source → KeepsOutput o g p E h k source at → EachOutput o g p E i k source (MaySend q)
-      → Passes o g p E h i at (period_of at) → Passes o g p E i k at (period_of at) → GoesOut C o g p E a k source (next_slot_on o g p E i at.bus + period_of at)
+  pub in_time : (h a i k source q : ℕ) (at : SlotPlace) → h ≤ i → a ≤ i → i ≤ k → IsAcceptedBefore C o E a k source → KeepsOutput (history_of o g p E) h k source at → EachOutput (history_of o g p E) i k source (MaySend q)
+      → Passes (history_of o g p E) h i at (period_of at) → Passes (history_of o g p E) i k at (period_of at) → GoesOut C (history_of o g p E) a k source (next_slot_on (history_of o g p E) i at.bus + period_of at)
   in_time h a i k source q at low old after A keeps may passes again =
-      let end : ℕ = next_slot_on o g p E i at.bus + period_of at in
+      let end : ℕ = next_slot_on (history_of o g p E) i at.bus + period_of at in
       let few : k ≤ length E = A.few in
       let R = (comes_round o g p E spaced i k source at after few (fewer o g p E h i k k source at low (omega arith) keeps) again).cell in
       let Q = (comes_round o g p E spaced h i source at low (omega (arith, after, few)) (fewer o g p E h h i k source at (omega arith) after keeps) passes).cell in
@@ -229,20 +230,20 @@ module _ (law : AreSpaced) (C : ℕ) (o : Opening) (g : ℕ) (p : SlotTable) (E 
         | inr since ↦ let on : h ≤ Q.place = Q.from in far_since h k source at few keeps R.place R.output R.slot R.before R.cell R.same W (omega (arith, on, since))
       ])
 
-  pub from_opening : (i k source q : ℕ) (at : SlotPlace) → IsAcceptedBefore C o E i k source → KeepsOutput o g p E 0 k source at → EachOutput o g p E i k source (MaySend q) → Passes o g p E i k at (period_of at)
-      → GoesOut C o g p E i k source (next_slot_on o g p E i at.bus + period_of at)
+  pub from_opening : (i k source q : ℕ) (at : SlotPlace) → IsAcceptedBefore C o E i k source → KeepsOutput (history_of o g p E) 0 k source at → EachOutput (history_of o g p E) i k source (MaySend q) → Passes (history_of o g p E) i k at (period_of at)
+      → GoesOut C (history_of o g p E) i k source (next_slot_on (history_of o g p E) i at.bus + period_of at)
   from_opening i k source q at A keeps may again =
       let few : k ≤ length E = A.few in
       let R = (comes_round o g p E spaced i k source at A.after few (fewer o g p E 0 i k k source at (omega arith) (omega arith) keeps) again).cell in
-      out_by i k source (next_slot_on o g p E i at.bus + period_of at) q few A.word R (fits_cell o g p E i k source R.place (MaySend q) R.output R.slot may R.from R.before R.cell R.same)
+      out_by i k source (next_slot_on (history_of o g p E) i at.bus + period_of at) q few A.word R (fits_cell o g p E i k source R.place (MaySend q) R.output R.slot may R.from R.before R.cell R.same)
       (λ W past. far_since 0 k source at few keeps R.place R.output R.slot R.before R.cell R.same W (omega arith))
 
   -- ---- or the cell is the first of its source
 
-  pub in_time_or_first : (i k source q : ℕ) (at : SlotPlace) → IsAcceptedBefore C o E i k source → KeepsOutput o g p E i k source at → EachOutput o g p E i k source (MaySend q) → Passes o g p E i k at (period_of at)
-      → GoesOut C o g p E i k source (next_slot_on o g p E i at.bus + period_of at) ⊎ IsEmptiedFirst C o g p E i k source (next_slot_on o g p E i at.bus + period_of at)
+  pub in_time_or_first : (i k source q : ℕ) (at : SlotPlace) → IsAcceptedBefore C o E i k source → KeepsOutput (history_of o g p E) i k source at → EachOutput (history_of o g p E) i k source (MaySend q) → Passes (history_of o g p E) i k at (period_of at)
+      → GoesOut C (history_of o g p E) i k source (next_slot_on (history_of o g p E) i at.bus + period_of at) ⊎ IsEmptiedFirst C (history_of o g p E) i k source (next_slot_on (history_of o g p E) i at.bus + period_of at)
   in_time_or_first i k source q at A keeps may passes =
-      let end : ℕ = next_slot_on o g p E i at.bus + period_of at in
+      let end : ℕ = next_slot_on (history_of o g p E) i at.bus + period_of at in
       let few : k ≤ length E = A.few in
       let R = (comes_round o g p E spaced i k source at A.after few keeps passes).cell in
       let before : R.place < k = R.before in
@@ -266,10 +267,10 @@ module _ (law : AreSpaced) (C : ℕ) (o : Opening) (g : ℕ) (p : SlotTable) (E 
                 fresh = subst (λ (z : ℕ). IsFresh C o (take R.place E) z L.word i) R.same L.fresh;
               })
               | inl close ↦
-                  let empty : IsAnswered C o g p E R.place R.output R.slot None = record {
+                  let empty : IsAnswered C (history_of o g p E) R.place R.output R.slot None = record {
                     cell = R.cell;
                     answered = answer_is C o g p E R.place R.output R.slot H.opens R.cell
-                        ∙ ap (λ (w : Option ℕ). Sent R.cell.cell.0 R.slot w) (emptied_where_close (is_held_at C o g p E R.place R.output) near (last_of (accepted_by C o R.output.source (take R.place E))) free close);
+                        ∙ ap (λ (w : Option ℕ). Sent R.cell.cell.0 R.slot w) (emptied_where_close (is_held_at C (history_of o g p E) R.place R.output) near (last_of (accepted_by C o R.output.source (take R.place E))) free close);
                   } in
                   inr (record { cell = R; empty = empty; only = emptied law C o g p E R.place R.output R.slot L.word H.opens (spaced R.place) empty L.last free })
             ]
@@ -282,10 +283,10 @@ module _ (law : AreSpaced) (C : ℕ) (o : Opening) (g : ℕ) (p : SlotTable) (E 
     pub place : ℕ
     pub from : i ≤ place
     pub before : place ≤ k
-    pub next : next_slot_on o g p E place bus ≡ slot
+    pub next : next_slot_on (history_of o g p E) place bus ≡ slot
 
-  reach : (i k source slot : ℕ) (at : SlotPlace) → i ≤ k → k ≤ length E → KeepsOutput o g p E i k source at → next_slot_on o g p E i at.bus ≤ slot → slot ≤ next_slot_on o g p E k at.bus → IsNextAt i k at.bus slot
-  reach i k source slot at after few keeps low high = elim (cases_lt (next_slot_on o g p E i at.bus) slot) [
+  reach : (i k source slot : ℕ) (at : SlotPlace) → i ≤ k → k ≤ length E → KeepsOutput (history_of o g p E) i k source at → next_slot_on (history_of o g p E) i at.bus ≤ slot → slot ≤ next_slot_on (history_of o g p E) k at.bus → IsNextAt i k at.bus slot
+  reach i k source slot at after few keeps low high = elim (cases_lt (next_slot_on (history_of o g p E) i at.bus) slot) [
     | inr least ↦ record { place = i; from = omega arith; before = after; next = omega (arith, low, least) }
     | inl more ↦
         let A = (passes_on o g p E spaced i k source at after few keeps).all (slot - 1) (omega (arith, more)) (omega (arith, more, high)) in
@@ -297,25 +298,25 @@ module _ (law : AreSpaced) (C : ℕ) (o : Opening) (g : ℕ) (p : SlotTable) (E 
   ]
 
   -- from the place where that slot is next, a cell comes within a period
-  pub comes_from : (i k source slot : ℕ) (at : SlotPlace) → i ≤ k → k ≤ length E → KeepsOutput o g p E i k source at → next_slot_on o g p E i at.bus ≤ slot → slot + period_of at ≤ next_slot_on o g p E k at.bus
+  pub comes_from : (i k source slot : ℕ) (at : SlotPlace) → i ≤ k → k ≤ length E → KeepsOutput (history_of o g p E) i k source at → next_slot_on (history_of o g p E) i at.bus ≤ slot → slot + period_of at ≤ next_slot_on (history_of o g p E) k at.bus
       → HasCellFrom o g p E i k source slot (slot + period_of at)
   comes_from i k source slot at after few keeps low passes =
       let M = reach i k source slot at after few keeps low (omega (arith, passes)) in
       let from : i ≤ M.place = M.from in
-      let next : next_slot_on o g p E M.place at.bus ≡ slot = M.next in
+      let next : next_slot_on (history_of o g p E) M.place at.bus ≡ slot = M.next in
       let R = comes_round o g p E spaced M.place k source at M.before few (fewer o g p E i M.place k k source at from (omega arith) keeps) (omega (arith, next, passes)) in
       let on : M.place ≤ R.cell.place = R.cell.from in
-      let high : R.cell.slot < next_slot_on o g p E M.place at.bus + period_of at = R.cell.high in
-      let least : next_slot_on o g p E M.place at.bus ≤ R.cell.slot = R.low in
+      let high : R.cell.slot < next_slot_on (history_of o g p E) M.place at.bus + period_of at = R.cell.high in
+      let least : next_slot_on (history_of o g p E) M.place at.bus ≤ R.cell.slot = R.low in
       record {
         cell = record { place = R.cell.place; from = omega (arith, from, on); before = R.cell.before; output = R.cell.output; same = R.cell.same; slot = R.cell.slot; cell = R.cell.cell; high = omega (arith, high, next) };
         low = omega (arith, least, next);
       }
 
-  pub in_any : (i k source q n : ℕ) (at : SlotPlace) → IsAcceptedBefore C o E i k source → KeepsOutput o g p E i k source at → EachOutput o g p E i k source (MaySend q) → period_of at ≤ n → period_of at + q ≤ n + 1 → Passes o g p E i k at n
-      → GoesOut C o g p E i k source (next_slot_on o g p E i at.bus + n)
+  pub in_any : (i k source q n : ℕ) (at : SlotPlace) → IsAcceptedBefore C o E i k source → KeepsOutput (history_of o g p E) i k source at → EachOutput (history_of o g p E) i k source (MaySend q) → period_of at ≤ n → period_of at + q ≤ n + 1 → Passes (history_of o g p E) i k at n
+      → GoesOut C (history_of o g p E) i k source (next_slot_on (history_of o g p E) i at.bus + n)
   in_any i k source q n at A keeps may long more passes =
-      let first : ℕ = next_slot_on o g p E i at.bus in
+      let first : ℕ = next_slot_on (history_of o g p E) i at.bus in
       let few : k ≤ length E = A.few in
       let after : i ≤ k = A.after in
       let some : 0 < period_of at = pow_pos at.period in
@@ -332,32 +333,32 @@ module _ (law : AreSpaced) (C : ℕ) (o : Opening) (g : ℕ) (p : SlotTable) (E 
   -- ---- time
 
   -- a slot so many slots on ends so much later, where the slot before was answered
-  pub ends_in_time : (a i bus slot first n last : ℕ) (time : ℕ → ℕ) (slot_time : ℕ) → AnswersOn o g p E a i bus slot → first ≤ slot + 1 → last < first + n → KeepsTime o g p E time slot_time
-      → (last + 1) * slot_time ≤ time i + (n + 1) * slot_time
-  ends_in_time a i bus slot first n last time slot_time A near high T =
-      let begun : slot * slot_time ≤ time A.place = T.begun a i bus slot A in
+  pub ends_in_time : (a i bus slot first n last : ℕ) (clock : Clock) → AnswersOn (history_of o g p E) a i bus slot → first ≤ slot + 1 → last < first + n → KeepsTime (history_of o g p E) clock
+      → (last + 1) * clock.slot_time ≤ clock.time i + (n + 1) * clock.slot_time
+  ends_in_time a i bus slot first n last clock A near high T =
+      let begun : slot * clock.slot_time ≤ clock.time A.place = T.begun a i bus slot A in
       let early : A.place < i = A.before in
-      let onward : time A.place ≤ time i = T.onward A.place i (omega (arith, early)) in
-      let fits : (last + 1) * slot_time ≤ (slot + (n + 1)) * slot_time = mul-le-mul_right {m = last + 1} {n = slot + (n + 1)} slot_time (omega (arith, high, near)) in
-      let split : (slot + (n + 1)) * slot_time ≡ slot * slot_time + (n + 1) * slot_time = add-mul slot (n + 1) slot_time in
+      let onward : clock.time A.place ≤ clock.time i = T.onward A.place i (omega (arith, early)) in
+      let fits : (last + 1) * clock.slot_time ≤ (slot + (n + 1)) * clock.slot_time = mul-le-mul_right {m = last + 1} {n = slot + (n + 1)} clock.slot_time (omega (arith, high, near)) in
+      let split : (slot + (n + 1)) * clock.slot_time ≡ slot * clock.slot_time + (n + 1) * clock.slot_time = add-mul slot (n + 1) clock.slot_time in
       omega (arith, fits, split, begun, onward)
 
   -- where the output had stayed for a period, it was
-  pub settled_time : (h i source first n last : ℕ) (at : SlotPlace) (time : ℕ → ℕ) (slot_time : ℕ) → h ≤ i → i ≤ length E → KeepsOutput o g p E h i source at → Passes o g p E h i at (period_of at)
-      → first ≡ next_slot_on o g p E i at.bus → last < first + n → KeepsTime o g p E time slot_time → (last + 1) * slot_time ≤ time i + (n + 1) * slot_time
-  settled_time h i source first n last at time slot_time before few keeps passes is high T =
+  pub settled_time : (h i source first n last : ℕ) (at : SlotPlace) (clock : Clock) → h ≤ i → i ≤ length E → KeepsOutput (history_of o g p E) h i source at → Passes (history_of o g p E) h i at (period_of at)
+      → first ≡ next_slot_on (history_of o g p E) i at.bus → last < first + n → KeepsTime (history_of o g p E) clock → (last + 1) * clock.slot_time ≤ clock.time i + (n + 1) * clock.slot_time
+  settled_time h i source first n last at clock before few keeps passes is high T =
       let some : 0 < period_of at = pow_pos at.period in
       let A = (passes_on o g p E spaced h i source at before few keeps).all (first - 1) (omega (arith, passes, some, is)) (omega (arith, passes, some, is)) in
-      ends_in_time h i at.bus (first - 1) first n last time slot_time A (omega arith) high T
+      ends_in_time h i at.bus (first - 1) first n last clock A (omega arith) high T
 
-  pub latency : (h i k source q : ℕ) (at : SlotPlace) (time : ℕ → ℕ) (slot_time : ℕ) → h ≤ i → IsAcceptedBefore C o E i k source → KeepsOutput o g p E h k source at → EachOutput o g p E i k source (MaySend q)
-      → Passes o g p E h i at (period_of at) → Passes o g p E i k at (period_of at) → KeepsTime o g p E time slot_time
-      → GoesOutWithin C o g p E i k source (next_slot_on o g p E i at.bus + period_of at) time slot_time ((period_of at + 1) * slot_time)
-  latency h i k source q at time slot_time low A keeps may passes again T =
+  pub latency : (h i k source q : ℕ) (at : SlotPlace) (clock : Clock) → h ≤ i → IsAcceptedBefore C o E i k source → KeepsOutput (history_of o g p E) h k source at → EachOutput (history_of o g p E) i k source (MaySend q)
+      → Passes (history_of o g p E) h i at (period_of at) → Passes (history_of o g p E) i k at (period_of at) → KeepsTime (history_of o g p E) clock
+      → GoesOutWithin C (history_of o g p E) (wait_of source i k (next_slot_on (history_of o g p E) i at.bus + period_of at)) clock ((period_of at + 1) * clock.slot_time)
+  latency h i k source q at clock low A keeps may passes again T =
       let G = in_time h i i k source q at low (omega arith) A.after A keeps may passes again in
       let after : i ≤ k = A.after in
       let few : k ≤ length E = A.few in
       record {
         out = G;
-        soon = settled_time h i source (next_slot_on o g p E i at.bus) (period_of at) G.cell.slot at time slot_time low (omega (arith, after, few)) (fewer o g p E h h i k source at (omega arith) after keeps) passes refl G.cell.high T;
+        soon = settled_time h i source (next_slot_on (history_of o g p E) i at.bus) (period_of at) G.cell.slot at clock low (omega (arith, after, few)) (fewer o g p E h h i k source at (omega arith) after keeps) passes refl G.cell.high T;
       }

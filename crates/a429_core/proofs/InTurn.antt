@@ -14,10 +14,9 @@ use Rattle.a429_slots.specs.declared.answers.Answer.TheVariants.{Changed, Refuse
 use Rattle.a429_slots.specs.declared.answers.Refusal.TheVariants.{NoSuch, MidFrame, SlotsSpent}
 use Rattle.a429_slots.specs.Answers.{answer, answers, cell_answer, frame_answer}
 use Rattle.a429_core.specs.Sends.{cell_answers, cells_in_order, cell_sent, without_word, in_turn}
-use Rattle.a429_core.proofs.Frames.{goes_on}
 use Rattle.a429_core.proofs.InOrder.{turn, in_turn_is, whole_turn}
 use Rattle.a429_slots.proofs.Answered.{cell_event}
-use Rattle.a429_slots.proofs.Histories.{cells_next, current_next}
+use Rattle.a429_slots.proofs.Histories.{cells_next, current_next, goes_on}
 
 abbrev IsGroup : Opening → ℕ → SlotTable → Type 0
 IsGroup o g p = slice_get (groups_of o.proposal.plan) g ≡ Some p

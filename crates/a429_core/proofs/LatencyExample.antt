@@ -9,7 +9,7 @@ use Rattle.a429_word.specs.Bits.{ones_from, number_from, reversed_from}
 use Rattle.a429_equipment.specs.Arrivals.{AreApart}
 use Rattle.a429_equipment.specs.Sound.{HaveOwnSources}
 use Rattle.a429_equipment.specs.declared.rows.OutputRow.{OutputRow}
-use Rattle.a429_slots.specs.Tables.{Placed, cell_at, outputs_of, placed_at}
+use Rattle.a429_slots.specs.Tables.{Placed, cell_at, demands_of, outputs_of, placed_at}
 use Rattle.a429_slots.specs.Kept.{BeginsAt, StandsJustAt}
 use Rattle.a429_grid.specs.Reversal.{reversed}
 use Rattle.a429_pack.specs.Schedules.{RecursWithin, Schedule}
@@ -20,7 +20,7 @@ use Rattle.a429_slots.specs.Events.{Event, Arrive, Cell, Frame, Publish}
 use Rattle.a429_slots.specs.History.{cell_due, current}
 use Rattle.a429_slots.specs.Spacing.{HaveOwnPlans}
 use Rattle.a429_core.specs.Latency.{EachOutput, IsAcceptedBefore, KeepsOutput, MaySend}
-use Rattle.a429_core.specs.LatencyExample.{MeetsPremises, at, history, opening, station, table}
+use Rattle.a429_core.specs.LatencyExample.{MeetsPremises, at, history, opening, run, station, table}
 use Rattle.a429_core.proofs.Rounds.{one_plan_keeps}
 
 -- ---- the plan is that of the table
@@ -81,7 +81,6 @@ planned = record {
   layout = record {
     frame = refl;
     order = record { all = IsPermutation-refl (0 ∷ []); rising = λ k below. absurd (omega (arith, below)) };
-    demands = refl;
     places = places;
   };
   periodic = periodic;
@@ -90,7 +89,7 @@ planned = record {
   few_slots = omega arith;
 }
   where
-    places : (k : ℕ) → k < 1 → BeginsAt table (slice_index table.order k) (start_of table.demands k)
+    places : (k : ℕ) → k < 1 → BeginsAt table (slice_index table.order k) (start_of (demands_of table) k)
     places zero below = record { bus = refl; offset = refl }
     places (suc k) below = absurd (omega (arith, below))
 
@@ -132,14 +131,14 @@ accepted : IsAcceptedBefore 41 opening history 3 6 0
 unfolding ones_from number_from reversed_from
 accepted = record { word = record { receiver = 0; word = 1610612929; came = refl; accepted = refl }; after = omega arith; few = omega arith }
 
-stays : KeepsOutput opening 0 table history 0 6 0 at
+stays : KeepsOutput run 0 6 0 at
 stays = one_plan_keeps opening 0 table history 0 6 0 at refl (omega arith) (omega arith) refl (record { number = 0; output = placed_at table 0; there = refl; of_source = refl; at_place = refl })
 
 may_send : (n : ℕ) (x : Placed) → slice_get (outputs_of table) n ≡ Some x → MaySend 2 x
 may_send zero x there = subst (MaySend 2) (same_Some (placed_at table 0) x there) (record { hold = λ hold h. absurd (none-some hold h); spacing = omega arith })
 may_send (suc n) x there = absurd (none-some x there)
 
-sends : EachOutput opening 0 table history 3 6 0 (MaySend 2)
+sends : EachOutput run 3 6 0 (MaySend 2)
 sends zero from before n x there same = absurd (omega (arith, from))
 sends (suc zero) from before n x there same = absurd (omega (arith, from))
 sends (suc (suc zero)) from before n x there same = absurd (omega (arith, from))

@@ -13,7 +13,8 @@ use Rattle.a429_slots.specs.declared.answers.Answer.{Answer}
 use Rattle.a429_slots.specs.Answers
 use Rattle.a429_slots.specs.Answers.{answer}
 use Rattle.a429_slots.specs.FrameStates.{FrameState, frame_state_of}
-use Rattle.a429_core.specs.MachineStates.{MachineState, StandsForHistory, kept_of, recent_at, stepped}
+use Rattle.a429_core.specs.MachineStates.{MachineState, StandsForHistory, kept_of, recent_at}
+use Rattle.a429_core.specs.MachineSteps.{stepped}
 use Rattle.a429_core.proofs.Places.{map_same}
 use Rattle.a429_core.proofs.Words.{accepted_none, kept_none}
 use Rattle.a429_core.proofs.Answering.{AllRemember, remembers_stay}

@@ -14,8 +14,9 @@ use Rattle.a429_slots.specs.Spacing.{IsOutputCell}
 use Rattle.a429_slots.proofs.Answered.{event_at}
 use Rattle.a429_slots.proofs.Histories.{new_frame, same_frame, take_following}
 use Rattle.a429_slots.proofs.Following.{frame_at_place}
+use Rattle.a429_core.specs.Histories.{history_of}
 use Rattle.a429_core.specs.Spaced.{AreSpaced, IsAnswered}
-use Rattle.a429_core.specs.Latency.{AnswersOn, ChangesOften, EachOutput, GoesOut, GoesOutWithin, HasCell, HasOutput, HasOutputWithin, IsAcceptedBefore, IsPlannedHistory, IsUnheld, KeepsOutput, KeepsSource, KeepsTime, MaySend, SendsOne, next_slot_on, period_of}
+use Rattle.a429_core.specs.Latency.{AnswersOn, ChangesOften, Clock, EachOutput, GoesOut, GoesOutWithin, HasCell, HasOutput, HasOutputWithin, IsAcceptedBefore, IsPlannedHistory, IsUnheld, KeepsOutput, KeepsSource, KeepsTime, MaySend, SendsOne, next_slot_on, period_of, wait_of}
 use Rattle.a429_core.proofs.Passing.{goes}
 use Rattle.a429_core.proofs.Rounds.{AreSpacedTables, HasCellFrom, cell_here, comes_round, fewer, later_on, same_place, set_of, sooner}
 use Rattle.a429_core.proofs.GoingOut.{ends_in_time, far_on, fits_cell, out_by}
@@ -85,14 +86,14 @@ lasts o g p E a k after few none =
 
 module _ (o : Opening) (g : ℕ) (p : SlotTable) (E : List Event) (spaced : AreSpacedTables o g p E) where
   -- so do its outputs
-  keeps_to : (a k source : ℕ) (at : SlotPlace) → k ≤ length E → NoneTaken o g p E a k → HasOutput (table_at o g p E a) source at → KeepsOutput o g p E a (k + 1) source at
+  keeps_to : (a k source : ℕ) (at : SlotPlace) → k ≤ length E → NoneTaken o g p E a k → HasOutput (table_at o g p E a) source at → KeepsOutput (history_of o g p E) a (k + 1) source at
   keeps_to a k source at few none here j from below =
       let F = lasts o g p E a j from (omega (arith, below, few)) (λ i low high. none i low (omega (arith, high, below))) in
       subst (λ (t : SlotTable). HasOutput t source at) (sym F.table) here
 
   -- where a Frame is taken, the slots of the frame before it are past
   past_frame : (d bus : ℕ) → d < length E → is_taken_at o g p E d ≡ true → (source : ℕ) (at : SlotPlace) → HasOutput (table_at o g p E d) source at
-      → next_slot_on o g p E d at.bus ≡ (frame_at_place o g p E d).first + frame_of (table_at o g p E d)
+      → next_slot_on (history_of o g p E) d at.bus ≡ (frame_at_place o g p E d).first + frame_of (table_at o g p E d)
   past_frame d bus below taken source at here =
       let inside = (set_of (table_at o g p E d) source at (spaced d) here).on_a_bus in
       let (e, there) = event_at E d below in
@@ -102,29 +103,29 @@ module _ (o : Opening) (g : ℕ) (p : SlotTable) (E : List Event) (spaced : AreS
       sym (turns o g p E d at.bus at.bus below taken inside) ∙ (begins o g p E d at.bus below taken ∙ first)
 
   -- at one place there is one next slot of the source
-  one_next : (i k source most : ℕ) (first : HasOutputWithin (table_at o g p E i) source most) (last : HasOutputWithin (table_at o g p E k) source most) → k ≡ i → next_slot_on o g p E k last.at.bus ≡ next_slot_on o g p E i first.at.bus
+  one_next : (i k source most : ℕ) (first : HasOutputWithin (table_at o g p E i) source most) (last : HasOutputWithin (table_at o g p E k) source most) → k ≡ i → next_slot_on (history_of o g p E) k last.at.bus ≡ next_slot_on (history_of o g p E) i first.at.bus
   one_next i k source most first last is =
-      subst (λ (z : ℕ). (y : HasOutputWithin (table_at o g p E z) source most) → next_slot_on o g p E z y.at.bus ≡ next_slot_on o g p E i first.at.bus) (sym is)
-      (λ y. ap (λ (q : SlotPlace). next_slot_on o g p E i q.bus) (same_place (table_at o g p E i) source y.at first.at (spaced i) y.output first.output)) last
+      subst (λ (z : ℕ). (y : HasOutputWithin (table_at o g p E z) source most) → next_slot_on (history_of o g p E) z y.at.bus ≡ next_slot_on (history_of o g p E) i first.at.bus) (sym is)
+      (λ y. ap (λ (q : SlotPlace). next_slot_on (history_of o g p E) i q.bus) (same_place (table_at o g p E i) source y.at first.at (spaced i) y.output first.output)) last
 
   -- ---- cells
 
   -- in what is left of a frame
   in_frame_left : (a k source most : ℕ) (first : HasOutputWithin (table_at o g p E a) source most) (last : HasOutputWithin (table_at o g p E k) source most) → a ≤ k → k ≤ length E → NoneTaken o g p E a k
-      → next_slot_on o g p E a first.at.bus + period_of first.at ≤ next_slot_on o g p E k last.at.bus
-      → HasCellFrom o g p E a k source (next_slot_on o g p E a first.at.bus) (next_slot_on o g p E a first.at.bus + period_of first.at)
+      → next_slot_on (history_of o g p E) a first.at.bus + period_of first.at ≤ next_slot_on (history_of o g p E) k last.at.bus
+      → HasCellFrom o g p E a k source (next_slot_on (history_of o g p E) a first.at.bus) (next_slot_on (history_of o g p E) a first.at.bus + period_of first.at)
   in_frame_left a k source most first last after few none passes =
       let keeps = keeps_to a k source first.at few none first.output in
       let there = same_place (table_at o g p E k) source last.at first.at (spaced k) last.output (keeps k after (omega arith)) in
-      let same : next_slot_on o g p E k last.at.bus ≡ next_slot_on o g p E k first.at.bus = ap (λ (q : SlotPlace). next_slot_on o g p E k q.bus) there in
+      let same : next_slot_on (history_of o g p E) k last.at.bus ≡ next_slot_on (history_of o g p E) k first.at.bus = ap (λ (q : SlotPlace). next_slot_on (history_of o g p E) k q.bus) there in
       comes_round o g p E spaced a k source first.at after few (fewer o g p E a a k (k + 1) source first.at (omega arith) (omega arith) keeps) (omega (arith, passes, same))
 
   -- or in the next frame
-  comes_within : (a k source most n : ℕ) (first : HasOutputWithin (table_at o g p E a) source most) (last : HasOutputWithin (table_at o g p E k) source most) → a ≤ k → k ≤ length E → KeepsSource o g p E a k source most
-      → 2 * most ≤ n + 1 → next_slot_on o g p E a first.at.bus + n ≤ next_slot_on o g p E k last.at.bus
-      → HasCellFrom o g p E a k source (next_slot_on o g p E a first.at.bus) (next_slot_on o g p E a first.at.bus + n)
+  comes_within : (a k source most n : ℕ) (first : HasOutputWithin (table_at o g p E a) source most) (last : HasOutputWithin (table_at o g p E k) source most) → a ≤ k → k ≤ length E → KeepsSource (history_of o g p E) a k source most
+      → 2 * most ≤ n + 1 → next_slot_on (history_of o g p E) a first.at.bus + n ≤ next_slot_on (history_of o g p E) k last.at.bus
+      → HasCellFrom o g p E a k source (next_slot_on (history_of o g p E) a first.at.bus) (next_slot_on (history_of o g p E) a first.at.bus + n)
   comes_within a k source most n first last after few keeps wide passes =
-      let begin : ℕ = next_slot_on o g p E a first.at.bus in
+      let begin : ℕ = next_slot_on (history_of o g p E) a first.at.bus in
       let some : 0 < period_of first.at = pow_pos first.at.period in
       let short : period_of first.at ≤ most = first.short in
       elim (next_turn o g p E a k after) [
@@ -135,17 +136,17 @@ module _ (o : Opening) (g : ℕ) (p : SlotTable) (E : List Event) (spaced : AreS
             let from : a ≤ c = T.from in
             let before : c < k = T.before in
             let stays = keeps_to a c source first.at (omega (arith, before, few)) T.none first.output in
-            elim (cases_lt (next_slot_on o g p E c first.at.bus) (begin + period_of first.at)) [
+            elim (cases_lt (next_slot_on (history_of o g p E) c first.at.bus) (begin + period_of first.at)) [
               | inr long ↦ further a a c k source begin begin (begin + period_of first.at) (begin + n) (omega arith) (omega (arith, before)) (omega arith) (omega (arith, short, some, wide))
                   (comes_round o g p E spaced a c source first.at from (omega (arith, before, few)) (fewer o g p E a a c (c + 1) source first.at (omega arith) (omega arith) stays) long)
               | inl less ↦
                   let next = keeps (suc c) (omega (arith, from)) (omega (arith, before)) in
                   let inside = (set_of (table_at o g p E c) source first.at (spaced c) (stays c from (omega arith))).on_a_bus in
-                  let turn : next_slot_on o g p E (suc c) next.at.bus ≡ next_slot_on o g p E c first.at.bus = turns o g p E c first.at.bus next.at.bus (omega (arith, before, few)) T.taken inside in
-                  let begun : next_slot_on o g p E (suc c) next.at.bus ≡ (frame_at_place o g p E (suc c)).first = begins o g p E c next.at.bus (omega (arith, before, few)) T.taken in
-                  let later : begin ≤ next_slot_on o g p E c first.at.bus = later_on o g p E spaced a c source first.at from (omega (arith, before, few)) (fewer o g p E a a c (c + 1) source first.at (omega arith) (omega arith) stays) in
+                  let turn : next_slot_on (history_of o g p E) (suc c) next.at.bus ≡ next_slot_on (history_of o g p E) c first.at.bus = turns o g p E c first.at.bus next.at.bus (omega (arith, before, few)) T.taken inside in
+                  let begun : next_slot_on (history_of o g p E) (suc c) next.at.bus ≡ (frame_at_place o g p E (suc c)).first = begins o g p E c next.at.bus (omega (arith, before, few)) T.taken in
+                  let later : begin ≤ next_slot_on (history_of o g p E) c first.at.bus = later_on o g p E spaced a c source first.at from (omega (arith, before, few)) (fewer o g p E a a c (c + 1) source first.at (omega arith) (omega arith) stays) in
                   let small : period_of next.at ≤ most = next.short in
-                  let start : ℕ = next_slot_on o g p E (suc c) next.at.bus in
+                  let start : ℕ = next_slot_on (history_of o g p E) (suc c) next.at.bus in
                   elim (next_turn o g p E (suc c) k (omega (arith, before))) [
                     | inr none ↦ further a (suc c) k k source begin start (start + period_of next.at) (begin + n) (omega (arith, from)) (omega arith) (omega (arith, later, turn)) (omega (arith, turn, less, small, short, wide))
                         (in_frame_left (suc c) k source most next last (omega (arith, before)) few none (omega (arith, passes, turn, less, small, short, wide)))
@@ -176,10 +177,10 @@ module _ (o : Opening) (g : ℕ) (p : SlotTable) (E : List Event) (spaced : AreS
     pub from : i ≤ place
     pub before : place ≤ k
     pub output : HasOutputWithin (table_at o g p E place) source most
-    pub next : next_slot_on o g p E place output.at.bus ≡ slot
+    pub next : next_slot_on (history_of o g p E) place output.at.bus ≡ slot
 
   step : (j source most : ℕ) (now : HasOutputWithin (table_at o g p E j) source most) (after : HasOutputWithin (table_at o g p E (suc j)) source most) → j < length E
-      → next_slot_on o g p E (suc j) after.at.bus ≤ next_slot_on o g p E j now.at.bus + 1
+      → next_slot_on (history_of o g p E) (suc j) after.at.bus ≤ next_slot_on (history_of o g p E) j now.at.bus + 1
   step j source most now after below =
       let inside = (set_of (table_at o g p E j) source now.at (spaced j) now.output).on_a_bus in
       elim (cases_Bool (is_taken_at o g p E j)) [
@@ -187,19 +188,19 @@ module _ (o : Opening) (g : ℕ) (p : SlotTable) (E : List Event) (spaced : AreS
         | inr left ↦
             let F = frame_step o g p E j below left in
             let here : HasOutput (table_at o g p E j) source after.at = subst (λ (t : SlotTable). HasOutput t source after.at) F.table after.output in
-            let same : next_slot_on o g p E (suc j) after.at.bus ≡ next_slot_on o g p E (suc j) now.at.bus = ap (λ (q : SlotPlace). next_slot_on o g p E (suc j) q.bus) (same_place (table_at o g p E j) source after.at now.at (spaced j) here now.output) in
+            let same : next_slot_on (history_of o g p E) (suc j) after.at.bus ≡ next_slot_on (history_of o g p E) (suc j) now.at.bus = ap (λ (q : SlotPlace). next_slot_on (history_of o g p E) (suc j) q.bus) (same_place (table_at o g p E j) source after.at now.at (spaced j) here now.output) in
             elim (goes o g p E j now.at.bus below inside) [
               | inl still ↦ omega (arith, same, still)
-              | inr T ↦ let next : next_slot_on o g p E (suc j) now.at.bus ≡ next_slot_on o g p E j now.at.bus + 1 = T.next in omega (arith, same, next)
+              | inr T ↦ let next : next_slot_on (history_of o g p E) (suc j) now.at.bus ≡ next_slot_on (history_of o g p E) j now.at.bus + 1 = T.next in omega (arith, same, next)
             ]
       ]
 
   -- up to place k
   abbrev Reaches : ℕ → ℕ → ℕ → ℕ → ℕ → Type 0
   Reaches i source most slot k =
-      (last : HasOutputWithin (table_at o g p E k) source most) → k ≤ length E → KeepsSource o g p E i k source most → slot ≤ next_slot_on o g p E k last.at.bus → IsNextSomewhere i k source most slot
+      (last : HasOutputWithin (table_at o g p E k) source most) → k ≤ length E → KeepsSource (history_of o g p E) i k source most → slot ≤ next_slot_on (history_of o g p E) k last.at.bus → IsNextSomewhere i k source most slot
 
-  reach_by : (i source most slot : ℕ) (first : HasOutputWithin (table_at o g p E i) source most) → next_slot_on o g p E i first.at.bus ≤ slot → (d : ℕ) → Reaches i source most slot (d + i)
+  reach_by : (i source most slot : ℕ) (first : HasOutputWithin (table_at o g p E i) source most) → next_slot_on (history_of o g p E) i first.at.bus ≤ slot → (d : ℕ) → Reaches i source most slot (d + i)
   reach_by i source most slot first low zero =
       let same : zero + i ≡ i = omega arith in
       subst (Reaches i source most slot) (sym same) (λ last few keeps high. record { place = i; from = omega arith; before = omega arith; output = first; next = omega (arith, low, high, one_next i i source most first last refl) })
@@ -207,7 +208,7 @@ module _ (o : Opening) (g : ℕ) (p : SlotTable) (E : List Event) (spaced : AreS
       let on : suc d + i ≡ suc (d + i) = omega arith in
       subst (Reaches i source most slot) (sym on) (λ last few keeps high.
       let now = keeps (d + i) (omega arith) (omega arith) in
-      elim (cases_lt (next_slot_on o g p E (d + i) now.at.bus) slot) [
+      elim (cases_lt (next_slot_on (history_of o g p E) (d + i) now.at.bus) slot) [
         | inr there ↦
             let N = reach_by i source most slot first low d now (omega (arith, few)) (λ j from below. keeps j from (omega (arith, below))) there in
             let before : N.place ≤ d + i = N.before in
@@ -215,38 +216,38 @@ module _ (o : Opening) (g : ℕ) (p : SlotTable) (E : List Event) (spaced : AreS
         | inl more ↦ record { place = suc (d + i); from = omega arith; before = omega arith; output = last; next = omega (arith, high, more, step (d + i) source most now last (omega (arith, few))) }
       ])
 
-  reach : (i k source most slot : ℕ) (first : HasOutputWithin (table_at o g p E i) source most) (last : HasOutputWithin (table_at o g p E k) source most) → i ≤ k → k ≤ length E → KeepsSource o g p E i k source most
-      → next_slot_on o g p E i first.at.bus ≤ slot → slot ≤ next_slot_on o g p E k last.at.bus → IsNextSomewhere i k source most slot
+  reach : (i k source most slot : ℕ) (first : HasOutputWithin (table_at o g p E i) source most) (last : HasOutputWithin (table_at o g p E k) source most) → i ≤ k → k ≤ length E → KeepsSource (history_of o g p E) i k source most
+      → next_slot_on (history_of o g p E) i first.at.bus ≤ slot → slot ≤ next_slot_on (history_of o g p E) k last.at.bus → IsNextSomewhere i k source most slot
   reach i k source most slot first last after few keeps low high =
       let rest : (k - i) + i ≡ k = omega (arith, after) in
       subst (Reaches i source most slot) rest (reach_by i source most slot first low (k - i)) last few keeps high
 
   -- from there on a cell comes
-  pub comes_often : (i k source most n start slot : ℕ) → (P : ChangesOften o g p E i k source most n) → start ≡ next_slot_on o g p E i P.first.at.bus → start ≤ slot → slot + 2 * most ≤ start + n + 1
+  pub comes_often : (i k source most n start slot : ℕ) → (P : ChangesOften (history_of o g p E) i k source most n) → start ≡ next_slot_on (history_of o g p E) i P.first.at.bus → start ≤ slot → slot + 2 * most ≤ start + n + 1
       → HasCellFrom o g p E i k source slot (start + n)
   comes_often i k source most n start slot P is low wide =
       let after : i ≤ k = P.after in
       let few : k ≤ length E = P.few in
-      let passes : next_slot_on o g p E i P.first.at.bus + n ≤ next_slot_on o g p E k P.last.at.bus = P.passes in
+      let passes : next_slot_on (history_of o g p E) i P.first.at.bus + n ≤ next_slot_on (history_of o g p E) k P.last.at.bus = P.passes in
       let some : 0 < period_of P.first.at = pow_pos P.first.at.period in
       let short : period_of P.first.at ≤ most = P.first.short in
       let M = reach i k source most slot P.first P.last after few P.keeps (omega (arith, is, low)) (omega (arith, is, wide, passes, some, short)) in
       let from : i ≤ M.place = M.from in
-      let next : next_slot_on o g p E M.place M.output.at.bus ≡ slot = M.next in
+      let next : next_slot_on (history_of o g p E) M.place M.output.at.bus ≡ slot = M.next in
       let F = comes_within M.place k source most (2 * most - 1) M.output P.last M.before few (λ j low below. P.keeps j (omega (arith, low, from)) below) (omega arith) (omega (arith, next, is, wide, passes, some, short)) in
-      let least : next_slot_on o g p E M.place M.output.at.bus ≤ F.cell.slot = F.low in
+      let least : next_slot_on (history_of o g p E) M.place M.output.at.bus ≤ F.cell.slot = F.low in
       record {
-        cell = sooner o g p E i M.place k k source (next_slot_on o g p E M.place M.output.at.bus + (2 * most - 1)) (start + n) from (omega arith) (omega (arith, next, wide, some, short)) F.cell;
+        cell = sooner o g p E i M.place k k source (next_slot_on (history_of o g p E) M.place M.output.at.bus + (2 * most - 1)) (start + n) from (omega arith) (omega (arith, next, wide, some, short)) F.cell;
         low = omega (arith, least, next);
       }
 
 -- ---- words
 
-module _ (law : AreSpaced) (C : ℕ) (o : Opening) (g : ℕ) (p : SlotTable) (E : List Event) (H : IsPlannedHistory o g p E) (spaced : AreSpacedTables o g p E) where
-  pub out_often : (i k source most q n : ℕ) → IsAcceptedBefore C o E i k source → (P : ChangesOften o g p E i k source most n) → EachOutput o g p E i k source (MaySend q) → 2 * most ≤ n + 1 → q + 2 * most ≤ n + 2
-      → GoesOut C o g p E i k source (next_slot_on o g p E i P.first.at.bus + n)
+module _ (law : AreSpaced) (C : ℕ) (o : Opening) (g : ℕ) (p : SlotTable) (E : List Event) (H : IsPlannedHistory (history_of o g p E)) (spaced : AreSpacedTables o g p E) where
+  pub out_often : (i k source most q n : ℕ) → IsAcceptedBefore C o E i k source → (P : ChangesOften (history_of o g p E) i k source most n) → EachOutput (history_of o g p E) i k source (MaySend q) → 2 * most ≤ n + 1 → q + 2 * most ≤ n + 2
+      → GoesOut C (history_of o g p E) i k source (next_slot_on (history_of o g p E) i P.first.at.bus + n)
   out_often i k source most q n A P may short wide =
-      let first : ℕ = next_slot_on o g p E i P.first.at.bus in
+      let first : ℕ = next_slot_on (history_of o g p E) i P.first.at.bus in
       let after : i ≤ k = P.after in
       let few : k ≤ length E = P.few in
       let F = comes_often o g p E spaced i k source most n first (first + (q - 1)) P refl (omega arith) (omega (arith, short, wide)) in
@@ -255,15 +256,15 @@ module _ (law : AreSpaced) (C : ℕ) (o : Opening) (g : ℕ) (p : SlotTable) (E 
       out_by law C o g p E H spaced i k source (first + n) q few A.word F.cell fits
       (far_on law C o g p E H spaced i source q P.first.at (omega (arith, after, few)) P.first.output F.cell.place F.cell.output F.cell.slot F.cell.same fits (omega (arith, low)))
 
-  pub latency_often : (i k source most q n bus slot : ℕ) (time : ℕ → ℕ) (slot_time : ℕ) → IsAcceptedBefore C o E i k source → (P : ChangesOften o g p E i k source most n) → EachOutput o g p E i k source (MaySend q)
-      → 2 * most ≤ n + 1 → q + 2 * most ≤ n + 2 → AnswersOn o g p E 0 i bus slot → next_slot_on o g p E i P.first.at.bus ≤ slot + 1 → KeepsTime o g p E time slot_time
-      → GoesOutWithin C o g p E i k source (next_slot_on o g p E i P.first.at.bus + n) time slot_time ((n + 1) * slot_time)
-  latency_often i k source most q n bus slot time slot_time A P may short wide before near T =
+  pub latency_often : (i k source most q n bus slot : ℕ) (clock : Clock) → IsAcceptedBefore C o E i k source → (P : ChangesOften (history_of o g p E) i k source most n) → EachOutput (history_of o g p E) i k source (MaySend q)
+      → 2 * most ≤ n + 1 → q + 2 * most ≤ n + 2 → AnswersOn (history_of o g p E) 0 i bus slot → next_slot_on (history_of o g p E) i P.first.at.bus ≤ slot + 1 → KeepsTime (history_of o g p E) clock
+      → GoesOutWithin C (history_of o g p E) (wait_of source i k (next_slot_on (history_of o g p E) i P.first.at.bus + n)) clock ((n + 1) * clock.slot_time)
+  latency_often i k source most q n bus slot clock A P may short wide before near T =
       let G = out_often i k source most q n A P may short wide in
-      record { out = G; soon = ends_in_time law C o g p E H spaced 0 i bus slot (next_slot_on o g p E i P.first.at.bus) n G.cell.slot time slot_time before near G.cell.high T }
+      record { out = G; soon = ends_in_time law C o g p E H spaced 0 i bus slot (next_slot_on (history_of o g p E) i P.first.at.bus) n G.cell.slot clock before near G.cell.high T }
 
-  pub sends_often : (j k source most : ℕ) (x : Placed) (slot w q span : ℕ) → ChangesOften o g p E j k source most span → EachOutput o g p E j k source (IsUnheld q) → IsAnswered C o g p E j x slot (Some w) → x.source ≡ source
-      → 2 * most ≤ span → q + 2 * most ≤ span + 1 → SendsOne C o g p E (j + 1) k source (slot + span)
+  pub sends_often : (j k source most : ℕ) (x : Placed) (slot w q span : ℕ) → ChangesOften (history_of o g p E) j k source most span → EachOutput (history_of o g p E) j k source (IsUnheld q) → IsAnswered C (history_of o g p E) j x slot (Some w) → x.source ≡ source
+      → 2 * most ≤ span → q + 2 * most ≤ span + 1 → SendsOne C (history_of o g p E) (j + 1) k source (slot + span)
   sends_often j k source most x slot w q span P free A same short wide =
       let few : k ≤ length E = P.few in
       let here = cell_here o g p E spaced j source P.first.at x slot P.first.output A.cell same in
@@ -276,6 +277,6 @@ module _ (law : AreSpaced) (C : ℕ) (o : Opening) (g : ℕ) (p : SlotTable) (E 
             let there = cell_here o g p E spaced j source P.first.at F.cell.output F.cell.slot P.first.output (subst (λ (z : ℕ). IsOutputCell o g p E z F.cell.output F.cell.slot) (sym is) F.cell.cell) F.cell.same in
             absurd (omega (arith, low, here.next, there.next))
       ] in
-      let R : HasCell o g p E (j + 1) k source (slot + span) = record { place = F.cell.place; from = omega (arith, past); before = F.cell.before; output = F.cell.output; same = F.cell.same; slot = F.cell.slot; cell = F.cell.cell; high = F.cell.high } in
+      let R : HasCell (history_of o g p E) (j + 1) k source (slot + span) = record { place = F.cell.place; from = omega (arith, past); before = F.cell.before; output = F.cell.output; same = F.cell.same; slot = F.cell.slot; cell = F.cell.cell; high = F.cell.high } in
       let fits = fits_cell o g p E j k source F.cell.place (IsUnheld q) F.cell.output F.cell.slot free from F.cell.before F.cell.cell F.cell.same in
       sent_by law C o g p E H spaced j k source (slot + span) q slot w x few A same R fits (far_from law C o g p E H spaced j F.cell.place q slot F.cell.slot w x F.cell.output A fits (omega (arith, low)))

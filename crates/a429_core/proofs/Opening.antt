@@ -5,17 +5,18 @@ use Rattle.std.specs.Option.{option_map_or}
 use Rattle.std.proofs.lemmas.List.{map-append, length-map}
 use Rattle.std.proofs.lemmas.Option.{same_Some, none-some}
 use Rattle.std.proofs.lemmas.Bool.{ltb-true, and_parts}
-use Rattle.a429_word.proofs.Lists.{and_false, take_next}
+use Rattle.a429_word.proofs.Lists.{and_false, take_next, none_cut}
 use Rattle.a429_equipment.specs.Arrivals.{AreApart}
 use Rattle.a429_slots.specs.Tables.{SlotTable, groups_of, frame_of, cells_of}
 use Rattle.a429_slots.specs.Proposed.{Proposed}
 use Rattle.a429_slots.specs.History.{Opening, accepted_in, current, last_of, numbers_left}
 use Rattle.a429_equipment.specs.declared.rows.SourceRow.{SourceRow}
 use Rattle.a429_slots.specs.Recalling.{Recent, never}
-use Rattle.a429_core.proofs.Answering.{AreRecalled, AllRemember}
+use Rattle.a429_core.proofs.Answering.{AllRemember}
 use Rattle.a429_core.proofs.Places.{map_same}
 use Rattle.a429_core.specs.declared.sources.Kept.{Kept}
 use Rattle.a429_slots.specs.FrameStates.{FrameState, all_fit, begun, frame_state_of}
+use Rattle.a429_slots.proofs.Remembering.{AreRecalled}
 use Rattle.a429_core.specs.MachineStates.{MachineState, StandsForHistory, IsWhole, kept_of, recent_at}
 
 -- ---- frames that fit
@@ -50,10 +51,10 @@ get_map f [] i = refl
 get_map f (x ∷ xs) zero = refl
 get_map f (x ∷ xs) (suc i) = get_map f xs i
 
-get_replicate : {A B : Type 0} (k : B) (xs : List A) (i : ℕ) → slice_get (replicate (length xs) k) i ≡ option_map (λ _. k) (slice_get xs i)
-get_replicate k [] i = refl
-get_replicate k (x ∷ xs) zero = refl
-get_replicate k (x ∷ xs) (suc i) = get_replicate k xs i
+get_replicate-length : {A B : Type 0} (k : B) (xs : List A) (i : ℕ) → slice_get (replicate (length xs) k) i ≡ option_map (λ _. k) (slice_get xs i)
+get_replicate-length k [] i = refl
+get_replicate-length k (x ∷ xs) zero = refl
+get_replicate-length k (x ∷ xs) (suc i) = get_replicate-length k xs i
 
 abbrev pub unheard : Kept
 unheard = record { count = 0; last = None }
@@ -67,18 +68,14 @@ nothing_sent : (C first : ℕ) (q : Proposed) (rs : List (List Recent)) → AreR
 nothing_sent C first q rs law are g p there i s known = record {
   recent = never;
   there = ap (λ (zs : List (List Recent)). recent_at zs g i) are
-      ∙ (ap (λ (x : Option (List Recent)). option_and_then (λ zs. slice_get zs i) x) (get_replicate (replicate (length q.station.sources) never) (groups_of q.plan) g
+      ∙ (ap (λ (x : Option (List Recent)). option_and_then (λ zs. slice_get zs i) x) (get_replicate-length (replicate (length q.station.sources) never) (groups_of q.plan) g
       ∙ ap (option_map (λ (_ : SlotTable). replicate (length q.station.sources) never)) there)
-      ∙ (get_replicate never q.station.sources i ∙ ap (option_map (λ (_ : SourceRow). never)) known));
+      ∙ (get_replicate-length never q.station.sources i ∙ ap (option_map (λ (_ : SourceRow). never)) known));
   recalls = law.none i;
   counted = omega arith;
   passed = omega arith;
   in_frame = omega arith;
 }
-
-none_cut : {X : Type 0} (n : ℕ) → ◌≡◌ {A = List X} (take n []) []
-none_cut zero = refl
-none_cut (suc n) = refl
 
 pub stands_at_first : (C first : ℕ) (q : Proposed) (ks : List Kept) (ss : List FrameState) (rs : List (List Recent)) → AreRecalled → AreApart q.station.sources → IsWhole q → q.plan.number ≡ 0
     → ks ≡ replicate (length q.station.sources) unheard → ss ≡ map (begun first) (groups_of q.plan)
@@ -90,7 +87,7 @@ stands_at_first C first q ks ss rs law apart whole number kept sent unsent =
       apart = apart;
       whole = whole;
       station = refl;
-      sources = λ i. ap (λ (zs : List Kept). slice_get zs i) kept ∙ (get_replicate unheard q.station.sources i
+      sources = λ i. ap (λ (zs : List Kept). slice_get zs i) kept ∙ (get_replicate-length unheard q.station.sources i
           ∙ map_same (λ _. unheard) (λ s. kept_of (accepted_in C o s [])) (slice_get q.station.sources i) (λ s h. sym (ap kept_of (none_cut (2 ^ C - 1)))));
       groups = λ g. ap (λ (zs : List FrameState). slice_get zs g) sent ∙ (get_map (begun first) (groups_of q.plan) g
           ∙ map_same (begun first) (λ p. frame_state_of g (current o g p [])) (slice_get (groups_of q.plan) g) (λ p h. none_sent first p));

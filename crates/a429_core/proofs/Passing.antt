@@ -1,17 +1,19 @@
 -- How the slots of a group pass on a bus.
-use Rattle.std.proofs.Common.{◌≡◌, ℕ, zero, suc, ◌+◌, ◌*◌, ◌/◌, ◌%◌, ◌<◌, ◌≤◌, ◌⊎◌, true, true≢false, List, [], ◌∷◌, ◌++◌, length, take, ◌∙◌, sym, ap, subst, refl, inl, inr, arith, ◌-◌}
+use Rattle.std.proofs.Common.{◌≡◌, ℕ, zero, suc, ◌+◌, ◌*◌, ◌/◌, ◌%◌, ◌<◌, ◌≤◌, ◌⊎◌, List, [], ◌∷◌, ◌++◌, length, take, ◌∙◌, sym, ap, subst, refl, inl, inr, arith, ◌-◌}
 use Rattle.std.specs.Prelude.{Some, slice_get, if◌then◌else◌, nat_lt}
 use Rattle.std.proofs.Math.Nat.{mod-add-div', mod-lt, zero-div, zero-mod, mul_comm}
 use Rattle.std.proofs.lemmas.Nat.{div-mul-add, mod-mul-add}
-use Rattle.std.proofs.lemmas.Bool.{cases_Bool, cases_eq, cases_lt, lt-ltb, le-ltb, eqb-true}
+use Rattle.std.proofs.lemmas.Bool.{cases_Bool, cases_eq, cases_lt, lt-ltb, le-ltb}
 use Rattle.a429_slots.specs.Tables.{SlotTable, buses_of, frame_of, cells_of}
-use Rattle.a429_slots.specs.Events.{Event, Arrive, Cell, Frame, Publish}
+use Rattle.a429_slots.specs.Events.{Event, Cell, Frame}
 use Rattle.a429_slots.specs.History.{Opening, current, cell_due, cells_since, is_cell, is_frame, newest_table}
 use Rattle.a429_slots.specs.FrameStates.{FrameState, after_cell, fits_next, next_cell}
 use Rattle.a429_slots.specs.GoingOn.{after_frame, stands_after}
 use Rattle.a429_slots.proofs.Answered.{cell_event, due_is, event_at}
 use Rattle.a429_slots.proofs.GoingOn.{cells_count, frames_turn, others_pass, next_cell_is}
 use Rattle.a429_slots.proofs.Histories.{take_following}
+use Rattle.a429_slots.proofs.Taking.{frame_event}
+use Rattle.a429_core.specs.Histories.{history_of}
 use Rattle.a429_core.specs.Latency.{AnswersOn, KeepsBus, next_on, next_slot_on}
 
 -- ---- numbers
@@ -160,29 +162,23 @@ frame_step s now bus few inside =
       ]
     ]
 
-frame_event : (g : ℕ) (e : Event) → is_frame g e ≡ true → e ≡ Frame g
-frame_event g (Arrive r raw) h = absurd (true≢false (sym h))
-frame_event g (Frame k) h = ap Frame (eqb-true k g h)
-frame_event g (Cell k) h = absurd (true≢false (sym h))
-frame_event g (Publish q) h = absurd (true≢false (sym h))
-
 -- the group answers its next cell on the bus
 pub record IsTick (o : Opening) (g : ℕ) (p : SlotTable) (E : List Event) (k bus : ℕ) : Type 0 where
   pub asked : slice_get E k ≡ Some (Cell g)
   pub in_frame : ℕ
   pub due : cell_due g (current o g p (take k E)) ≡ Some (bus, in_frame)
-  pub now : next_slot_on o g p E k bus ≡ (current o g p (take k E)).first + in_frame
-  pub next : next_slot_on o g p E (suc k) bus ≡ next_slot_on o g p E k bus + 1
+  pub now : next_slot_on (history_of o g p E) k bus ≡ (current o g p (take k E)).first + in_frame
+  pub next : next_slot_on (history_of o g p E) (suc k) bus ≡ next_slot_on (history_of o g p E) k bus + 1
 
 abbrev pub Goes : Opening → ℕ → SlotTable → List Event → ℕ → ℕ → Type 0
-Goes o g p E k bus = (next_slot_on o g p E (suc k) bus ≡ next_slot_on o g p E k bus) ⊎ IsTick o g p E k bus
+Goes o g p E k bus = (next_slot_on (history_of o g p E) (suc k) bus ≡ next_slot_on (history_of o g p E) k bus) ⊎ IsTick o g p E k bus
 
 pub goes : (o : Opening) (g : ℕ) (p : SlotTable) (E : List Event) (k bus : ℕ) → k < length E → bus < buses_of (current o g p (take k E)).table → Goes o g p E k bus
 goes o g p E k bus below inside =
     let (e, there) = event_at E k below in
     let F = take k E in
     let s = stands_after o g p F in
-    let on : next_slot_on o g p E (suc k) bus ≡ next_on (stands_after o g p (F ++ e ∷ [])) bus = ap (λ (G : List Event). next_on (stands_after o g p G) bus) (take_following E k e there) in
+    let on : next_slot_on (history_of o g p E) (suc k) bus ≡ next_on (stands_after o g p (F ++ e ∷ [])) bus = ap (λ (G : List Event). next_on (stands_after o g p G) bus) (take_following E k e there) in
     elim (cases_Bool (is_cell g e)) [
       | inl cell ↦
           let is : e ≡ Cell g = cell_event g e cell in
@@ -226,7 +222,7 @@ due_on o g p E k bus in_frame due =
 
 -- its slot is the next one on the bus
 pub next_is : (o : Opening) (g : ℕ) (p : SlotTable) (E : List Event) (k bus in_frame : ℕ) → cell_due g (current o g p (take k E)) ≡ Some (bus, in_frame)
-    → next_slot_on o g p E k bus ≡ (current o g p (take k E)).first + in_frame
+    → next_slot_on (history_of o g p E) k bus ≡ (current o g p (take k E)).first + in_frame
 next_is o g p E k bus in_frame due =
     let f = current o g p (take k E) in
     let D = due_on o g p E k bus in_frame due in
@@ -237,7 +233,7 @@ next_is o g p E k bus in_frame due =
 
 -- and when it is answered, the slot after it is
 pub next_after : (o : Opening) (g : ℕ) (p : SlotTable) (E : List Event) (k bus in_frame : ℕ) → slice_get E k ≡ Some (Cell g) → bus < buses_of (current o g p (take k E)).table
-    → cell_due g (current o g p (take k E)) ≡ Some (bus, in_frame) → next_slot_on o g p E (suc k) bus ≡ (current o g p (take k E)).first + in_frame + 1
+    → cell_due g (current o g p (take k E)) ≡ Some (bus, in_frame) → next_slot_on (history_of o g p E) (suc k) bus ≡ (current o g p (take k E)).first + in_frame + 1
 next_after o g p E k bus in_frame asked inside due =
     let F = take k E in
     let f = current o g p F in
@@ -257,28 +253,28 @@ next_after o g p E k bus in_frame asked inside due =
 
 -- slots do not go back, and each that passes was answered
 pub record Passed (o : Opening) (g : ℕ) (p : SlotTable) (E : List Event) (i k bus : ℕ) : Type 0 where
-  pub later : next_slot_on o g p E i bus ≤ next_slot_on o g p E k bus
-  pub all : (slot : ℕ) → next_slot_on o g p E i bus ≤ slot → slot < next_slot_on o g p E k bus → AnswersOn o g p E i k bus slot
+  pub later : next_slot_on (history_of o g p E) i bus ≤ next_slot_on (history_of o g p E) k bus
+  pub all : (slot : ℕ) → next_slot_on (history_of o g p E) i bus ≤ slot → slot < next_slot_on (history_of o g p E) k bus → AnswersOn (history_of o g p E) i k bus slot
 
-sooner : (o : Opening) (g : ℕ) (p : SlotTable) (E : List Event) (i k bus slot : ℕ) → AnswersOn o g p E i k bus slot → AnswersOn o g p E i (suc k) bus slot
+sooner : (o : Opening) (g : ℕ) (p : SlotTable) (E : List Event) (i k bus slot : ℕ) → AnswersOn (history_of o g p E) i k bus slot → AnswersOn (history_of o g p E) i (suc k) bus slot
 sooner o g p E i k bus slot A =
     let early : A.place < k = A.before in
     record { place = A.place; from = A.from; before = omega (arith, early); asked = A.asked; in_frame = A.in_frame; due = A.due; counted = A.counted }
 
 passed_next : (o : Opening) (g : ℕ) (p : SlotTable) (E : List Event) (i k bus : ℕ) → i ≤ k → Passed o g p E i k bus → Goes o g p E k bus → Passed o g p E i (suc k) bus
 passed_next o g p E i k bus after P (inl same) =
-    let later : next_slot_on o g p E i bus ≤ next_slot_on o g p E k bus = P.later in
+    let later : next_slot_on (history_of o g p E) i bus ≤ next_slot_on (history_of o g p E) k bus = P.later in
     record {
       later = omega (arith, later, same);
       all = λ slot low high. sooner o g p E i k bus slot (P.all slot low (omega (arith, high, same)));
     }
 passed_next o g p E i k bus after P (inr T) =
-    let later : next_slot_on o g p E i bus ≤ next_slot_on o g p E k bus = P.later in
-    let next : next_slot_on o g p E (suc k) bus ≡ next_slot_on o g p E k bus + 1 = T.next in
-    let now : next_slot_on o g p E k bus ≡ (current o g p (take k E)).first + T.in_frame = T.now in
+    let later : next_slot_on (history_of o g p E) i bus ≤ next_slot_on (history_of o g p E) k bus = P.later in
+    let next : next_slot_on (history_of o g p E) (suc k) bus ≡ next_slot_on (history_of o g p E) k bus + 1 = T.next in
+    let now : next_slot_on (history_of o g p E) k bus ≡ (current o g p (take k E)).first + T.in_frame = T.now in
     record {
       later = omega (arith, later, next);
-      all = λ slot low high. elim (cases_lt slot (next_slot_on o g p E k bus)) [
+      all = λ slot low high. elim (cases_lt slot (next_slot_on (history_of o g p E) k bus)) [
         | inl old ↦ sooner o g p E i k bus slot (P.all slot low old)
         | inr new ↦ record {
           place = k;
@@ -292,7 +288,7 @@ passed_next o g p E i k bus after P (inr T) =
       ];
     }
 
-passed_by : (o : Opening) (g : ℕ) (p : SlotTable) (E : List Event) (i d bus : ℕ) → d + i ≤ length E → KeepsBus o g p E i (d + i) bus → Passed o g p E i (d + i) bus
+passed_by : (o : Opening) (g : ℕ) (p : SlotTable) (E : List Event) (i d bus : ℕ) → d + i ≤ length E → KeepsBus (history_of o g p E) i (d + i) bus → Passed o g p E i (d + i) bus
 passed_by o g p E i zero bus few keeps =
     let same : zero + i ≡ i = omega arith in
     subst (λ (k : ℕ). Passed o g p E i k bus) (sym same) (record { later = omega arith; all = λ slot low high. absurd (omega (arith, low, high)) })
@@ -303,7 +299,7 @@ passed_by o g p E i (suc d) bus few keeps =
     subst (λ (k : ℕ). Passed o g p E i k bus) (sym on)
     (passed_next o g p E i (d + i) bus (omega arith) before (goes o g p E (d + i) bus (omega (arith, few)) inside))
 
-pub passed : (o : Opening) (g : ℕ) (p : SlotTable) (E : List Event) (i k bus : ℕ) → i ≤ k → k ≤ length E → KeepsBus o g p E i k bus → Passed o g p E i k bus
+pub passed : (o : Opening) (g : ℕ) (p : SlotTable) (E : List Event) (i k bus : ℕ) → i ≤ k → k ≤ length E → KeepsBus (history_of o g p E) i k bus → Passed o g p E i k bus
 passed o g p E i k bus after few keeps =
     let rest : (k - i) + i ≡ k = omega (arith, after) in
     subst (λ (n : ℕ). Passed o g p E i n bus) rest

@@ -16,7 +16,8 @@ use Rattle.a429_slots.specs.Spacing.{HasSpacedTable, IsOutputCell, IsSpacedTable
 use Rattle.a429_slots.proofs.Answered.{due_is, event_at}
 use Rattle.a429_slots.proofs.Histories.{take_following, same_frame, new_frame, goes_on}
 use Rattle.a429_slots.proofs.Following.{IsLater, later_at, behind_cell, one_more, frame_at_place}
-use Rattle.a429_slots.proofs.SamePlan.{is_at, rests_apart}
+use Rattle.a429_slots.proofs.SamePlan.{is_at, rests_apart, number_later}
+use Rattle.a429_core.specs.Histories.{history_of}
 use Rattle.a429_core.specs.Latency.{HasCell, HasNextCell, HasOutput, KeepsOutput, Passes, next_slot_on, period_of}
 use Rattle.a429_core.proofs.Passing.{Passed, next_after, next_is, passed}
 
@@ -142,7 +143,7 @@ same_place t source a b S A B =
 
 -- ---- outputs that stay
 
-pub fewer : (o : Opening) (g : ℕ) (p : SlotTable) (E : List Event) (i j l k source : ℕ) (at : SlotPlace) → i ≤ j → l ≤ k → KeepsOutput o g p E i k source at → KeepsOutput o g p E j l source at
+pub fewer : (o : Opening) (g : ℕ) (p : SlotTable) (E : List Event) (i j l k source : ℕ) (at : SlotPlace) → i ≤ j → l ≤ k → KeepsOutput (history_of o g p E) i k source at → KeepsOutput (history_of o g p E) j l source at
 fewer o g p E i j l k source at low high keeps a from below = keeps a (omega (arith, low, from)) (omega (arith, high, below))
 
 -- cells are answered in the order of their slots
@@ -176,11 +177,11 @@ in_order o g p E a b y x v s there after A B =
 
 -- a cell of the source comes, in a slot that is not before `least`
 pub record HasCellFrom (o : Opening) (g : ℕ) (p : SlotTable) (E : List Event) (i k source least end : ℕ) : Type 0 where
-  pub cell : HasCell o g p E i k source end
+  pub cell : HasCell (history_of o g p E) i k source end
   pub low : least ≤ cell.slot
 
 -- a cell that comes so soon comes sooner than later
-abbrev pub sooner : (o : Opening) (g : ℕ) (p : SlotTable) (E : List Event) (i j l k source end last : ℕ) → i ≤ j → l ≤ k → end ≤ last → HasCell o g p E j l source end → HasCell o g p E i k source last
+abbrev pub sooner : (o : Opening) (g : ℕ) (p : SlotTable) (E : List Event) (i j l k source end last : ℕ) → i ≤ j → l ≤ k → end ≤ last → HasCell (history_of o g p E) j l source end → HasCell (history_of o g p E) i k source last
 sooner o g p E i j l k source end last low late more R =
     let from : j ≤ R.place = R.from in
     let before : R.place < l = R.before in
@@ -189,14 +190,14 @@ sooner o g p E i j l k source end last low late more R =
 
 module _ (o : Opening) (g : ℕ) (p : SlotTable) (E : List Event) (spaced : AreSpacedTables o g p E) where
   -- the slots that pass on the bus of an output that stays
-  pub passes_on : (i k source : ℕ) (at : SlotPlace) → i ≤ k → k ≤ length E → KeepsOutput o g p E i k source at → Passed o g p E i k at.bus
+  pub passes_on : (i k source : ℕ) (at : SlotPlace) → i ≤ k → k ≤ length E → KeepsOutput (history_of o g p E) i k source at → Passed o g p E i k at.bus
   passes_on i k source at after few keeps = passed o g p E i k at.bus after few (λ j from below. (set_of (frame_at_place o g p E j).table source at (spaced j) (keeps j from below)).on_a_bus)
 
   -- they do not go back
-  pub later_on : (i k source : ℕ) (at : SlotPlace) → i ≤ k → k ≤ length E → KeepsOutput o g p E i k source at → next_slot_on o g p E i at.bus ≤ next_slot_on o g p E k at.bus
+  pub later_on : (i k source : ℕ) (at : SlotPlace) → i ≤ k → k ≤ length E → KeepsOutput (history_of o g p E) i k source at → next_slot_on (history_of o g p E) i at.bus ≤ next_slot_on (history_of o g p E) k at.bus
   later_on i k source at after few keeps = (passes_on i k source at after few keeps).later
 
-  aligned : (i k source : ℕ) (at : SlotPlace) → i ≤ k → k ≤ length E → KeepsOutput o g p E i k source at → IsAligned (first_at o g p E i) (period_of at) (first_at o g p E k)
+  aligned : (i k source : ℕ) (at : SlotPlace) → i ≤ k → k ≤ length E → KeepsOutput (history_of o g p E) i k source at → IsAligned (first_at o g p E i) (period_of at) (first_at o g p E k)
   aligned i k source at after few keeps =
       let rest : (k - i) + i ≡ k = omega (arith, after) in
       let A = aligned_by o g p E i (k - i) at.period (omega (arith, few, rest)) (λ j from below. (set_of (frame_at_place o g p E j).table source at (spaced j) (keeps j from (omega (arith, below, rest)))).fits) in
@@ -207,8 +208,8 @@ module _ (o : Opening) (g : ℕ) (p : SlotTable) (E : List Event) (spaced : AreS
     pub cell : IsCellOf (frame_at_place o g p E k).table at.bus (s - first_at o g p E k) at x
     pub begun : first_at o g p E k ≤ s
     pub due : cell_due g (frame_at_place o g p E k) ≡ Some (at.bus, s - first_at o g p E k)
-    pub next : next_slot_on o g p E k at.bus ≡ s
-    pub after : next_slot_on o g p E (suc k) at.bus ≡ s + 1
+    pub next : next_slot_on (history_of o g p E) k at.bus ≡ s
+    pub after : next_slot_on (history_of o g p E) (suc k) at.bus ≡ s + 1
 
   pub cell_here : (k source : ℕ) (at : SlotPlace) (x : Placed) (s : ℕ) → HasOutput (frame_at_place o g p E k).table source at → IsOutputCell o g p E k x s → x.source ≡ source → IsCellHere k source at x s
   cell_here k source at x s here B same =
@@ -228,11 +229,11 @@ module _ (o : Opening) (g : ℕ) (p : SlotTable) (E : List Event) (spaced : AreS
 
   -- ---- it comes round
 
-  pub comes_round : (i k source : ℕ) (at : SlotPlace) → i ≤ k → k ≤ length E → KeepsOutput o g p E i k source at → Passes o g p E i k at (period_of at)
-      → HasCellFrom o g p E i k source (next_slot_on o g p E i at.bus) (next_slot_on o g p E i at.bus + period_of at)
+  pub comes_round : (i k source : ℕ) (at : SlotPlace) → i ≤ k → k ≤ length E → KeepsOutput (history_of o g p E) i k source at → Passes (history_of o g p E) i k at (period_of at)
+      → HasCellFrom o g p E i k source (next_slot_on (history_of o g p E) i at.bus) (next_slot_on (history_of o g p E) i at.bus + period_of at)
   comes_round i k source at after few keeps passes =
       let n = period_of at in
-      let begin = next_slot_on o g p E i at.bus in
+      let begin = next_slot_on (history_of o g p E) i at.bus in
       let some : 0 < n = pow_pos at.period in
       let P = passes_on i k source at after few keeps in
       let low : first_at o g p E i ≤ begin = omega arith in
@@ -270,7 +271,7 @@ module _ (o : Opening) (g : ℕ) (p : SlotTable) (E : List Event) (spaced : AreS
       }
 
   -- its cells are a period apart
-  pub apart_here : (h k a b source : ℕ) (at : SlotPlace) (x y : Placed) (v s : ℕ) → k ≤ length E → KeepsOutput o g p E h k source at → h ≤ a → a < b → b < k
+  pub apart_here : (h k a b source : ℕ) (at : SlotPlace) (x y : Placed) (v s : ℕ) → k ≤ length E → KeepsOutput (history_of o g p E) h k source at → h ≤ a → a < b → b < k
       → IsOutputCell o g p E a x v → x.source ≡ source → IsOutputCell o g p E b y s → y.source ≡ source → v + period_of at ≤ s
   apart_here h k a b source at x y v s few keeps from after before A same B own =
       let n = period_of at in
@@ -292,24 +293,24 @@ module _ (o : Opening) (g : ℕ) (p : SlotTable) (E : List Event) (spaced : AreS
       omega (arith, rests_apart (L.times * n + u) (M.times * n + t) n less rest, first_a, first_b, at_u, at_t)
 
   -- of those that come in one period the first has none before
-  pub none_before : (i k source : ℕ) (at : SlotPlace) → k ≤ length E → KeepsOutput o g p E i k source at → (R : HasCell o g p E i k source (next_slot_on o g p E i at.bus + period_of at))
+  pub none_before : (i k source : ℕ) (at : SlotPlace) → k ≤ length E → KeepsOutput (history_of o g p E) i k source at → (R : HasCell (history_of o g p E) i k source (next_slot_on (history_of o g p E) i at.bus + period_of at))
       → (a : ℕ) (x : Placed) (v : ℕ) → i ≤ a → a < R.place → IsOutputCell o g p E a x v → x.source ≡ source → ⊥
   none_before i k source at few keeps R a x v from early B same =
       let end : R.place < k = R.before in
       let apart = apart_here i k a R.place source at x R.output v R.slot few keeps from early end B same R.cell R.same in
-      let high : R.slot < next_slot_on o g p E i at.bus + period_of at = R.high in
+      let high : R.slot < next_slot_on (history_of o g p E) i at.bus + period_of at = R.high in
       let later = later_on i a source at from (omega (arith, early, end, few)) (fewer o g p E i i a k source at (omega arith) (omega (arith, early, end)) keeps) in
       omega (arith, apart, high, later, (cell_here a source at x v (keeps a from (omega (arith, early, end))) B same).next)
 
   -- after a cell of it the next one is a period on
-  pub recurs : (j k source : ℕ) (at : SlotPlace) (x : Placed) (s : ℕ) → j < k → k ≤ length E → KeepsOutput o g p E j k source at → IsOutputCell o g p E j x s → x.source ≡ source
-      → s + period_of at < next_slot_on o g p E k at.bus → HasNextCell o g p E j k source (s + period_of at)
+  pub recurs : (j k source : ℕ) (at : SlotPlace) (x : Placed) (s : ℕ) → j < k → k ≤ length E → KeepsOutput (history_of o g p E) j k source at → IsOutputCell o g p E j x s → x.source ≡ source
+      → s + period_of at < next_slot_on (history_of o g p E) k at.bus → HasNextCell (history_of o g p E) j k source (s + period_of at)
   recurs j k source at x s after few keeps J same passes =
       let next = (cell_here j source at x s (keeps j (omega arith) after) J same).after in
       let rest = fewer o g p E j (suc j) k k source at (omega arith) (omega arith) keeps in
       let R = (comes_round (suc j) k source at (omega (arith, after)) few rest (omega (arith, next, passes))).cell in
       let from : suc j ≤ R.place = R.from in
-      let high : R.slot < next_slot_on o g p E (suc j) at.bus + period_of at = R.high in
+      let high : R.slot < next_slot_on (history_of o g p E) (suc j) at.bus + period_of at = R.high in
       let apart = apart_here j k j R.place source at x R.output s R.slot few keeps (omega arith) (omega (arith, from)) R.before J same R.cell R.same in
       let slot : R.slot ≡ s + period_of at = omega (arith, high, next, apart) in
       record {
@@ -329,12 +330,8 @@ table_stays : (g : ℕ) (f h : Current) → IsLater g f h → h.number ≡ f.num
 table_stays g f h (inl S) same = S.table
 table_stays g f h (inr M) same = (M.again same).table
 
-number_later : (g : ℕ) (f h : Current) → IsLater g f h → f.number ≤ h.number
-number_later g f h (inl S) = let same : h.number ≡ f.number = S.number in omega (arith, same)
-number_later g f h (inr M) = M.number
-
 pub one_plan_keeps : (o : Opening) (g : ℕ) (p : SlotTable) (E : List Event) (i k source : ℕ) (at : SlotPlace) → slice_get (groups_of o.proposal.plan) g ≡ Some p → i ≤ k → k ≤ length E → number_at o g p E i ≡ number_at o g p E k
-    → HasOutput (frame_at_place o g p E i).table source at → KeepsOutput o g p E i k source at
+    → HasOutput (frame_at_place o g p E i).table source at → KeepsOutput (history_of o g p E) i k source at
 one_plan_keeps o g p E i k source at there after few same here j from below =
     let L = later_at o g p E i j there from (omega (arith, below, few)) in
     let M = later_at o g p E j k there (omega (arith, below)) few in
@@ -345,14 +342,14 @@ one_plan_keeps o g p E i k source at there after few same here j from below =
 
 -- a cell of the source of an output of the table in force is in a slot before the next one on the output's bus
 pub before_next : (o : Opening) (g : ℕ) (p : SlotTable) (E : List Event) → AreSpacedTables o g p E → (b i source : ℕ) (at : SlotPlace) (x : Placed) (s : ℕ) → slice_get (groups_of o.proposal.plan) g ≡ Some p → i ≤ length E → b < i
-    → HasOutput (frame_at_place o g p E i).table source at → IsOutputCell o g p E b x s → x.source ≡ source → s < next_slot_on o g p E i at.bus
+    → HasOutput (frame_at_place o g p E i).table source at → IsOutputCell o g p E b x s → x.source ≡ source → s < next_slot_on (history_of o g p E) i at.bus
 before_next o g p E spaced b i source at x s there few early O B same =
     let f = frame_at_place o g p E b in
     let h = frame_at_place o g p E i in
     let later : IsLater g (goes_on f (Cell g)) h = subst (λ (c : Current). IsLater g c h) (behind_cell o g p E b B.asked) (later_at o g p E (suc b) i there (omega (arith, early)) few) in
     let D = due_is g f B.cell B.due in
     let counted : s ≡ first_at o g p E b + B.cell.1 = B.counted in
-    let begin : first_at o g p E i ≤ next_slot_on o g p E i at.bus = omega arith in
+    let begin : first_at o g p E i ≤ next_slot_on (history_of o g p E) i at.bus = omega arith in
     elim later [
       | inl S ↦
           let here : HasOutput f.table source at = subst (λ (t : SlotTable). HasOutput t source at) S.table O in

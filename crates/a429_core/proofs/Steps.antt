@@ -25,15 +25,17 @@ use Rattle.a429_slots.specs.declared.answers.Refusal.TheVariants.{NoSuch, CountS
 use Rattle.a429_slots.specs.Answers
 use Rattle.a429_slots.specs.Answers.{answer, answers, source_answer}
 use Rattle.a429_slots.specs.FrameStates.{FrameState, frame_state_of}
-use Rattle.a429_core.specs.MachineStates.{MachineState, StandsForHistory, IsWhole, IsWholeEvent, kept_of, count_at, kept_at, put_word, arrived, recent_at, framed, frame_at, frame_asked}
+use Rattle.a429_core.specs.MachineStates.{MachineState, StandsForHistory, IsWhole, IsWholeEvent, kept_of, recent_at}
+use Rattle.a429_core.specs.MachineSteps.{count_at, kept_at, put_word, arrived, framed, frame_at, frame_asked}
 use Rattle.a429_core.proofs.Places.{inside, outside, first_passes, map_same}
 use Rattle.a429_core.proofs.Words.{words_in, accepted_none, accepted_some, accepted_full, kept_none, kept_some, kept_full, word_accepted, word_even, word_filtered, word_unheard, nobody_hears}
 use Rattle.a429_core.proofs.Leaving.{IsSource, IsGroup, NoneCame, sources_stay, group_stays, with_groups, with_sources, Stepped, step_from}
-use Rattle.a429_core.proofs.Answering.{AreRecalled, remembers_stay}
+use Rattle.a429_core.proofs.Answering.{remembers_stay}
 use Rattle.a429_core.proofs.CellSteps.{cell_step}
 use Rattle.a429_core.proofs.Frames.{frame_push, Turned}
 use Rattle.a429_equipment.proofs.Cutting.{last_push}
 use Rattle.a429_slots.proofs.Histories.{current_next}
+use Rattle.a429_slots.proofs.Remembering.{AreRecalled}
 
 -- ---- frames
 

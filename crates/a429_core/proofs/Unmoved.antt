@@ -13,7 +13,8 @@ use Rattle.a429_slots.specs.declared.answers.Answer.{Answer}
 use Rattle.a429_slots.specs.declared.answers.Answer.TheVariants.{Accepted, Sent, Changed, Published, Refused}
 use Rattle.a429_slots.specs.declared.answers.Refusal.TheVariants.{NoSuch, CountSpent, MidFrame, SlotsSpent, StationDiffers}
 use Rattle.a429_slots.specs.FrameStates.{due_of, FrameState, next_cell, after_cell, fits_next, turned}
-use Rattle.a429_core.specs.MachineStates.{MachineState, kept_at, count_at, put_word, placed_cell, sent_due, sent_in, asked_cell, after_asked, frame_of_both, frame_at, stepped}
+use Rattle.a429_core.specs.MachineStates.{MachineState}
+use Rattle.a429_core.specs.MachineSteps.{kept_at, count_at, put_word, placed_cell, sent_due, sent_in, asked_cell, after_asked, frame_of_both, frame_at, stepped}
 
 abbrev pub IsRefused : Answer → Type 0
 IsRefused (Accepted source) = ⊥
@@ -90,11 +91,3 @@ unmoved C v (Publish q) r =
     (Refused StationDiffers, v) v
     (either (nat_lt v.newest.number (2 ^ 64 - 1)) (Published (v.newest.number + 1), record v { newest = record q.plan { number = v.newest.number + 1 } }) (Refused CountSpent, v) v (λ r. absurd r) (λ _. refl))
     (λ _. refl) r
-
-pub given : {E : Type 0} → Answer → Result Answer E → Answer
-given d (Ok a) = a
-given d (Err e) = d
-
-pub ok_same : {E : Type 0} (a b : Answer) → ◌≡◌ {A = Result Answer E} (Ok a) (Ok b) → a ≡ b
-unfolding given
-ok_same {E} a b h = ap (given {E = E} a) h

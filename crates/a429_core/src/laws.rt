@@ -6,7 +6,8 @@ ghost use Rattle.a429_slots.specs.Answers.{answer, answers};
 ghost use Rattle.a429_core.specs.Latency.{AcceptedWordsGoOutAnyway, AcceptedWordsGoOutInTime, CellsRecurAcrossAChange, CellsRecurAcrossChanges, LatencyIsBounded, LatencyIsBoundedAcrossAChange, LatencyIsBoundedAcrossChanges, OnePlanKeepsOutputs, OpeningWordsGoOutInTime, OutputsComeRound, OutputsRecurExactly, SendsRecurAcrossAChange, SendsRecurAcrossChanges, SlotsPassOneByOne, StayingCellsAreFull, WordsGoOutAcrossAChange, WordsGoOutAcrossChanges, WordsGoOutOrAreFirst};
 ghost use Rattle.a429_core.specs.LatencyExample.{MeetsPremises};
 ghost use Rattle.a429_core.specs.Spaced.{AreSpaced, LaterCellsAreFull, OnlyFirstCellsAreEmpty, OpeningCellsAreFull, SentWordsAreApart};
-ghost use Rattle.a429_core.specs.MachineStates.{GoesOnByEvents, IsWholeEvent, MachineState, StandsForHistory, stepped};
+ghost use Rattle.a429_core.specs.MachineStates.{GoesOnByEvents, IsWholeEvent, MachineState};
+ghost use Rattle.a429_core.specs.MachineSteps.{CallsAreAnswered, stepped};
 ghost use Rattle.a429_core.specs.Sends.{CellsAreAnsweredInTurn, SentWordsWereAccepted, TakenFramesAreAnswered, TakenFramesFollowAllCells, WordsAreAcceptedOneByOne};
 
 use a429_slots::laws::{
@@ -17,8 +18,7 @@ use a429_slots::laws::{
 /// What `arrive`, `cell`, `frame` and `publish` answer, and what they make of what a state keeps, is what the
 /// definition of answers says of their events, for every history that the state stands for.
 pub fn calls_are_answered()
-    ensures answer { (C : ℕ) (o : Opening) (E : List Event) (e : Event) (v : MachineState) → IsWholeEvent e → StandsForHistory C o E v
-        → (stepped C v e).0 ≡ answer C o E e }
+    ensures answer { CallsAreAnswered }
     ensures stands { (C : ℕ) (e : Event) (v : MachineState) → IsWholeEvent e → GoesOnByEvents C v (e ∷ []) (stepped C v e).1 }
 {
     sends_are_recalled();

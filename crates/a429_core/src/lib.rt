@@ -7,6 +7,7 @@ mod sends;
 mod sources;
 mod state;
 
+pub use a429_equipment::COUNT_BITS;
 pub use a429_slots::{Answer, Refusal};
 pub use events::Event;
-pub use state::{COUNT_BITS, OpenFault, State, StationState};
+pub use state::{OpenFault, State, StationState};

@@ -1,7 +1,7 @@
 //! What is kept of the words that each group sent.
 ghost use Rattle.std.specs.Prelude.{◌≡◌, ◌≤◌, ◌+◌, ◌<◌, ◌^◌, IfOk, replicate};
 ghost use Rattle.a429_slots.specs.Recalling.{never};
-ghost use Rattle.a429_core.specs.MachineStates.{group_sends, group_after};
+ghost use Rattle.a429_core.specs.MachineSteps.{group_sends, group_after};
 
 use a429_slots::{Due, GroupSends};
 use std::alloc::{AllocError, Global};

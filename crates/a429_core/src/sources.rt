@@ -1,6 +1,6 @@
 //! What is kept of the words of each source.
 ghost use Rattle.std.specs.Prelude.{◌≡◌, ◌<◌, length, if◌then◌else◌, nat_lt};
-ghost use Rattle.a429_core.specs.MachineStates.{count_at, kept_at};
+ghost use Rattle.a429_core.specs.MachineSteps.{count_at, kept_at};
 
 use a429_word::Word;
 

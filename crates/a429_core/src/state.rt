@@ -1,18 +1,18 @@
 //! The machine: one step for each event.
-ghost use Rattle.std.specs.Prelude.{◌≡◌, ◌≤◌, ◌+◌, ◌^◌, ◌<◌, ◌∷◌, [], ◌↔◌, List, Ok, map, length, IfOk, IfSome, OnOk, OnErr, IsErrOf, IsOk, IsTrue, false};
+ghost use Rattle.std.specs.Prelude.{◌≡◌, ◌≤◌, ◌+◌, ◌^◌, ◌<◌, ◌∷◌, [], ◌↔◌, Ok, map, length, IfOk, IfSome, OnOk, OnErr, IsErrOf, IsOk, IsTrue, false};
+ghost use Rattle.a429_equipment.specs.Limits.{count_bits};
 ghost use Rattle.a429_slots.specs.Tables.{groups_of};
-ghost use Rattle.a429_slots.specs.Events.{Event as History_Event};
-ghost use Rattle.a429_slots.specs.History.{Opening};
 ghost use Rattle.a429_slots.specs.Answers.{answer};
 ghost use Rattle.a429_core.specs.Happened.{event_of};
 ghost use Rattle.a429_slots.specs.declared.answers.Refusal.{Refusal as Why};
 ghost use Rattle.a429_slots.specs.FrameStates.{begun, all_fit};
-ghost use Rattle.a429_core.specs.MachineStates.{AnswerEvents, GoesOnByEvents, StandsForHistory, IsWhole, IsWholeEvent, word_at, arrived, cell_asked, frame_asked, publish_asked, asked_cell, after_asked, frame_at, stepped};
+ghost use Rattle.a429_core.specs.MachineStates.{AnswerEvents, AnswersEvent, GoesOnByEvents, StandsForHistory, IsWhole, IsWholeEvent};
+ghost use Rattle.a429_core.specs.MachineSteps.{word_at, arrived, cell_asked, frame_asked, publish_asked, asked_cell, after_asked, frame_at, stepped};
 
 use crate::events::Event;
 use crate::sends::{send_word, sends_of};
 use crate::sources::{Kept, keep};
-use a429_equipment::Equipment;
+use a429_equipment::{COUNT_BITS, Equipment};
 use a429_slots::laws::sends_are_recalled;
 use a429_slots::{Answer, Due, GroupSends, OUTPUTS, Plan, Proposal, Refusal, Sender};
 use a429_word::Word;
@@ -41,10 +41,6 @@ impl From<AllocError> for OpenFault {
         OpenFault::NoMemory
     }
 }
-
-/// In how many bits the program counts the words of a source: with the 23 bits of a word that are kept beside
-/// the count they fill 64.
-pub const COUNT_BITS: u32 = 41;
 
 /// The state of a station as the program keeps it.
 pub type StationState = State<COUNT_BITS>;
@@ -144,7 +140,7 @@ impl<const C: u32> State<C> {
         proposal: Proposal<OUTPUTS>,
         first_slot: u64,
     ) -> Result<State<C>, OpenFault>
-        requires { (1 ≤ C) × (C ≤ 41) }
+        requires { (1 ≤ C) × (C ≤ count_bits) }
         ensures stands { IfOk result (StandsForHistory C (record { proposal = proposal; first = first_slot }) []) }
         ensures spent { IsErrOf result OpenFault.SlotsSpent ↔ (all_fit first_slot (groups_of proposal.plan) ≡ false) }
     {
@@ -280,7 +276,7 @@ impl<const C: u32> State<C> {
     // For every history that the state stands for, the answer is the one of the definition.
     pub fn step(&mut self, event: Event) -> Result<Answer, AllocError>
         ensures ok { IsOk result }
-        ensures answer { (o : Opening) (E : List History_Event) → StandsForHistory C o E self.old → result ≡ Ok (answer C o E (event_of event)) }
+        ensures answer { AnswersEvent C self.old (event_of event) result }
         ensures stands { GoesOnByEvents C self.old (event_of event ∷ []) self.new }
         ensures refused { (why : Why) → result ≡ Ok (Answer.Refused why) → self.new ≡ self.old }
     {

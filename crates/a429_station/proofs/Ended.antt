@@ -13,85 +13,90 @@ use Rattle.a429_equipment.proofs.Receiving.{in_pieces}
 use Rattle.a429_slots.specs.Tables.{PlanTable}
 use Rattle.a429_slots.specs.Planned.{IsPlanOf}
 use Rattle.a429_slots.specs.Proposed.{Proposed}
+use Rattle.a429_filter.specs.declared.sources.LineSource as LineSource
 use Rattle.a429_values.specs.Ends as ends
-use Rattle.a429_board.specs.Lists.{Planning, Watched}
-use Rattle.a429_workers.specs.Receives.{AreTaken, after_words, answers_to, totals_of}
+use Rattle.a429_board.specs.Lists.{Watched}
+use Rattle.a429_workers.specs.Receives.{AreTaken, Gives, after_words, answers_to, totals_of}
 use Rattle.a429_workers.specs.Runs.{ArePublished, IsWired, plans_of}
-use Rattle.a429_workers.specs.Gates.{IsGatedGroup}
-use Rattle.a429_workers.specs.Sends.{AreSent, sent_in}
-use Rattle.a429_workers.specs.Transmitting.{Transmitting, IsKnownPlan, IsSameGroup}
-use Rattle.a429_workers.specs.declared.cells.Sent.{Sent}
-use Rattle.a429_workers.specs.declared.gates.Point.{Point}
+use Rattle.a429_workers.specs.Gates.{GatePoints, IsGatedGroup, Listening, listening, points_of}
+use Rattle.a429_workers.specs.Sends.{AreSent, Sending, sending, sent_in}
+use Rattle.a429_workers.specs.Transmitting.{IsKnownPlan, IsSameGroup}
+use Rattle.a429_workers.specs.declared.sinks.BusSink as BusSink
+use Rattle.a429_workers.specs.declared.gates.Gate as Gate
 use Rattle.a429_workers.specs.declared.receiving.ReceiveTotals.{ReceiveTotals}
 use Rattle.a429_workers.specs.declared.receiving.ReceiveFault.{ReceiveFault}
-use Rattle.a429_workers.specs.declared.receiving.ReceiveFault.TheVariants.{Source, Gate, TooMuch}
+use Rattle.a429_workers.specs.declared.receiving.ReceiveFault.TheVariants as receive
 use Rattle.a429_workers.specs.declared.sending.SendTotals.{SendTotals}
 use Rattle.a429_workers.specs.declared.sending.SendFault.{SendFault}
-use Rattle.a429_station.specs.Course.{Course, IsHeardIn, IsSentIn, fresh, heard_in, meeting}
+use Rattle.a429_station.specs.Course.{Course, IsHeardIn, IsSentIn, RunAsk, fresh, heard_in, meeting}
 use Rattle.a429_station.specs.Faults.{EndsGroup, EndsLine, GaveTooMuch, HasStopped, IsFirst, first_fault}
 use Rattle.a429_station.specs.Numbered.{AllNumbered, AllOfTwo}
 use Rattle.a429_station.specs.Resubmitting.{GoesOn, IsBegun, IsDoneBetween, IsLed, Running, opening}
-use Rattle.a429_station.specs.Working.{HasEmitted, HasReceived, IsJoined, IsOver, IsReady, IsReceiverAt, meeting_of}
+use Rattle.a429_station.specs.Working.{Emitting, HasEmitted, HasReceived, IsJoined, IsOver, IsReady, IsReceiverAt, emitting, meeting_of}
+use Rattle.a429_station.specs.declared.working.Emitted.{Emitted}
+use Rattle.a429_station.specs.declared.working.GroupWorker.{GroupWorker}
+use Rattle.a429_station.specs.declared.working.Received.{Received}
+use Rattle.a429_station.specs.declared.working.ReceiverWorker.{ReceiverWorker}
 use Rattle.a429_station.specs.declared.faults.LiveFault.{LiveFault}
 use Rattle.a429_station.specs.declared.faults.LiveFault.TheVariants.{NoMemory}
 use Rattle.a429_station.proofs.Numbered.{mapped_range, numbered_also, numbered_both, numbered_place, numbered_weaker, two_of}
-use Rattle.a429_station.proofs.OneRun.{IsTakenIn, group_ran, never_refused, same_hub}
+use Rattle.a429_station.proofs.OneRun.{IsTakenIn, TakenIn, group_ran, never_refused, same_hub}
 use Rattle.a429_station.proofs.Plans.{plan_small}
 
 -- ---- one receiver
 
 pub receiver_stays : (at : ends.Place) (k : ℕ) (words : List ℕ) (answer : Result ReceiveTotals ReceiveFault) (old new : ends.ReceiverEnd) → AreTaken words answer old new → old ≡ fresh at k → IsReceiverAt at k new
 receiver_stays at k words (Ok totals) old new h is = (ap (λ (r : ends.ReceiverEnd). r.at) (h.0) ∙ ap (λ (r : ends.ReceiverEnd). r.at) is, ap (λ (r : ends.ReceiverEnd). r.number) (h.0) ∙ ap (λ (r : ends.ReceiverEnd). r.number) is)
-receiver_stays at k words (Err Source) old new h is = (ap (λ (r : ends.ReceiverEnd). r.at) (h.0) ∙ ap (λ (r : ends.ReceiverEnd). r.at) is, ap (λ (r : ends.ReceiverEnd). r.number) (h.0) ∙ ap (λ (r : ends.ReceiverEnd). r.number) is)
-receiver_stays at k words (Err TooMuch) old new h is = (ap (λ (r : ends.ReceiverEnd). r.at) (h.0) ∙ ap (λ (r : ends.ReceiverEnd). r.at) is, ap (λ (r : ends.ReceiverEnd). r.number) (h.0) ∙ ap (λ (r : ends.ReceiverEnd). r.number) is)
-receiver_stays at k words (Err Gate) old new h is = (ap (λ (r : ends.ReceiverEnd). r.at) (h.1) ∙ ap (λ (r : ends.ReceiverEnd). r.at) is, ap (λ (r : ends.ReceiverEnd). r.number) (h.1) ∙ ap (λ (r : ends.ReceiverEnd). r.number) is)
+receiver_stays at k words (Err receive.Source) old new h is = (ap (λ (r : ends.ReceiverEnd). r.at) (h.0) ∙ ap (λ (r : ends.ReceiverEnd). r.at) is, ap (λ (r : ends.ReceiverEnd). r.number) (h.0) ∙ ap (λ (r : ends.ReceiverEnd). r.number) is)
+receiver_stays at k words (Err receive.TooMuch) old new h is = (ap (λ (r : ends.ReceiverEnd). r.at) (h.0) ∙ ap (λ (r : ends.ReceiverEnd). r.at) is, ap (λ (r : ends.ReceiverEnd). r.number) (h.0) ∙ ap (λ (r : ends.ReceiverEnd). r.number) is)
+receiver_stays at k words (Err receive.Gate) old new h is = (ap (λ (r : ends.ReceiverEnd). r.at) (h.1) ∙ ap (λ (r : ends.ReceiverEnd). r.at) is, ap (λ (r : ends.ReceiverEnd). r.number) (h.1) ∙ ap (λ (r : ends.ReceiverEnd). r.number) is)
 
 gave_too_much : (words : List ℕ) (answer : Result ReceiveTotals ReceiveFault) (old new : ends.ReceiverEnd) → AreTaken words answer old new → GaveTooMuch words answer
 gave_too_much words (Ok totals) old new h = tt
-gave_too_much words (Err Source) old new h = tt
-gave_too_much words (Err Gate) old new h = tt
-gave_too_much words (Err TooMuch) old new h = h.1
+gave_too_much words (Err receive.Source) old new h = tt
+gave_too_much words (Err receive.Gate) old new h = tt
+gave_too_much words (Err receive.TooMuch) old new h = h.1
 
-module _ {L : Type 0} (gives : L → List ℕ → L → Type 0) (ended : L → Bool) (failed : L → ℕ) (passes shuts : Point → Type 0) where
-  pub line_ended : (k : ℕ) (line line' : L) (r r' : ends.ReceiverEnd) (answer : Result ReceiveTotals ReceiveFault) → HasReceived gives ended failed passes shuts k line r line' r' answer → EndsLine gives ended failed passes shuts k line answer
-  line_ended k line line' r r' answer h = record {
-    after = line';
+module _ {L : Type 0} (source : LineSource.Ghosts L) (gate : GatePoints) where
+  pub line_ended : (k : ℕ) (old new : Listening L) (answer : Result ReceiveTotals ReceiveFault) → HasReceived source gate k old new answer → EndsLine source gate k old.line answer
+  line_ended k old new answer h = record {
+    after = new.line;
     words = h.words;
     gave = h.gave;
     at_end = h.at_end;
     failures = h.failures;
-    many = gave_too_much h.words answer r r' h.taken;
+    many = gave_too_much h.words answer old.receiver new.receiver h.taken;
     taken = h.gated.0;
     gated = h.gated.2;
   }
 
   -- what it did, where it ended well
-  pub heard_one : (own : ℕ) (at : ends.Place) (c : Course) (k : ℕ) (line line' : L) (r r' : ends.ReceiverEnd) (answer : Result ReceiveTotals ReceiveFault) (totals : ReceiveTotals) (h : HasReceived gives ended failed passes shuts own line r line' r' answer)
-      → r ≡ fresh at k → answer ≡ Ok totals → c.came k ≡ h.words → IsHeardIn gives ended at.station c k line line' totals
-  heard_one own at c k line line' r r' (Ok counts) totals h is same came =
+  pub heard_one : (own : ℕ) (at : ends.Place) (c : Course) (k : ℕ) (old new : Listening L) (answer : Result ReceiveTotals ReceiveFault) (totals : ReceiveTotals) (h : HasReceived source gate own old new answer)
+      → old.receiver ≡ fresh at k → answer ≡ Ok totals → c.came k ≡ h.words → IsHeardIn (Gives source.given source.left) source.ended at.station c k old.line new.line totals
+  heard_one own at c k old new (Ok counts) totals h is same came =
       let sum : counts ≡ totals = cc in
       record {
-        gave = subst (λ (ws : List ℕ). gives line ws line') (sym came) h.gave;
+        gave = subst (λ (ws : List ℕ). Gives source.given source.left old.line ws new.line) (sym came) h.gave;
         at_end = h.at_end;
         few = subst (λ (ws : List ℕ). length ws ≤ 1000000) (sym came) h.taken.2;
         hub = at;
         station = refl;
         counted = sym sum ∙ (h.taken.1 ∙ (ap (λ (x : ends.ReceiverEnd). totals_of (answers_to x h.words)) is ∙ ap (λ (ws : List ℕ). totals_of (answers_to (fresh at k) ws)) (sym came)));
       }
-  heard_one own at c k line line' r r' (Err fault) totals h is same came = absurd (cc same)
+  heard_one own at c k old new (Err fault) totals h is same came = absurd (cc same)
 
   -- and what its receiver is then
-  pub receiver_one : (own : ℕ) (at : ends.Place) (k : ℕ) (came : List ℕ) (line line' : L) (r r' : ends.ReceiverEnd) (answer : Result ReceiveTotals ReceiveFault) (totals : ReceiveTotals) (h : HasReceived gives ended failed passes shuts own line r line' r' answer)
-      → r ≡ fresh at k → answer ≡ Ok totals → came ≡ h.words → r' ≡ after_words (fresh at k) came
-  receiver_one own at k came line line' r r' (Ok counts) totals h is same words =
+  pub receiver_one : (own : ℕ) (at : ends.Place) (k : ℕ) (came : List ℕ) (old new : Listening L) (answer : Result ReceiveTotals ReceiveFault) (totals : ReceiveTotals) (h : HasReceived source gate own old new answer)
+      → old.receiver ≡ fresh at k → answer ≡ Ok totals → came ≡ h.words → new.receiver ≡ after_words (fresh at k) came
+  receiver_one own at k came old new (Ok counts) totals h is same words =
       h.taken.0 ∙ (ap (λ (x : ends.ReceiverEnd). after_words x h.words) is ∙ ap (λ (ws : List ℕ). after_words (fresh at k) ws) (sym words))
-  receiver_one own at k came line line' r r' (Err fault) totals h is same words = absurd (cc same)
+  receiver_one own at k came old new (Err fault) totals h is same words = absurd (cc same)
 
 -- ---- one group
 
-pub group_stays : (passes shuts : Point → Type 0) (r frames : ℕ) (answer : Result SendTotals SendFault) (old new : Transmitting) (before after : Option (List Sent)) → AreSent passes shuts r frames old new before after answer → IsSameGroup old new
-group_stays passes shuts r frames (Ok totals) old new before after h = h.1.same
-group_stays passes shuts r frames (Err fault) old new before after h = h.2.same
+pub group_stays : (gate : GatePoints) (r frames : ℕ) (old new : Sending) (answer : Result SendTotals SendFault) → AreSent gate r frames old new answer → IsSameGroup old.transmit new.transmit
+group_stays gate r frames old new (Ok totals) h = h.sent.same
+group_stays gate r frames old new (Err fault) h = h.sent.same
 
 -- ---- what a receiver accepted, it accepts
 
@@ -151,7 +156,7 @@ course_of old later came = record { opened = old.planner.last; later = later; ca
 
 pub taken_in : (at : ends.Place) (old new : Running) (came : ℕ → List ℕ) (receivers : List ends.ReceiverEnd) → at.station ≡ old.station → IsBegun old → GoesOn old new → (N : IsLed new) → IsWired at.station
     → AreAfter at came receivers → length receivers ≡ length at.station.receivers → ((k : ℕ) → length at.station.receivers ≤ k → came k ≡ [])
-    → IsTakenIn at old.planner new.planner (course_of old N.later came) receivers
+    → IsTakenIn (record { at = at; first = old.planner; last = new.planner; course = course_of old N.later came; receivers = receivers })
 taken_in at old new came receivers here B G N wired each all past =
     let t = at.station in
     let c = course_of old N.later came in
@@ -176,41 +181,42 @@ taken_in at old new came receivers here B G N wired each all past =
           (numbered_both (λ k x. x ≡ after_words (fresh at k) (came k)) (λ k x. Agrees t x.number x.accepted loads) receivers each (numbered_also (λ x. Agrees t x.number x.accepted loads) receivers agrees)));
     }
 
--- a group's worker that ended, which began ready
-pub group_over : {B : Type 0} (passes shuts : Point → Type 0) (r : ℕ) (taken : B → Option (List Sent)) (failed : B → ℕ) (at : ends.Place) (old new : Running) (g frames : ℕ) (v w : Transmitting) (sink sink' : B) (answer : Result SendTotals SendFault)
-    → at.station ≡ old.station → IsBegun old → GoesOn old new → IsLed new → frames ≤ 1000000
-    → HasEmitted taken failed passes shuts r frames v sink w sink' answer → IsReady at old.planner g v → IsOver at new.planner w answer
-group_over passes shuts r taken failed at old new g frames v w sink sink' answer here begun G N few E R =
-    let same = group_stays passes shuts r frames answer v w (taken sink) (taken sink') E.sent in
-    record {
-      hub = same_hub at old.planner g v w R same;
-      board = same.board ∙ (ap (λ (x : Watched). x.book) R.watcher ∙ sym G.book);
-      counts = λ beginning is.
-          never_refused passes shuts r at old.planner new.planner.list g frames v w (taken sink) (taken sink') answer R (plan_small old.station old.planner.last begun.planned)
-          (omega (arith, R.inside, begun.planned.count, ap (λ (t : TableRecord). length t.groups) here))
-          (subst (λ (x : TableRecord). AllByRecursion (IsKnownPlan x) new.planner.list) (G.station ∙ sym here) N.known) N.small few E.sent beginning is;
-    }
+module _ {B : Type 0} (sink : BusSink.Ghosts B) (gate : GatePoints) (r : ℕ) where
+  -- what its transmitter answered, and its sink took
+  abbrev sent_by : Emitting B → Sending
+  sent_by v = sending v.transmit (sink.taken v.sink)
 
--- a group's worker that ended well, was told all plans, and met the receivers
-pub group_one : {B : Type 0} (passes shuts : Point → Type 0) (r : ℕ) (taken : B → Option (List Sent)) (failed : B → ℕ) (at : ends.Place) (first last : Planning) (c : Course) (receivers : List ends.ReceiverEnd) (frames own g : ℕ) (v w : Transmitting) (sink sink' : B) (answer : Result SendTotals SendFault) (totals : SendTotals)
-    → IsTakenIn at first last c receivers → HasEmitted taken failed passes shuts r own v sink w sink' answer → IsJoined at.station last.list receivers w → IsReady at first g v → own ≡ frames → answer ≡ Ok totals
-    → IsSentIn taken frames at.station c g sink sink' totals
-group_one passes shuts r taken failed at first last c receivers frames own g v w sink sink' answer totals K E J R same is =
-    let sent : AreSent passes shuts r frames v w (taken sink) (taken sink') (Ok totals) =
-    subst (λ (n : ℕ). AreSent passes shuts r n v w (taken sink) (taken sink') (Ok totals)) same (subst (AreSent passes shuts r own v w (taken sink) (taken sink')) is E.sent) in
-    group_ran passes shuts r taken at first last c receivers frames g v w sink sink' totals K R sent J
+  -- a group's worker that ended, which began ready
+  pub group_over : (at : ends.Place) (old new : Running) (g frames : ℕ) (v w : Emitting B) (answer : Result SendTotals SendFault)
+      → at.station ≡ old.station → IsBegun old → GoesOn old new → IsLed new → frames ≤ 1000000
+      → HasEmitted sink gate r frames v w answer → IsReady at old.planner g v.transmit → IsOver at new.planner w.transmit answer
+  group_over at old new g frames v w answer here begun G N few E R =
+      let same = group_stays gate r frames (sent_by v) (sent_by w) answer E.sent in
+      record {
+        hub = same_hub at old.planner g v.transmit w.transmit R same;
+        board = same.board ∙ (ap (λ (x : Watched). x.book) R.watcher ∙ sym G.book);
+        counts = λ beginning is.
+            never_refused gate r frames at old.planner new.planner.list g (sent_by v) (sent_by w) answer R (plan_small old.station old.planner.last begun.planned)
+            (omega (arith, R.inside, begun.planned.count, ap (λ (t : TableRecord). length t.groups) here))
+            (subst (λ (x : TableRecord). AllByRecursion (IsKnownPlan x) new.planner.list) (G.station ∙ sym here) N.known) N.small few E.sent beginning is;
+      }
+
+  -- a group's worker that ended well, was told all plans, and met the receivers
+  pub group_one : (x : TakenIn) (frames own g : ℕ) (v w : Emitting B) (answer : Result SendTotals SendFault) (totals : SendTotals)
+      → IsTakenIn x → HasEmitted sink gate r own v w answer → IsJoined x.at.station x.last.list x.receivers w.transmit → IsReady x.at x.first g v.transmit → own ≡ frames → answer ≡ Ok totals
+      → IsSentIn sink.taken frames x.at.station x.course g v.sink w.sink totals
+  group_one x frames own g v w answer totals K E J R same is =
+      group_ran sink gate r x frames g v w totals K R (subst (λ (n : ℕ). AreSent gate r n (sent_by v) (sent_by w) (Ok totals)) same (subst (AreSent gate r own (sent_by v) (sent_by w)) is E.sent)) J
 
 -- how many cells the sink of a group took, and at which point of the gate the loop ended
-gated_so : (passes shuts : Point → Type 0) (g frames : ℕ) (v w : Transmitting) (before after : Option (List Sent)) (answer : Result SendTotals SendFault) → AreSent passes shuts g frames v w before after answer
-    → (n : ℕ) × IsGatedGroup passes shuts g n answer
-gated_so passes shuts g frames v w before after (Ok totals) S = (length (sent_in S.0), S.4)
-gated_so passes shuts g frames v w before after (Err fault) S = (length (sent_in S.0), S.5)
+gated_so : (gate : GatePoints) (g frames : ℕ) (old new : Sending) (answer : Result SendTotals SendFault) → AreSent gate g frames old new answer → (n : ℕ) × IsGatedGroup gate g n answer
+gated_so gate g frames old new (Ok totals) S = (length (sent_in S.calls), S.gated)
+gated_so gate g frames old new (Err fault) S = (length (sent_in S.calls), S.gated)
 
-pub group_ended : {B : Type 0} (taken : B → Option (List Sent)) (failed : B → ℕ) (passes shuts : Point → Type 0) (g frames : ℕ) (v w : Transmitting) (sink sink' : B) (answer : Result SendTotals SendFault)
-    → HasEmitted taken failed passes shuts g frames v sink w sink' answer → EndsGroup failed passes shuts g sink answer
-group_ended taken failed passes shuts g frames v w sink sink' answer E =
-    let G = gated_so passes shuts g frames v w (taken sink) (taken sink') answer E.sent in
-    record { after = sink'; failures = E.failures; taken = G.0; gated = G.1 }
+pub group_ended : {B : Type 0} (sink : BusSink.Ghosts B) (gate : GatePoints) (g frames : ℕ) (v w : Emitting B) (answer : Result SendTotals SendFault) → HasEmitted sink gate g frames v w answer → EndsGroup sink gate g v.sink answer
+group_ended sink gate g frames v w answer E =
+    let G = gated_so gate g frames (sent_by sink gate g v) (sent_by sink gate g w) answer E.sent in
+    record { after = w.sink; failures = E.failures; taken = G.0; gated = G.1 }
 
 -- ---- the first fault
 
@@ -218,29 +224,36 @@ group_ended taken failed passes shuts g frames v w sink sink' answer E =
 pub want_of_memory : (x : Option ReceiveFault) (y : Option SendFault) (fault : LiveFault) → x ≡ None → y ≡ None → fault ≡ NoMemory → IsFirst x y fault
 want_of_memory x y fault well none is = subst (λ (z : Option ReceiveFault). IsFirst z y fault) (sym well) (subst (λ (z : Option SendFault). IsFirst None z fault) (sym none) is)
 
--- the loops of all receivers and groups have ended, each with its number and at one gate
-pub all_stopped : {L B G W D V E : Type 0} (gives : L → List ℕ → L → Type 0) (ended : L → Bool) (failed : L → ℕ) (taken : B → Option (List Sent)) (failed_sink : B → ℕ) (passes shuts : G → Point → Type 0) (at : G)
-    (line : W → L) (receiver : W → ends.ReceiverEnd) (number : W → ℕ) (gate : W → G) (line' : D → L) (receiver' : D → ends.ReceiverEnd) (answer : D → Result ReceiveTotals ReceiveFault)
-    (own : V → ℕ) (transmit : V → Transmitting) (sink : V → B) (group : V → ℕ) (gate' : V → G) (transmit' : E → Transmitting) (sink' : E → B) (answer' : E → Result SendTotals SendFault)
-    (ws : List W) (ds : List D) (vs : List V) (es : List E) (sinks : List B) (fault : LiveFault)
-    → AllZip (λ w d. HasReceived gives ended failed (passes (gate w)) (shuts (gate w)) (number w) (line w) (receiver w) (line' d) (receiver' d) (answer d)) ws ds
-    → AllNumbered (λ k w. (number w ≡ k) × (gate w ≡ at)) ws
-    → AllZip (λ v e. HasEmitted taken failed_sink (passes (gate' v)) (shuts (gate' v)) (group v) (own v) (transmit v) (sink v) (transmit' e) (sink' e) (answer' e)) vs es
-    → AllNumbered (λ k v. (group v ≡ k) × (gate' v ≡ at)) vs → map sink vs ≡ sinks
-    → IsFirst (first_fault (map answer ds)) (first_fault (map answer' es)) fault → HasStopped gives ended failed failed_sink (passes at) (shuts at) (map line ws) sinks fault
-all_stopped {G = G} gives ended failed taken failed_sink passes shuts at line receiver number gate line' receiver' answer own transmit sink group gate' transmit' sink' answer' ws ds vs es sinks fault heard places sent also same first = record {
-  heard = map answer ds;
-  sent = map answer' es;
-  lines = two_of (λ w d. HasReceived gives ended failed (passes (gate w)) (shuts (gate w)) (number w) (line w) (receiver w) (line' d) (receiver' d) (answer d)) (λ k w. (number w ≡ k) × (gate w ≡ at))
-      (EndsLine gives ended failed (passes at) (shuts at)) line answer
-      (λ k w d h p. line_ended gives ended failed (passes at) (shuts at) k (line w) (line' d) (receiver w) (receiver' d) (answer d)
-      (subst (λ (x : G). HasReceived gives ended failed (passes x) (shuts x) k (line w) (receiver w) (line' d) (receiver' d) (answer d)) p.1
-      (subst (λ (n : ℕ). HasReceived gives ended failed (passes (gate w)) (shuts (gate w)) n (line w) (receiver w) (line' d) (receiver' d) (answer d)) p.0 h))) ws ds heard places;
-  groups = subst (λ l. AllOfTwo (EndsGroup failed_sink (passes at) (shuts at)) l (map answer' es)) same
-      (two_of (λ v e. HasEmitted taken failed_sink (passes (gate' v)) (shuts (gate' v)) (group v) (own v) (transmit v) (sink v) (transmit' e) (sink' e) (answer' e)) (λ k v. (group v ≡ k) × (gate' v ≡ at))
-      (EndsGroup failed_sink (passes at) (shuts at)) sink answer'
-      (λ k v e h p. group_ended taken failed_sink (passes at) (shuts at) k (own v) (transmit v) (transmit' e) (sink v) (sink' e) (answer' e)
-      (subst (λ (x : G). HasEmitted taken failed_sink (passes x) (shuts x) k (own v) (transmit v) (sink v) (transmit' e) (sink' e) (answer' e)) p.1
-      (subst (λ (n : ℕ). HasEmitted taken failed_sink (passes (gate' v)) (shuts (gate' v)) n (own v) (transmit v) (sink v) (transmit' e) (sink' e) (answer' e)) p.0 h))) vs es sent also);
-  first = first;
-}
+-- ---- all workers
+
+module _ {L B G : Type 0} (source : LineSource.Ghosts L) (sink : BusSink.Ghosts B) (gate : Gate.Ghosts G) where
+  -- what a receiver's worker did
+  abbrev pub HasHeard : ReceiverWorker L G → Received L → Type 0
+  HasHeard w d = HasReceived source (points_of gate w.gate.now) w.number (listening w.line w.receiver) (listening d.line d.receiver) d.answer
+
+  -- what a group's worker did
+  abbrev pub HasPut : GroupWorker B G sink gate → Emitted B → Type 0
+  HasPut v e = HasEmitted sink (points_of gate v.gate.now) v.number v.frames (emitting v.transmit v.sink) (emitting e.transmit e.sink) e.answer
+
+  -- their loops have ended, each with its number and at one gate
+  pub all_stopped : (at : G) (ask : RunAsk L B) (ws : List (ReceiverWorker L G)) (ds : List (Received L)) (vs : List (GroupWorker B G sink gate)) (es : List (Emitted B)) (fault : LiveFault)
+      → AllZip HasHeard ws ds → AllNumbered (λ k w. (w.number ≡ k) × (w.gate.now ≡ at)) ws → map (λ w. w.line) ws ≡ ask.sources
+      → AllZip HasPut vs es → AllNumbered (λ k v. (v.number ≡ k) × (v.gate.now ≡ at)) vs → map (λ v. v.sink) vs ≡ ask.sinks
+      → IsFirst (first_fault (map (λ d. d.answer) ds)) (first_fault (map (λ e. e.answer) es)) fault → HasStopped source sink (points_of gate at) ask fault
+  all_stopped at ask ws ds vs es fault heard places lines sent also sinks first =
+      let here = points_of gate at in
+      record {
+        heard = map (λ d. d.answer) ds;
+        sent = map (λ e. e.answer) es;
+        lines = subst (λ l. AllOfTwo (EndsLine source here) l (map (λ d. d.answer) ds)) lines
+            (two_of HasHeard (λ k w. (w.number ≡ k) × (w.gate.now ≡ at)) (EndsLine source here) (λ w. w.line) (λ d. d.answer)
+            (λ k w d h p. line_ended source here k (listening w.line w.receiver) (listening d.line d.receiver) d.answer
+            (subst (λ (x : G). HasReceived source (points_of gate x) k (listening w.line w.receiver) (listening d.line d.receiver) d.answer) p.1
+            (subst (λ (n : ℕ). HasReceived source (points_of gate w.gate.now) n (listening w.line w.receiver) (listening d.line d.receiver) d.answer) p.0 h))) ws ds heard places);
+        groups = subst (λ l. AllOfTwo (EndsGroup sink here) l (map (λ e. e.answer) es)) sinks
+            (two_of HasPut (λ k v. (v.number ≡ k) × (v.gate.now ≡ at)) (EndsGroup sink here) (λ v. v.sink) (λ e. e.answer)
+            (λ k v e h p. group_ended sink here k v.frames (emitting v.transmit v.sink) (emitting e.transmit e.sink) e.answer
+            (subst (λ (x : G). HasEmitted sink (points_of gate x) k v.frames (emitting v.transmit v.sink) (emitting e.transmit e.sink) e.answer) p.1
+            (subst (λ (n : ℕ). HasEmitted sink (points_of gate v.gate.now) n v.frames (emitting v.transmit v.sink) (emitting e.transmit e.sink) e.answer) p.0 h))) vs es sent also);
+        first = first;
+      }

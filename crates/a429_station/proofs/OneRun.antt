@@ -1,6 +1,6 @@
 -- What all workers of a run did, as the premises of one run.
 use Rattle.std.proofs.Common.{◌≡◌, ◌∙◌, ℕ, ◌+◌, ◌*◌, ◌<◌, ◌≤◌, ◌^◌, zero, suc, List, [], ◌∷◌, ◌++◌, length, map, ap, subst, sym, refl, arith, append-nil}
-use Rattle.std.specs.Prelude.{◌≢◌, Option, Some, Result, Ok, Err, slice_get, count_by}
+use Rattle.std.specs.Prelude.{◌≢◌, Option, Some, Result, Err, slice_get, count_by}
 use Rattle.std.specs.List.{AllByRecursion}
 use mathlib.Core.List.{IsPrefix}
 use Rattle.a429_word.proofs.Lists.{all_beginning}
@@ -15,15 +15,16 @@ use Rattle.a429_board.specs.Lists.{Planning, Watched, beginner}
 use Rattle.a429_workers.specs.Calls.{Call, Turns, StaysSpent, GroupState, AreLawful, IsLawful, before_calls, state_after, loads_of, after}
 use Rattle.a429_workers.specs.Runs.{ArePublished, AreHeard, IsWired, IsWorking, plans_of}
 use Rattle.a429_workers.specs.Transmitting.{Transmitting, Outset, BeginsWith, GoesOnByCalls, HasMade, IsKnownPlan, IsSameGroup, StandsForCalls, led_by}
-use Rattle.a429_workers.specs.Sends.{AreSent, AreWhole, HasSent, is_taken, sent_in, totals_of}
+use Rattle.a429_workers.specs.Sends.{AreAllSent, AreFewerSent, AreSent, AreWhole, HasSent, Sending, is_taken, sending, sent_in, totals_of}
+use Rattle.a429_workers.specs.Gates.{GatePoints}
 use Rattle.a429_workers.specs.declared.cells.Sent.{Sent}
-use Rattle.a429_workers.specs.declared.gates.Point.{Point}
+use Rattle.a429_workers.specs.declared.sinks.BusSink as BusSink
 use Rattle.a429_workers.specs.declared.sending.SendTotals.{SendTotals}
 use Rattle.a429_workers.specs.declared.sending.SendFault.{SendFault}
 use Rattle.a429_workers.specs.declared.sending.SendFault.TheVariants.{Change}
 use Rattle.a429_station.specs.Course.{Course, IsSentIn, heard_in, meetings}
 use Rattle.a429_station.specs.Resubmitting.{HasFewSlots, opening}
-use Rattle.a429_station.specs.Working.{HasMet, IsJoined, IsReady, meeting_of, told}
+use Rattle.a429_station.specs.Working.{Emitting, HasMet, IsJoined, IsReady, meeting_of, told}
 use Rattle.a429_station.proofs.Counting.{IsWithin, calls_within, not_spent}
 use Rattle.a429_workers.proofs.Growing.{standing_push}
 use Rattle.a429_workers.proofs.Lists.{all_get}
@@ -96,20 +97,22 @@ module _ (g : ℕ) (opened : PlanTable) (p : SlotTable) (there : slice_get (grou
       → AllByRecursion (IsKnownPlan w.transmitter.at.station) w.watcher.list → HasMade (outset opened g p) (calls ++ Turns plans StaysSpent ∷ []) w
   sent_on v w before then calls last plans stands H is known = subst (λ (cs : List Call). HasMade (outset opened g p) (calls ++ cs) w) is (H.stands (outset opened g p) [] stands known)
 
-never_by : (passes shuts : Point → Type 0) (r : ℕ) (at : ends.Place) (planner : Planning) (list : List PlanTable) (g frames : ℕ) (v w : Transmitting) (before then : Option (List Sent))
-    → IsReady at planner g v → HasFewSlots planner.last → AllByRecursion (IsKnownPlan at.station) list → AllByRecursion HasFewSlots list → frames ≤ 1000000 → IsPrefix w.watcher.list list
-    → (hit : (p : SlotTable) × (slice_get (groups_of planner.last) g ≡ Some p)) → AreSent passes shuts r frames v w before then (Err Change) → ⊥
-never_by passes shuts r at planner list g frames v w before then R first known small few beginning hit S =
-    made_on g planner.last hit.0 hit.1 w S.0 S.3.0 first (all_beginning HasFewSlots w.watcher.list list beginning small)
-    (sent_on g planner.last hit.0 hit.1 v w before then S.0 S.1 S.3.0 (stands_first at planner g v hit.0 R hit.1) S.2 S.3.1 (known_there at w list (same_hub at planner g v w R S.2.same) beginning known))
-    (room (count_by is_taken S.0) frames S.4 few)
+never_by : (gate : GatePoints) (r frames : ℕ) (at : ends.Place) (planner : Planning) (list : List PlanTable) (g : ℕ) (old new : Sending)
+    → IsReady at planner g old.transmit → HasFewSlots planner.last → AllByRecursion (IsKnownPlan at.station) list → AllByRecursion HasFewSlots list → frames ≤ 1000000 → IsPrefix new.transmit.watcher.list list
+    → (hit : (p : SlotTable) × (slice_get (groups_of planner.last) g ≡ Some p)) → AreFewerSent gate r frames old new Change → ⊥
+never_by gate r frames at planner list g old new R first known small few beginning hit S =
+    let v = old.transmit in
+    let w = new.transmit in
+    made_on g planner.last hit.0 hit.1 w S.calls S.ended.0 first (all_beginning HasFewSlots w.watcher.list list beginning small)
+    (sent_on g planner.last hit.0 hit.1 v w old.taken new.taken S.calls S.last S.ended.0 (stands_first at planner g v hit.0 R hit.1) S.sent S.ended.1 (known_there at w list (same_hub at planner g v w R S.sent.same) beginning known))
+    (room (count_by is_taken S.calls) frames S.fewer few)
 
 -- where the watcher saw published plans alone
-pub never_refused : (passes shuts : Point → Type 0) (r : ℕ) (at : ends.Place) (planner : Planning) (list : List PlanTable) (g frames : ℕ) (v w : Transmitting) (before then : Option (List Sent)) (answer : Result SendTotals SendFault)
-    → IsReady at planner g v → HasFewSlots planner.last → g < length (groups_of planner.last) → AllByRecursion (IsKnownPlan at.station) list → AllByRecursion HasFewSlots list → frames ≤ 1000000
-    → AreSent passes shuts r frames v w before then answer → IsPrefix w.watcher.list list → answer ≢ Err Change
-never_refused passes shuts r at planner list g frames v w before then answer R first inside known small few sent beginning is =
-    never_by passes shuts r at planner list g frames v w before then R first known small few beginning (table_there (groups_of planner.last) g inside) (subst (AreSent passes shuts r frames v w before then) is sent)
+pub never_refused : (gate : GatePoints) (r frames : ℕ) (at : ends.Place) (planner : Planning) (list : List PlanTable) (g : ℕ) (old new : Sending) (answer : Result SendTotals SendFault)
+    → IsReady at planner g old.transmit → HasFewSlots planner.last → g < length (groups_of planner.last) → AllByRecursion (IsKnownPlan at.station) list → AllByRecursion HasFewSlots list → frames ≤ 1000000
+    → AreSent gate r frames old new answer → IsPrefix new.transmit.watcher.list list → answer ≢ Err Change
+never_refused gate r frames at planner list g old new answer R first inside known small few sent beginning is =
+    never_by gate r frames at planner list g old new R first known small few beginning (table_there (groups_of planner.last) g inside) (subst (AreSent gate r frames old new) is sent)
 
 -- ---- one run
 
@@ -147,40 +150,52 @@ working t opened later g p calls heard z wired there published made here seen ac
   agree = λ r inside. subst (Agrees t r (heard r)) made.loads (agree r inside);
 }
 
--- what is known of a station when its workers were taken in: the planner before and after, and the receivers
-pub record IsTakenIn (at : ends.Place) (first last : Planning) (c : Course) (receivers : List ends.ReceiverEnd) : Type 0 where
-  pub opened : first.last ≡ c.opened
-  pub planned : IsPlanOf at.station c.opened
-  pub list : last.list ≡ plans_of (opening at.station c.opened) c.later
-  pub published : ArePublished (opening at.station c.opened) c.later
-  pub known : AllByRecursion (IsKnownPlan at.station) last.list
-  pub wired : IsWired at.station
-  pub accepted : AreHeard 41 at.station (heard_in at.station c)
-  pub meetings : map (meeting_of at.station) receivers ≡ meetings at.station c
-  pub agree : (loads : List Load) → AllByRecursion (λ r. Agrees at.station r.number r.accepted loads) receivers → (r : ℕ) → r < length at.station.receivers → Agrees at.station r (heard_in at.station c r) loads
+-- a station whose workers were taken in: its values, its planner before and after, the course of its run, and its receivers
+pub record TakenIn : Type 0 where
+  pub at : ends.Place
+  pub first : Planning
+  pub last : Planning
+  pub course : Course
+  pub receivers : List ends.ReceiverEnd
 
-module _ (at : ends.Place) (first last : Planning) (c : Course) (receivers : List ends.ReceiverEnd) (K : IsTakenIn at first last c receivers) (g : ℕ) (p : SlotTable) (there : slice_get (groups_of c.opened) g ≡ Some p) where
+-- what is known of it
+pub record IsTakenIn (x : TakenIn) : Type 0 where
+  pub opened : x.first.last ≡ x.course.opened
+  pub planned : IsPlanOf x.at.station x.course.opened
+  pub list : x.last.list ≡ plans_of (opening x.at.station x.course.opened) x.course.later
+  pub published : ArePublished (opening x.at.station x.course.opened) x.course.later
+  pub known : AllByRecursion (IsKnownPlan x.at.station) x.last.list
+  pub wired : IsWired x.at.station
+  pub accepted : AreHeard 41 x.at.station (heard_in x.at.station x.course)
+  pub meetings : map (meeting_of x.at.station) x.receivers ≡ meetings x.at.station x.course
+  pub agree : (loads : List Load) → AllByRecursion (λ r. Agrees x.at.station r.number r.accepted loads) x.receivers → (r : ℕ) → r < length x.at.station.receivers → Agrees x.at.station r (heard_in x.at.station x.course r) loads
+
+module _ (x : TakenIn) (K : IsTakenIn x) (g : ℕ) (p : SlotTable) (there : slice_get (groups_of x.course.opened) g ≡ Some p) where
   -- before its first cell, by the plan of the course
-  begun_so : (v : Transmitting) → IsReady at first g v → StandsForCalls (outset c.opened g p) [] v
+  begun_so : (v : Transmitting) → IsReady x.at x.first g v → StandsForCalls (outset x.course.opened g p) [] v
   begun_so v R =
-      subst (λ (q : PlanTable). StandsForCalls (outset q g p) [] v) K.opened (stands_first at first g v p R (ap (λ (q : PlanTable). slice_get (groups_of q) g) K.opened ∙ there))
+      subst (λ (q : PlanTable). StandsForCalls (outset q g p) [] v) K.opened (stands_first x.at x.first g v p R (ap (λ (q : PlanTable). slice_get (groups_of q) g) K.opened ∙ there))
 
   -- when it was told all plans, and then met the receivers
-  working_on : (w z : Transmitting) (calls : List Call) → w.transmitter.at ≡ at → StandsForCalls (outset c.opened g p) calls (told w last.list) → HasMet at.station receivers (told w last.list) z
-      → IsWorking 41 (opening at.station c.opened) g p c.later (calls ++ meetings at.station c) (heard_in at.station c)
+  working_on : (w z : Transmitting) (calls : List Call) → w.transmitter.at ≡ x.at → StandsForCalls (outset x.course.opened g p) calls (told w x.last.list) → HasMet x.at.station x.receivers (told w x.last.list) z
+      → IsWorking 41 (opening x.at.station x.course.opened) g p x.course.later (calls ++ meetings x.at.station x.course) (heard_in x.at.station x.course)
   working_on w z calls here stands M =
-      let at_station : z.transmitter.at.station ≡ at.station = ap (λ (x : ends.Place). x.station) (M.hub ∙ here) in
-      let list : z.watcher.list ≡ last.list = ap (λ (x : Transmitting). x.watcher.list) M.rest in
-      working at.station c.opened c.later g p (calls ++ meetings at.station c) (heard_in at.station c) z K.wired there K.published
-      (met_stands (outset c.opened g p) calls (meetings at.station c) at.station receivers (told w last.list) z stands M K.meetings (list_known at.station z last.list at_station list K.known))
+      let t = x.at.station in
+      let c = x.course in
+      let at_station : z.transmitter.at.station ≡ t = ap (λ (y : ends.Place). y.station) (M.hub ∙ here) in
+      let list : z.watcher.list ≡ x.last.list = ap (λ (y : Transmitting). y.watcher.list) M.rest in
+      working t c.opened c.later g p (calls ++ meetings t c) (heard_in t c) z K.wired there K.published
+      (met_stands (outset c.opened g p) calls (meetings t c) t x.receivers (told w x.last.list) z stands M K.meetings (list_known t z x.last.list at_station list K.known))
       at_station (list ∙ K.list) K.accepted (K.agree z.transmitter.loads M.agree)
 
   -- what a group did
-  sent_so : {B : Type 0} (taken : B → Option (List Sent)) (frames : ℕ) (v w z : Transmitting) (sink sink' : B) (totals : SendTotals) (calls : List Call)
-      → w.transmitter.at ≡ at → StandsForCalls (outset c.opened g p) calls (told w last.list) → HasMet at.station receivers (told w last.list) z → HasSent v w (taken sink) (taken sink') calls []
-      → totals ≡ totals_of (sent_in calls) w.number → AreWhole frames calls w.frame → IsSentIn taken frames at.station c g sink sink' totals
-  sent_so taken frames v w z sink sink' totals calls here stands M H counted whole =
-      let made : HasMade (outset c.opened g p) calls (told w last.list) = stands (list_known at.station (told w last.list) last.list (ap (λ (x : ends.Place). x.station) here) refl K.known) in
+  sent_so : {B : Type 0} (sink : BusSink.Ghosts B) (frames : ℕ) (old new : Emitting B) (z : Transmitting) (totals : SendTotals) (calls : List Call)
+      → new.transmit.transmitter.at ≡ x.at → StandsForCalls (outset x.course.opened g p) calls (told new.transmit x.last.list) → HasMet x.at.station x.receivers (told new.transmit x.last.list) z
+      → HasSent old.transmit new.transmit (sink.taken old.sink) (sink.taken new.sink) calls []
+      → totals ≡ totals_of (sent_in calls) new.transmit.number → AreWhole frames calls new.transmit.frame → IsSentIn sink.taken frames x.at.station x.course g old.sink new.sink totals
+  sent_so sink frames old new z totals calls here stands M H counted whole =
+      let w = new.transmit in
+      let made : HasMade (outset x.course.opened g p) calls (told w x.last.list) = stands (list_known x.at.station (told w x.last.list) x.last.list (ap (λ (y : ends.Place). y.station) here) refl K.known) in
       record {
         table = p;
         calls = calls;
@@ -191,11 +206,13 @@ module _ (at : ends.Place) (first last : Planning) (c : Course) (receivers : Lis
         counted = counted ∙ ap (totals_of (sent_in calls)) made.at.number;
       }
 
-pub group_ran : {B : Type 0} (passes shuts : Point → Type 0) (r : ℕ) (taken : B → Option (List Sent)) (at : ends.Place) (first last : Planning) (c : Course) (receivers : List ends.ReceiverEnd) (frames g : ℕ) (v w : Transmitting) (sink sink' : B) (totals : SendTotals)
-    → IsTakenIn at first last c receivers → IsReady at first g v → AreSent passes shuts r frames v w (taken sink) (taken sink') (Ok totals) → IsJoined at.station last.list receivers w
-    → IsSentIn taken frames at.station c g sink sink' totals
-group_ran passes shuts r taken at first last c receivers frames g v w sink sink' totals K R S J =
-    let hit = table_there (groups_of c.opened) g (subst (λ (n : ℕ). g < n) (sym K.planned.count) R.inside) in
-    let b = outset c.opened g hit.0 in
-    sent_so at first last c receivers K g hit.0 hit.1 taken frames v w J.end sink sink' totals S.0 (same_hub at first g v w R S.1.same)
-    (told_stands b S.0 v w (taken sink) (taken sink') last.list (begun_so at first last c receivers K g hit.0 hit.1 v R) S.1 J.stands) J.met S.1 S.2 S.3
+pub group_ran : {B : Type 0} (sink : BusSink.Ghosts B) (gate : GatePoints) (r : ℕ) (x : TakenIn) (frames g : ℕ) (old new : Emitting B) (totals : SendTotals)
+    → IsTakenIn x → IsReady x.at x.first g old.transmit → AreAllSent gate r frames (sending old.transmit (sink.taken old.sink)) (sending new.transmit (sink.taken new.sink)) totals
+    → IsJoined x.at.station x.last.list x.receivers new.transmit → IsSentIn sink.taken frames x.at.station x.course g old.sink new.sink totals
+group_ran sink gate r x frames g old new totals K R S J =
+    let v = old.transmit in
+    let w = new.transmit in
+    let hit = table_there (groups_of x.course.opened) g (subst (λ (n : ℕ). g < n) (sym K.planned.count) R.inside) in
+    let b = outset x.course.opened g hit.0 in
+    sent_so x K g hit.0 hit.1 sink frames old new J.end totals S.calls (same_hub x.at x.first g v w R S.sent.same)
+    (told_stands b S.calls v w (sink.taken old.sink) (sink.taken new.sink) x.last.list (begun_so x K g hit.0 hit.1 v R) S.sent J.stands) J.met S.sent S.counted S.whole

@@ -1,15 +1,17 @@
 -- Why a run did not come to its end.
-use Rattle.std.proofs.Common.{◌≡◌, ℕ, suc, Bool, List, [], ◌∷◌, inl, inr, refl, subst, sym}
+use Rattle.std.proofs.Common.{◌≡◌, ℕ, suc, List, [], ◌∷◌, inl, inr, refl, subst, sym}
 use Rattle.std.specs.Prelude.{Option, Some, None, Result, Ok, Err, IfErr, slice_get}
 use Rattle.std.proofs.lemmas.Option.{none-some, same_Some}
-use Rattle.a429_equipment.specs.TableRecord.{TableRecord}
 use Rattle.a429_slots.specs.declared.planner.PlanFault.{PlanFault}
+use Rattle.a429_filter.specs.declared.sources.LineSource as LineSource
+use Rattle.a429_workers.specs.declared.sinks.BusSink as BusSink
 use Rattle.a429_workers.specs.declared.gates.Point.{Point}
 use Rattle.a429_workers.specs.declared.receiving.ReceiveFault.{ReceiveFault}
 use Rattle.a429_workers.specs.declared.receiving.ReceiveFault.TheVariants as receive
 use Rattle.a429_workers.specs.declared.sending.SendFault.{SendFault}
 use Rattle.a429_workers.specs.declared.sending.SendFault.TheVariants as send
-use Rattle.a429_workers.specs.Gates.{point_after_cell, point_after_word, point_before_cell, point_before_word}
+use Rattle.a429_workers.specs.Gates.{GatePoints, point_after_cell, point_after_word, point_before_cell, point_before_word}
+use Rattle.a429_station.specs.Course.{RunAsk}
 use Rattle.a429_station.specs.Faults.{CanStart, EndsGroup, EndsLine, HasStopped, IsFirst, IsLiveFault, IsRunFault, first_fault}
 use Rattle.a429_station.specs.Numbered.{AllOfTwo}
 use Rattle.a429_station.specs.declared.faults.LiveFault.{LiveFault}
@@ -39,27 +41,27 @@ first_found P (x ∷ xs) (Err fault ∷ answers) why all is =
     record { place = 0; item = x; there = refl; holds = subst (λ e. P 0 x (Err e)) (same_Some fault why is) all.0 }
 
 -- a gate ended the run at a point at which it may end a loop
-module _ {L B : Type 0} (gives : L → List ℕ → L → Type 0) (ended : L → Bool) (failed : L → ℕ) (failed_sink : B → ℕ) (passes shuts : Point → Type 0) (sources : List L) (sinks : List B) where
-  of_line : HasFault (EndsLine gives ended failed passes shuts) sources receive.Gate → (at : Point) × shuts at
+module _ {L B : Type 0} (source : LineSource.Ghosts L) (sink : BusSink.Ghosts B) (gate : GatePoints) (ask : RunAsk L B) where
+  of_line : HasFault (EndsLine source gate) ask.sources receive.Gate → (at : Point) × gate.shuts at
   of_line F = elim F.holds.gated [
     | inl before ↦ (point_before_word F.place F.holds.taken, before.1.shut)
-    | inr after ↦ (point_after_word F.place after.0, after.3.shut)
+    | inr after ↦ (point_after_word F.place after.last, after.ended.shut)
   ]
 
-  of_sink : HasFault (EndsGroup failed_sink passes shuts) sinks send.Gate → (at : Point) × shuts at
+  of_sink : HasFault (EndsGroup sink gate) ask.sinks send.Gate → (at : Point) × gate.shuts at
   of_sink F = elim F.holds.gated [
     | inl before ↦ (point_before_cell F.place F.holds.taken, before.shut)
     | inr after ↦ (point_after_cell F.place after.0, after.2.shut)
   ]
 
-  pub shut_somewhere : HasStopped gives ended failed failed_sink passes shuts sources sinks Gate → (at : Point) × shuts at
+  pub shut_somewhere : HasStopped source sink gate ask Gate → (at : Point) × gate.shuts at
   shut_somewhere S = by (first_fault S.heard) (first_fault S.sent) refl refl S.first
     where
-      by : (x : Option ReceiveFault) (y : Option SendFault) → first_fault S.heard ≡ x → first_fault S.sent ≡ y → IsFirst x y Gate → (at : Point) × shuts at
-      by (Some receive.Gate) y heard sent h = of_line (first_found (EndsLine gives ended failed passes shuts) sources S.heard receive.Gate S.lines heard)
+      by : (x : Option ReceiveFault) (y : Option SendFault) → first_fault S.heard ≡ x → first_fault S.sent ≡ y → IsFirst x y Gate → (at : Point) × gate.shuts at
+      by (Some receive.Gate) y heard sent h = of_line (first_found (EndsLine source gate) ask.sources S.heard receive.Gate S.lines heard)
       by (Some receive.Source) y heard sent h = absurd (cc h)
       by (Some receive.TooMuch) y heard sent h = absurd (cc h)
-      by None (Some send.Gate) heard sent h = of_sink (first_found (EndsGroup failed_sink passes shuts) sinks S.sent send.Gate S.groups sent)
+      by None (Some send.Gate) heard sent h = of_sink (first_found (EndsGroup sink gate) ask.sinks S.sent send.Gate S.groups sent)
       by None (Some send.Sink) heard sent h = absurd (cc h)
       by None (Some send.Change) heard sent h = absurd h
       by None None heard sent h = absurd (cc h)
@@ -76,13 +78,13 @@ never_plan why None (Some send.Gate) h = absurd (cc h)
 never_plan why None (Some send.Change) h = h
 never_plan why None None h = absurd (cc h)
 
-module _ {L B : Type 0} (idle : Type 0) (gives : L → List ℕ → L → Type 0) (ended : L → Bool) (failed : L → ℕ) (failed_sink : B → ℕ) (passes shuts : Point → Type 0) (t : TableRecord) (frames : ℕ) (sources : List L) (sinks : List B) (start : CanStart t frames) where
-  stopped : (fault : LiveFault) → (fault ≡ NoMemory → ⊥) → (fault ≡ Join → ⊥) → IsRunFault idle gives ended failed failed_sink passes shuts sources sinks fault → HasStopped gives ended failed failed_sink passes shuts sources sinks fault
+module _ {L B : Type 0} (idle : Type 0) (source : LineSource.Ghosts L) (sink : BusSink.Ghosts B) (gate : GatePoints) (ask : RunAsk L B) (start : CanStart ask.table ask.frames) where
+  stopped : (fault : LiveFault) → (fault ≡ NoMemory → ⊥) → (fault ≡ Join → ⊥) → IsRunFault idle source sink gate ask fault → HasStopped source sink gate ask fault
   stopped fault some other (inl none) = absurd (some none.0)
   stopped fault some other (inr (inl join)) = absurd (other join)
   stopped fault some other (inr (inr stop)) = stop
 
-  pub live_fault : (fault : LiveFault) → IsRunFault idle gives ended failed failed_sink passes shuts sources sinks fault → IsLiveFault idle gives ended failed failed_sink passes shuts t frames sources sinks fault
+  pub live_fault : (fault : LiveFault) → IsRunFault idle source sink gate ask fault → IsLiveFault idle source sink gate ask fault
   live_fault (Plan why) h = let S = stopped (Plan why) (λ e. absurd (cc e)) (λ e. absurd (cc e)) h in absurd (never_plan why _ _ S.first)
   live_fault TooMuch h = inr (start, stopped TooMuch (λ e. absurd (cc e)) (λ e. absurd (cc e)) h)
   live_fault Source h = (start, stopped Source (λ e. absurd (cc e)) (λ e. absurd (cc e)) h)
@@ -93,5 +95,5 @@ module _ {L B : Type 0} (idle : Type 0) (gives : L → List ℕ → L → Type 0
   live_fault NoMemory (inr (inl join)) = absurd (cc join)
   live_fault NoMemory (inr (inr stop)) = (start, inr stop)
 
-  pub no_memory : idle → (fault : LiveFault) → fault ≡ NoMemory → IsLiveFault idle gives ended failed failed_sink passes shuts t frames sources sinks fault
-  no_memory still fault is = subst (IsLiveFault idle gives ended failed failed_sink passes shuts t frames sources sinks) (sym is) (start, inl still)
+  pub no_memory : idle → (fault : LiveFault) → fault ≡ NoMemory → IsLiveFault idle source sink gate ask fault
+  no_memory still fault is = subst (IsLiveFault idle source sink gate ask) (sym is) (start, inl still)

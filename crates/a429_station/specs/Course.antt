@@ -5,6 +5,7 @@ use Rattle.a429_equipment.specs.TableRecord.{TableRecord}
 use Rattle.a429_equipment.specs.Receiving.{accepted_after}
 use Rattle.a429_equipment.specs.Agreement.{loads_of_all}
 use Rattle.a429_equipment.specs.Sound.{HaveOwnSources}
+use Rattle.a429_filter.specs.declared.sources.LineSource as LineSource
 use Rattle.a429_slots.specs.Tables.{SlotTable, PlanTable}
 use Rattle.a429_slots.specs.Planned.{IsPlanOf}
 use Rattle.a429_slots.specs.Proposed.{Proposed}
@@ -12,15 +13,17 @@ use Rattle.a429_slots.specs.Spacing.{IsOwnPlan}
 use Rattle.a429_values.specs.Ends as ends
 use Rattle.a429_workers.specs.Calls.{Call, Meets}
 use Rattle.a429_workers.specs.Receives as receives
-use Rattle.a429_workers.specs.Receives.{answers_to}
+use Rattle.a429_workers.specs.Receives.{Gives, answers_to}
 use Rattle.a429_workers.specs.Runs.{IsWorking, led_to}
 use Rattle.a429_workers.specs.Sends as sends
 use Rattle.a429_workers.specs.Sends.{AreWhole, is_send, sent_in, with_cells}
 use Rattle.a429_workers.specs.declared.cells.Sent.{Sent}
 use Rattle.a429_workers.specs.declared.receiving.ReceiveTotals.{ReceiveTotals}
 use Rattle.a429_workers.specs.declared.sending.SendTotals.{SendTotals}
+use Rattle.a429_workers.specs.declared.sinks.BusSink as BusSink
 use Rattle.a429_station.specs.Numbered.{AllOfThree}
 use Rattle.a429_station.specs.Resubmitting.{IsDoneBetween, Running, opening}
+use Rattle.a429_station.specs.declared.control.Control as Control
 use Rattle.a429_station.specs.declared.reports.Report.{Report}
 
 -- the plan that the run began with, the proposals that were published meanwhile, in order, and the raw words that came to each receiver
@@ -72,19 +75,32 @@ pub record IsSentIn {B : Type 0} (taken : B → Option (List Sent)) (frames : �
 
 -- ---- the station
 
+-- what a run is asked: to send so many frames of each group of this table, with a source for each receiver's line and a sink for each group
+pub record RunAsk (L B : Type 0) : Type 0 where
+  pub table : TableRecord
+  pub frames : ℕ
+  pub sources : List L
+  pub sinks : List B
+
+abbrev pub asked : {L B : Type 0} → TableRecord → ℕ → List L → List B → RunAsk L B
+asked table frames sources sinks = record { table = table; frames = frames; sources = sources; sinks = sinks }
+
 -- The station ran by a plan of its own table, and by plans of their own tables that were published meanwhile. Receivers and groups go by their
 -- numbers, which are their places in the table.
-pub record HasRun {L B : Type 0} (gives : L → List ℕ → L → Type 0) (ended : L → Bool) (taken : B → Option (List Sent)) (t : TableRecord) (frames : ℕ) (sources : List L) (sinks : List B) (report : Report L B) : Type 0 where
+pub record HasRun {L B : Type 0} (source : LineSource.Ghosts L) (sink : BusSink.Ghosts B) (ask : RunAsk L B) (report : Report L B) : Type 0 where
   pub course : Course
-  pub planned : IsPlanOf t course.opened
-  pub own_sources : AllByRecursion HaveOwnSources t.outputs
+  pub planned : IsPlanOf ask.table course.opened
+  pub own_sources : AllByRecursion HaveOwnSources ask.table.outputs
   pub own_plans : AllByRecursion IsOwnPlan course.later
-  pub few : frames ≤ 1000000
-  pub heard : AllOfThree (IsHeardIn gives ended t course) sources report.sources.items report.receivers.items
-  pub sent : AllOfThree (IsSentIn taken frames t course) sinks report.sinks.items report.groups.items
+  pub few : ask.frames ≤ 1000000
+  pub heard : AllOfThree (IsHeardIn (Gives source.given source.left) source.ended ask.table course) ask.sources report.sources.items report.receivers.items
+  pub sent : AllOfThree (IsSentIn sink.taken ask.frames ask.table course) ask.sinks report.sinks.items report.groups.items
 
--- such a run beside a control, which tells what it did, from what it was to what it is: that was done to the station meanwhile
-abbrev pub HasRunBeside : {K L B : Type 0} → (K → Running → Running → K → Type 0) → K → K → (L → List ℕ → L → Type 0) → (L → Bool) → (B → Option (List Sent)) → TableRecord → ℕ → List L → List B → Report L B → Type 0
-HasRunBeside did before after gives ended taken t frames sources sinks report =
-    (ran : HasRun gives ended taken t frames sources sinks report)
-    × IsDoneBetween (λ begin end. did before begin end after) t ran.course.opened ran.course.later
+-- what a control tells that it did to a station, from what it was itself to what it is
+abbrev pub done_by : {K R : Type 0} → Control.Ghosts K R → K → K → Running → Running → Type 0
+done_by control before after begin end = control.did before begin end after
+
+-- such a run beside a control: what it did was done to the station meanwhile
+abbrev pub HasRunBeside : {L B : Type 0} → (Running → Running → Type 0) → LineSource.Ghosts L → BusSink.Ghosts B → RunAsk L B → Report L B → Type 0
+HasRunBeside did source sink ask report =
+    (ran : HasRun source sink ask report) × IsDoneBetween did ask.table ran.course.opened ran.course.later

@@ -1,19 +1,21 @@
 -- Why a station did not run, or not to its end: the faults of its plan and of its workers.
-use Rattle.std.specs.Prelude.{◌≡◌, ◌<◌, ◌≤◌, List, [], ◌∷◌, ◌⊎◌, ⊤, ℕ, Bool, true, Option, Some, None, Result, Ok, Err, OnOk, length}
+use Rattle.std.specs.Prelude.{◌≡◌, ◌<◌, ◌≤◌, List, [], ◌∷◌, ◌⊎◌, ⊤, ℕ, true, Option, Some, None, Result, Ok, Err, OnOk, length}
 use Rattle.a429_equipment.specs.TableRecord.{TableRecord}
+use Rattle.a429_filter.specs.declared.sources.LineSource as LineSource
 use Rattle.a429_slots.specs.Tables.{PlanTable}
 use Rattle.a429_slots.specs.Planned.{IsPlanOf}
 use Rattle.a429_slots.specs.Faults.{IsFaultOf}
-use Rattle.a429_workers.specs.Gates.{IsGatedGroup, IsGatedLine}
-use Rattle.a429_workers.specs.Receives.{source_failures}
+use Rattle.a429_workers.specs.Gates.{GatePoints, IsGatedGroup, IsGatedLine}
+use Rattle.a429_workers.specs.Receives.{Gives, source_failures}
 use Rattle.a429_workers.specs.Sends.{sink_failures}
-use Rattle.a429_workers.specs.declared.gates.Point.{Point}
 use Rattle.a429_workers.specs.declared.receiving.ReceiveTotals.{ReceiveTotals}
 use Rattle.a429_workers.specs.declared.receiving.ReceiveFault.{ReceiveFault}
 use Rattle.a429_workers.specs.declared.receiving.ReceiveFault.TheVariants as receive
+use Rattle.a429_workers.specs.declared.sinks.BusSink as BusSink
 use Rattle.a429_workers.specs.declared.sending.SendTotals.{SendTotals}
 use Rattle.a429_workers.specs.declared.sending.SendFault.{SendFault}
 use Rattle.a429_workers.specs.declared.sending.SendFault.TheVariants as send
+use Rattle.a429_station.specs.Course.{RunAsk}
 use Rattle.a429_station.specs.Numbered.{AllOfTwo}
 use Rattle.a429_station.specs.declared.faults.LiveFault.{LiveFault}
 use Rattle.a429_station.specs.declared.faults.LiveFault.TheVariants as live
@@ -55,23 +57,23 @@ GaveTooMuch words (Ok totals) = ⊤
 -- The source of receiver r's line gave words until the loop of that receiver ended with this answer, at the point of the gate to which it had come.
 -- Where the answer is Ok the source was at its end; its count of failures rose where it is Source, as far as 64 bits count, and stayed where it is
 -- another.
-pub record EndsLine {L : Type 0} (gives : L → List ℕ → L → Type 0) (ended : L → Bool) (failed : L → ℕ) (passes shuts : Point → Type 0) (r : ℕ) (before : L) (answer : Result ReceiveTotals ReceiveFault) : Type 0 where
+pub record EndsLine {L : Type 0} (source : LineSource.Ghosts L) (gate : GatePoints) (r : ℕ) (before : L) (answer : Result ReceiveTotals ReceiveFault) : Type 0 where
   pub after : L
   pub words : List ℕ
-  pub gave : gives before words after
-  pub at_end : OnOk answer (ended after ≡ true)
-  pub failures : failed after ≡ source_failures (failed before) answer
+  pub gave : Gives source.given source.left before words after
+  pub at_end : OnOk answer (source.ended after ≡ true)
+  pub failures : source.failed after ≡ source_failures (source.failed before) answer
   pub many : GaveTooMuch words answer
   pub taken : ℕ
-  pub gated : IsGatedLine passes shuts r (length words) taken answer
+  pub gated : IsGatedLine gate r (length words) taken answer
 
 -- The sink of group g was there until the group's loop ended with this answer, at the point of the gate to which it had come. Its count of failures
 -- rose where the answer is Sink, as far as 64 bits count, and stayed where it is another.
-pub record EndsGroup {B : Type 0} (failed : B → ℕ) (passes shuts : Point → Type 0) (g : ℕ) (before : B) (answer : Result SendTotals SendFault) : Type 0 where
+pub record EndsGroup {B : Type 0} (sink : BusSink.Ghosts B) (gate : GatePoints) (g : ℕ) (before : B) (answer : Result SendTotals SendFault) : Type 0 where
   pub after : B
-  pub failures : failed after ≡ sink_failures (failed before) answer
+  pub failures : sink.failed after ≡ sink_failures (sink.failed before) answer
   pub taken : ℕ
-  pub gated : IsGatedGroup passes shuts g taken answer
+  pub gated : IsGatedGroup gate g taken answer
 
 -- ---- of a run
 
@@ -82,27 +84,26 @@ pub record CanStart (t : TableRecord) (frames : ℕ) : Type 0 where
   pub few : frames ≤ 1000000
 
 -- the loops of all receivers and groups ended, and the fault is the first of theirs, or want of memory where none has one
-pub record HasStopped {L B : Type 0} (gives : L → List ℕ → L → Type 0) (ended : L → Bool) (failed : L → ℕ) (failed_sink : B → ℕ) (passes shuts : Point → Type 0) (sources : List L) (sinks : List B) (fault : LiveFault) : Type 0 where
+pub record HasStopped {L B : Type 0} (source : LineSource.Ghosts L) (sink : BusSink.Ghosts B) (gate : GatePoints) (ask : RunAsk L B) (fault : LiveFault) : Type 0 where
   pub heard : List (Result ReceiveTotals ReceiveFault)
   pub sent : List (Result SendTotals SendFault)
-  pub lines : AllOfTwo (EndsLine gives ended failed passes shuts) sources heard
-  pub groups : AllOfTwo (EndsGroup failed_sink passes shuts) sinks sent
+  pub lines : AllOfTwo (EndsLine source gate) ask.sources heard
+  pub groups : AllOfTwo (EndsGroup sink gate) ask.sinks sent
   pub first : IsFirst (first_fault heard) (first_fault sent) fault
 
 -- why a run has no report: memory was refused while the run was idle, before its control began; or a thread could not be started or taken in; or all
 -- loops ended, and it is the first fault
-abbrev pub IsRunFault : {L B : Type 0} → Type 0 → (L → List ℕ → L → Type 0) → (L → Bool) → (L → ℕ) → (B → ℕ) → (Point → Type 0) → (Point → Type 0) → List L → List B → LiveFault → Type 0
-IsRunFault idle gives ended failed failed_sink passes shuts sources sinks fault =
-    ((fault ≡ live.NoMemory) × idle) ⊎ ((fault ≡ live.Join) ⊎ HasStopped gives ended failed failed_sink passes shuts sources sinks fault)
+abbrev pub IsRunFault : {L B : Type 0} → Type 0 → LineSource.Ghosts L → BusSink.Ghosts B → GatePoints → RunAsk L B → LiveFault → Type 0
+IsRunFault idle source sink gate ask fault = ((fault ≡ live.NoMemory) × idle) ⊎ ((fault ≡ live.Join) ⊎ HasStopped source sink gate ask fault)
 
 -- why a station of this table did not run, or not to its end, or has no report
-abbrev pub IsLiveFault : {L B : Type 0} → Type 0 → (L → List ℕ → L → Type 0) → (L → Bool) → (L → ℕ) → (B → ℕ) → (Point → Type 0) → (Point → Type 0) → TableRecord → ℕ → List L → List B → LiveFault → Type 0
-IsLiveFault idle gives ended failed failed_sink passes shuts t frames sources sinks (live.Plan why) = IsFaultOf t why
-IsLiveFault idle gives ended failed failed_sink passes shuts t frames sources sinks live.TooMuch =
-    ((plan : PlanTable) × IsPlanOf t plan × (1000000 < frames)) ⊎ (CanStart t frames × HasStopped gives ended failed failed_sink passes shuts sources sinks live.TooMuch)
-IsLiveFault idle gives ended failed failed_sink passes shuts t frames sources sinks live.Source = CanStart t frames × HasStopped gives ended failed failed_sink passes shuts sources sinks live.Source
-IsLiveFault idle gives ended failed failed_sink passes shuts t frames sources sinks live.Gate = CanStart t frames × HasStopped gives ended failed failed_sink passes shuts sources sinks live.Gate
-IsLiveFault idle gives ended failed failed_sink passes shuts t frames sources sinks live.Sink = CanStart t frames × HasStopped gives ended failed failed_sink passes shuts sources sinks live.Sink
-IsLiveFault idle gives ended failed failed_sink passes shuts t frames sources sinks live.Join = CanStart t frames
-IsLiveFault idle gives ended failed failed_sink passes shuts t frames sources sinks live.NoMemory =
-    CanStart t frames × (idle ⊎ HasStopped gives ended failed failed_sink passes shuts sources sinks live.NoMemory)
+abbrev pub IsLiveFault : {L B : Type 0} → Type 0 → LineSource.Ghosts L → BusSink.Ghosts B → GatePoints → RunAsk L B → LiveFault → Type 0
+IsLiveFault idle source sink gate ask (live.Plan why) = IsFaultOf ask.table why
+IsLiveFault idle source sink gate ask live.TooMuch =
+    ((plan : PlanTable) × IsPlanOf ask.table plan × (1000000 < ask.frames)) ⊎ (CanStart ask.table ask.frames × HasStopped source sink gate ask live.TooMuch)
+IsLiveFault idle source sink gate ask live.Source = CanStart ask.table ask.frames × HasStopped source sink gate ask live.Source
+IsLiveFault idle source sink gate ask live.Gate = CanStart ask.table ask.frames × HasStopped source sink gate ask live.Gate
+IsLiveFault idle source sink gate ask live.Sink = CanStart ask.table ask.frames × HasStopped source sink gate ask live.Sink
+IsLiveFault idle source sink gate ask live.Join = CanStart ask.table ask.frames
+IsLiveFault idle source sink gate ask live.NoMemory =
+    CanStart ask.table ask.frames × (idle ⊎ HasStopped source sink gate ask live.NoMemory)

@@ -1,5 +1,7 @@
 pub mod Course
 pub mod Faults
+pub mod Lending
 pub mod Numbered
 pub mod Resubmitting
 pub mod Working
+pub mod Workers

@@ -1,19 +1,19 @@
 -- What the workers of a running station do.
-use Rattle.std.specs.Prelude.{◌≡◌, ◌≢◌, ◌<◌, [], ℕ, Bool, true, List, Option, Result, Err, OnOk, length, map}
+use Rattle.std.specs.Prelude.{◌≡◌, ◌≢◌, ◌<◌, [], ℕ, true, List, Result, Err, OnOk, length, map}
 use Rattle.std.specs.List.{AllByRecursion}
 use mathlib.Core.List.{IsPrefix}
+use Rattle.a429_filter.specs.declared.sources.LineSource as LineSource
 use Rattle.a429_values.specs.Ends as ends
 use Rattle.a429_equipment.specs.TableRecord.{TableRecord}
 use Rattle.a429_equipment.specs.Agreement.{Agrees, loads_of_all}
 use Rattle.a429_slots.specs.Tables.{PlanTable}
 use Rattle.a429_board.specs.Lists.{Planning, beginner}
 use Rattle.a429_workers.specs.Calls.{Call, Meets}
-use Rattle.a429_workers.specs.Gates.{AreGated}
-use Rattle.a429_workers.specs.Receives.{AreTaken, source_failures}
-use Rattle.a429_workers.specs.Sends.{AreSent, sink_failures}
+use Rattle.a429_workers.specs.Gates.{AreGated, GatePoints, Listening}
+use Rattle.a429_workers.specs.Receives.{AreTaken, Gives, source_failures}
+use Rattle.a429_workers.specs.Sends.{AreSent, sending, sink_failures}
 use Rattle.a429_workers.specs.Transmitting.{Transmitting, BeginsWith, GoesOnByCalls}
-use Rattle.a429_workers.specs.declared.cells.Sent.{Sent}
-use Rattle.a429_workers.specs.declared.gates.Point.{Point}
+use Rattle.a429_workers.specs.declared.sinks.BusSink as BusSink
 use Rattle.a429_workers.specs.declared.receiving.ReceiveTotals.{ReceiveTotals}
 use Rattle.a429_workers.specs.declared.receiving.ReceiveFault.{ReceiveFault}
 use Rattle.a429_workers.specs.declared.sending.SendTotals.{SendTotals}
@@ -24,13 +24,13 @@ use Rattle.a429_workers.specs.declared.sending.SendFault.TheVariants.{Change}
 
 -- The line gave words, the receiver took them, each between two points of the gate, and the answer says how many and why it ended; where it is Ok the
 -- line's last call answered the end.
-pub record HasReceived {L : Type 0} (gives : L → List ℕ → L → Type 0) (ended : L → Bool) (failed : L → ℕ) (passes shuts : Point → Type 0) (r : ℕ) (line : L) (receiver : ends.ReceiverEnd) (line' : L) (receiver' : ends.ReceiverEnd) (answer : Result ReceiveTotals ReceiveFault) : Type 0 where
+pub record HasReceived {L : Type 0} (source : LineSource.Ghosts L) (gate : GatePoints) (r : ℕ) (old new : Listening L) (answer : Result ReceiveTotals ReceiveFault) : Type 0 where
   pub words : List ℕ
-  pub gave : gives line words line'
-  pub taken : AreTaken words answer receiver receiver'
-  pub gated : AreGated passes shuts r words answer receiver receiver'
-  pub at_end : OnOk answer (ended line' ≡ true)
-  pub failures : failed line' ≡ source_failures (failed line) answer
+  pub gave : Gives source.given source.left old.line words new.line
+  pub taken : AreTaken words answer old.receiver new.receiver
+  pub gated : AreGated gate r words answer old.receiver new.receiver
+  pub at_end : OnOk answer (source.ended new.line ≡ true)
+  pub failures : source.failed new.line ≡ source_failures (source.failed old.line) answer
 
 -- receiver k of the hub
 abbrev pub IsReceiverAt : ends.Place → ℕ → ends.ReceiverEnd → Type 0
@@ -45,10 +45,18 @@ pub record IsReady (at : ends.Place) (p : Planning) (g : ℕ) (v : Transmitting)
   pub watcher : v.watcher ≡ beginner p
   pub begins : BeginsWith v.transmitter v.watcher 0 v
 
--- the group sent its frames, or fewer, and the sink took cells, each between two points of the gate
-pub record HasEmitted {B : Type 0} (taken : B → Option (List Sent)) (failed : B → ℕ) (passes shuts : Point → Type 0) (g frames : ℕ) (old : Transmitting) (sink : B) (new : Transmitting) (sink' : B) (answer : Result SendTotals SendFault) : Type 0 where
-  pub sent : AreSent passes shuts g frames old new (taken sink) (taken sink') answer
-  pub failures : failed sink' ≡ sink_failures (failed sink) answer
+-- a transmitter with the sink of its group
+pub record Emitting (B : Type 0) : Type 0 where
+  pub transmit : Transmitting
+  pub sink : B
+
+abbrev pub emitting : {B : Type 0} → Transmitting → B → Emitting B
+emitting transmit sink = record { transmit = transmit; sink = sink }
+
+-- group g sent its frames, or fewer, and the sink took cells, each between two points of the gate
+pub record HasEmitted {B : Type 0} (sink : BusSink.Ghosts B) (gate : GatePoints) (g frames : ℕ) (old new : Emitting B) (answer : Result SendTotals SendFault) : Type 0 where
+  pub sent : AreSent gate g frames (sending old.transmit (sink.taken old.sink)) (sending new.transmit (sink.taken new.sink)) answer
+  pub failures : sink.failed new.sink ≡ sink_failures (sink.failed old.sink) answer
 
 -- the transmitter of a group after its loop: still at the hub and of the board, and its next frame was not refused if its watcher saw published
 -- plans alone

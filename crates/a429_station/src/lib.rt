@@ -10,8 +10,9 @@ mod station;
 mod threads;
 mod working;
 
+pub use a429_equipment::FRAMES;
 pub use control::{Control, NoControl};
 pub use faults::LiveFault;
 pub use reports::Report;
-pub use running::{FRAMES, live};
+pub use running::{live, live_planned};
 pub use station::{ReplanFault, Station};

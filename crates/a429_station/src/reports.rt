@@ -1,9 +1,10 @@
 //! What a station did, from what its workers did.
 ghost use Rattle.std.specs.Prelude.{◌≡◌, ◌⊎◌, Ok, None, Some, IfOk, IfErr, IsTrue, OnOk, is_ok, map, option_map};
 ghost use Rattle.std.specs.List.{AllByRecursion};
-ghost use Rattle.a429_station.specs.Faults.{IsFirst, first_fault, of_receiver};
+ghost use Rattle.a429_station.specs.Faults.{IsFirst, of_receiver};
 ghost use Rattle.a429_station.specs.Numbered.{AllNumbered};
-ghost use Rattle.a429_station.specs.Working.{HasMet, IsJoined, IsOver, IsReceiverAt};
+ghost use Rattle.a429_station.specs.Workers.{AreJoined, groups_fault, receivers_fault};
+ghost use Rattle.a429_station.specs.Working.{HasMet, IsOver, IsReceiverAt};
 ghost use Rattle.a429_station.specs.declared.faults.LiveFault.TheVariants.{NoMemory};
 
 use crate::faults::{LiveFault, group_fault};
@@ -46,8 +47,8 @@ pub(crate) struct Told<B> {
 /// Whether the loops of all receivers came to their ends. The error is the fault of the first that has one. It takes no
 /// memory.
 fn check_receiver_ends<L: Drop>(received: &Vec<Received<L>>) -> Result<(), LiveFault>
-    ensures ended { OnOk result (first_fault (map (λ d. d.answer) received.now.items) ≡ None) }
-    ensures fault { IfErr result (λ f. Some f ≡ option_map of_receiver (first_fault (map (λ d. d.answer) received.now.items))) }
+    ensures ended { OnOk result (receivers_fault received.now.items ≡ None) }
+    ensures fault { IfErr result (λ f. Some f ≡ option_map of_receiver (receivers_fault received.now.items)) }
 {
     for place in 0..received.len() {
         if let Err(fault) = received[place].answer {
@@ -67,8 +68,8 @@ fn check_group_ends<R: Wait, B: Drop>(
     requires groups { AllByRecursion (λ d. IsOver hub.now station.old.planner d.transmit d.answer) sent.old.items }
     ensures station { station.new ≡ station.old }
     ensures same { OnOk result (sent.new.items ≡ sent.old.items) }
-    ensures ended { OnOk result (first_fault (map (λ d. d.answer) sent.old.items) ≡ None) }
-    ensures fault { IfErr result (IsFirst None (first_fault (map (λ d. d.answer) sent.old.items))) }
+    ensures ended { OnOk result (groups_fault sent.old.items ≡ None) }
+    ensures fault { IfErr result (IsFirst None (groups_fault sent.old.items)) }
 {
     let _at = hub;
     for place in 0..sent.len() {
@@ -93,10 +94,10 @@ pub(crate) fn check_all_ends<R: Wait, L: Drop, B: Drop>(
     requires groups { AllByRecursion (λ d. IsOver hub.now station.old.planner d.transmit d.answer) sent.old.items }
     ensures station { station.new ≡ station.old }
     ensures same { OnOk result (sent.new.items ≡ sent.old.items) }
-    ensures receivers { OnOk result (first_fault (map (λ d. d.answer) received.now.items) ≡ None) }
-    ensures groups { OnOk result (first_fault (map (λ d. d.answer) sent.old.items) ≡ None) }
+    ensures receivers { OnOk result (receivers_fault received.now.items ≡ None) }
+    ensures groups { OnOk result (groups_fault sent.old.items ≡ None) }
     ensures control { OnOk result (IsTrue (is_ok answer)) }
-    ensures fault { IfErr result (IsFirst (first_fault (map (λ d. d.answer) received.now.items)) (first_fault (map (λ d. d.answer) sent.old.items))) }
+    ensures fault { IfErr result (IsFirst (receivers_fault received.now.items) (groups_fault sent.old.items)) }
 {
     check_receiver_ends(received)?;
     check_group_ends(hub, station, sent)?;
@@ -112,7 +113,7 @@ pub(crate) fn report_receivers<L: Drop>(
     ensures totals { IfOk result (λ r. map (λ t. Ok t) r.totals.items ≡ map (λ d. d.answer) received.items) }
     ensures sources { IfOk result (λ r. r.sources.items ≡ map (λ d. d.line) received.items) }
     ensures receivers { IfOk result (λ r. r.receivers.items ≡ map (λ d. d.receiver) received.items) }
-    ensures fault { IfErr result (λ f. (f ≡ NoMemory) ⊎ (Some f ≡ option_map of_receiver (first_fault (map (λ d. d.answer) received.items)))) }
+    ensures fault { IfErr result (λ f. (f ≡ NoMemory) ⊎ (Some f ≡ option_map of_receiver (receivers_fault received.items))) }
 {
     let mut totals = Vec::new(alloc);
     let mut sources = Vec::new(alloc);
@@ -162,8 +163,8 @@ pub(crate) fn report_groups<R: Wait, B: Drop>(
     requires groups { AllByRecursion (λ d. IsOver hub.now station.old.planner d.transmit d.answer) sent.items }
     ensures totals { IfOk result (λ r. map (λ t. Ok t) r.totals.items ≡ map (λ d. d.answer) sent.items) }
     ensures sinks { IfOk result (λ r. r.sinks.items ≡ map (λ d. d.sink) sent.items) }
-    ensures joined { IfOk result (λ r. AllByRecursion (λ d. IsJoined hub.now.station station.old.planner.list receivers.old d.transmit) sent.items) }
-    ensures fault { IfErr result (λ f. (f ≡ NoMemory) ⊎ IsFirst None (first_fault (map (λ d. d.answer) sent.items)) f) }
+    ensures joined { OnOk result (AreJoined hub.now.station station.old.planner.list receivers.old sent.items) }
+    ensures fault { IfErr result (λ f. (f ≡ NoMemory) ⊎ IsFirst None (groups_fault sent.items) f) }
 {
     let _at = hub;
     let mut totals = Vec::new(alloc);

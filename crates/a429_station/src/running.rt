@@ -1,16 +1,17 @@
 //! A station that runs: its receivers and groups at once.
-ghost use Rattle.std.specs.Prelude.{◌≡◌, ◌+◌, ◌<◌, ◌≤◌, ◌∷◌, [], length, vec_len, IfOk, IfErr, map};
+ghost use Rattle.std.specs.Prelude.{◌≡◌, ◌+◌, ◌<◌, ◌≤◌, [], length, vec_len, IfOk, IfErr, map};
 ghost use Rattle.std.specs.List.{AllByRecursion};
-ghost use Rattle.a429_workers.specs.Receives.{Gives};
+ghost use Rattle.a429_workers.specs.Gates.{points_of};
+ghost use Rattle.a429_slots.specs.Planned.{IsPlanOf};
 ghost use Rattle.a429_slots.specs.Tables.{groups_of};
 ghost use Rattle.a429_board.specs.Lists.{beginner};
 ghost use Rattle.a429_workers.specs.Runs.{IsWired};
 ghost use Rattle.a429_workers.specs.Transmitting.{BeginsWith};
-ghost use Rattle.a429_station.specs.Course.{HasRun, HasRunBeside, fresh};
+ghost use Rattle.a429_station.specs.Course.{HasRun, HasRunBeside, asked, done_by, fresh};
 ghost use Rattle.a429_station.specs.Faults.{IsLiveFault, IsRunFault};
 ghost use Rattle.a429_station.specs.Numbered.{AllNumbered};
 ghost use Rattle.a429_station.specs.Resubmitting.{HasFewSlots, IsBegun};
-ghost use Rattle.a429_station.specs.Working.{IsReady};
+ghost use Rattle.a429_station.specs.Workers.{AreReady};
 ghost use Rattle.a429_station.specs.declared.faults.LiveFault.TheVariants.{NoMemory};
 
 use crate::control::Control;
@@ -20,22 +21,15 @@ use crate::station::Station;
 use crate::threads::{Ended, run_at_once};
 use crate::working::{GroupWorker, ReceiverWorker, group_worker};
 use a429_board::{Board, Watcher};
-use a429_equipment::Equipment;
 use a429_equipment::laws::{numbers_in_range, sources_apart};
+use a429_equipment::{COUNT_BITS, Equipment, FRAMES, SOURCES};
 use a429_filter::LineSource;
-use a429_slots::plan;
+use a429_slots::{OUTPUTS, Plan, plan};
 use a429_values::{Desk, Hub, HubFault};
 use a429_workers::{BusSink, Gate, OpenFault, Transmit};
 use std::alloc::Global;
 use std::sync::Wait;
 use std::thread::Threads;
-
-/// How many frames a group sends at most in one run (profile).
-pub const FRAMES: u32 = 1000000;
-
-const SOURCES: usize = 256;
-
-const COUNT_BITS: u32 = 41;
 
 pub(crate) type Values = Hub<SOURCES, COUNT_BITS>;
 
@@ -127,7 +121,7 @@ fn groups<'a, R: Wait, B: BusSink + Drop, G: Gate>(
     requires watchers { AllByRecursion (λ w. w ≡ beginner station.now.planner) watchers.items }
     requires enough { vec_len sinks ≤ vec_len watchers }
     ensures sinks { IfOk result (λ workers. map (λ w. w.sink) workers.items ≡ sinks.items) }
-    ensures ready { IfOk result (λ workers. AllNumbered (λ g w. IsReady hub.now station.now.planner g w.transmit × (w.frames ≡ frames)) workers.items) }
+    ensures ready { IfOk result (λ workers. AreReady hub.now station.now.planner frames workers.items) }
     ensures gates { IfOk result (λ workers. AllNumbered (λ g w. (w.number ≡ g) × (w.gate.now ≡ gate.now)) workers.items) }
     ensures fault { IfErr result (λ fault. fault ≡ NoMemory) }
 {
@@ -175,10 +169,10 @@ fn run<
     requires few { frames ≤ 1000000 }
     requires watchers { AllByRecursion (λ w. w ≡ beginner station.old.planner) watchers.items }
     requires enough { vec_len sinks ≤ vec_len watchers }
-    ensures ran { IfOk result (HasRunBeside K.did control.old control.new (Gives L.given L.left) L.ended B.taken
-        hub.now.station frames (map (λ w. w.line) receiving.entry.items) sinks.items) }
-    ensures fault { IfErr result (IsRunFault (control.new ≡ control.old) (Gives L.given L.left) L.ended L.failed B.failed (G.passes gate.now) (G.shuts gate.now)
-        (map (λ w. w.line) receiving.entry.items) sinks.items) }
+    ensures ran { IfOk result (HasRunBeside (done_by K.Control control.old control.new) L.LineSource B.BusSink
+        (asked hub.now.station frames (map (λ w. w.line) receiving.entry.items) sinks.items)) }
+    ensures fault { IfErr result (IsRunFault (control.new ≡ control.old) L.LineSource B.BusSink (points_of G.Gate gate.now)
+        (asked hub.now.station frames (map (λ w. w.line) receiving.entry.items) sinks.items)) }
 {
     let sending = groups(alloc, hub, desk, station, watchers, sinks, frames, gate)?;
     let Ok(done) = run_at_once(rt, alloc, receiving, sending, station, control) else {
@@ -244,15 +238,48 @@ pub fn live<
 ) -> Result<Report<L, B>, LiveFault>
     requires sources { vec_len sources ≡ length equipment.now.receivers }
     requires sinks { vec_len sinks ≡ length equipment.now.groups }
-    ensures ran { IfOk result (HasRun (Gives L.given L.left) L.ended B.taken equipment.now frames sources.items sinks.items) }
-    ensures told { IfOk result (HasRunBeside K.did control.old control.new (Gives L.given L.left) L.ended B.taken
-        equipment.now frames sources.items sinks.items) }
-    ensures fault { IfErr result (IsLiveFault (control.new ≡ control.old) (Gives L.given L.left) L.ended L.failed B.failed (G.passes gate.now) (G.shuts gate.now)
-        equipment.now frames sources.items sinks.items) }
+    ensures ran { IfOk result (HasRun L.LineSource B.BusSink (asked equipment.now frames sources.items sinks.items)) }
+    ensures told { IfOk result (HasRunBeside (done_by K.Control control.old control.new) L.LineSource B.BusSink
+        (asked equipment.now frames sources.items sinks.items)) }
+    ensures fault { IfErr result (IsLiveFault (control.new ≡ control.old) L.LineSource B.BusSink (points_of G.Gate gate.now)
+        (asked equipment.now frames sources.items sinks.items)) }
+{
+    numbers_in_range(equipment);
+    let plan = plan(alloc, equipment)?;
+    live_planned(
+        rt, alloc, equipment, plan, sources, sinks, frames, gate, control,
+    )
+}
+
+/// Runs a station as `live` does, by a plan of its equipment that was made before.
+pub fn live_planned<
+    R: Threads + Wait,
+    L: LineSource + Send + Drop,
+    B: BusSink + Send + Drop,
+    G: Gate + Sync,
+    K: Control<R>,
+>(
+    rt: &R,
+    alloc: Global,
+    equipment: &Equipment,
+    plan: Plan<OUTPUTS>,
+    sources: Vec<L>,
+    sinks: Vec<B>,
+    frames: u32,
+    gate: &G,
+    control: &mut K,
+) -> Result<Report<L, B>, LiveFault>
+    requires sources { vec_len sources ≡ length equipment.now.receivers }
+    requires planned { IsPlanOf equipment.now plan }
+    requires sinks { vec_len sinks ≡ length equipment.now.groups }
+    ensures ran { IfOk result (HasRun L.LineSource B.BusSink (asked equipment.now frames sources.items sinks.items)) }
+    ensures told { IfOk result (HasRunBeside (done_by K.Control control.old control.new) L.LineSource B.BusSink
+        (asked equipment.now frames sources.items sinks.items)) }
+    ensures fault { IfErr result (IsLiveFault (control.new ≡ control.old) L.LineSource B.BusSink (points_of G.Gate gate.now)
+        (asked equipment.now frames sources.items sinks.items)) }
 {
     numbers_in_range(equipment);
     sources_apart(equipment);
-    let plan = plan(alloc, equipment)?;
     if frames > FRAMES {
         return Err(LiveFault::TooMuch);
     }

@@ -1,5 +1,6 @@
 //! A running station, and plans for it.
-ghost use Rattle.std.specs.Prelude.{◌≡◌, ◌∷◌, [], true, IfOk, IfErr, OnErr};
+ghost use Rattle.std.specs.Prelude.{◌≡◌, ◌∷◌, [], true, Ok, IfOk, IfErr, OnErr};
+ghost use Rattle.a429_table.specs.Reading.{reading};
 ghost use Rattle.a429_equipment.specs.SameStation.{same_station};
 ghost use Rattle.a429_slots.specs.Planned.{IsPlanOf};
 ghost use Rattle.a429_board.specs.Lists.{Planning};
@@ -86,19 +87,21 @@ impl From<BoardFault> for ReplanFault {
     }
 }
 
-/// The plan of a table of this station.
-fn plan_of_table(
+/// The plan of an equipment of this station, which the table states.
+fn plan_of_read(
     alloc: Global,
     station: &Equipment,
     table: &[u8],
+    equipment: &Equipment,
 ) -> Result<Plan<OUTPUTS>, ReplanFault>
+    requires read { reading table.now ≡ Ok equipment.now }
     ensures plan { IfOk result (λ plan. (of : IsPlanned table.now) × (same_station station.now of.record_of ≡ true) × (plan ≡ of.plan)) }
     ensures fault { IfErr result (λ fault. (p : Planning) → IsReplanFault (record { station = station.now; planner = p }) table.now fault) }
 {
-    let equipment = read_equipment(alloc, table)?;
+    let _ = table;
     let _sound = equipment.rate();
-    let plan = plan(alloc, &equipment)?;
-    if station.same_station(&equipment) {
+    let plan = plan(alloc, equipment)?;
+    if station.same_station(equipment) {
         Ok(plan)
     } else {
         Err(ReplanFault::StationDiffers)
@@ -155,7 +158,21 @@ impl<'a, R: Wait> Station<'a, R> {
         ensures unchanged { OnErr result (self.new ≡ self.old) }
         ensures after { GoesOn self.old self.new }
     {
-        let plan = match plan_of_table(self.alloc, self.equipment, table) {
+        match read_equipment(self.alloc, table) {
+            Ok(equipment) => self.resubmit_read(table, &equipment),
+            Err(fault) => Err(ReplanFault::from(fault)),
+        }
+    }
+
+    /// Submits a table as `resubmit` does; its equipment was read before.
+    pub fn resubmit_read(&mut self, table: &[u8], equipment: &Equipment) -> Result<u64, ReplanFault>
+        requires read { reading table.now ≡ Ok equipment.now }
+        ensures published { IfOk result (λ number. Publishes self.old table.now number self.new) }
+        ensures fault { IfErr result (IsReplanFault self.old table.now) }
+        ensures unchanged { OnErr result (self.new ≡ self.old) }
+        ensures after { GoesOn self.old self.new }
+    {
+        let plan = match plan_of_read(self.alloc, self.equipment, table, equipment) {
             Ok(plan) => plan,
             Err(fault) => return Err(fault),
         };

@@ -1,6 +1,7 @@
 //! Workers, each on a thread of its own.
 ghost use Rattle.std.specs.Prelude.{◌≡◌, Bool, IfOk, is_ok, map};
 ghost use Rattle.std.specs.List.{AllZip};
+ghost use Rattle.a429_station.specs.Lending.{IsDoneMeanwhile, LendsTheSame};
 
 use core::scope::{Scope, scope_env, scoped};
 use std::alloc::{AllocError, Global};
@@ -145,11 +146,10 @@ fn run_lent_workers<
     second: Vec<V>,
     lent: &mut Lent<'_, S, M, X, Y>,
 )
-    ensures same { (lent.new.to.ghost_name ≡ lent.old.to.ghost_name) × (lent.new.meanwhile.ghost_name ≡ lent.old.meanwhile.ghost_name)
-        × (lent.new.ended.ghost_name ≡ lent.old.ended.ghost_name) }
+    ensures same { LendsTheSame lent.old lent.new }
     ensures first { IfOk lent.new.ended.now (λ done. AllZip W.did first.items done.first.items) }
     ensures second { IfOk lent.new.ended.now (λ done. AllZip V.did second.items done.second.items) }
-    ensures meanwhile { IfOk lent.new.ended.now (λ done. M.did lent.old.meanwhile.now lent.old.to.now lent.new.to.now lent.new.meanwhile.now (is_ok done.answer)) }
+    ensures meanwhile { IsDoneMeanwhile M.did lent.old lent.new }
 {
     *lent.ended = run_workers(
         scope,
@@ -179,21 +179,19 @@ fn run_in_scope<
     second: Vec<V>,
     lent: Lent<'b, S, M, X, Y>,
 ) -> Lent<'b, S, M, X, Y>
-    ensures same { (result.to.ghost_name ≡ lent.entry.to.ghost_name) × (result.meanwhile.ghost_name ≡ lent.entry.meanwhile.ghost_name)
-        × (result.ended.ghost_name ≡ lent.entry.ended.ghost_name) }
+    ensures same { LendsTheSame lent.entry result }
     ensures first { IfOk result.ended.now (λ done. AllZip W.did first.items done.first.items) }
     ensures second { IfOk result.ended.now (λ done. AllZip V.did second.items done.second.items) }
-    ensures meanwhile { IfOk result.ended.now (λ done. M.did lent.entry.meanwhile.now lent.entry.to.now result.to.now result.meanwhile.now (is_ok done.answer)) }
+    ensures meanwhile { IsDoneMeanwhile M.did lent.entry result }
 {
     scoped(
         scope_env(),
         rt,
         move |scope| -> Lent<S, M, X, Y>
-            ensures same { (result.to.ghost_name ≡ lent.entry.to.ghost_name) × (result.meanwhile.ghost_name ≡ lent.entry.meanwhile.ghost_name)
-                × (result.ended.ghost_name ≡ lent.entry.ended.ghost_name) }
+            ensures same { LendsTheSame lent.entry result }
             ensures first { IfOk result.ended.now (λ done. AllZip W.did first.items done.first.items) }
             ensures second { IfOk result.ended.now (λ done. AllZip V.did second.items done.second.items) }
-            ensures meanwhile { IfOk result.ended.now (λ done. M.did lent.entry.meanwhile.now lent.entry.to.now result.to.now result.meanwhile.now (is_ok done.answer)) }
+            ensures meanwhile { IsDoneMeanwhile M.did lent.entry result }
         {
             let mut lent = lent;
             run_lent_workers(scope, rt, alloc, first, second, &mut lent);

@@ -27,13 +27,13 @@ pub struct Received<L> {
 }
 
 impl<'a, L: LineSource + Send + Drop, G: Gate + Sync> Work for ReceiverWorker<'a, L, G> {
-    ghost use Rattle.a429_workers.specs.Receives.{Gives};
+    ghost use Rattle.a429_workers.specs.Gates.{listening, points_of};
     ghost use Rattle.a429_station.specs.Working.{HasReceived};
 
     type Done = Received<L>;
 
-    ghost did = { λ w d. HasReceived (Gives L.given L.left) L.ended L.failed (G.passes w.gate.now) (G.shuts w.gate.now) w.number
-        w.line w.receiver d.line d.receiver d.answer };
+    ghost did = { λ w d. HasReceived L.LineSource (points_of G.Gate w.gate.now) w.number (listening w.line w.receiver)
+        (listening d.line d.receiver) d.answer };
 
     fn work(self) -> Received<L> {
         let ReceiverWorker {
@@ -71,12 +71,13 @@ pub struct Emitted<B> {
 }
 
 impl<'a, B: BusSink + Send + Drop, G: Gate + Sync> Work for GroupWorker<'a, B, G> {
-    ghost use Rattle.a429_station.specs.Working.{HasEmitted};
+    ghost use Rattle.a429_workers.specs.Gates.{points_of};
+    ghost use Rattle.a429_station.specs.Working.{HasEmitted, emitting};
 
     type Done = Emitted<B>;
 
-    ghost did = { λ w d. HasEmitted B.taken B.failed (G.passes w.gate.now) (G.shuts w.gate.now) w.number w.frames
-        w.transmit w.sink d.transmit d.sink d.answer };
+    ghost did = { λ w d. HasEmitted B.BusSink (points_of G.Gate w.gate.now) w.number w.frames (emitting w.transmit w.sink)
+        (emitting d.transmit d.sink) d.answer };
 
     fn work(self) -> Emitted<B> {
         let GroupWorker {

@@ -15,8 +15,7 @@ use Rattle.a429_equipment.specs.Receiving.{IsAccepted, AreAccepted, IsReceived, 
 use Rattle.a429_values.specs.declared.view.View.{View}
 use Rattle.a429_values.specs.Views.{receiver, with_accepted}
 use Rattle.a429_values.specs.Ends.{Place, IsReceiving, view_in}
-use Rattle.a429_values.proofs.Counted.{words_other}
-use Rattle.a429_equipment.proofs.Receiving.{in_pieces, words_same}
+use Rattle.a429_equipment.proofs.Receiving.{in_pieces, words_same, words_other}
 
 abbrev zeros : ℕ → List ℕ
 zeros n = replicate n 0

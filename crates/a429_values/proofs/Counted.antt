@@ -1,5 +1,5 @@
 -- The words of one source, and the load of what was accepted.
-use Rattle.std.proofs.Common.{◌≡◌, ◌≢◌, ℕ, ◌+◌, ◌-◌, ◌<◌, ◌≤◌, eqb, List, [], ◌∷◌, ◌++◌, length, map, Some, Option, Bool, true, false, cond, refl, sym, ap, ◌∙◌, subst, arith, eq-eqb, ne_eqb, append-nil, inl, inr}
+use Rattle.std.proofs.Common.{◌≡◌, ◌≢◌, ℕ, ◌+◌, ◌-◌, ◌<◌, ◌≤◌, eqb, List, [], ◌∷◌, ◌++◌, length, map, Some, Option, Bool, true, false, cond, refl, sym, ap, ◌∙◌, subst, arith, eq-eqb, ne_eqb, inl, inr}
 use Rattle.std.specs.Prelude.{filter, slice_get, ◌&&◌}
 use Rattle.std.specs.List.{AllByRecursion}
 use Rattle.std.specs.Option.{option_map_or}
@@ -14,11 +14,8 @@ use Rattle.a429_equipment.specs.Arrivals.{passes_at, is_for, accepts}
 use Rattle.a429_equipment.specs.Agreement.{words_of, last_of, load_after, is_of}
 use Rattle.a429_equipment.specs.Receiving.{IsAccepted, AreAccepted}
 use Rattle.a429_values.specs.Words.{HasLabel, IsCounted}
-use Rattle.a429_equipment.proofs.Cutting.{last_push, words_append}
-use Rattle.a429_equipment.proofs.Receiving.{words_same}
-
-pub words_other : (s x w : ℕ) (A : List (ℕ × ℕ)) → x ≢ s → words_of s (A ++ (x, w) ∷ []) ≡ words_of s A
-words_other s x w A ne = words_append s A ((x, w) ∷ []) ∙ ap (λ (ws : List ℕ). words_of s A ++ ws) (rw (ne_eqb x s ne) refl) ∙ append-nil (words_of s A)
+use Rattle.a429_equipment.proofs.Cutting.{last_push}
+use Rattle.a429_equipment.proofs.Receiving.{words_same, words_other}
 
 -- the load after one more word of the source, and of another
 pub load_same : (s w : ℕ) (A : List (ℕ × ℕ)) → load_after s (A ++ (s, w) ∷ []) ≡ record { source = s; count = length (words_of s A) + 1; word = Some w }

@@ -1,6 +1,5 @@
 -- Cuts stay where a list grows, one more load has a cut of its own, and no count goes back.
-use Rattle.std.proofs.Common.{◌≡◌, ℕ, ◌≤◌, eqb, List, [], ◌∷◌, ◌++◌, length, take, map, cond, Bool, true, false, refl, sym, ap, ◌∙◌, subst, arith}
-use Rattle.std.specs.Prelude.{filter}
+use Rattle.std.proofs.Common.{◌≡◌, ℕ, ◌≤◌, List, [], ◌∷◌, ◌++◌, length, take, Bool, true, false, refl, sym, ap, ◌∙◌, subst, arith}
 use lib.Seq.{take-length}
 use Rattle.a429_equipment.specs.declared.loads.Load.{Load}
 use Rattle.a429_equipment.specs.Agreement.{words_of, load_after, CountsNoLess, IsCut, Cuts}
@@ -26,10 +25,6 @@ cut_within false A before l cut le h = omega (arith, h)
 pub cuts_within : (mine : ℕ → Bool) (A : List (ℕ × ℕ)) (before : ℕ) (ls : List Load) (last : ℕ) → before ≤ length A → Cuts mine A before ls last → last ≤ length A
 cuts_within mine A before [] last le h = omega (arith, h)
 cuts_within mine A before (l ∷ ls) last le h = cuts_within mine A h.0 ls last (cut_within (mine l.source) A before l h.0 le h.1) h.2
-
--- the words of a list that begins with e, where the test of e gave b
-abbrev pub words_from : ℕ → ℕ × ℕ → Bool → List (ℕ × ℕ) → List ℕ
-words_from s e b A = map (λ (x : ℕ × ℕ). x.1) (cond b (e ∷ filter (λ (x : ℕ × ℕ). eqb x.0 s) A) (filter (λ (x : ℕ × ℕ). eqb x.0 s) A))
 
 -- no load of a source that has a cut found more than the load after all that was accepted
 pub none_above : (mine : ℕ → Bool) (A : List (ℕ × ℕ)) (s before : ℕ) (ls : List Load) (last : ℕ) → mine s ≡ true → Cuts mine A before ls last → CountsNoLess ls (load_after s A)

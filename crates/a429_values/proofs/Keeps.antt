@@ -323,12 +323,12 @@ module _ {S : Type 0} (t : TableRecord) where
       }
 
   pub meets : (id : ℕ) (v : View) (other : ℕ) (w : View) → CanMeet v w → Joins Rule id v other w (both_of v w) spent
-  meets id v other w can state k here away there =
+  meets id v other w (v_transmits, v_receives_none, w_receives, w_transmits_none) state k here away there =
       let f = k.each id v here in
       let b : View = both_of v w in
       let at_other : get_elem? state.views other ≡ some w = ⊎_elim (λ (x : (other ≡ id) × (b ≡ w)). absurd (away x.0)) (λ (x : (other ≢ id) × (get_elem? state.views other ≡ some w)). x.1) (at_set state.views id other b w there) in
       let g = k.each other w at_other in
-      let seat_w : k.seat w.number ≡ Some other = (k.receivers w.number other).1 (w, at_other, (can.2, refl)) in
+      let seat_w : k.seat w.number ≡ Some other = (k.receivers w.number other).1 (w, at_other, (w_receives, refl)) in
       let given : is_some (k.seat w.number) ≡ true = ap is_some seat_w in
       let now : ℕ → Option ℕ = reseat w.number id k.seat in
       let views : List View = set (set state.views id b) other spent in
@@ -346,19 +346,19 @@ module _ {S : Type 0} (t : TableRecord) where
         each = each_set (Fits t now k.sender k.accepted) (set state.views id b) other spent
             (λ j u _ e. each_set (Fits t now k.sender k.accepted) state.views id b (λ i x _ h. moved_fits t k.seat k.sender k.accepted w.number id x given (k.each i x h))
             record {
-              station = (f.station.0, (λ _. f.station.2 can.0), f.station.2);
-              apart = λ desk. let clash : true ≡ false = sym can.0 ∙ (f.apart desk).1 in absurd (cc);
+              station = (f.station.0, (λ _. f.station.2 v_transmits), f.station.2);
+              apart = λ desk. let clash : true ≡ false = sym v_transmits ∙ (f.apart desk).1 in absurd (cc);
               given = (moved_fits t k.seat k.sender k.accepted w.number id v given f).given;
               sent = f.sent;
-              receives = λ _. g.receives can.2;
+              receives = λ _. g.receives w_receives;
               transmits = f.transmits;
             } j u e)
             record { station = ((λ e. absurd (cc)), (λ e. absurd (cc)), (λ e. absurd (cc))); apart = λ e. absurd (cc); given = λ e. absurd (cc); sent = λ e. absurd (cc); receives = λ e. absurd (cc); transmits = λ e. absurd (cc) };
-        one_desk = then IsDesk (Some k.desk_at) ((λ h. h), (λ h. h)) ((λ h. let clash : true ≡ false = sym can.2 ∙ (g.apart h).0 in absurd (cc)), (λ h. absurd (cc))) k.one_desk;
+        one_desk = then IsDesk (Some k.desk_at) ((λ h. h), (λ h. h)) ((λ h. let clash : true ≡ false = sym w_receives ∙ (g.apart h).0 in absurd (cc)), (λ h. absurd (cc))) k.one_desk;
         receivers = reseated (λ (q : ℕ) (o : Option ℕ). JustAt views (IsReceiver q) o) w.number id k.seat
-            (just_moved state.views (IsReceiver w.number) id other v b spent here away (can.2, refl) (λ h. absurd (cc)) (subst (JustAt state.views (IsReceiver w.number)) seat_w (k.receivers w.number)))
-            (λ q ne. then (IsReceiver q) (k.seat q) ((λ h. let clash : true ≡ false = sym h.0 ∙ can.1 in absurd (cc)), (λ h. absurd (ne (sym h.1)))) ((λ h. absurd (ne (sym h.1))), (λ h. absurd (cc))) (k.receivers q));
-        transmitters = λ q. then (IsTransmitter q) (k.sender q) ((λ h. h), (λ h. h)) ((λ h. let clash : true ≡ false = sym h.0 ∙ can.3 in absurd (cc)), (λ h. absurd (cc))) (k.transmitters q);
+            (just_moved state.views (IsReceiver w.number) id other v b spent here away (w_receives, refl) (λ h. absurd (cc)) (subst (JustAt state.views (IsReceiver w.number)) seat_w (k.receivers w.number)))
+            (λ q ne. then (IsReceiver q) (k.seat q) ((λ h. let clash : true ≡ false = sym h.0 ∙ v_receives_none in absurd (cc)), (λ h. absurd (ne (sym h.1)))) ((λ h. absurd (ne (sym h.1))), (λ h. absurd (cc))) (k.receivers q));
+        transmitters = λ q. then (IsTransmitter q) (k.sender q) ((λ h. h), (λ h. h)) ((λ h. let clash : true ≡ false = sym h.0 ∙ w_transmits_none in absurd (cc)), (λ h. absurd (cc))) (k.transmitters q);
       }
 
   pub parts : (id : ℕ) (v : View) → v.receives ≡ true → Splits Rule id v (transmitting v) (receiving v)

@@ -10,8 +10,8 @@ use Rattle.a429_equipment.specs.Agreement.{words_of, load_after, is_of, loads_of
 use Rattle.a429_equipment.specs.Receiving.{IsAccepted, AreAccepted}
 use Rattle.a429_values.specs.Later.{StaysWhole}
 use Rattle.a429_values.proofs.Counted.{of_row, is_of_yes, is_of_row, is_of_not, is_of_inside, row_at}
-use Rattle.a429_values.proofs.Cutting.{cuts_longer, cut_in_two, cuts_up, words_from}
-use Rattle.a429_equipment.proofs.Cutting.{count_up}
+use Rattle.a429_values.proofs.Cutting.{cuts_longer, cut_in_two, cuts_up}
+use Rattle.a429_equipment.proofs.Cutting.{count_up, words_from}
 
 -- a source's load was made at a cut
 record LoadedAt (B A : List (ℕ × ℕ)) (s to : ℕ) : Type 0 where

@@ -1,5 +1,6 @@
 -- What contracts see of a hub and its ends.
 use Rattle.std.specs.Prelude.{◌≡◌, ◌<◌, ◌^◌, ◌∷◌, ◌++◌, ℕ, List, [], length, slice_index, Result, Ok, Err, true, false, if◌then◌else◌, nat_lt}
+use Rattle.a429_equipment.specs.Limits.{count_bits}
 use Rattle.atomic_table.specs.Seated.{TableId}
 use Rattle.a429_equipment.specs.declared.arrivals.ArrivalRefusal.{ArrivalRefusal}
 use Rattle.a429_equipment.specs.declared.arrivals.ArrivalRefusal.TheVariants as arrival
@@ -82,7 +83,7 @@ pub record IsReceiving (p : Place) (number limit : ℕ) (counts : List ℕ) (at 
   pub inside : number < length p.station.receivers
   pub sized : length counts ≡ length p.station.sources
   pub counted : (s : ℕ) → s < length p.station.sources → slice_index counts s ≡ length (words_of s (view_in views).accepted)
-  pub small : limit < 2 ^ 41
+  pub small : limit < 2 ^ count_bits
   pub valid : AreAccepted p.station number (view_in views).accepted
   pub received : IsReceived limit p.station number (view_in views).accepted
 

@@ -1,6 +1,7 @@
 -- What a seat of the table knows, by what it is.
 use Rattle.std.specs.Prelude.{None, ◌≡◌, ◌==◌, ◌+◌, ◌^◌, ◌<◌, ℕ, [], ◌∷◌, ◌++◌, Some, length, slice_get, true, false}
 use Rattle.std.specs.List.{list_any}
+use Rattle.a429_equipment.specs.Limits.{count_bits}
 use Rattle.atomic_table.specs.Table.{Me, Step}
 use Rattle.a429_equipment.specs.declared.loads.Load.{Load}
 use Rattle.a429_equipment.specs.declared.rows.SourceRow.{SourceRow}
@@ -84,7 +85,7 @@ IsReceiverOf v t = (v.receives ≡ true) × (v.station ≡ t)
 
 -- the next word that the source accepts is its `count`th, and 41 bits can count it
 abbrev pub IsNextCount : View → ℕ → ℕ → Type 0
-IsNextCount v source count = (count ≡ length (words_of source v.accepted) + 1) × (count < 2 ^ 41)
+IsNextCount v source count = (count ≡ length (words_of source v.accepted) + 1) × (count < 2 ^ count_bits)
 
 -- ---- what the steps tell
 

@@ -1,5 +1,6 @@
 //! A hub: the table that its ends share.
 ghost use Rattle.std.specs.Prelude.{◌≡◌, ◌≤◌, ◌-◌, ◌^◌, [], length, IfOk};
+ghost use Rattle.a429_equipment.specs.Limits.{count_bits};
 
 use crate::desk::Desk;
 use crate::shared_words::{HubSeat, SharedWords};
@@ -36,7 +37,7 @@ impl<const S: usize, const C: u32> Hub<S, C> {
     /// was given out yet. The error is that memory was refused.
     pub fn open(alloc: Global, equipment: &Equipment) -> Result<(Hub<S, C>, Desk), AllocError>
         requires sources { length equipment.now.sources ≤ S }
-        requires bits { (1 ≤ C) × (C ≤ 41) }
+        requires bits { (1 ≤ C) × (C ≤ count_bits) }
         ensures station { IfOk result (λ ends. ends.0.station ≡ equipment.now) }
         ensures desk { IfOk result (λ ends. ends.1 ≡ record { at = ends.0; receivers = []; transmitters = [] }) }
     {

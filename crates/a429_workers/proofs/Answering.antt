@@ -4,28 +4,21 @@ use Rattle.std.specs.Prelude.{Option, Some, None, Ok, ◌||◌, if◌then◌else
 use Rattle.std.proofs.Math.Seq.{drop-append_seam}
 use Rattle.std.proofs.lemmas.Option.{none-some, slice_get_within}
 use Rattle.std.proofs.lemmas.Bool.{cases_Bool, cases_eq, ne_eqb}
-use Rattle.a429_word.proofs.Lists.{all_front, either_none, get_set_other, get_set_same}
+use Rattle.a429_word.proofs.Lists.{all_front, either_none, get_set_other, get_set_same, all_back}
 use Rattle.a429_equipment.specs.declared.loads.Load.{Load}
 use Rattle.a429_equipment.specs.TableRecord.{TableRecord}
 use Rattle.a429_equipment.specs.Agreement.{CountsNoLess}
 use Rattle.a429_slots.specs.Tables.{Placed, SlotTable, cell_at, outputs_of, output_in}
 use Rattle.a429_slots.specs.History.{AnsweredCell, has_sent, is_held, is_too_close}
 use Rattle.a429_slots.specs.FrameStates.{FrameState, next_cell, after_cell, due_of}
-use Rattle.a429_slots.specs.Recalling.{Recent, Recalls, RecentCountsSends, RecentDecides, RecentPassesOtherCells, may_send, never, recent_after, sent_again, source_sends, source_after}
+use Rattle.a429_slots.specs.Recalling.{Recent, Recalls, may_send, recent_after, sent_again, source_sends, source_after}
+use Rattle.a429_slots.proofs.Remembering.{AreRecalled}
 use Rattle.a429_values.specs.Ends as ends
 use Rattle.a429_values.specs.Words.{load_of}
 use Rattle.a429_workers.specs.Calls.{Call, Asks, Carried, GroupState, IsAnswered, word_of}
 use Rattle.a429_workers.specs.Transmitting.{Transmitting, Outset, IsSameGroup, IsKnownTable, IsReached, Remembers, HasMade, IsDone, IsLoaded, cell_call, led_by, loads_since, sent_by}
-use Rattle.a429_workers.proofs.Beginning.{all_back}
 use Rattle.a429_workers.proofs.Calling.{one_more, none_due, reached_cell, reached_own, same_table, slot_after}
 use Rattle.a429_workers.proofs.Lists.{all_get}
-
--- what the law of the slot tables says of sends
-pub record AreRecalled : Type 0 where
-  pub none : (source : ℕ) → Recalls [] source never
-  pub decides : RecentDecides
-  pub sent : RecentCountsSends
-  pub other : RecentPassesOtherCells
 
 -- ---- what is kept of a source
 

@@ -4,10 +4,6 @@ use Rattle.std.specs.List.{AllByRecursion}
 
 -- ---- each element
 
-pub all_back : {A : Type 0} (P : A → Type 0) (xs ys : List A) → AllByRecursion P (xs ++ ys) → AllByRecursion P ys
-all_back P [] ys all = all
-all_back P (x ∷ xs) ys all = all_back P xs ys all.1
-
 pub all_append : {A : Type 0} (P : A → Type 0) (xs ys : List A) → AllByRecursion P xs → AllByRecursion P ys → AllByRecursion P (xs ++ ys)
 all_append P [] ys first rest = rest
 all_append P (x ∷ xs) ys first rest = (first.0, all_append P xs ys first.1 rest)

@@ -1,12 +1,10 @@
 -- One call more, over every list of calls that a transmitter stands for.
-use Rattle.std.proofs.Common.{◌≡◌, ℕ, zero, suc, ◌+◌, ◌/◌, ◌%◌, ◌<◌, ◌≤◌, Bool, true, false, List, [], ◌∷◌, ◌++◌, length, ◌∙◌, sym, ap, subst, refl, inl, inr, arith, append_assoc}
+use Rattle.std.proofs.Common.{◌≡◌, ℕ, ◌+◌, ◌/◌, ◌%◌, ◌<◌, ◌≤◌, Bool, true, false, List, [], ◌∷◌, ◌++◌, length, ◌∙◌, sym, ap, subst, refl, inl, inr, arith, append_assoc}
 use Rattle.std.specs.Prelude.{Some, None, if◌then◌else◌, nat_lt}
 use Rattle.std.specs.List.{AllByRecursion}
-use Rattle.std.proofs.Math.Nat.{div-mul-le_self, div-zero}
-use Rattle.std.proofs.lemmas.Nat.{le-div}
 use Rattle.std.proofs.lemmas.Option.{none-some, cond_some}
 use Rattle.std.proofs.lemmas.Bool.{cases_Bool, ltb-true}
-use Rattle.a429_word.proofs.Lists.{in_frame}
+use Rattle.a429_word.proofs.Lists.{in_frame, div_more}
 use Rattle.a429_equipment.specs.declared.loads.Load.{Load}
 use Rattle.a429_slots.specs.Tables.{SlotTable, cells_of, buses_of, frame_of}
 use Rattle.a429_slots.specs.FrameStates.{FrameState, next_cell, after_cell, fits_next, turned}
@@ -43,10 +41,6 @@ one_more b calls v w c M N = record {
 }
 
 -- ---- slots go on
-
-div_more : (c m : ℕ) → c / m ≤ (c + 1) / m
-div_more c zero = omega (arith, div-zero c)
-div_more c (suc m) = le-div (c / suc m) (c + 1) (suc m) (omega arith) (omega (arith, div-mul-le_self c (suc m)))
 
 pub reached_cell : (f : FrameState) (slot : ℕ) → IsReached f slot → IsReached (after_cell f) slot
 reached_cell f slot R = go (nat_lt f.sent (cells_of f.table))

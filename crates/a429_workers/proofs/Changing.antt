@@ -11,12 +11,12 @@ use Rattle.a429_equipment.specs.Agreement.{CountsNoLess, is_of, load_after, load
 use Rattle.a429_slots.specs.Tables.{SlotTable, PlanTable, groups_of, cells_of}
 use Rattle.a429_slots.specs.FrameStates.{FrameState, begun, fits_next, turned}
 use Rattle.a429_slots.specs.Recalling.{Recent, Recalls, never}
+use Rattle.a429_slots.proofs.Remembering.{AreRecalled}
 use Rattle.a429_values.specs.Ends as ends
 use Rattle.a429_board.specs.Lists.{Watched}
 use Rattle.a429_workers.specs.Calls.{Call, Turns, Meets, Takes, StaysMid, StaysSpent, GroupState, number_of, table_of, turn}
 use Rattle.a429_workers.specs.Transmitting.{Transmitting, Outset, IsSameGroup, IsKnownPlan, IsKnownTable, IsReached, Remembers, HasMade, led_by, loads_since}
 use Rattle.a429_workers.proofs.Calling.{AreKnown, one_more, reached_turn}
-use Rattle.a429_workers.proofs.Answering.{AreRecalled}
 
 -- ---- plans
 

@@ -3,9 +3,10 @@ use Rattle.std.proofs.Common.{◌≡◌, ℕ, ◌+◌, ◌<◌, List, [], ◌∷
 use Rattle.std.specs.Prelude.{Err}
 use Rattle.std.proofs.lemmas.Bool.{cases_lt}
 use Rattle.std.proofs.lemmas.List.{length_push, take_all, take-append-le}
+use Rattle.a429_filter.specs.declared.sources.LineSource as LineSource
 use Rattle.a429_values.specs.Ends.{ReceiverEnd}
-use Rattle.a429_workers.specs.Gates.{AreGated, HavePassed, HaveWordsPassed, IsShutAt}
-use Rattle.a429_workers.specs.Receives.{AreTaken, after_words}
+use Rattle.a429_workers.specs.Gates.{GatePoints, HasTaken, HavePassed, HaveWordsPassed, IsShutAt, Listening, listening}
+use Rattle.a429_workers.specs.Receives.{Gives, after_words}
 use Rattle.a429_workers.specs.declared.gates.Point.{Point}
 use Rattle.a429_workers.specs.declared.receiving.ReceiveTotals.{ReceiveTotals}
 use Rattle.a429_workers.specs.declared.receiving.ReceiveFault.TheVariants as receive
@@ -23,10 +24,7 @@ passed_more passes before after n P both = record {
 
 -- ---- words
 
-module _ (Now Next : List ℕ → Type 0) (passes shuts : Point → Type 0) (r : ℕ) (old mid : ReceiverEnd) (totals : ReceiveTotals) (n raw : ℕ) (S : SoFar Now old mid totals n) (on : (words : List ℕ) → Now words → Next (words ++ raw ∷ [])) (P : HaveWordsPassed passes r n) where
-  all : List ℕ
-  all = S.came ++ raw ∷ []
-
+module _ {L : Type 0} (source : LineSource.Ghosts L) (gate : GatePoints) (r : ℕ) (old mid : Listening L) (line : L) (totals : ReceiveTotals) (n raw : ℕ) (S : SoFar (λ words. Gives source.given source.left old.line words mid.line) old.receiver mid.receiver totals n) (on : (words : List ℕ) → Gives source.given source.left old.line words mid.line → Gives source.given source.left old.line (words ++ raw ∷ []) line) (P : HaveWordsPassed gate.passes r n) where
   many : length (S.came ++ raw ∷ []) ≡ n + 1
   many = length_push S.came raw ∙ ap (λ (m : ℕ). m + 1) S.many
 
@@ -34,21 +32,35 @@ module _ (Now Next : List ℕ → Type 0) (passes shuts : Point → Type 0) (r :
   front = take-append-le n S.came (raw ∷ []) (omega (arith, S.many)) ∙ take_all n S.came (omega (arith, S.many))
 
   -- the gate ended the loop before or after the last word
-  pub gate_shut : (new : ReceiverEnd) → n < 1000000 → IsShutAt passes shuts r n raw mid new
-      → (given : List ℕ) × Next given × AreTaken given (Err receive.Gate) old new × AreGated passes shuts r given (Err receive.Gate) old new
+  pub gate_shut : (new : ReceiverEnd) → n < 1000000 → IsShutAt gate r n raw mid.receiver new → HasTaken source gate r old (listening line new) (Err receive.Gate)
   gate_shut new low shut = elim shut [
     | inl left ↦
-        let is : new ≡ after_words old (take n (S.came ++ raw ∷ [])) = left.0 ∙ (S.taken ∙ ap (after_words old) (sym front)) in
-        (S.came ++ raw ∷ [], on S.came S.given, (n, is, omega (arith, many), omega (arith, many, low)), (n, is, inl (many, record { passed = P; shut = left.1 })))
+        let is : new ≡ after_words old.receiver (take n (S.came ++ raw ∷ [])) = left.0 ∙ (S.taken ∙ ap (after_words old.receiver) (sym front)) in
+        record {
+          words = S.came ++ raw ∷ [];
+          gave = on S.came S.given;
+          taken = (n, is, omega (arith, many), omega (arith, many, low));
+          gated = (n, is, inl (many, record { passed = P; shut = left.1 }));
+        }
     | inr through ↦
         let rest : take (n + 1) (S.came ++ raw ∷ []) ≡ S.came ++ raw ∷ [] = take_all (n + 1) (S.came ++ raw ∷ []) (omega (arith, many)) in
-        let is : new ≡ after_words old (take (n + 1) (S.came ++ raw ∷ [])) =
-        through.0 ∙ (ap (λ (x : ReceiverEnd). after_words x (raw ∷ [])) S.taken ∙ (after_append old S.came (raw ∷ []) ∙ ap (after_words old) (sym rest))) in
-        (S.came ++ raw ∷ [], on S.came S.given, (n + 1, is, omega (arith, many), omega (arith, many, low)), (n + 1, is, inr (n, many, refl, record { passed = P; begun = through.1; shut = through.2 })))
+        let is : new ≡ after_words old.receiver (take (n + 1) (S.came ++ raw ∷ [])) =
+        through.0 ∙ (ap (λ (x : ReceiverEnd). after_words x (raw ∷ [])) S.taken ∙ (after_append old.receiver S.came (raw ∷ []) ∙ ap (after_words old.receiver) (sym rest))) in
+        record {
+          words = S.came ++ raw ∷ [];
+          gave = on S.came S.given;
+          taken = (n + 1, is, omega (arith, many), omega (arith, many, low));
+          gated = (n + 1, is, inr (record { last = n; all = many; counted = refl; ended = record { passed = P; begun = through.1; shut = through.2 } }));
+        }
   ]
 
   -- the line gave one word too many
-  pub one_too_many : n ≡ 1000000 → (given : List ℕ) × Next given × AreTaken given (Err receive.TooMuch) old mid × AreGated passes shuts r given (Err receive.TooMuch) old mid
+  pub one_too_many : n ≡ 1000000 → HasTaken source gate r old (listening line mid.receiver) (Err receive.TooMuch)
   one_too_many full =
-      let is : mid ≡ after_words old (take n (S.came ++ raw ∷ [])) = S.taken ∙ ap (after_words old) (sym front) in
-      (S.came ++ raw ∷ [], on S.came S.given, (subst (λ (m : ℕ). mid ≡ after_words old (take m (S.came ++ raw ∷ []))) full is, omega (arith, many, full)), (n, is, (many, P)))
+      let is : mid.receiver ≡ after_words old.receiver (take n (S.came ++ raw ∷ [])) = S.taken ∙ ap (after_words old.receiver) (sym front) in
+      record {
+        words = S.came ++ raw ∷ [];
+        gave = on S.came S.given;
+        taken = (subst (λ (m : ℕ). mid.receiver ≡ after_words old.receiver (take m (S.came ++ raw ∷ []))) full is, omega (arith, many, full));
+        gated = (n, is, (many, P));
+      }

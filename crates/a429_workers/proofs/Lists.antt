@@ -1,13 +1,13 @@
 -- Lists: their elements, their ends, and lists that are two lists in a row.
-use Rattle.std.proofs.Common.{◌≡◌, ℕ, zero, suc, ◌-◌, ◌<◌, List, [], ◌∷◌, ◌++◌, length, take, drop, map, ◌∙◌, sym, ap, subst, refl, inl, inr, arith, append_assoc}
+use Rattle.std.proofs.Common.{◌≡◌, ℕ, zero, suc, ◌-◌, List, [], ◌∷◌, ◌++◌, length, take, drop, map, ◌∙◌, sym, ap, subst, refl, arith, append_assoc}
 use Rattle.std.specs.Prelude.{Option, Some, None, slice_get, unwrap_or, option_map}
 use Rattle.std.specs.Option.{option_map_or}
 use Rattle.std.specs.List.{AllByRecursion}
-use Rattle.std.proofs.lemmas.Option.{none-some, same_Some, slice_get_cases, slice_get-map}
+use Rattle.std.proofs.lemmas.Option.{none-some, same_Some, slice_get-map}
 use Rattle.std.proofs.Math.Seq.{take-append_seam, drop-append_seam}
 use Rattle.std.proofs.lemmas.List.{length-map}
 use mathlib.Core.List.{IsPrefix}
-use Rattle.a429_word.proofs.Lists.{prefix_on}
+use Rattle.a429_word.proofs.Lists.{prefix_on, get_within}
 use Rattle.a429_slots.specs.History.{last_of}
 
 -- ---- elements
@@ -16,12 +16,6 @@ pub drop_next : {X : Type 0} (xs : List X) (i : ℕ) (x : X) → slice_get xs i 
 drop_next [] i x h = absurd (none-some x h)
 drop_next (y ∷ ys) zero x h = let same : y ≡ x = same_Some y x h in ap (λ z. z ∷ ys) same
 drop_next (y ∷ ys) (suc i) x h = drop_next ys i x h
-
-pub get_within : {X : Type 0} (xs : List X) (i : ℕ) → i < length xs → (x : X) × (slice_get xs i ≡ Some x)
-get_within xs i below = elim (slice_get_cases xs i).1 [
-  | inl hit ↦ (hit.0, hit.2)
-  | inr miss ↦ absurd (omega (arith, below, miss.0))
-]
 
 pub get_front : {X : Type 0} (xs ys : List X) (i : ℕ) (x : X) → slice_get xs i ≡ Some x → slice_get (xs ++ ys) i ≡ Some x
 get_front [] ys i x h = absurd (none-some x h)

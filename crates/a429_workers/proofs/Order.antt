@@ -7,7 +7,7 @@ use Rattle.std.proofs.Math.Seq.{take-nil}
 use Rattle.std.proofs.lemmas.Option.{none-some, same_Some, slice_get-map}
 use Rattle.std.proofs.lemmas.Bool.{cases_eq, eq-eqb, ne_eqb}
 use mathlib.Core.List.{IsPrefix}
-use Rattle.a429_word.proofs.Lists.{all_parts, prefix_on, prefix_self}
+use Rattle.a429_word.proofs.Lists.{all_parts, prefix_on, prefix_self, get_within}
 use Rattle.a429_equipment.specs.declared.loads.Load.{Load}
 use Rattle.a429_equipment.specs.Agreement.{IsCut, Cuts, is_of, words_of}
 use Rattle.a429_slots.specs.Tables.{SlotTable, PlanTable, cells_of}
@@ -22,7 +22,7 @@ use Rattle.a429_slots.specs.Answers.{answer, answers}
 use Rattle.a429_workers.specs.Calls.{Call, Carried, Turn, Asks, Turns, Meets, Takes, StaysMid, StaysSpent, GroupState, AreLawful, turn, after_turn, after, state_after, before_calls, loads_in, loads_of}
 use Rattle.a429_workers.specs.Runs.{HasCellPlace, HavePlace, IsWorking, HasRun, answered, is_sending, comes_to, is_publish, event_of, turn_answer}
 use Rattle.a429_workers.proofs.Counting.{IsCounted, all_join, counted_along, counted_on}
-use Rattle.a429_workers.proofs.Lists.{get_within, drop_next, newly_seen}
+use Rattle.a429_workers.proofs.Lists.{drop_next, newly_seen}
 use Rattle.a429_workers.proofs.Steps.{Below, Given, IsAt, IsLatest, bump, accepted_here, arrival_answer, arrival_step, publish_answer_is, publish_step, end_answer, end_step, cell_answer_is, cell_step, turn_step}
 use Rattle.a429_workers.proofs.Steps
 

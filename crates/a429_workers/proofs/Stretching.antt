@@ -8,10 +8,9 @@ use Rattle.a429_slots.specs.Tables.{PlanTable, cells_of}
 use Rattle.a429_slots.specs.FrameStates.{FrameState, after_cell}
 use Rattle.a429_workers.specs.Calls.{Call, Carried, Asks, Turns, Takes, StaysSpent}
 use Rattle.a429_workers.specs.Transmitting.{Transmitting, GoesOnByCalls, IsSameGroup, StandsForCalls}
-use Rattle.a429_workers.specs.Gates.{HaveCellsPassed, IsStoppedGroup}
-use Rattle.a429_workers.specs.Sends.{AreSent, HasSent, IsCell, IsCellMade, IsFrame, IsTallied, IsTurn, has_word, is_send, is_taken, sent_in, sent_of, with_cells}
+use Rattle.a429_workers.specs.Gates.{GatePoints, HaveCellsPassed, IsStoppedGroup}
+use Rattle.a429_workers.specs.Sends.{AreAllSent, AreFewerSent, AreWhole, HasSent, IsCell, IsCellMade, IsFrame, IsTallied, IsTurn, has_word, is_send, is_taken, sending, sent_in, sent_of, with_cells}
 use Rattle.a429_workers.specs.declared.cells.Sent.{Sent}
-use Rattle.a429_workers.specs.declared.gates.Point.{Point}
 use Rattle.a429_workers.specs.declared.sending.SendTotals.{SendTotals}
 use Rattle.a429_workers.specs.declared.sending.SendFault.{SendFault}
 use Rattle.a429_workers.specs.declared.sending.SendFault.TheVariants.{Gate, Sink, Change}
@@ -106,13 +105,13 @@ frame_begins v taken t none small = record {
 pub frame_goes_on : (old now next : Transmitting) (a b c : Option (List Sent)) (start totals later : SendTotals) (n : ℕ) → IsInFrame old now a b start totals n → now.frame.sent < cells_of now.frame.table
     → IsCell now next b c totals later (Ok tt) → (later.words ≤ later.cells) × (later.cells ≡ totals.cells + 1) → IsInFrame old next a c start later (n + 1)
 frame_goes_on old now next a b c start totals later n F left C small =
-    let M = C.1 in
-    let one = Asks (Some C.0) ∷ [] in
+    let M = C.made in
+    let one = Asks (Some C.cell) ∷ [] in
     let sent : (after_cell now.frame).sent ≡ now.frame.sent + 1 = rw (lt-ltb now.frame.sent (cells_of now.frame.table) left) refl in
     record {
       calls = F.calls ++ one;
-      sends = further old now next a b c F.calls one [] F.sends (cell_sent now next C.0 b c M C.2);
-      tallied = tallied_more start totals later F.calls one F.tallied C.3;
+      sends = further old now next a b c F.calls one [] F.sends (cell_sent now next C.cell b c M C.took);
+      tallied = tallied_more start totals later F.calls one F.tallied C.tallied;
       turns = taken_append F.calls one ∙ omega (arith, F.turns);
       table = ap (λ (f : FrameState). f.table) M.frame ∙ (same_table now.frame ∙ F.table);
       sent = ap (λ (f : FrameState). f.sent) M.frame ∙ (sent ∙ ap (λ (k : ℕ). k + 1) F.sent);
@@ -124,18 +123,38 @@ pub frame_stops : (old now next : Transmitting) (a b c : Option (List Sent)) (st
     → IsCell now next b c totals later (Err fault) → IsFrame old next a c start later (Err fault)
 frame_stops old now next a b c start totals later n Gate F C = elim C [
   | inl left ↦
-      (F.calls, [], subst (λ (w : Transmitting). HasSent old w a c F.calls []) (sym left.0) (subst (λ (x : Option (List Sent)). HasSent old now a x F.calls []) (sym left.1) F.sends), refl, F.turns, subst (λ (t : SendTotals). IsTallied start t (sent_in F.calls)) (sym left.2) F.tallied)
+      record {
+        calls = F.calls;
+        last = [];
+        sent = subst (λ (w : Transmitting). HasSent old w a c F.calls []) (sym left.0) (subst (λ (x : Option (List Sent)). HasSent old now a x F.calls []) (sym left.1) F.sends);
+        ended = refl;
+        turns = F.turns;
+        tallied = subst (λ (t : SendTotals). IsTallied start t (sent_in F.calls)) (sym left.2) F.tallied;
+      }
   | inr made ↦
-      let one = Asks (Some made.0) ∷ [] in
-      (F.calls ++ one, [], further old now next a b c F.calls one [] F.sends (cell_sent now next made.0 b c made.1 made.2), refl, taken_append F.calls one ∙ omega (arith, F.turns), tallied_more start totals later F.calls one F.tallied made.3)
+      let one = Asks (Some made.cell) ∷ [] in
+      record {
+        calls = F.calls ++ one;
+        last = [];
+        sent = further old now next a b c F.calls one [] F.sends (cell_sent now next made.cell b c made.made made.took);
+        ended = refl;
+        turns = taken_append F.calls one ∙ omega (arith, F.turns);
+        tallied = tallied_more start totals later F.calls one F.tallied made.tallied;
+      }
 ]
-frame_stops old now next a b c start totals later n Sink F C =
-    (F.calls ++ [], Asks (Some C.0) ∷ [], further old now next a b c F.calls [] (Asks (Some C.0) ∷ []) F.sends (cell_lost now next C.0 b c C.1 C.2), (C.0, refl), taken_append F.calls [] ∙ omega (arith, F.turns), subst (λ (t : SendTotals). IsTallied start t (sent_in (F.calls ++ []))) (sym C.3) (tallied_more start totals totals F.calls [] F.tallied (tallied_none totals)))
+frame_stops old now next a b c start totals later n Sink F C = record {
+  calls = F.calls ++ [];
+  last = Asks (Some C.cell) ∷ [];
+  sent = further old now next a b c F.calls [] (Asks (Some C.cell) ∷ []) F.sends (cell_lost now next C.cell b c C.made C.left);
+  ended = (C.cell, refl);
+  turns = taken_append F.calls [] ∙ omega (arith, F.turns);
+  tallied = subst (λ (t : SendTotals). IsTallied start t (sent_in (F.calls ++ []))) (sym C.totals) (tallied_more start totals totals F.calls [] F.tallied (tallied_none totals));
+}
 frame_stops old now next a b c start totals later n Change F C = absurd C
 
 pub frame_over : (old now : Transmitting) (a b : Option (List Sent)) (start totals : SendTotals) (n : ℕ) → IsInFrame old now a b start totals n → n ≡ cells_of old.frame.table
     → IsFrame old now a b start totals (Ok tt)
-frame_over old now a b start totals n F all = (F.calls, F.sends, F.tallied, F.turns, F.sent ∙ (all ∙ ap (λ t. cells_of t) (sym F.table)))
+frame_over old now a b start totals n F all = record { calls = F.calls; sent = F.sends; tallied = F.tallied; turns = F.turns; over = F.sent ∙ (all ∙ ap (λ t. cells_of t) (sym F.table)) }
 
 -- ---- frames
 
@@ -155,59 +174,78 @@ turned now next taken plans n stands same = record { stands = stands; same = sam
 pub frames_go_on : (old now mid next : Transmitting) (a b c : Option (List Sent)) (start totals later : SendTotals) (n : ℕ) → AreInFrames old now a b start totals n → IsTurn now mid (Ok tt)
     → IsFrame mid next b c totals later (Ok tt) → (later.words ≤ later.cells) × (later.cells ≤ totals.cells + 131072) → AreInFrames old next a c start later (n + 1)
 frames_go_on old now mid next a b c start totals later n A T F small =
-    let turn = Turns T.0 (Takes T.1) ∷ [] in
-    let there : HasSent old mid a b (A.calls ++ turn) [] = further old now mid a b b A.calls turn [] A.sends (turned now mid b T.0 T.1 T.2 T.3) in
+    let turn = Turns T.plans (Takes T.next) ∷ [] in
+    let there : HasSent old mid a b (A.calls ++ turn) [] = further old now mid a b b A.calls turn [] A.sends (turned now mid b T.plans T.next T.stands T.same) in
     let tallied : IsTallied start totals (sent_in (A.calls ++ turn)) = tallied_more start totals totals A.calls turn A.tallied (tallied_none totals) in
     record {
-      calls = (A.calls ++ turn) ++ F.0;
-      sends = further old mid next a b c (A.calls ++ turn) F.0 [] there F.1;
-      tallied = tallied_more start totals later (A.calls ++ turn) F.0 tallied F.2;
-      turns = omega (arith, taken_append (A.calls ++ turn) F.0, taken_append A.calls turn, A.turns, F.3);
-      over = F.4;
+      calls = (A.calls ++ turn) ++ F.calls;
+      sends = further old mid next a b c (A.calls ++ turn) F.calls [] there F.sent;
+      tallied = tallied_more start totals later (A.calls ++ turn) F.calls tallied F.tallied;
+      turns = omega (arith, taken_append (A.calls ++ turn) F.calls, taken_append A.calls turn, A.turns, F.turns);
+      over = F.over;
       words = small.0;
       cells = omega (arith, small.1, A.cells);
     }
 
+-- no frame was asked for
+pub none_sent : (gate : GatePoints) (g frames : ℕ) (v : Transmitting) (taken : Option (List Sent)) (plan : ℕ) → frames ≡ 0 → plan ≡ v.number
+    → AreAllSent gate g frames (sending v taken) (sending v taken) (record { cells = 0; words = 0; plan = plan })
+none_sent gate g frames v taken plan none is = record {
+  calls = [];
+  sent = nothing_sent v taken;
+  counted = ap (λ (n : ℕ). record { cells = 0; words = 0; plan = n }) is;
+  whole = subst (λ (n : ℕ). AreWhole n [] v.frame) (sym none) refl;
+  gated = record { each = λ k low. absurd (omega (arith, low)) };
+}
+
 -- ---- at the gate
 
-module _ (passes shuts : Point → Type 0) (g : ℕ) (start : SendTotals) (none : start.cells ≡ 0) where
+module _ (gate : GatePoints) (g : ℕ) (start : SendTotals) (none : start.cells ≡ 0) where
   counted : (totals : SendTotals) (calls : List Call) → IsTallied start totals (sent_in calls) → totals.cells ≡ length (sent_in calls)
   counted totals calls T = omega (arith, T.cells, none)
 
-  gated : (totals : SendTotals) (calls : List Call) (fault : SendFault) → IsTallied start totals (sent_in calls) → IsStoppedGroup passes shuts g totals.cells fault
-      → IsStoppedGroup passes shuts g (length (sent_in calls)) fault
-  gated totals calls fault T G = subst (λ (n : ℕ). IsStoppedGroup passes shuts g n fault) (counted totals calls T) G
+  gated : (totals : SendTotals) (calls : List Call) (fault : SendFault) → IsTallied start totals (sent_in calls) → IsStoppedGroup gate g totals.cells fault
+      → IsStoppedGroup gate g (length (sent_in calls)) fault
+  gated totals calls fault T G = subst (λ (n : ℕ). IsStoppedGroup gate g n fault) (counted totals calls T) G
 
   -- the next frame was not taken
   pub frames_end : (old now next : Transmitting) (a b : Option (List Sent)) (totals : SendTotals) (n frames : ℕ) (fault : SendFault) → AreInFrames old now a b start totals n → n < frames
-      → IsTurn now next (Err fault) → HaveCellsPassed passes g totals.cells → AreSent passes shuts g frames old next a b (Err fault)
-  frames_end old now next a b totals n frames Change A low T P = (
-    A.calls ++ [],
-    Turns T.0 StaysSpent ∷ [],
-    further old now next a b b A.calls [] (Turns T.0 StaysSpent ∷ []) A.sends (record { stands = T.1; same = T.2; sends = tt; took = cells_none b }),
-    (T.0, refl),
-    omega (arith, taken_append A.calls [], A.turns, low),
-    gated totals (A.calls ++ []) Change (tallied_more start totals totals A.calls [] A.tallied (tallied_none totals)) P,
-  )
+      → IsTurn now next (Err fault) → HaveCellsPassed gate.passes g totals.cells → AreFewerSent gate g frames (sending old a) (sending next b) fault
+  frames_end old now next a b totals n frames Change A low T P = record {
+    calls = A.calls ++ [];
+    last = Turns T.0 StaysSpent ∷ [];
+    sent = further old now next a b b A.calls [] (Turns T.0 StaysSpent ∷ []) A.sends (record { stands = T.1; same = T.2; sends = tt; took = cells_none b });
+    ended = (T.0, refl);
+    fewer = omega (arith, taken_append A.calls [], A.turns, low);
+    gated = gated totals (A.calls ++ []) Change (tallied_more start totals totals A.calls [] A.tallied (tallied_none totals)) P;
+  }
   frames_end old now next a b totals n frames Gate A low T P = absurd T
   frames_end old now next a b totals n frames Sink A low T P = absurd T
 
   -- the first frame ended early
   pub frame_first : (old next : Transmitting) (a c : Option (List Sent)) (later : SendTotals) (frames : ℕ) (fault : SendFault) → 0 < frames
-      → IsFrame old next a c start later (Err fault) → IsStoppedGroup passes shuts g later.cells fault → AreSent passes shuts g frames old next a c (Err fault)
-  frame_first old next a c later frames fault some F G = (F.0, F.1, F.2, F.3, omega (arith, F.4, some), gated later F.0 fault F.5 G)
+      → IsFrame old next a c start later (Err fault) → IsStoppedGroup gate g later.cells fault → AreFewerSent gate g frames (sending old a) (sending next c) fault
+  frame_first old next a c later frames fault some F G = record {
+    calls = F.calls;
+    last = F.last;
+    sent = F.sent;
+    ended = F.ended;
+    fewer = omega (arith, F.turns, some);
+    gated = gated later F.calls fault F.tallied G;
+  }
 
   -- a later frame ended early
   pub frames_stop : (old now mid next : Transmitting) (a b c : Option (List Sent)) (totals later : SendTotals) (n frames : ℕ) (fault : SendFault) → AreInFrames old now a b start totals n → n < frames
-      → IsTurn now mid (Ok tt) → IsFrame mid next b c totals later (Err fault) → IsStoppedGroup passes shuts g later.cells fault → AreSent passes shuts g frames old next a c (Err fault)
+      → IsTurn now mid (Ok tt) → IsFrame mid next b c totals later (Err fault) → IsStoppedGroup gate g later.cells fault → AreFewerSent gate g frames (sending old a) (sending next c) fault
   frames_stop old now mid next a b c totals later n frames fault A low T F G =
-      let turn = Turns T.0 (Takes T.1) ∷ [] in
-      let there : HasSent old mid a b (A.calls ++ turn) [] = further old now mid a b b A.calls turn [] A.sends (turned now mid b T.0 T.1 T.2 T.3) in
-      let tallied : IsTallied start totals (sent_in (A.calls ++ turn)) = tallied_more start totals totals A.calls turn A.tallied (tallied_none totals) in (
-        (A.calls ++ turn) ++ F.0,
-        F.1,
-        further old mid next a b c (A.calls ++ turn) F.0 F.1 there F.2,
-        F.3,
-        omega (arith, taken_append (A.calls ++ turn) F.0, taken_append A.calls turn, A.turns, F.4, low),
-        gated later ((A.calls ++ turn) ++ F.0) fault (tallied_more start totals later (A.calls ++ turn) F.0 tallied F.5) G,
-      )
+      let turn = Turns T.plans (Takes T.next) ∷ [] in
+      let there : HasSent old mid a b (A.calls ++ turn) [] = further old now mid a b b A.calls turn [] A.sends (turned now mid b T.plans T.next T.stands T.same) in
+      let tallied : IsTallied start totals (sent_in (A.calls ++ turn)) = tallied_more start totals totals A.calls turn A.tallied (tallied_none totals) in
+      record {
+        calls = (A.calls ++ turn) ++ F.calls;
+        last = F.last;
+        sent = further old mid next a b c (A.calls ++ turn) F.calls F.last there F.sent;
+        ended = F.ended;
+        fewer = omega (arith, taken_append (A.calls ++ turn) F.calls, taken_append A.calls turn, A.turns, F.turns, low);
+        gated = gated later ((A.calls ++ turn) ++ F.calls) fault (tallied_more start totals later (A.calls ++ turn) F.calls tallied F.tallied) G;
+      }

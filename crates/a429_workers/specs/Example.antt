@@ -29,17 +29,12 @@ abbrev pub table_on : ℕ → ℕ → SlotTable
 table_on buses bus = record {
   frame = 1;
   buses = buses;
-  demands = 2 ∷ [];
+  outputs = record { source = 0; place = record { bus = bus; offset = 0; period = 0 }; limits = record { hold = Some 1; spacing = 1 } } ∷ [];
   order = 0 ∷ [];
-  sources = 0 ∷ [];
-  on_bus = bus ∷ [];
-  offsets = 0 ∷ [];
-  periods = 0 ∷ [];
-  limits = record { hold = Some 1; spacing = 1 } ∷ [];
 }
 
 abbrev pub proposal : ℕ → SlotTable → Proposed
-proposal number t = record { station = station; plan = record { count = 1; groups = t ∷ []; number = number } }
+proposal number t = record { station = station; plan = record { groups = t ∷ []; number = number } }
 
 -- one bus, and later two
 abbrev pub table : SlotTable

@@ -1,7 +1,9 @@
 -- What the loops of receivers and groups do at their gate: the points that they pass, in order, and the one at which it ended them.
 use Rattle.std.specs.Prelude.{◌≡◌, ◌+◌, ◌<◌, ◌⊎◌, ◌∷◌, [], ℕ, List, Result, Ok, Err, length, take}
 use Rattle.a429_values.specs.Ends.{ReceiverEnd}
-use Rattle.a429_workers.specs.Receives.{AreTaken, after_words}
+use Rattle.a429_workers.specs.Receives.{AreTaken, Gives, after_words}
+use Rattle.a429_filter.specs.declared.sources.LineSource as LineSource
+use Rattle.a429_workers.specs.declared.gates.Gate as Gate
 use Rattle.a429_workers.specs.declared.gates.Point.{Point}
 use Rattle.a429_workers.specs.declared.gates.Point.TheVariants as point
 use Rattle.a429_workers.specs.declared.receiving.ReceiveTotals.{ReceiveTotals}
@@ -10,6 +12,16 @@ use Rattle.a429_workers.specs.declared.receiving.ReceiveFault.TheVariants as rec
 use Rattle.a429_workers.specs.declared.sending.SendFault.{SendFault}
 use Rattle.a429_workers.specs.declared.sending.SendFault.TheVariants as send
 
+-- ---- a gate
+
+-- the points at which a gate may let a loop go on, and those at which it may end one
+pub record GatePoints : Type 1 where
+  pub passes : Point → Type 0
+  pub shuts : Point → Type 0
+
+abbrev pub points_of : {G : Type 0} → Gate.Ghosts G → G → GatePoints
+points_of gate at = record { passes = gate.passes at; shuts = gate.shuts at }
+
 -- ---- points in a row
 
 -- the gate let the loop go on before and after each of the first n words, or cells
@@ -17,15 +29,15 @@ pub record HavePassed (passes : Point → Type 0) (before after : ℕ → Point)
   pub each : (k : ℕ) → k < n → passes (before k) × passes (after k)
 
 -- and then it ended the loop before the next one
-pub record EndsBefore (passes shuts : Point → Type 0) (before after : ℕ → Point) (n : ℕ) : Type 0 where
-  pub passed : HavePassed passes before after n
-  pub shut : shuts (before n)
+pub record EndsBefore (gate : GatePoints) (before after : ℕ → Point) (n : ℕ) : Type 0 where
+  pub passed : HavePassed gate.passes before after n
+  pub shut : gate.shuts (before n)
 
 -- or after the next one
-pub record EndsAfter (passes shuts : Point → Type 0) (before after : ℕ → Point) (n : ℕ) : Type 0 where
-  pub passed : HavePassed passes before after n
-  pub begun : passes (before n)
-  pub shut : shuts (after n)
+pub record EndsAfter (gate : GatePoints) (before after : ℕ → Point) (n : ℕ) : Type 0 where
+  pub passed : HavePassed gate.passes before after n
+  pub begun : gate.passes (before n)
+  pub shut : gate.shuts (after n)
 
 -- ---- words
 
@@ -39,30 +51,47 @@ point_after_word r n = point.AfterAccept r n
 abbrev pub HaveWordsPassed : (Point → Type 0) → ℕ → ℕ → Type 0
 HaveWordsPassed passes r n = HavePassed passes (point_before_word r) (point_after_word r) n
 
+-- the gate ended the loop of receiver r after the last word that its line gave, which the receiver took
+pub record IsShutAfterWord (gate : GatePoints) (r given taken : ℕ) : Type 0 where
+  pub last : ℕ
+  pub all : given ≡ taken
+  pub counted : taken ≡ last + 1
+  pub ended : EndsAfter gate (point_before_word r) (point_after_word r) last
+
 -- The points of receiver r's loop, where its line gave so many words and it took the first of them, so many. Where the gate ended the loop, that was
 -- before the last word, which the receiver did not take, or after it.
-abbrev pub IsGatedLine : (Point → Type 0) → (Point → Type 0) → ℕ → ℕ → ℕ → Result ReceiveTotals ReceiveFault → Type 0
-IsGatedLine passes shuts r given taken (Ok totals) = (given ≡ taken) × HaveWordsPassed passes r taken
-IsGatedLine passes shuts r given taken (Err receive.Source) = (given ≡ taken) × HaveWordsPassed passes r taken
-IsGatedLine passes shuts r given taken (Err receive.TooMuch) = (given ≡ taken + 1) × HaveWordsPassed passes r taken
-IsGatedLine passes shuts r given taken (Err receive.Gate) =
-    ((given ≡ taken + 1) × EndsBefore passes shuts (point_before_word r) (point_after_word r) taken)
-    ⊎ ((k : ℕ) × (given ≡ taken) × (taken ≡ k + 1) × EndsAfter passes shuts (point_before_word r) (point_after_word r) k)
+abbrev pub IsGatedLine : GatePoints → ℕ → ℕ → ℕ → Result ReceiveTotals ReceiveFault → Type 0
+IsGatedLine gate r given taken (Ok totals) = (given ≡ taken) × HaveWordsPassed gate.passes r taken
+IsGatedLine gate r given taken (Err receive.Source) = (given ≡ taken) × HaveWordsPassed gate.passes r taken
+IsGatedLine gate r given taken (Err receive.TooMuch) = (given ≡ taken + 1) × HaveWordsPassed gate.passes r taken
+IsGatedLine gate r given taken (Err receive.Gate) =
+    ((given ≡ taken + 1) × EndsBefore gate (point_before_word r) (point_after_word r) taken)
+    ⊎ IsShutAfterWord gate r given taken
 
 -- the receiver took the first of these words, so many, each between two points of the gate
-abbrev pub AreGated : (Point → Type 0) → (Point → Type 0) → ℕ → List ℕ → Result ReceiveTotals ReceiveFault → ReceiverEnd → ReceiverEnd → Type 0
-AreGated passes shuts r given answer old new =
-    (taken : ℕ) × (new ≡ after_words old (take taken given)) × IsGatedLine passes shuts r (length given) taken answer
+abbrev pub AreGated : GatePoints → ℕ → List ℕ → Result ReceiveTotals ReceiveFault → ReceiverEnd → ReceiverEnd → Type 0
+AreGated gate r given answer old new =
+    (taken : ℕ) × (new ≡ after_words old (take taken given)) × IsGatedLine gate r (length given) taken answer
+
+-- a receiver with the source of its line
+pub record Listening (L : Type 0) : Type 0 where
+  pub line : L
+  pub receiver : ReceiverEnd
+
+abbrev pub listening : {L : Type 0} → L → ReceiverEnd → Listening L
+listening line receiver = record { line = line; receiver = receiver }
 
 -- what the loop of receiver r did: the line gave words, and the receiver took them, each between two points of the gate
-abbrev pub HasTaken : {L : Type 0} → (L → List ℕ → L → Type 0) → (Point → Type 0) → (Point → Type 0) → ℕ → L → L → ReceiverEnd → ReceiverEnd → Result ReceiveTotals ReceiveFault → Type 0
-HasTaken gives passes shuts r line line' old new answer =
-    (given : List ℕ) × gives line given line' × AreTaken given answer old new × AreGated passes shuts r given answer old new
+pub record HasTaken {L : Type 0} (source : LineSource.Ghosts L) (gate : GatePoints) (r : ℕ) (old new : Listening L) (answer : Result ReceiveTotals ReceiveFault) : Type 0 where
+  pub words : List ℕ
+  pub gave : Gives source.given source.left old.line words new.line
+  pub taken : AreTaken words answer old.receiver new.receiver
+  pub gated : AreGated gate r words answer old.receiver new.receiver
 
 -- the gate ended the loop of receiver r before word n, which the receiver did not take, or after it
-abbrev pub IsShutAt : (Point → Type 0) → (Point → Type 0) → ℕ → ℕ → ℕ → ReceiverEnd → ReceiverEnd → Type 0
-IsShutAt passes shuts r n raw old new =
-    ((new ≡ old) × shuts (point_before_word r n)) ⊎ ((new ≡ after_words old (raw ∷ [])) × passes (point_before_word r n) × shuts (point_after_word r n))
+abbrev pub IsShutAt : GatePoints → ℕ → ℕ → ℕ → ReceiverEnd → ReceiverEnd → Type 0
+IsShutAt gate r n raw old new =
+    ((new ≡ old) × gate.shuts (point_before_word r n)) ⊎ ((new ≡ after_words old (raw ∷ [])) × gate.passes (point_before_word r n) × gate.shuts (point_after_word r n))
 
 -- ---- cells
 
@@ -78,14 +107,14 @@ HaveCellsPassed passes g n = HavePassed passes (point_before_cell g) (point_afte
 
 -- The points of group g's loop that a fault ended, where its sink took so many cells. Where the sink failed, that was at the next cell, which the gate
 -- let pass. Where the gate ended the loop, that was before the next cell, which was not asked for, or after the last one that the sink took.
-abbrev pub IsStoppedGroup : (Point → Type 0) → (Point → Type 0) → ℕ → ℕ → SendFault → Type 0
-IsStoppedGroup passes shuts g taken send.Sink = HaveCellsPassed passes g taken × passes (point_before_cell g taken)
-IsStoppedGroup passes shuts g taken send.Change = HaveCellsPassed passes g taken
-IsStoppedGroup passes shuts g taken send.Gate =
-    EndsBefore passes shuts (point_before_cell g) (point_after_cell g) taken
-    ⊎ ((k : ℕ) × (taken ≡ k + 1) × EndsAfter passes shuts (point_before_cell g) (point_after_cell g) k)
+abbrev pub IsStoppedGroup : GatePoints → ℕ → ℕ → SendFault → Type 0
+IsStoppedGroup gate g taken send.Sink = HaveCellsPassed gate.passes g taken × gate.passes (point_before_cell g taken)
+IsStoppedGroup gate g taken send.Change = HaveCellsPassed gate.passes g taken
+IsStoppedGroup gate g taken send.Gate =
+    EndsBefore gate (point_before_cell g) (point_after_cell g) taken
+    ⊎ ((k : ℕ) × (taken ≡ k + 1) × EndsAfter gate (point_before_cell g) (point_after_cell g) k)
 
 -- the points of group g's loop, where its sink took so many cells
-abbrev pub IsGatedGroup : {A : Type 0} → (Point → Type 0) → (Point → Type 0) → ℕ → ℕ → Result A SendFault → Type 0
-IsGatedGroup passes shuts g taken (Ok done) = HaveCellsPassed passes g taken
-IsGatedGroup passes shuts g taken (Err fault) = IsStoppedGroup passes shuts g taken fault
+abbrev pub IsGatedGroup : {A : Type 0} → GatePoints → ℕ → ℕ → Result A SendFault → Type 0
+IsGatedGroup gate g taken (Ok done) = HaveCellsPassed gate.passes g taken
+IsGatedGroup gate g taken (Err fault) = IsStoppedGroup gate g taken fault

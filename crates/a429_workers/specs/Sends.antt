@@ -3,12 +3,11 @@ use Rattle.std.specs.Prelude.{◌≡◌, ◌+◌, ◌<◌, ◌++◌, ◌∷◌, 
 use Rattle.std.specs.List.{AllByRecursion}
 use Rattle.a429_slots.specs.Tables.{PlanTable, cells_of}
 use Rattle.a429_slots.specs.FrameStates.{FrameState, after_cell}
-use Rattle.a429_workers.specs.Gates.{IsGatedGroup}
+use Rattle.a429_workers.specs.Gates.{GatePoints, IsGatedGroup}
 use Rattle.a429_workers.specs.Calls.{Call, Carried, Asks, Turns, Meets, Takes, StaysMid, StaysSpent}
 use Rattle.a429_workers.specs.Sinks.{failures_by}
 use Rattle.a429_workers.specs.Transmitting.{Transmitting, GoesOnByCalls, IsSameGroup}
 use Rattle.a429_workers.specs.declared.cells.Sent.{Sent}
-use Rattle.a429_workers.specs.declared.gates.Point.{Point}
 use Rattle.a429_workers.specs.declared.sending.SendTotals.{SendTotals}
 use Rattle.a429_workers.specs.declared.sending.SendFault.{SendFault}
 use Rattle.a429_workers.specs.declared.sending.SendFault.TheVariants.{Gate, Sink, Change}
@@ -68,14 +67,35 @@ AreWhole (suc n) calls frame = (count_by is_taken calls ≡ n) × (frame.sent �
 abbrev pub totals_of : List Sent → ℕ → SendTotals
 totals_of cells plan = record { cells = length cells; words = count_by has_word cells; plan = plan }
 
--- so many frames of group g were sent from the beginning of a frame on, or fewer where the loop ended before, each cell between two points of the gate
-abbrev pub AreSent : (Point → Type 0) → (Point → Type 0) → ℕ → ℕ → Transmitting → Transmitting → Option (List Sent) → Option (List Sent) → Result SendTotals SendFault → Type 0
-AreSent passes shuts g frames old new before after (Ok totals) =
-    (calls : List Call) × HasSent old new before after calls [] × (totals ≡ totals_of (sent_in calls) new.number) × AreWhole frames calls new.frame
-    × IsGatedGroup {A = SendTotals} passes shuts g (length (sent_in calls)) (Ok totals)
-AreSent passes shuts g frames old new before after (Err fault) =
-    (calls : List Call) × (last : List Call) × HasSent old new before after calls last × IsLast fault last × (count_by is_taken calls < frames)
-    × IsGatedGroup {A = SendTotals} passes shuts g (length (sent_in calls)) (Err fault)
+-- a transmitter, and the cells that its sink took, where it tells them
+pub record Sending : Type 0 where
+  pub transmit : Transmitting
+  pub taken : Option (List Sent)
+
+abbrev pub sending : Transmitting → Option (List Sent) → Sending
+sending transmit taken = record { transmit = transmit; taken = taken }
+
+-- so many frames of group g were sent from the beginning of a frame on, each cell between two points of the gate, and the totals count the cells
+pub record AreAllSent (gate : GatePoints) (g frames : ℕ) (old new : Sending) (totals : SendTotals) : Type 0 where
+  pub calls : List Call
+  pub sent : HasSent old.transmit new.transmit old.taken new.taken calls []
+  pub counted : totals ≡ totals_of (sent_in calls) new.transmit.number
+  pub whole : AreWhole frames calls new.transmit.frame
+  pub gated : IsGatedGroup {A = SendTotals} gate g (length (sent_in calls)) (Ok totals)
+
+-- or fewer, where a fault ended the loop before
+pub record AreFewerSent (gate : GatePoints) (g frames : ℕ) (old new : Sending) (fault : SendFault) : Type 0 where
+  pub calls : List Call
+  pub last : List Call
+  pub sent : HasSent old.transmit new.transmit old.taken new.taken calls last
+  pub ended : IsLast fault last
+  pub fewer : count_by is_taken calls < frames
+  pub gated : IsGatedGroup {A = SendTotals} gate g (length (sent_in calls)) (Err fault)
+
+-- by the answer of the loop
+abbrev pub AreSent : GatePoints → ℕ → ℕ → Sending → Sending → Result SendTotals SendFault → Type 0
+AreSent gate g frames old new (Ok totals) = AreAllSent gate g frames old new totals
+AreSent gate g frames old new (Err fault) = AreFewerSent gate g frames old new fault
 
 -- the count of failures of the sink: it rises by one where the sink failed
 abbrev pub sink_failures : {A : Type 0} → ℕ → Result A SendFault → ℕ
@@ -98,28 +118,60 @@ pub record IsCellMade (old new : Transmitting) (c : Carried) : Type 0 where
   pub frame : new.frame ≡ after_cell old.frame
   pub number : new.number ≡ old.number
 
+-- and its sink took it
+pub record IsCellTaken (old new : Transmitting) (before after : Option (List Sent)) (start totals : SendTotals) : Type 0 where
+  pub cell : Carried
+  pub made : IsCellMade old new cell
+  pub took : after ≡ with_cells before (sent_in (Asks (Some cell) ∷ []))
+  pub tallied : IsTallied start totals (sent_in (Asks (Some cell) ∷ []))
+
+-- or did not take it
+pub record IsCellLost (old new : Transmitting) (before after : Option (List Sent)) (start later : SendTotals) : Type 0 where
+  pub cell : Carried
+  pub made : IsCellMade old new cell
+  pub left : after ≡ with_cells before []
+  pub totals : later ≡ start
+
 -- a cell was answered and its sink took it; or the gate ended the loop before or after that, or the sink did not take it
 abbrev pub IsCell : Transmitting → Transmitting → Option (List Sent) → Option (List Sent) → SendTotals → SendTotals → Result (Unit {0}) SendFault → Type 0
-IsCell old new before after start totals (Ok done) =
-    (c : Carried) × IsCellMade old new c × (after ≡ with_cells before (sent_in (Asks (Some c) ∷ []))) × IsTallied start totals (sent_in (Asks (Some c) ∷ []))
+IsCell old new before after start totals (Ok done) = IsCellTaken old new before after start totals
 IsCell old new before after start totals (Err Gate) =
-    ((new ≡ old) × (after ≡ before) × (totals ≡ start))
-    ⊎ ((c : Carried) × IsCellMade old new c × (after ≡ with_cells before (sent_in (Asks (Some c) ∷ []))) × IsTallied start totals (sent_in (Asks (Some c) ∷ [])))
-IsCell old new before after start totals (Err Sink) = (c : Carried) × IsCellMade old new c × (after ≡ with_cells before []) × (totals ≡ start)
+    ((new ≡ old) × (after ≡ before) × (totals ≡ start)) ⊎ IsCellTaken old new before after start totals
+IsCell old new before after start totals (Err Sink) = IsCellLost old new before after start totals
 IsCell old new before after start totals (Err Change) = ⊥
 
--- all cells of a frame were sent from its beginning on, or fewer where the loop ended before
-abbrev pub IsFrame : Transmitting → Transmitting → Option (List Sent) → Option (List Sent) → SendTotals → SendTotals → Result (Unit {0}) SendFault → Type 0
-IsFrame old new before after start totals (Ok done) =
-    (calls : List Call) × HasSent old new before after calls [] × IsTallied start totals (sent_in calls) × (count_by is_taken calls ≡ 0) × (new.frame.sent ≡ cells_of new.frame.table)
-IsFrame old new before after start totals (Err fault) =
-    (calls : List Call) × (last : List Call) × HasSent old new before after calls last × IsLast fault last × (count_by is_taken calls ≡ 0)
-    × IsTallied start totals (sent_in calls)
+-- all cells of a frame were sent from its beginning on
+pub record IsFrameSent (old new : Transmitting) (before after : Option (List Sent)) (start totals : SendTotals) : Type 0 where
+  pub calls : List Call
+  pub sent : HasSent old new before after calls []
+  pub tallied : IsTallied start totals (sent_in calls)
+  pub turns : count_by is_taken calls ≡ 0
+  pub over : new.frame.sent ≡ cells_of new.frame.table
 
--- the next frame was taken, or its slots cannot be counted
+-- or fewer, where a fault ended the loop before
+pub record IsFrameCut (old new : Transmitting) (before after : Option (List Sent)) (start totals : SendTotals) (fault : SendFault) : Type 0 where
+  pub calls : List Call
+  pub last : List Call
+  pub sent : HasSent old new before after calls last
+  pub ended : IsLast fault last
+  pub turns : count_by is_taken calls ≡ 0
+  pub tallied : IsTallied start totals (sent_in calls)
+
+abbrev pub IsFrame : Transmitting → Transmitting → Option (List Sent) → Option (List Sent) → SendTotals → SendTotals → Result (Unit {0}) SendFault → Type 0
+IsFrame old new before after start totals (Ok done) = IsFrameSent old new before after start totals
+IsFrame old new before after start totals (Err fault) = IsFrameCut old new before after start totals fault
+
+-- the next frame was taken
+pub record IsTurnTaken (old new : Transmitting) : Type 0 where
+  pub plans : List PlanTable
+  pub next : ℕ
+  pub stands : GoesOnByCalls old (Turns plans (Takes next) ∷ []) new
+  pub same : IsSameGroup old new
+  pub begins : new.frame.sent ≡ 0
+
+-- or its slots cannot be counted
 abbrev pub IsTurn : Transmitting → Transmitting → Result (Unit {0}) SendFault → Type 0
-IsTurn old new (Ok done) =
-    (plans : List PlanTable) × (n : ℕ) × GoesOnByCalls old (Turns plans (Takes n) ∷ []) new × IsSameGroup old new × (new.frame.sent ≡ 0)
+IsTurn old new (Ok done) = IsTurnTaken old new
 IsTurn old new (Err Change) = (plans : List PlanTable) × GoesOnByCalls old (Turns plans StaysSpent ∷ []) new × IsSameGroup old new
 IsTurn old new (Err Gate) = ⊥
 IsTurn old new (Err Sink) = ⊥

@@ -11,6 +11,7 @@ use Rattle.a429_slots.specs.FrameStates.{FrameState, begun, fits_next, next_cell
 use Rattle.a429_slots.specs.Recalling.{Recent, Recalls, source_sends, source_after}
 use Rattle.a429_slots.specs.declared.senders.Due.{Due}
 use Rattle.a429_values.specs.Ends as ends
+use Rattle.a429_values.specs.Later.{OthersStayAgreed}
 use Rattle.a429_values.specs.Words.{load_of}
 use Rattle.a429_board.specs.Lists.{Watched}
 use Rattle.a429_workers.specs.Calls.{Call, Asks, Turns, Takes, StaysMid, StaysSpent, GroupState, AreLawful, before_calls, state_after, loads_of, table_of}
@@ -52,6 +53,10 @@ OpensBy v p = slice_get (groups_of v.watcher.opened) v.transmitter.number ≡ So
 -- the group's slot table in the last plan that was seen; p where that plan has no such group
 abbrev pub newest_table : Transmitting → SlotTable → SlotTable
 newest_table v p = table_of v.transmitter.number p v.watcher.list
+
+-- the table is that of a group in the last plan that a watcher saw, or its opening one where that plan has no such group
+abbrev pub IsLastTable : Watched → ℕ → SlotTable → Type 0
+IsLastTable w g t = (p : SlotTable) → slice_get (groups_of w.opened) g ≡ Some p → t ≡ table_of g p w.list
 
 -- all cells of the frame were sent, and 64 bits cannot count the slots of a next one by this table
 abbrev pub IsSpent : FrameState → SlotTable → Type 0
@@ -177,3 +182,7 @@ pub record IsLoaded (old : ends.TransmitterEnd) (sends : List Recent) (slot : �
 abbrev pub IsDone : ends.TransmitterEnd → List Recent → ℕ → Option Due → Option ℕ → ends.TransmitterEnd → List Recent → Type 0
 IsDone old sends slot None word new kept = (word ≡ None) × (new ≡ old) × (kept ≡ sends)
 IsDone old sends slot (Some due) word new kept = due.source < length sends → IsLoaded old sends slot due word new kept
+
+-- a receiver was met, and the loads agree with the words of the other receivers as they did
+abbrev pub KeepsOthers : Transmitting → ℕ → Transmitting → Type 0
+KeepsOthers old receiver new = OthersStayAgreed old.transmitter.at.station receiver old.transmitter.loads new.transmitter.loads

@@ -1,16 +1,14 @@
 //! The loop of a receiver.
 ghost use Rattle.std.specs.Prelude.{◌≡◌, ◌+◌, ◌<◌, ◌∷◌, [], ℕ, true, OnOk, OnErr};
 ghost use Rattle.a429_values.specs.Ends.{accept_answer};
-ghost use Rattle.a429_workers.specs.Gates.{HasTaken, IsShutAt, point_after_word, point_before_word};
-ghost use Rattle.a429_workers.specs.Receives.{AreAtMost, Gives, IsSameReceiver, after_words, counted, source_failures};
+ghost use Rattle.a429_workers.specs.Gates.{HasTaken, IsShutAt, listening, point_after_word, point_before_word, points_of};
+ghost use Rattle.a429_workers.specs.Receives.{AreAtMost, IsSameReceiver, after_words, counted, source_failures};
 
 use crate::gates::{Gate, GateFault, Point};
+use a429_equipment::WORDS;
 use a429_filter::LineSource;
 use a429_values::{Accept, Receiver};
 use thiserror::Error;
-
-/// How many words a receiver takes at most in one loop (profile).
-pub const WORDS: u64 = 1000000;
 
 /// How many words of a line a receiver accepted, and how many it refused for which reason.
 #[derive(Clone, Copy, Debug, PartialEq, Eq)]
@@ -64,7 +62,7 @@ fn receive<G: Gate>(
     ensures totals { OnOk result (totals.new ≡ counted totals.old (accept_answer receiver.old raw)) }
     ensures same { IsSameReceiver receiver.old receiver.new }
     ensures passed { OnOk result (G.passes gate.now (point_before_word number place) × G.passes gate.now (point_after_word number place)) }
-    ensures shut { OnErr result (IsShutAt (G.passes gate.now) (G.shuts gate.now) number place raw receiver.old receiver.new) }
+    ensures shut { OnErr result (IsShutAt (points_of G.Gate gate.now) number place raw receiver.old receiver.new) }
 {
     gate.pass(Point::BeforeAccept(number, place))?;
     let answer = receiver.accept(raw);
@@ -84,8 +82,8 @@ pub fn receive_all<L: LineSource, G: Gate>(
     number: usize,
     gate: &G,
 ) -> Result<ReceiveTotals, ReceiveFault>
-    ensures taken { HasTaken (Gives L.given L.left) (G.passes gate.now) (G.shuts gate.now) number line.old line.new
-        receiver.old receiver.new result }
+    ensures taken { HasTaken L.LineSource (points_of G.Gate gate.now) number
+        (listening line.old receiver.old) (listening line.new receiver.new) result }
     ensures same { IsSameReceiver receiver.old receiver.new }
     ensures ended { OnOk result (L.ended line.new ≡ true) }
     ensures failed { L.failed line.new ≡ source_failures (L.failed line.old) result }

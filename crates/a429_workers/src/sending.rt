@@ -1,10 +1,10 @@
 //! The loop of a group.
 ghost use Rattle.std.specs.Prelude.{◌≡◌, ◌≤◌, ◌+◌, ◌<◌, ◌^◌, OnOk, IfErr};
 ghost use Rattle.a429_slots.specs.Tables.{cells_of};
-ghost use Rattle.a429_workers.specs.Gates.{HaveCellsPassed, IsGatedGroup};
+ghost use Rattle.a429_workers.specs.Gates.{HaveCellsPassed, IsGatedGroup, points_of};
 ghost use Rattle.a429_workers.specs.Transmitting.{IsSameGroup};
 ghost use Rattle.a429_workers.specs.declared.sending.SendFault.TheVariants.{Change};
-ghost use Rattle.a429_workers.specs.Sends.{AreSent, IsCell, IsFrame, IsTurn, sink_failures};
+ghost use Rattle.a429_workers.specs.Sends.{AreSent, IsCell, IsFrame, IsTurn, sending, sink_failures};
 
 use crate::gates::{Gate, Point};
 use crate::sinks::BusSink;
@@ -48,7 +48,7 @@ fn send_cell<B: BusSink, G: Gate>(
     ensures same { IsSameGroup transmit.old transmit.new }
     ensures few { OnOk result ((totals.new.words ≤ totals.new.cells) × (totals.new.cells ≡ totals.old.cells + 1)) }
     ensures failed { B.failed sink.new ≡ sink_failures (B.failed sink.old) result }
-    ensures gate { IsGatedGroup (G.passes gate.now) (G.shuts gate.now) group totals.new.cells result }
+    ensures gate { IsGatedGroup (points_of G.Gate gate.now) group totals.new.cells result }
 {
     if let Err(_) = gate.pass(Point::BeforeCell(group, totals.cells)) {
         return Err(SendFault::Gate);
@@ -83,7 +83,7 @@ fn send_frame<B: BusSink, G: Gate>(
     ensures same { IsSameGroup transmit.old transmit.new }
     ensures few { OnOk result ((totals.new.words ≤ totals.new.cells) × (totals.new.cells ≤ totals.old.cells + 131072)) }
     ensures failed { B.failed sink.new ≡ sink_failures (B.failed sink.old) result }
-    ensures gate { IsGatedGroup (G.passes gate.now) (G.shuts gate.now) group totals.new.cells result }
+    ensures gate { IsGatedGroup (points_of G.Gate gate.now) group totals.new.cells result }
 {
     for _ in 0..transmit.cells() {
         send_cell(transmit, sink, group, totals, gate)?;
@@ -119,8 +119,8 @@ pub fn send_frames<B: BusSink, G: Gate>(
 ) -> Result<SendTotals, SendFault>
     requires { transmit.old.frame.sent ≡ 0 }
     ensures same { IsSameGroup transmit.old transmit.new }
-    ensures sent { AreSent (G.passes gate.now) (G.shuts gate.now) group frames transmit.old transmit.new
-        (B.taken sink.old) (B.taken sink.new) result }
+    ensures sent { AreSent (points_of G.Gate gate.now) group frames
+        (sending transmit.old (B.taken sink.old)) (sending transmit.new (B.taken sink.new)) result }
     ensures failed { B.failed sink.new ≡ sink_failures (B.failed sink.old) result }
 {
     let mut totals = SendTotals {

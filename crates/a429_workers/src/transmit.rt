@@ -1,14 +1,14 @@
 //! A group's transmitter.
-ghost use Rattle.std.specs.Prelude.{◌≡◌, ◌≤◌, ◌+◌, ◌<◌, ◌^◌, ◌↔◌, ◌∷◌, [], false, length, slice_get, IfOk, IfSome, IsErrOf, IsErr, OnErr, None, Some};
+ghost use Rattle.std.specs.Prelude.{◌≡◌, ◌≤◌, ◌+◌, ◌<◌, ◌^◌, ◌↔◌, ◌∷◌, [], false, length, IfOk, IfSome, IsErrOf, IsErr, OnErr, None, Some};
 ghost use Rattle.std.specs.List.{AllByRecursion};
-ghost use Rattle.a429_slots.specs.Tables.{SlotTable, groups_of, cells_of};
+ghost use Rattle.a429_slots.specs.Tables.{groups_of, cells_of};
 ghost use Rattle.a429_slots.specs.FrameStates.{next_cell, after_cell};
 ghost use Rattle.a429_equipment.specs.TableRecord.{TableRecord};
 ghost use Rattle.a429_equipment.specs.Agreement.{AgreesToTheEnd};
-ghost use Rattle.a429_values.specs.Later.{OthersStayAgreed, StaysWhole};
-ghost use Rattle.a429_workers.specs.Calls.{Meets, number_of, table_of};
+ghost use Rattle.a429_values.specs.Later.{StaysWhole};
+ghost use Rattle.a429_workers.specs.Calls.{Meets, number_of};
 ghost use mathlib.Core.List.{IsPrefix};
-ghost use Rattle.a429_workers.specs.Transmitting.{BeginsWith, GoesOnByCalls, IsDone, IsKnownPlan, IsKnownTable, IsSameGroup, TakesNext, TellsSpent, cell_call, change_call, first_fits, loads_since, met, place_due, sent_by};
+ghost use Rattle.a429_workers.specs.Transmitting.{BeginsWith, GoesOnByCalls, IsDone, IsKnownPlan, IsKnownTable, IsLastTable, IsSameGroup, KeepsOthers, TakesNext, TellsSpent, cell_call, change_call, first_fits, loads_since, met, place_due, sent_by};
 
 use crate::cells::{ChangeFault, FrameEnd, OpenFault, Sent};
 use a429_board::{Planner, Watcher};
@@ -106,7 +106,7 @@ fn last_number(watcher: &Watcher) -> u64
 /// The slot table of a group in that plan, or the opening one where it has no such group.
 fn last_table(watcher: &Watcher, group: usize) -> &GroupPlan<OUTPUTS>
     requires { group < length (groups_of watcher.now.opened) }
-    ensures table { (p : SlotTable) → slice_get (groups_of watcher.now.opened) group ≡ Some p → result.now ≡ table_of group p watcher.now.list }
+    ensures table { IsLastTable watcher.now group result.now }
     ensures known { (t : TableRecord) → AllByRecursion (IsKnownPlan t) watcher.now.list → IsKnownTable t result.now }
 {
     let plan = watcher.last();
@@ -247,7 +247,7 @@ impl Transmit {
         ensures loads { self.new ≡ met self.old other.old }
         ensures agrees { AgreesToTheEnd self.old.transmitter.at.station other.old.number other.old.accepted self.new.transmitter.loads }
         ensures later { StaysWhole self.old.transmitter.at.station other.old.number other.old.accepted self.new.transmitter.loads }
-        ensures others { OthersStayAgreed self.old.transmitter.at.station other.old.number self.old.transmitter.loads self.new.transmitter.loads }
+        ensures others { KeepsOthers self.old other.old.number self.new }
     {
         self.transmitter.meet(other);
     }

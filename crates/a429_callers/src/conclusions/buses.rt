@@ -1,9 +1,7 @@
 //! The fewest buses, by a plan.
-ghost use Rattle.std.specs.Prelude.{IfSome, List};
-ghost use Rattle.a429_equipment.specs.declared.rows.GroupRow.{GroupRow};
-ghost use Rattle.a429_equipment.specs.declared.rows.OutputRow.{OutputRow};
+ghost use Rattle.std.specs.Prelude.{IfSome};
 ghost use Rattle.a429_slots.specs.Planned.{HaveRoom};
-ghost use Rattle.a429_callers.specs.Serving.{HasGroup, NoneHasFewer};
+ghost use Rattle.a429_callers.specs.Serving.{AreFewestOfGroup};
 
 use a429_equipment::Equipment;
 use a429_slots::{OUTPUTS, plan};
@@ -13,8 +11,7 @@ use std::alloc::Global;
 /// its grid period has fewer.
 pub fn buses_of(alloc: Global, equipment: &Equipment, group: usize) -> Option<u32>
     requires { HaveRoom 128 equipment.now.outputs }
-    ensures { IfSome result (λ buses. (row : GroupRow) × (rows : List OutputRow) × HasGroup equipment.now group row rows
-        × NoneHasFewer row.rate rows buses) }
+    ensures { IfSome result (AreFewestOfGroup equipment.now group) }
 {
     let Ok(plan) = plan::<OUTPUTS>(alloc, equipment) else {
         return None;

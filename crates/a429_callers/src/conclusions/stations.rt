@@ -1,7 +1,7 @@
 //! The words that the sinks of a running station took.
 ghost use Rattle.std.specs.Prelude.{◌≡◌, length, vec_len, IfSome};
 ghost use Rattle.std.specs.List.{AllZip};
-ghost use Rattle.a429_workers.specs.Receives.{Gives};
+ghost use Rattle.a429_station.specs.Course.{asked};
 ghost use Rattle.a429_callers.specs.Origins.{HasRunInTime, HasRunOnLatestWords, HasRunOnOwnWords, TookGivenWords};
 
 use crate::latency::known_words_go_out_in_time;
@@ -40,9 +40,9 @@ pub fn run_station<
     requires sources { vec_len sources ≡ length equipment.now.receivers }
     requires sinks { vec_len sinks ≡ length equipment.now.groups }
     ensures given { IfSome result (λ report. AllZip (TookGivenWords L.given B.taken report.sources.items) sinks.items report.sinks.items) }
-    ensures own { IfSome result (HasRunOnOwnWords (Gives L.given L.left) L.ended B.taken equipment.now frames sources.items sinks.items) }
-    ensures latest { IfSome result (HasRunOnLatestWords (Gives L.given L.left) L.ended B.taken equipment.now frames sources.items sinks.items) }
-    ensures in_time { IfSome result (HasRunInTime (Gives L.given L.left) L.ended B.taken equipment.now frames sources.items sinks.items) }
+    ensures own { IfSome result (HasRunOnOwnWords L.LineSource B.BusSink (asked equipment.now frames sources.items sinks.items)) }
+    ensures latest { IfSome result (HasRunOnLatestWords L.LineSource B.BusSink (asked equipment.now frames sources.items sinks.items)) }
+    ensures in_time { IfSome result (HasRunInTime L.LineSource B.BusSink (asked equipment.now frames sources.items sinks.items)) }
 {
     one_run();
     word_was_accepted();

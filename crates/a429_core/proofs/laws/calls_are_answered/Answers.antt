@@ -1,4 +1,4 @@
-use Rattle.a429_core.proofs.Answering.{AreRecalled}
+use Rattle.a429_slots.proofs.Remembering.{AreRecalled}
 use Rattle.a429_core.proofs.Steps.{step_is}
 use Rattle.a429_core.proofs.laws.calls_are_answered.Goals as goal
 

@@ -4,8 +4,9 @@ use Rattle.a429_station.specs.Faults.{first_fault}
 use Rattle.a429_station.proofs.reports.report_receivers.Given as goal
 
 abbrev pub invariant-loop-done : goal.invariant-loop-done
-invariant-loop-done g l =
-    (map (λ t. Ok t) l.totals.items ++ map (λ d. d.answer) (into_iter_items l.done-iterator) ≡ map (λ d. d.answer) l.fn.received.items)
-    × (l.sources.items ++ map (λ d. d.line) (into_iter_items l.done-iterator) ≡ map (λ d. d.line) l.fn.received.items)
-    × (first_fault (map (λ d. d.answer) (into_iter_items l.done-iterator)) ≡ first_fault (map (λ d. d.answer) l.fn.received.items))
-    × (l.receivers.items ++ map (λ d. d.receiver) (into_iter_items l.done-iterator) ≡ map (λ d. d.receiver) l.fn.received.items)
+invariant-loop-done g l = record {
+  totals : map (λ t. Ok t) l.totals.items ++ map (λ d. d.answer) (into_iter_items l.done-iterator) ≡ map (λ d. d.answer) l.fn.received.items;
+  sources : l.sources.items ++ map (λ d. d.line) (into_iter_items l.done-iterator) ≡ map (λ d. d.line) l.fn.received.items;
+  first : first_fault (map (λ d. d.answer) (into_iter_items l.done-iterator)) ≡ first_fault (map (λ d. d.answer) l.fn.received.items);
+  receivers : l.receivers.items ++ map (λ d. d.receiver) (into_iter_items l.done-iterator) ≡ map (λ d. d.receiver) l.fn.received.items;
+}

@@ -7,19 +7,21 @@ use Rattle.std.specs.List.{AllByRecursion}
 use Rattle.a429_equipment.specs.TableRecord.{TableRecord}
 use Rattle.a429_equipment.specs.Sound.{HaveOwnSources}
 use Rattle.a429_values.specs.Ends as ends
+use Rattle.a429_workers.specs.Gates.{listening, points_of}
 use Rattle.a429_workers.specs.Receives.{Gives, after_words}
-use Rattle.a429_station.specs.Course.{IsHeardIn, IsSentIn, fresh}
+use Rattle.a429_station.specs.Course.{IsHeardIn, IsSentIn, asked, done_by, fresh}
 use Rattle.a429_station.specs.Faults.{IsFirst, IsRunFault, first_fault, of_receiver}
 use Rattle.a429_station.specs.Numbered.{AllNumbered, AllOfThree}
 use Rattle.a429_station.specs.Resubmitting.{Running}
-use Rattle.a429_station.specs.Working.{HasEmitted, HasReceived, IsJoined, IsOver, IsReady, IsReceiverAt}
+use Rattle.a429_station.specs.Working.{IsJoined, IsOver, IsReady, IsReceiverAt, emitting}
 use Rattle.a429_station.specs.declared.faults.LiveFault.{LiveFault}
 use Rattle.a429_station.specs.declared.reports.Report.{Report}
 use Rattle.a429_station.specs.declared.working.Emitted.{Emitted}
 use Rattle.a429_station.specs.declared.working.Received.{Received}
 use Rattle.a429_station.specs.declared.working.ReceiverWorker.{ReceiverWorker}
 use Rattle.a429_station.specs.declared.working.GroupWorker.{GroupWorker}
-use Rattle.a429_station.proofs.Ended.{AreAfter, all_stopped, course_of, taken_in, group_one, group_over, heard_one, receiver_one, receiver_stays, want_of_memory, done_between}
+use Rattle.a429_station.proofs.Ended.{AreAfter, HasHeard, HasPut, all_stopped, course_of, taken_in, group_one, group_over, heard_one, receiver_one, receiver_stays, want_of_memory, done_between}
+use Rattle.a429_station.proofs.OneRun.{TakenIn}
 use Rattle.a429_station.proofs.Numbered.{at_most, middle, numbered_all, numbered_mapped, shown, shown_past, three_of, zip_length, zip_numbered, zip_with}
 use Rattle.a429_station.proofs.Plans.{plan_small}
 use Rattle.a429_station.proofs.Returned.{early_err, early_ok}
@@ -60,7 +62,7 @@ check_all_ends-requires g c =
     let old = c.args.station.now in
     let on = c.in-Ok.ensures.meanwhile.0 in
     let over = zip_numbered _ (λ k w. IsReady hub old.planner k w.transmit × (w.frames ≡ c.args.frames)) (λ k d. IsOver hub c.run_at_once.new.to.planner d.transmit d.answer)
-    (λ k w d h p. group_over (g.G.Gate.passes w.gate.now) (g.G.Gate.shuts w.gate.now) w.number g.B.BusSink.taken g.B.BusSink.failed hub old c.run_at_once.new.to k w.frames w.transmit d.transmit w.sink d.sink d.answer c.requires.hub.1 c.requires.begun on c.plans_are_of_station.ensures (omega (arith, p.1, c.requires.few)) h p.0)
+    (λ k w d h p. group_over g.B.BusSink (points_of g.G.Gate w.gate.now) w.number hub old c.run_at_once.new.to k w.frames (emitting w.transmit w.sink) (emitting d.transmit d.sink) d.answer c.requires.hub.1 c.requires.begun on c.plans_are_of_station.ensures (omega (arith, p.1, c.requires.few)) h p.0)
     c.in_ok-sending.sending.items c.in-Ok.done.second.items c.in-Ok.ensures.second c.in_ok-sending.ensures.ready in
     record { groups = numbered_all (λ d. IsOver hub c.run_at_once.new.to.planner d.transmit d.answer) c.in-Ok.done.second.items over }
 
@@ -70,7 +72,7 @@ report_groups-requires-clause-groups g c =
     let old = c.args.station.now in
     let on = c.in-Ok.ensures.meanwhile.0 in
     let each = zip_numbered _ (λ k w. IsReady hub old.planner k w.transmit × (w.frames ≡ c.args.frames)) (λ k d. IsOver hub c.run_at_once.new.to.planner d.transmit d.answer)
-    (λ k w d h p. group_over (g.G.Gate.passes w.gate.now) (g.G.Gate.shuts w.gate.now) w.number g.B.BusSink.taken g.B.BusSink.failed hub old c.run_at_once.new.to k w.frames w.transmit d.transmit w.sink d.sink d.answer c.requires.hub.1 c.requires.begun on c.plans_are_of_station.ensures (omega (arith, p.1, c.requires.few)) h p.0)
+    (λ k w d h p. group_over g.B.BusSink (points_of g.G.Gate w.gate.now) w.number hub old c.run_at_once.new.to k w.frames (emitting w.transmit w.sink) (emitting d.transmit d.sink) d.answer c.requires.hub.1 c.requires.begun on c.plans_are_of_station.ensures (omega (arith, p.1, c.requires.few)) h p.0)
     c.in_ok-sending.sending.items c.in-Ok.done.second.items c.in-Ok.ensures.second c.in_ok-sending.ensures.ready in
     let over = numbered_all (λ d. IsOver hub c.run_at_once.new.to.planner d.transmit d.answer) c.in-Ok.done.second.items each in
     subst (λ (r : Running). AllByRecursion (λ (d : Emitted g.row.B.Denot). IsOver hub r.planner d.transmit d.answer) c.check_all_ends.new.sent.items) (sym c.check_all_ends.ensures.station)
@@ -80,12 +82,11 @@ pub returns-clause-ran : goal.returns-clause-ran
 returns-clause-ran g c =
     let gives = Gives g.L.LineSource.given g.L.LineSource.left in
     let ended = g.L.LineSource.ended in
-    let failed = g.L.LineSource.failed in
     let taken = g.B.BusSink.taken in
     let hub = c.args.hub.now in
     let old = c.args.station.now in
     let new = c.run_at_once.new.to in
-    let did : ReceiverWorker g.row.L.Denot g.row.G.Denot → Received g.row.L.Denot → Type 0 = λ w d. HasReceived gives ended failed (g.G.Gate.passes w.gate.now) (g.G.Gate.shuts w.gate.now) w.number w.line w.receiver d.line d.receiver d.answer in
+    let did : ReceiverWorker g.row.L.Denot g.row.G.Denot → Received g.row.L.Denot → Type 0 = HasHeard g.L.LineSource g.B.BusSink g.G.Gate in
     let first = c.in-Ok.ensures.first in
     let ws = c.args.receiving.items in
     let ds = c.in-Ok.done.first.items in
@@ -95,23 +96,24 @@ returns-clause-ran g c =
     let told = c.in_ok-told.told in
     let course = course_of old c.plans_are_of_station.ensures.later came in
     let lines = three_of did show (λ w. w.line) (λ d. d.line) (λ d. d.answer) (λ k w. w.receiver ≡ fresh hub k) (IsHeardIn gives ended hub.station course) came
-    (λ k w d t h p same is. heard_one gives ended failed (g.G.Gate.passes w.gate.now) (g.G.Gate.shuts w.gate.now) w.number hub course k w.line d.line w.receiver d.receiver d.answer t h p same is)
+    (λ k w d t h p same is. heard_one g.L.LineSource (points_of g.G.Gate w.gate.now) w.number hub course k (listening w.line w.receiver) (listening d.line d.receiver) d.answer t h p same is)
     ws ds heard.totals.items first c.requires.receivers c.in_ok-heard.ensures.totals (λ k. refl) in
     let after = three_of did show (λ w. w.line) (λ d. d.receiver) (λ d. d.answer) (λ k w. w.receiver ≡ fresh hub k) (λ k x r t. r ≡ after_words (fresh hub k) (came k)) came
-    (λ k w d t h p same is. receiver_one gives ended failed (g.G.Gate.passes w.gate.now) (g.G.Gate.shuts w.gate.now) w.number hub k (came k) w.line d.line w.receiver d.receiver d.answer t h p same is)
+    (λ k w d t h p same is. receiver_one g.L.LineSource (points_of g.G.Gate w.gate.now) w.number hub k (came k) (listening w.line w.receiver) (listening d.line d.receiver) d.answer t h p same is)
     ws ds heard.totals.items first c.requires.receivers c.in_ok-heard.ensures.totals (λ k. refl) in
     let rs = map (λ d. d.receiver) ds in
     let each : AreAfter hub came rs = middle (λ k r. r ≡ after_words (fresh hub k) (came k)) (map (λ w. w.line) ws) rs heard.totals.items after in
     let many : length ds ≡ length hub.station.receivers = omega (arith, zip_length did ws ds first, c.requires.all) in
     let K = taken_in hub old new came rs c.requires.hub.1 c.requires.begun c.in-Ok.ensures.meanwhile.0 c.plans_are_of_station.ensures c.requires.hub.0 each (omega (arith, many, length-map ds (λ d. d.receiver)))
     (λ k past. shown_past did show ws ds first k (omega (arith, past, c.requires.all))) in
+    let x : TakenIn = record { at = hub; first = old.planner; last = new.planner; course = course; receivers = rs } in
     let same = c.in_ok-check_all_ends.ensures.same in
     let told_there = subst (λ (r : Running). AllByRecursion (λ (d : Emitted g.row.B.Denot). IsJoined hub.station r.planner.list c.as_mut_slice.result.now d.transmit) c.check_all_ends.new.sent.items) c.check_all_ends.ensures.station c.in_ok-told.ensures.joined in
     let told_items = subst (AllByRecursion (λ (d : Emitted g.row.B.Denot). IsJoined hub.station new.planner.list c.as_mut_slice.result.now d.transmit)) same told_there in
     let joined = subst (λ (l : List ends.ReceiverEnd). AllByRecursion (λ (d : Emitted g.row.B.Denot). IsJoined hub.station new.planner.list l d.transmit) c.in-Ok.done.second.items) (search rules) told_items in
     let totals = subst (λ (l : List (Emitted g.row.B.Denot)). map (λ t. Ok t) told.totals.items ≡ map (λ d. d.answer) l) same c.in_ok-told.ensures.totals in
     let sinks = subst (λ (l : List (Emitted g.row.B.Denot)). told.sinks.items ≡ map (λ d. d.sink) l) same c.in_ok-told.ensures.sinks in
-    let sent : GroupWorker g.row.B.Denot g.row.G.Denot g.B.BusSink g.G.Gate → Emitted g.row.B.Denot → Type 0 = λ w d. HasEmitted taken g.B.BusSink.failed (g.G.Gate.passes w.gate.now) (g.G.Gate.shuts w.gate.now) w.number w.frames w.transmit w.sink d.transmit d.sink d.answer in
+    let sent : GroupWorker g.row.B.Denot g.row.G.Denot g.B.BusSink g.G.Gate → Emitted g.row.B.Denot → Type 0 = HasPut g.L.LineSource g.B.BusSink g.G.Gate in
     let both : GroupWorker g.row.B.Denot g.row.G.Denot g.B.BusSink g.G.Gate → Emitted g.row.B.Denot → Type 0 = λ w d. sent w d × IsJoined hub.station new.planner.list rs d.transmit in
     let none : (w : GroupWorker g.row.B.Denot g.row.G.Denot g.B.BusSink g.G.Gate) (d : Emitted g.row.B.Denot) → both w d → List ℕ = λ w d h. [] in
     let vs = c.in_ok-sending.sending.items in
@@ -119,7 +121,7 @@ returns-clause-ran g c =
     let pairs = zip_with sent (λ d. IsJoined hub.station new.planner.list rs d.transmit) vs es c.in-Ok.ensures.second joined in
     let cells = three_of both none (λ w. w.sink) (λ d. d.sink) (λ d. d.answer)
     (λ k w. IsReady hub old.planner k w.transmit × (w.frames ≡ c.args.frames)) (IsSentIn taken c.args.frames hub.station course) (shown both none vs es pairs)
-    (λ k w d t h p same is. group_one (g.G.Gate.passes w.gate.now) (g.G.Gate.shuts w.gate.now) w.number taken g.B.BusSink.failed hub old.planner new.planner course rs c.args.frames w.frames k w.transmit d.transmit w.sink d.sink d.answer t K h.0 h.1 p.0 p.1 same)
+    (λ k w d t h p same is. group_one g.B.BusSink (points_of g.G.Gate w.gate.now) w.number x c.args.frames w.frames k (emitting w.transmit w.sink) (emitting d.transmit d.sink) d.answer t K h.0 h.1 p.0 p.1 same)
     vs es told.totals.items pairs c.in_ok-sending.ensures.ready totals (λ k. refl) in (
       record {
         course = course;
@@ -131,7 +133,7 @@ returns-clause-ran g c =
         sent = subst (λ l. AllOfThree (IsSentIn taken c.args.frames hub.station course) c.args.sinks.items l told.totals.items) (sym sinks)
             (subst (λ l. AllOfThree (IsSentIn taken c.args.frames hub.station course) l (map (λ d. d.sink) c.in-Ok.done.second.items) told.totals.items) c.in_ok-sending.ensures.sinks cells);
       },
-      done_between (λ begin end. g.K.Control.did c.args.control.now begin end c.run_at_once.new.meanwhile) hub.station old new c.requires.hub.1 c.requires.begun c.in-Ok.ensures.meanwhile.0 c.plans_are_of_station.ensures (c.in-Ok.ensures.meanwhile.1 c.in_ok-check_all_ends.ensures.control),
+      done_between (done_by g.K.Control c.args.control.now c.run_at_once.new.meanwhile) hub.station old new c.requires.hub.1 c.requires.begun c.in-Ok.ensures.meanwhile.0 c.plans_are_of_station.ensures (c.in-Ok.ensures.meanwhile.1 c.in_ok-check_all_ends.ensures.control),
     )
 
 -- the first fault of a worker, or else of the control
@@ -139,13 +141,11 @@ pub returns-in_err-check_all_ends-clause-fault : goal.returns-in_err-check_all_e
 returns-in_err-check_all_ends-clause-fault g c =
     let p = err_from_is_err_and c.from_residual-in_err-check_all_ends.result c.from_residual-in_err-check_all_ends.ensures.1 in
     let fault = c.in_err-check_all_ends.field-0.0 in
+    let ask = asked c.args.hub.now.station c.args.frames (map (λ w. w.line) c.args.receiving.items) c.args.sinks.items in
     let stop = λ (first : IsFirst (first_fault (map (λ d. d.answer) c.in-Ok.done.first.items)) (first_fault (map (λ d. d.answer) c.in-Ok.done.second.items)) fault).
-    all_stopped (Gives g.L.LineSource.given g.L.LineSource.left) g.L.LineSource.ended g.L.LineSource.failed g.B.BusSink.taken g.B.BusSink.failed g.G.Gate.passes g.G.Gate.shuts c.args.gate.now
-    (λ w. w.line) (λ w. w.receiver) (λ w. w.number) (λ w. w.gate.now) (λ d. d.line) (λ d. d.receiver) (λ d. d.answer)
-    (λ v. v.frames) (λ v. v.transmit) (λ v. v.sink) (λ v. v.number) (λ v. v.gate.now) (λ e. e.transmit) (λ e. e.sink) (λ e. e.answer)
-    c.args.receiving.items c.in-Ok.done.first.items c.in_ok-sending.sending.items c.in-Ok.done.second.items c.args.sinks.items fault c.in-Ok.ensures.first c.requires.gates c.in-Ok.ensures.second c.in_ok-sending.ensures.gates
-    c.in_ok-sending.ensures.sinks first in
-    subst (λ (r : Result (Report g.row.L.Denot g.row.B.Denot) LiveFault). IfErr r (IsRunFault (c.run_at_once.new.meanwhile ≡ c.args.control.now) (Gives g.L.LineSource.given g.L.LineSource.left) g.L.LineSource.ended g.L.LineSource.failed g.B.BusSink.failed (g.G.Gate.passes c.args.gate.now) (g.G.Gate.shuts c.args.gate.now) (map (λ w. w.line) c.args.receiving.items) c.args.sinks.items))
+    all_stopped g.L.LineSource g.B.BusSink g.G.Gate c.args.gate.now ask c.args.receiving.items c.in-Ok.done.first.items c.in_ok-sending.sending.items c.in-Ok.done.second.items fault
+    c.in-Ok.ensures.first c.requires.gates refl c.in-Ok.ensures.second c.in_ok-sending.ensures.gates c.in_ok-sending.ensures.sinks first in
+    subst (λ (r : Result (Report g.row.L.Denot g.row.B.Denot) LiveFault). IfErr r (IsRunFault (c.run_at_once.new.meanwhile ≡ c.args.control.now) g.L.LineSource g.B.BusSink (points_of g.G.Gate c.args.gate.now) ask))
     (sym (p.1 ∙ ap (λ (f : LiveFault). Err f) p.2))
     (inr (inr (stop c.in_err-check_all_ends.ensures.fault)))
 
@@ -156,13 +156,11 @@ returns-in_err-heard-clause-fault g c =
     let fault = c.in_err-heard.field-0.0 in
     let well = c.in_ok-check_all_ends.ensures.receivers in
     let none = c.in_ok-check_all_ends.ensures.groups in
+    let ask = asked c.args.hub.now.station c.args.frames (map (λ w. w.line) c.args.receiving.items) c.args.sinks.items in
     let stop = λ (first : IsFirst (first_fault (map (λ d. d.answer) c.in-Ok.done.first.items)) (first_fault (map (λ d. d.answer) c.in-Ok.done.second.items)) fault).
-    all_stopped (Gives g.L.LineSource.given g.L.LineSource.left) g.L.LineSource.ended g.L.LineSource.failed g.B.BusSink.taken g.B.BusSink.failed g.G.Gate.passes g.G.Gate.shuts c.args.gate.now
-    (λ w. w.line) (λ w. w.receiver) (λ w. w.number) (λ w. w.gate.now) (λ d. d.line) (λ d. d.receiver) (λ d. d.answer)
-    (λ v. v.frames) (λ v. v.transmit) (λ v. v.sink) (λ v. v.number) (λ v. v.gate.now) (λ e. e.transmit) (λ e. e.sink) (λ e. e.answer)
-    c.args.receiving.items c.in-Ok.done.first.items c.in_ok-sending.sending.items c.in-Ok.done.second.items c.args.sinks.items fault c.in-Ok.ensures.first c.requires.gates c.in-Ok.ensures.second c.in_ok-sending.ensures.gates
-    c.in_ok-sending.ensures.sinks first in
-    subst (λ (r : Result (Report g.row.L.Denot g.row.B.Denot) LiveFault). IfErr r (IsRunFault (c.run_at_once.new.meanwhile ≡ c.args.control.now) (Gives g.L.LineSource.given g.L.LineSource.left) g.L.LineSource.ended g.L.LineSource.failed g.B.BusSink.failed (g.G.Gate.passes c.args.gate.now) (g.G.Gate.shuts c.args.gate.now) (map (λ w. w.line) c.args.receiving.items) c.args.sinks.items))
+    all_stopped g.L.LineSource g.B.BusSink g.G.Gate c.args.gate.now ask c.args.receiving.items c.in-Ok.done.first.items c.in_ok-sending.sending.items c.in-Ok.done.second.items fault
+    c.in-Ok.ensures.first c.requires.gates refl c.in-Ok.ensures.second c.in_ok-sending.ensures.gates c.in_ok-sending.ensures.sinks first in
+    subst (λ (r : Result (Report g.row.L.Denot g.row.B.Denot) LiveFault). IfErr r (IsRunFault (c.run_at_once.new.meanwhile ≡ c.args.control.now) g.L.LineSource g.B.BusSink (points_of g.G.Gate c.args.gate.now) ask))
     (sym (p.1 ∙ ap (λ (f : LiveFault). Err f) p.2))
     (inr (inr (stop (want_of_memory _ _ fault well none (elim c.in_err-heard.ensures.fault [
       | inl want ↦ want
@@ -177,13 +175,11 @@ returns-in_err-told-clause-fault g c =
     let none = c.in_ok-check_all_ends.ensures.groups in
     let same = c.in_ok-check_all_ends.ensures.same in
     let none_left = ap (λ (l : List (Emitted g.row.B.Denot)). first_fault (map (λ d. d.answer) l)) same ∙ none in
+    let ask = asked c.args.hub.now.station c.args.frames (map (λ w. w.line) c.args.receiving.items) c.args.sinks.items in
     let stop = λ (first : IsFirst (first_fault (map (λ d. d.answer) c.in-Ok.done.first.items)) (first_fault (map (λ d. d.answer) c.in-Ok.done.second.items)) fault).
-    all_stopped (Gives g.L.LineSource.given g.L.LineSource.left) g.L.LineSource.ended g.L.LineSource.failed g.B.BusSink.taken g.B.BusSink.failed g.G.Gate.passes g.G.Gate.shuts c.args.gate.now
-    (λ w. w.line) (λ w. w.receiver) (λ w. w.number) (λ w. w.gate.now) (λ d. d.line) (λ d. d.receiver) (λ d. d.answer)
-    (λ v. v.frames) (λ v. v.transmit) (λ v. v.sink) (λ v. v.number) (λ v. v.gate.now) (λ e. e.transmit) (λ e. e.sink) (λ e. e.answer)
-    c.args.receiving.items c.in-Ok.done.first.items c.in_ok-sending.sending.items c.in-Ok.done.second.items c.args.sinks.items fault c.in-Ok.ensures.first c.requires.gates c.in-Ok.ensures.second c.in_ok-sending.ensures.gates
-    c.in_ok-sending.ensures.sinks first in
-    subst (λ (r : Result (Report g.row.L.Denot g.row.B.Denot) LiveFault). IfErr r (IsRunFault (c.run_at_once.new.meanwhile ≡ c.args.control.now) (Gives g.L.LineSource.given g.L.LineSource.left) g.L.LineSource.ended g.L.LineSource.failed g.B.BusSink.failed (g.G.Gate.passes c.args.gate.now) (g.G.Gate.shuts c.args.gate.now) (map (λ w. w.line) c.args.receiving.items) c.args.sinks.items))
+    all_stopped g.L.LineSource g.B.BusSink g.G.Gate c.args.gate.now ask c.args.receiving.items c.in-Ok.done.first.items c.in_ok-sending.sending.items c.in-Ok.done.second.items fault
+    c.in-Ok.ensures.first c.requires.gates refl c.in-Ok.ensures.second c.in_ok-sending.ensures.gates c.in_ok-sending.ensures.sinks first in
+    subst (λ (r : Result (Report g.row.L.Denot g.row.B.Denot) LiveFault). IfErr r (IsRunFault (c.run_at_once.new.meanwhile ≡ c.args.control.now) g.L.LineSource g.B.BusSink (points_of g.G.Gate c.args.gate.now) ask))
     (sym (p.1 ∙ ap (λ (f : LiveFault). Err f) p.2))
     (inr (inr (stop (want_of_memory _ _ fault well none (elim c.in_err-told.ensures.fault [
       | inl want ↦ want

@@ -5,6 +5,9 @@ use Rattle.a429_workers.proofs.Hearing.{SoFar}
 use Rattle.a429_workers.proofs.receiving.receive_all.Given as goal
 
 abbrev pub invariant-loop-place : goal.invariant-loop-place
-invariant-loop-place g l =
-    SoFar (λ words. Gives g.L.LineSource.given g.L.LineSource.left l.fn.line words l.line) l.fn.receiver l.receiver l.totals l.place × (g.L.LineSource.failed l.line ≡ g.L.LineSource.failed l.fn.line)
-    × IsSameReceiver l.fn.receiver l.receiver × HaveWordsPassed (g.G.Gate.passes l.fn.gate) l.fn.number l.place
+invariant-loop-place g l = record {
+  so_far : SoFar (λ words. Gives g.L.LineSource.given g.L.LineSource.left l.fn.line words l.line) l.fn.receiver l.receiver l.totals l.place;
+  failed : g.L.LineSource.failed l.line ≡ g.L.LineSource.failed l.fn.line;
+  same : IsSameReceiver l.fn.receiver l.receiver;
+  passed : HaveWordsPassed (g.G.Gate.passes l.fn.gate) l.fn.number l.place;
+}

@@ -11,30 +11,32 @@ byte false = refl
 pub returns-in-Err-put-clause-done : goal.returns-in-Err-put-clause-done
 returns-in-Err-put-clause-done g c =
     let sent = c.in-Ok.sent in
-    let load = slice_get (loads_since c.args.transmit.now c.cell.new.self) 0 in (
-      record { bus = sent.bus; slot = sent.slot; load = load; word = sent.word },
-      record { stands = c.in-Ok.ensures.stands; same = c.cell.ensures.same; frame = c.cell.ensures.frame; number = c.cell.ensures.number },
-      c.in-Err-put.ensures.taken,
-      refl,
-    )
+    let load = slice_get (loads_since c.args.transmit.now c.cell.new.self) 0 in
+    record {
+      cell = record { bus = sent.bus; slot = sent.slot; load = load; word = sent.word };
+      made = record { stands = c.in-Ok.ensures.stands; same = c.cell.ensures.same; frame = c.cell.ensures.frame; number = c.cell.ensures.number };
+      left = c.in-Err-put.ensures.taken;
+      totals = refl;
+    }
 
 pub returns-in-Err-pass-clause-done : goal.returns-in-Err-pass-clause-done
 returns-in-Err-pass-clause-done g c =
     let sent = c.in-Ok.sent in
     let load = slice_get (loads_since c.args.transmit.now c.cell.new.self) 0 in
-    inr (
-      record { bus = sent.bus; slot = sent.slot; load = load; word = sent.word },
-      record { stands = c.in-Ok.ensures.stands; same = c.cell.ensures.same; frame = c.cell.ensures.frame; number = c.cell.ensures.number },
-      c.in_default-put.ensures.taken,
-      record { cells = omega arith; words = ap (λ n. c.args.totals.now.words + n) (c.from.ensures ∙ (ap (λ b. bool_byte b) c.is_some.ensures ∙ byte (is_some sent.word))) },
-    )
+    inr (record {
+      cell = record { bus = sent.bus; slot = sent.slot; load = load; word = sent.word };
+      made = record { stands = c.in-Ok.ensures.stands; same = c.cell.ensures.same; frame = c.cell.ensures.frame; number = c.cell.ensures.number };
+      took = c.in_default-put.ensures.taken;
+      tallied = record { cells = omega arith; words = ap (λ n. c.args.totals.now.words + n) (c.from.ensures ∙ (ap (λ b. bool_byte b) c.is_some.ensures ∙ byte (is_some sent.word))) };
+    })
 
 pub returns-clause-done : goal.returns-clause-done
 returns-clause-done g c =
     let sent = c.in-Ok.sent in
-    let load = slice_get (loads_since c.args.transmit.now c.cell.new.self) 0 in (
-      record { bus = sent.bus; slot = sent.slot; load = load; word = sent.word },
-      record { stands = c.in-Ok.ensures.stands; same = c.cell.ensures.same; frame = c.cell.ensures.frame; number = c.cell.ensures.number },
-      c.in_default-put.ensures.taken,
-      record { cells = omega arith; words = ap (λ n. c.args.totals.now.words + n) (c.from.ensures ∙ (ap (λ b. bool_byte b) c.is_some.ensures ∙ byte (is_some sent.word))) },
-    )
+    let load = slice_get (loads_since c.args.transmit.now c.cell.new.self) 0 in
+    record {
+      cell = record { bus = sent.bus; slot = sent.slot; load = load; word = sent.word };
+      made = record { stands = c.in-Ok.ensures.stands; same = c.cell.ensures.same; frame = c.cell.ensures.frame; number = c.cell.ensures.number };
+      took = c.in_default-put.ensures.taken;
+      tallied = record { cells = omega arith; words = ap (λ n. c.args.totals.now.words + n) (c.from.ensures ∙ (ap (λ b. bool_byte b) c.is_some.ensures ∙ byte (is_some sent.word))) };
+    }

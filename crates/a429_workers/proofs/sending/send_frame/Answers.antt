@@ -8,18 +8,18 @@ use Rattle.a429_workers.proofs.Stretching.{frame_begins, frame_goes_on, frame_ov
 use Rattle.a429_workers.proofs.sending.send_frame.Goals as goal
 
 pub loop-init : goal.loop-init
-loop-init g c = (frame_begins _ _ _ c.requires.begins c.requires.room.0, refl, same_self _, c.requires.passed)
+loop-init g c = record { frame = frame_begins _ _ _ c.requires.begins c.requires.room.0; failed = refl; same = same_self _; passed = c.requires.passed }
 
 pub send_cell-requires-clause-due : goal.send_cell-requires-clause-due
 send_cell-requires-clause-due g c =
-    let F = c.loop.invariant.0 in
+    let F = c.loop.invariant.frame in
     let all = c.cells-end.ensures.value in
     let same = ap (λ t. cells_of t) F.table in
     omega (arith, F.sent, same, all)
 
 pub send_cell-requires-clause-room : goal.send_cell-requires-clause-room
 send_cell-requires-clause-room g c =
-    let F = c.loop.invariant.0 in
+    let F = c.loop.invariant.frame in
     (F.words, omega (arith, F.cells, c.cells-end.ensures.few))
 
 pub returns-in_err-send_cell-clause-done : goal.returns-in_err-send_cell-clause-done
@@ -27,21 +27,26 @@ returns-in_err-send_cell-clause-done g c =
     let p = err_from_is_err_and c.from_residual.result c.from_residual.ensures.1 in
     let fault = c.in_err-send_cell.field-0.0 in
     subst (λ (r : Result (Unit {0}) SendFault). IsFrame c.args.transmit.now c.send_cell.new.transmit (g.B.BusSink.taken c.args.sink.now) (g.B.BusSink.taken c.send_cell.new.sink) c.args.totals.now c.send_cell.new.totals r)
-    (sym (p.1 ∙ ap (λ (f : SendFault). Err f) p.2)) (frame_stops _ _ _ _ _ _ _ _ c.send_cell.new.totals _ fault c.loop.invariant.0 c.in_err-send_cell.ensures.done)
+    (sym (p.1 ∙ ap (λ (f : SendFault). Err f) p.2)) (frame_stops _ _ _ _ _ _ _ _ c.send_cell.new.totals _ fault c.loop.invariant.frame c.in_err-send_cell.ensures.done)
 
 pub loop-preserved : goal.loop-preserved
 loop-preserved g c =
-    let F = c.loop.invariant.0 in
+    let F = c.loop.invariant.frame in
     let left : c.loop.transmit.frame.sent < cells_of c.loop.transmit.frame.table = omega (arith, F.sent, ap (λ t. cells_of t) F.table, c.cells-end.ensures.value) in
-    (frame_goes_on _ _ _ _ _ _ _ _ _ _ F left c.in_ok-send_cell.ensures.done c.in_ok-send_cell.ensures.few, c.in_ok-send_cell.ensures.failed ∙ c.loop.invariant.1, same_trans _ _ _ c.loop.invariant.2 c.send_cell.ensures.same, c.in_ok-send_cell.ensures.gate)
+    record {
+      frame = frame_goes_on _ _ _ _ _ _ _ _ _ _ F left c.in_ok-send_cell.ensures.done c.in_ok-send_cell.ensures.few;
+      failed = c.in_ok-send_cell.ensures.failed ∙ c.loop.invariant.failed;
+      same = same_trans _ _ _ c.loop.invariant.same c.send_cell.ensures.same;
+      passed = c.in_ok-send_cell.ensures.gate;
+    }
 
 pub returns-clause-done : goal.returns-clause-done
-returns-clause-done g c = frame_over _ _ _ _ _ _ c.loop.counter c.loop.invariant.0 (omega (arith, c.cells-end.ensures.value))
+returns-clause-done g c = frame_over _ _ _ _ _ _ c.loop.counter c.loop.invariant.frame (omega (arith, c.cells-end.ensures.value))
 
 pub returns-clause-few : goal.returns-clause-few
 returns-clause-few g c =
-    let F = c.loop.invariant.0 in
+    let F = c.loop.invariant.frame in
     (F.words, omega (arith, F.cells, c.cells-end.ensures.few))
 
 pub returns-clause-failed : goal.returns-clause-failed
-returns-clause-failed g c = c.loop.invariant.1
+returns-clause-failed g c = c.loop.invariant.failed

@@ -5,6 +5,9 @@ use Rattle.a429_workers.proofs.Stretching.{IsInFrame}
 use Rattle.a429_workers.proofs.sending.send_frame.Given as goal
 
 abbrev pub invariant-loop : goal.invariant-loop
-invariant-loop g l =
-    IsInFrame l.fn.transmit l.transmit (g.B.BusSink.taken l.fn.sink) (g.B.BusSink.taken l.sink) l.fn.totals l.totals l.counter × (g.B.BusSink.failed l.sink ≡ g.B.BusSink.failed l.fn.sink)
-    × IsSameGroup l.fn.transmit l.transmit × HaveCellsPassed (g.G.Gate.passes l.fn.gate) l.fn.group l.totals.cells
+invariant-loop g l = record {
+  frame : IsInFrame l.fn.transmit l.transmit (g.B.BusSink.taken l.fn.sink) (g.B.BusSink.taken l.sink) l.fn.totals l.totals l.counter;
+  failed : g.B.BusSink.failed l.sink ≡ g.B.BusSink.failed l.fn.sink;
+  same : IsSameGroup l.fn.transmit l.transmit;
+  passed : HaveCellsPassed (g.G.Gate.passes l.fn.gate) l.fn.group l.totals.cells;
+}

@@ -3,38 +3,42 @@ use Rattle.std.specs.Prelude.{Result}
 use Rattle.std.proofs.lemmas.Result.{err_from_is_err_and}
 use Rattle.a429_workers.specs.declared.sending.SendFault.{SendFault}
 use Rattle.a429_workers.specs.declared.sending.SendTotals.{SendTotals}
-use Rattle.a429_workers.specs.Sends.{AreSent}
+use Rattle.a429_workers.specs.Sends.{AreSent, sending}
+use Rattle.a429_workers.specs.Gates.{points_of}
 use Rattle.std.proofs.lemmas.Bool.Decides.{nat_tests}
-use Rattle.a429_workers.proofs.Stretching.{frame_first, frames_end, frames_go_on, frames_stop, same_trans}
+use Rattle.a429_workers.proofs.Stretching.{frame_first, frames_end, frames_go_on, frames_stop, none_sent, same_trans}
 use Rattle.a429_workers.proofs.sending.send_frames.Goals as goal
+
+pub returns-then-frames-eq0-clause-sent : goal.returns-then-frames-eq0-clause-sent
+returns-then-frames-eq0-clause-sent g c = none_sent _ _ _ _ _ _ (search (rules, nat_tests)) (search rules)
 
 pub returns-in_err-send_frame-clause-sent : goal.returns-in_err-send_frame-clause-sent
 returns-in_err-send_frame-clause-sent g c =
     let p = err_from_is_err_and c.from_residual.result c.from_residual.ensures.1 in
     let fault = c.in_err-send_frame.field-0.0 in
-    subst (λ (r : Result SendTotals SendFault). AreSent (g.G.Gate.passes c.args.gate.now) (g.G.Gate.shuts c.args.gate.now) c.args.group c.args.frames c.args.transmit.now c.send_frame.new.transmit (g.B.BusSink.taken c.args.sink.now) (g.B.BusSink.taken c.send_frame.new.sink) r)
+    subst (λ (r : Result SendTotals SendFault). AreSent (points_of g.G.Gate c.args.gate.now) c.args.group c.args.frames (sending c.args.transmit.now (g.B.BusSink.taken c.args.sink.now)) (sending c.send_frame.new.transmit (g.B.BusSink.taken c.send_frame.new.sink)) r)
     (sym (p.1 ∙ ap (λ (f : SendFault). Err f) p.2))
-    (frame_first (g.G.Gate.passes c.args.gate.now) (g.G.Gate.shuts c.args.gate.now) c.args.group _ refl _ _ _ _ c.send_frame.new.totals _ fault (search (rules, nat_tests)) c.in_err-send_frame.ensures.done c.in_err-send_frame.ensures.gate)
+    (frame_first (points_of g.G.Gate c.args.gate.now) c.args.group _ refl _ _ _ _ c.send_frame.new.totals _ fault (search (rules, nat_tests)) c.in_err-send_frame.ensures.done c.in_err-send_frame.ensures.gate)
 
 pub returns-in_err-next_frame-clause-sent : goal.returns-in_err-next_frame-clause-sent
 returns-in_err-next_frame-clause-sent g c =
     let p = err_from_is_err_and c.from_residual-in_err-next_frame.result c.from_residual-in_err-next_frame.ensures.1 in
     let fault = c.in_err-next_frame.field-0.0 in
-    subst (λ (r : Result SendTotals SendFault). AreSent (g.G.Gate.passes c.args.gate.now) (g.G.Gate.shuts c.args.gate.now) c.args.group c.args.frames c.args.transmit.now c.next_frame.new.transmit (g.B.BusSink.taken c.args.sink.now) (g.B.BusSink.taken c.loop.sink) r)
-    (sym (p.1 ∙ ap (λ (f : SendFault). Err f) p.2)) (frames_end (g.G.Gate.passes c.args.gate.now) (g.G.Gate.shuts c.args.gate.now) c.args.group _ refl _ _ _ _ _ _ _ _ fault c.loop.invariant.0 c.loop-test.true c.in_err-next_frame.ensures.turn c.loop.invariant.3)
+    subst (λ (r : Result SendTotals SendFault). AreSent (points_of g.G.Gate c.args.gate.now) c.args.group c.args.frames (sending c.args.transmit.now (g.B.BusSink.taken c.args.sink.now)) (sending c.next_frame.new.transmit (g.B.BusSink.taken c.loop.sink)) r)
+    (sym (p.1 ∙ ap (λ (f : SendFault). Err f) p.2)) (frames_end (points_of g.G.Gate c.args.gate.now) c.args.group _ refl _ _ _ _ _ _ _ _ fault c.loop.invariant.frames c.loop-test.true c.in_err-next_frame.ensures.turn c.loop.invariant.passed)
 
 pub returns-in_err-send_frame-2-clause-sent : goal.returns-in_err-send_frame-2-clause-sent
 returns-in_err-send_frame-2-clause-sent g c =
     let p = err_from_is_err_and c.from_residual-in_err-send_frame-2.result c.from_residual-in_err-send_frame-2.ensures.1 in
     let fault = c.in_err-send_frame-2.field-0.0 in
-    subst (λ (r : Result SendTotals SendFault). AreSent (g.G.Gate.passes c.args.gate.now) (g.G.Gate.shuts c.args.gate.now) c.args.group c.args.frames c.args.transmit.now c.send_frame-in-loop.new.transmit (g.B.BusSink.taken c.args.sink.now) (g.B.BusSink.taken c.send_frame-in-loop.new.sink) r)
+    subst (λ (r : Result SendTotals SendFault). AreSent (points_of g.G.Gate c.args.gate.now) c.args.group c.args.frames (sending c.args.transmit.now (g.B.BusSink.taken c.args.sink.now)) (sending c.send_frame-in-loop.new.transmit (g.B.BusSink.taken c.send_frame-in-loop.new.sink)) r)
     (sym (p.1 ∙ ap (λ (f : SendFault). Err f) p.2))
-    (frames_stop (g.G.Gate.passes c.args.gate.now) (g.G.Gate.shuts c.args.gate.now) c.args.group _ refl _ _ _ _ _ _ _ _ c.send_frame-in-loop.new.totals _ _ fault c.loop.invariant.0 c.loop-test.true c.in_ok-next_frame.ensures.turn c.in_err-send_frame-2.ensures.done c.in_err-send_frame-2.ensures.gate)
+    (frames_stop (points_of g.G.Gate c.args.gate.now) c.args.group _ refl _ _ _ _ _ _ _ _ c.send_frame-in-loop.new.totals _ _ fault c.loop.invariant.frames c.loop-test.true c.in_ok-next_frame.ensures.turn c.in_err-send_frame-2.ensures.done c.in_err-send_frame-2.ensures.gate)
 
 pub loop-preserved : goal.loop-preserved
-loop-preserved g c = (
-  frames_go_on _ _ c.next_frame.new.transmit _ _ _ _ _ _ _ _ c.loop.invariant.0 c.in_ok-next_frame.ensures.turn c.in_ok-send_frame-2.ensures.done c.in_ok-send_frame-2.ensures.few,
-  c.in_ok-send_frame-2.ensures.failed ∙ c.loop.invariant.1,
-  same_trans _ _ _ c.loop.invariant.2 (same_trans _ _ _ c.next_frame.ensures.same c.send_frame-in-loop.ensures.same),
-  c.in_ok-send_frame-2.ensures.gate,
-)
+loop-preserved g c = record {
+  frames = frames_go_on _ _ c.next_frame.new.transmit _ _ _ _ _ _ _ _ c.loop.invariant.frames c.in_ok-next_frame.ensures.turn c.in_ok-send_frame-2.ensures.done c.in_ok-send_frame-2.ensures.few;
+  failed = c.in_ok-send_frame-2.ensures.failed ∙ c.loop.invariant.failed;
+  same = same_trans _ _ _ c.loop.invariant.same (same_trans _ _ _ c.next_frame.ensures.same c.send_frame-in-loop.ensures.same);
+  passed = c.in_ok-send_frame-2.ensures.gate;
+}

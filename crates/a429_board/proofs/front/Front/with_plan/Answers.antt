@@ -9,7 +9,7 @@ pub compare_exchange-requires : goal.compare_exchange-requires
 compare_exchange-requires c =
     let h = c.requires.head in
     let seen = c.again-seen.ensures in
-    let offer = c.plain-offer.ensures in
+    let (names, ask, about, state) = c.plain-offer.ensures in
     let book : c.args.head.now.book ≡ c.self.inside.seen.book = ap (λ w. w.book) h ∙ sym (ap (λ v. v.book) c.self.view_is) in
     let mine : c.again-seen.result.book ≡ c.self.inside.seen.book = ap (λ s. s.book) seen in
     let list : c.again-seen.result.log ≡ c.args.self.now.log = ap (λ s. s.log) seen ∙ ap (λ v. v.log) c.self.view_is in
@@ -18,6 +18,6 @@ compare_exchange-requires c =
       ap (λ w. w.tracked) h,
       mine ∙ sym book,
       c.requires.pen.0 ∙ sym (ap (λ w. w.book) h),
-      offer.0,
-      rw (ap (λ w. w.key) h, nib, offer.1, offer.3) (adds_moves c.again-seen.result.log c.args.plan (omega (arith, some, ap (λ s. length s.log) seen))),
+      names,
+      rw (ap (λ w. w.key) h, nib, ask, state) (adds_moves c.again-seen.result.log c.args.plan (omega (arith, some, ap (λ s. length s.log) seen))),
     )

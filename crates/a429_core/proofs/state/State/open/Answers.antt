@@ -7,8 +7,8 @@ use Rattle.a429_equipment.specs.TableRecord.{TableRecord}
 use Rattle.a429_slots.specs.Recalling.{never}
 use Rattle.std.proofs.lemmas.List.{length-map, length-replicate}
 use Rattle.a429_core.specs.declared.sources.Kept.{Kept}
-use Rattle.a429_core.proofs.Answering.{AreRecalled}
 use Rattle.a429_slots.specs.FrameStates.{FrameState, begun}
+use Rattle.a429_slots.proofs.Remembering.{AreRecalled}
 use Rattle.a429_core.specs.MachineStates.{StandsForHistory}
 use Rattle.a429_core.proofs.Opening.{stands_at_first, unheard}
 use Rattle.a429_core.proofs.state.State.open.Goals as goal

@@ -12,7 +12,8 @@ invariant_of-self g c =
     let own : IsPlanOf q.station q.plan = c.into_parts-newest.ensures.own in
     let agrees : same_station old.equipment q.station ≡ true =
     ap (same_station old.equipment) (sym c.equipment-station.ensures.equipment) ∙ (sym c.same_station.ensures ∙ c.if-not-same_station.false) in
-    let many : length old.groups.items ≡ length q.station.groups = c.self.invariant.3 ∙ same_count old.equipment q.station agrees in
-    let tables : groups_of c.numbered.result ≡ groups_of q.plan =
+    let (limit, sources, tables, groups) = c.self.invariant in
+    let many : length old.groups.items ≡ length q.station.groups = groups ∙ same_count old.equipment q.station agrees in
+    let renumbered : groups_of c.numbered.result ≡ groups_of q.plan =
     ap (λ (p : PlanTable). groups_of p) c.numbered.ensures ∙ ap (λ (p : PlanTable). groups_of p) (c.deref-2.ensures ∙ c.into_parts-newest.ensures.plan) in
-    (c.self.invariant.0, c.self.invariant.1, many ∙ (sym own.count ∙ sym (ap length tables)), c.self.invariant.3)
+    (limit, sources, many ∙ (sym own.count ∙ sym (ap length renumbered)), groups)

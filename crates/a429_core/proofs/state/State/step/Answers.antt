@@ -2,7 +2,8 @@ use Rattle.std.proofs.Common.{◌∙◌, ap, sym, subst, ◌∷◌, [], ◌++◌
 use Rattle.a429_core.specs.Happened.{event_of}
 use Rattle.a429_core.specs.MachineStates.{StandsForHistory}
 use Rattle.a429_core.proofs.Steps.{step_is}
-use Rattle.a429_core.proofs.Unmoved.{unmoved, IsRefused, ok_same}
+use Rattle.a429_word.proofs.Lists.{same_Ok}
+use Rattle.a429_core.proofs.Unmoved.{unmoved, IsRefused}
 use Rattle.a429_slots.specs.declared.answers.Answer.TheVariants.{Refused}
 use Rattle.a429_core.proofs.state.State.step.Goals as goal
 
@@ -15,4 +16,4 @@ returns-clause-stands g c o E S = subst (StandsForHistory g.row.C o (E ++ event_
 pub returns-clause-refused : goal.returns-clause-refused
 returns-clause-refused g c why is =
     c.take.ensures.after
-    ∙ unmoved g.row.C c.args.self.now (event_of c.args.event) (subst IsRefused (sym (sym c.take.ensures.answer ∙ ok_same c.take.result (Refused why) is)) (record {}))
+    ∙ unmoved g.row.C c.args.self.now (event_of c.args.event) (subst IsRefused (sym (sym c.take.ensures.answer ∙ same_Ok c.take.result (Refused why) is)) (record {}))

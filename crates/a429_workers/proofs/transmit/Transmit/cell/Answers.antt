@@ -4,10 +4,11 @@ use Rattle.std.specs.List.{AllByRecursion}
 use Rattle.a429_slots.specs.Tables.{SlotTable, output_in}
 use Rattle.a429_slots.specs.FrameStates.{FrameState, due_of}
 use Rattle.a429_slots.specs.declared.senders.Due.{Due}
+use Rattle.a429_slots.proofs.Remembering.{AreRecalled}
 use Rattle.a429_values.specs.Ends.{Place}
 use Rattle.a429_workers.specs.Calls.{Asks}
 use Rattle.a429_workers.specs.Transmitting.{Transmitting, StandsForCalls, HasMade, IsDone, IsKnownPlan, cell_call, loads_since}
-use Rattle.a429_workers.proofs.Answering.{AreRecalled, cell_end, cell_made, moved}
+use Rattle.a429_workers.proofs.Answering.{cell_end, cell_made, moved}
 use Rattle.a429_workers.proofs.Calling.{same_table}
 use Rattle.a429_workers.proofs.transmit.Transmit.cell.Goals as goal
 

@@ -5,8 +5,8 @@ use mathlib.Core.List.{IsPrefix}
 use Rattle.a429_slots.specs.Tables.{PlanTable, groups_of}
 use Rattle.a429_slots.specs.FrameStates.{FrameState, begun}
 use Rattle.a429_slots.specs.Recalling.{never}
+use Rattle.a429_slots.proofs.Remembering.{AreRecalled}
 use Rattle.a429_workers.specs.Transmitting.{HasMade, IsKnownTable}
-use Rattle.a429_workers.proofs.Answering.{AreRecalled}
 use Rattle.a429_workers.proofs.Changing.{first_known, nothing_made}
 use Rattle.a429_workers.proofs.transmit.Transmit.open.Goals as goal
 use Rattle.a429_workers.proofs.Lists.{all_get}

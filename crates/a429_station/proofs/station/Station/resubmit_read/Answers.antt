@@ -3,8 +3,8 @@ use Rattle.std.specs.Prelude.{IfOk, IfErr}
 use Rattle.a429_station.specs.Resubmitting.{GoesOn, Running, Publishes, IsReplanFault, IsLed, of_board}
 use Rattle.a429_station.specs.declared.station.ReplanFault.{ReplanFault}
 use Rattle.a429_station.proofs.Plans.{led_on, one_further, publishes, refused, GoesOn-refl}
-use Rattle.a429_station.proofs.station.Station.resubmit.Goals as goal
-use Rattle.a429_station.proofs.station.Station.resubmit.Goals.{in-Ok-publish, in-Err-publish}
+use Rattle.a429_station.proofs.station.Station.resubmit_read.Goals as goal
+use Rattle.a429_station.proofs.station.Station.resubmit_read.Goals.{in-Ok-publish, in-Err-publish}
 
 pub returns-in-Err-clause-fault : goal.returns-in-Err-clause-fault
 returns-in-Err-clause-fault g c =
