@@ -4,12 +4,17 @@ use Rattle.std.specs.Prelude.{Option, Some, None, slice_get}
 use Rattle.std.specs.List.{range_with_len}
 use Rattle.std.proofs.lemmas.Option.{none-some, same_Some}
 use Rattle.a429_equipment.specs.TableRecord.{TableRecord}
-use Rattle.a429_filter.specs.Sources.{Memory, all_given, at_start}
+use Rattle.a429_filter.specs.Sources.{Memory, SourceAnswer, all_given, at_start}
+use Rattle.a429_filter.specs.declared.sources.LineSource as LineSource
+use Rattle.a429_workers.specs.declared.sinks.BusSink as BusSink
+use Rattle.a429_workers.specs.Gates.{GatePoints}
+use Rattle.a429_workers.specs.declared.cells.Sent.{Sent}
 use Rattle.a429_workers.specs.declared.gates.Point.{Point}
 use Rattle.a429_workers.specs.declared.receiving.ReceiveFault.{ReceiveFault}
 use Rattle.a429_workers.specs.declared.receiving.ReceiveFault.TheVariants as receive
 use Rattle.a429_workers.specs.declared.sending.SendFault.{SendFault}
 use Rattle.a429_workers.specs.declared.sending.SendFault.TheVariants as send
+use Rattle.a429_station.specs.Course.{RunAsk, asked}
 use Rattle.a429_station.specs.Faults.{EndsGroup, EndsLine, HasStopped, IsFirst, IsLiveFault, first_fault}
 use Rattle.a429_station.specs.declared.faults.LiveFault.{LiveFault}
 use Rattle.a429_station.specs.declared.faults.LiveFault.TheVariants as live
@@ -18,7 +23,6 @@ use Rattle.a429_console.specs.RefusalText.{OrMemory}
 use Rattle.a429_cli.specs.LiveReplies.{HasTooMuch, IsRunRefusal, refusal_of}
 use Rattle.a429_cli.specs.WordsFile.{words_for}
 use Rattle.a429_cli.specs.declared.live.words.Arrival.{Arrival}
-use Rattle.a429_cli.proofs.LiveRuns.{GivesFrom}
 
 -- ---- lines by their places
 
@@ -32,9 +36,33 @@ lines_of arrivals n = map (λ r. at_start (words_for arrivals r)) (range_with_le
 
 -- ---- a line in memory, a sink that counts
 
-module _ {B : Type 0} (idle : Type 0) (passes : Point → Type 0) (t : TableRecord) (arrivals : List Arrival) (sinks : List B) where
+-- what the lines tell
+abbrev pub memory_lines : (Memory → SourceAnswer → Memory → Type 0) → LineSource.Ghosts Memory
+memory_lines steps = record { given = λ line. line.given; ended = all_given; failed = λ line. 0; left = λ line. Some line.left; steps = steps }
+
+-- what the sinks tell: they do not fail
+abbrev pub sure_sinks : {B : Type 0} → (B → Option (List Sent)) → (B → Option ℕ) → BusSink.Ghosts B
+sure_sinks taken counted = record { taken = taken; counted = counted; failed = λ sink. 0 }
+
+-- where the gate lets pass, and that it ends no loop
+abbrev pub never_shut : (Point → Type 0) → GatePoints
+never_shut passes = record { passes = passes; shuts = λ point. ⊥ }
+
+module _ {B : Type 0} (idle : Type 0) (steps : Memory → SourceAnswer → Memory → Type 0) (taken : B → Option (List Sent)) (counted : B → Option ℕ) (passes : Point → Type 0) (t : TableRecord) (arrivals : List Arrival) (frames : ℕ) (sinks : List B) where
+  abbrev pub source : LineSource.Ghosts Memory
+  source = memory_lines steps
+
+  abbrev pub sink : BusSink.Ghosts B
+  sink = sure_sinks taken counted
+
+  abbrev pub gate : GatePoints
+  gate = never_shut passes
+
+  abbrev pub ask : RunAsk Memory B
+  ask = asked t frames (lines_of arrivals (length t.receivers)) sinks
+
   -- the line of the first receiver with a fault gave a word after a million
-  gave_more : HasFault (EndsLine GivesFrom all_given (λ (line : Memory). 0) passes (λ p. ⊥)) (lines_of arrivals (length t.receivers)) receive.TooMuch → HasTooMuch t arrivals
+  gave_more : HasFault (EndsLine source gate) (lines_of arrivals (length t.receivers)) receive.TooMuch → HasTooMuch t arrivals
   gave_more F =
       let E = F.holds in
       let at = line_at (λ r. at_start (words_for arrivals r)) 0 (length t.receivers) F.place F.item F.there in
@@ -43,22 +71,22 @@ module _ {B : Type 0} (idle : Type 0) (passes : Point → Type 0) (t : TableReco
       let long = length-append E.words E.after.left in
       (F.place, at.0, subst (λ (ws : List ℕ). 1000000 < length ws) (sym left ∙ own) (omega (arith, long, E.many)))
 
-  no_source : HasFault (EndsLine GivesFrom all_given (λ (line : Memory). 0) passes (λ p. ⊥)) (lines_of arrivals (length t.receivers)) receive.Source → ⊥
+  no_source : HasFault (EndsLine source gate) (lines_of arrivals (length t.receivers)) receive.Source → ⊥
   no_source F = absurd (omega (arith, F.holds.failures))
 
-  no_sink : HasFault (EndsGroup (λ (sink : B). 0) passes (λ p. ⊥)) sinks send.Sink → ⊥
+  no_sink : HasFault (EndsGroup sink gate) sinks send.Sink → ⊥
   no_sink F = absurd (omega (arith, F.holds.failures))
 
   -- ---- of a run that stopped
 
   abbrev Stopped : LiveFault → Type 0
-  Stopped = HasStopped GivesFrom all_given (λ (line : Memory). 0) (λ (sink : B). 0) passes (λ p. ⊥) (lines_of arrivals (length t.receivers)) sinks
+  Stopped = HasStopped source sink gate ask
 
   stopped_too_much : Stopped live.TooMuch → HasTooMuch t arrivals
   stopped_too_much S = by (first_fault S.heard) (first_fault S.sent) refl S.first
     where
       by : (x : Option ReceiveFault) (y : Option SendFault) → first_fault S.heard ≡ x → IsFirst x y live.TooMuch → HasTooMuch t arrivals
-      by (Some receive.TooMuch) y heard h = gave_more (first_found (EndsLine GivesFrom all_given (λ (line : Memory). 0) passes (λ p. ⊥)) (lines_of arrivals (length t.receivers)) S.heard receive.TooMuch S.lines heard)
+      by (Some receive.TooMuch) y heard h = gave_more (first_found (EndsLine source gate) (lines_of arrivals (length t.receivers)) S.heard receive.TooMuch S.lines heard)
       by (Some receive.Source) y heard h = absurd (cc h)
       by (Some receive.Gate) y heard h = absurd (cc h)
       by None (Some send.Gate) heard h = absurd (cc h)
@@ -70,7 +98,7 @@ module _ {B : Type 0} (idle : Type 0) (passes : Point → Type 0) (t : TableReco
   stopped_source S = by (first_fault S.heard) (first_fault S.sent) refl S.first
     where
       by : (x : Option ReceiveFault) (y : Option SendFault) → first_fault S.heard ≡ x → IsFirst x y live.Source → ⊥
-      by (Some receive.Source) y heard h = no_source (first_found (EndsLine GivesFrom all_given (λ (line : Memory). 0) passes (λ p. ⊥)) (lines_of arrivals (length t.receivers)) S.heard receive.Source S.lines heard)
+      by (Some receive.Source) y heard h = no_source (first_found (EndsLine source gate) (lines_of arrivals (length t.receivers)) S.heard receive.Source S.lines heard)
       by (Some receive.TooMuch) y heard h = absurd (cc h)
       by (Some receive.Gate) y heard h = absurd (cc h)
       by None (Some send.Gate) heard h = absurd (cc h)
@@ -85,23 +113,21 @@ module _ {B : Type 0} (idle : Type 0) (passes : Point → Type 0) (t : TableReco
       by (Some receive.Source) y sent h = absurd (cc h)
       by (Some receive.TooMuch) y sent h = absurd (cc h)
       by (Some receive.Gate) y sent h = absurd (cc h)
-      by None (Some send.Sink) sent h = no_sink (first_found (EndsGroup (λ (sink : B). 0) passes (λ p. ⊥)) sinks S.sent send.Sink S.groups sent)
+      by None (Some send.Sink) sent h = no_sink (first_found (EndsGroup sink gate) sinks S.sent send.Sink S.groups sent)
       by None (Some send.Gate) sent h = absurd (cc h)
       by None (Some send.Change) sent h = h
       by None None sent h = absurd (cc h)
 
   -- ---- what is told of it
 
-  pub refusal_told : (frames : ℕ) (fault : LiveFault) → IsLiveFault idle GivesFrom all_given (λ (line : Memory). 0) (λ (sink : B). 0) passes (λ p. ⊥) t frames (lines_of arrivals (length t.receivers)) sinks fault
-      → OrMemory (IsRunRefusal t arrivals frames) (refusal_of fault)
-  refusal_told frames (live.Plan why) h = tt
-  refusal_told frames live.TooMuch h = elim h [
+  pub refusal_told : (fault : LiveFault) → IsLiveFault idle source sink gate ask fault → OrMemory (IsRunRefusal t arrivals frames) (refusal_of fault)
+  refusal_told (live.Plan why) h = tt
+  refusal_told live.TooMuch h = elim h [
     | inl many ↦ inl many.2
     | inr stop ↦ inr (stopped_too_much stop.1)
   ]
-  refusal_told frames live.Join h = h.few
-  refusal_told frames live.Source h = stopped_source h.1
-  refusal_told frames live.Gate h =
-      (shut_somewhere GivesFrom all_given (λ (line : Memory). 0) (λ (sink : B). 0) passes (λ p. ⊥) (lines_of arrivals (length t.receivers)) sinks h.1).1
-  refusal_told frames live.Sink h = stopped_sink h.1
-  refusal_told frames live.NoMemory h = tt
+  refusal_told live.Join h = h.few
+  refusal_told live.Source h = stopped_source h.1
+  refusal_told live.Gate h = (shut_somewhere source sink gate ask h.1).1
+  refusal_told live.Sink h = stopped_sink h.1
+  refusal_told live.NoMemory h = tt

@@ -13,7 +13,7 @@ use Rattle.a429_filter.specs.Filters.{filters_of}
 use Rattle.a429_filter.specs.Receiving.{accepts}
 use Rattle.a429_filter.specs.Sources.{raw_found}
 use Rattle.a429_filter.specs.declared.filters.Filter.{Filter}
-use Rattle.a429_table.specs.Stated.{filter_of}
+use Rattle.a429_filter.specs.FilterTexts.{filter_of}
 use Rattle.a429_line.specs.LineBytes.{symbol_of, symbols_of}
 use Rattle.a429_cli.specs.LineReports.{found_line, printed, received, word_line}
 use Rattle.a429_cli.specs.LineReplies.{IsPrinted, IsTold, IsToldInPart, filter_list}

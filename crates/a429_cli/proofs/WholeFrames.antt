@@ -24,6 +24,8 @@ use Rattle.a429_workers.proofs.Calling.{due_is}
 use Rattle.a429_workers.proofs.Order.{seen_on}
 use Rattle.a429_cli.specs.LiveReplies.{AreSentWhole, HasTableOf, IsSentWhole, IsTableOf}
 use Rattle.a429_cli.specs.Resubmitted.{AreAnswers}
+use Rattle.a429_cli.specs.declared.live.control.Answer.{Answer}
+use Rattle.a429_cli.specs.declared.live.control.Answer.TheVariants as answer
 
 -- ---- one cell, one frame
 
@@ -130,14 +132,18 @@ module _ (t : TableRecord) (g : ℕ) (R : SlotTable → Type 0) where
   abbrev Given : PlanTable → Type 0
   Given x = (p : SlotTable) → slice_get (groups_of x) g ≡ Some p → R p
 
-  all_given : (v w : Running) (tables : List (List ℕ)) (answers : List (Option ℕ)) → v.station ≡ t → ((p : SlotTable) → HasTableOf t g p tables → R p) → AreAnswers v tables answers w
+  all_given : (v w : Running) (tables : List (List ℕ)) (answers : List Answer) → v.station ≡ t → ((p : SlotTable) → HasTableOf t g p tables → R p) → AreAnswers v tables answers w
       → AllByRecursion Given v.planner.list → AllByRecursion Given w.planner.list
   all_given v w [] [] here each is all = subst (λ (x : Running). AllByRecursion Given x.planner.list) (sym is) all
   all_given v w [] (a ∷ answers) here each is all = absurd is
   all_given v w (table ∷ tables) [] here each is all = absurd is
-  all_given v w (table ∷ tables) (None ∷ answers) here each (u, stays, later) all =
+  all_given v w (table ∷ tables) (answer.Refused refusal ∷ answers) here each (u, stays, later) all =
       all_given u w tables answers (ap (λ (x : Running). x.station) stays.1 ∙ here) (λ p has. each p (inr has)) later (subst (λ (x : Running). AllByRecursion Given x.planner.list) (sym stays.1) all)
-  all_given v w (table ∷ tables) (Some n ∷ answers) here each (u, P, later) all =
+  all_given v w (table ∷ tables) (answer.OtherStation ∷ answers) here each (u, stays, later) all =
+      all_given u w tables answers (ap (λ (x : Running). x.station) stays.1 ∙ here) (λ p has. each p (inr has)) later (subst (λ (x : Running). AllByRecursion Given x.planner.list) (sym stays.1) all)
+  all_given v w (table ∷ tables) (answer.NumbersSpent ∷ answers) here each (u, stays, later) all =
+      all_given u w tables answers (ap (λ (x : Running). x.station) stays.1 ∙ here) (λ p has. each p (inr has)) later (subst (λ (x : Running). AllByRecursion Given x.planner.list) (sym stays.1) all)
+  all_given v w (table ∷ tables) (answer.Published n ∷ answers) here each (u, P, later) all =
       all_given u w tables answers (P.station ∙ here) (λ p has. each p (inr has)) later
       (subst (AllByRecursion Given) (sym P.list) (all_push Given v.planner.list _ all
       (λ p is. each p (inl (record { station = P.of.record_of; plan = P.of.plan }, (P.of.reads, P.of.planned), subst (λ (x : TableRecord). same_station x P.of.record_of ≡ true) here P.same, is)))))
@@ -170,7 +176,7 @@ all_of P Q each (x ∷ xs) [] zs all = absurd all
 all_of P Q each (x ∷ xs) (y ∷ ys) [] all = absurd all
 all_of P Q each (x ∷ xs) (y ∷ ys) (z ∷ zs) (one, all) = (each 0 x y z one, all_of (λ k. P (suc k)) (λ k. Q (suc k)) (λ k. each (suc k)) xs ys zs all)
 
-pub all_sent_whole : {B : Type 0} (taken : B → Option (List Sent)) (frames : ℕ) (t : TableRecord) (c : Course) (further : List (List ℕ)) (answers : List (Option ℕ)) (before after : List B) (totals : List SendTotals)
+pub all_sent_whole : {B : Type 0} (taken : B → Option (List Sent)) (frames : ℕ) (t : TableRecord) (c : Course) (further : List (List ℕ)) (answers : List Answer) (before after : List B) (totals : List SendTotals)
     (did : Running → Running → Type 0) (D : IsDoneBetween did t c.opened c.later) → IsPlanOf t c.opened → AreAnswers D.begin further answers D.end → AllOfThree (IsSentIn taken frames t c) before after totals
     → AreSentWhole t frames further totals
 all_sent_whole taken frames t c further answers before after totals did D planned answered sent =

@@ -7,6 +7,9 @@ use Rattle.a429_equipment.specs.declared.rows.GroupRow.{GroupRow}
 use Rattle.a429_slots.specs.Proposed.{Proposed}
 use Rattle.a429_documents.specs.Drawing.{drawing_of}
 use Rattle.a429_console.specs.FileReadings.{readable}
+use Rattle.a429_console.specs.Replying.{HasReplied}
+use Rattle.a429_console.specs.declared.files.FileFault.{FileFault}
+use Rattle.a429_console.specs.declared.output.OutputFault.{OutputFault}
 use Rattle.a429_console.specs.Tables.{IsGroupRefusal, IsProposedBy}
 use Rattle.a429_console.specs.RefusalText.{OrMemory, refusal_line}
 use Rattle.a429_console.specs.declared.refusals.CommandRefusal.{CommandRefusal}
@@ -47,3 +50,15 @@ abbrev pub IsDrawReply : (List ℕ → Option (List ℕ)) → List ℕ → Optio
 IsDrawReply file name group slots status bytes =
     ((refusal : CommandRefusal) × OrMemory (IsNoImage file name group) refusal × (status ≡ 1) × (bytes ≡ refusal_line refusal ++ 10 ∷ []))
     ⊎ (IsImageOf file name group slots bytes × (status ≡ 0))
+
+-- what `draw` answers of the files of a reader: the files are those that give what the reader answered in the call
+abbrev pub HasDrawn : {S X : Type 0} → (S → List ℕ → Result (List ℕ) FileFault → S → Type 0) → (X → Option (List ℕ)) → List ℕ → Option (List ℕ) → Option ℕ → S → S → X → X → Result ℕ OutputFault → Type 0
+HasDrawn Answers contents name group slots = HasReplied Answers contents (λ file. IsDrawReply file name group slots)
+
+-- the group that is drawn, or that no group has the name that was asked for
+abbrev pub GivesGroup : List GroupRow → Option (List ℕ) → Result (Option ℕ) CommandRefusal → Type 0
+GivesGroup groups group result = MatchResult result (λ number. group_asked groups group ≡ Some number) (OrMemory (IsNoGroup groups group))
+
+-- the image of the plan of a proposal, or that no group has the name that was asked for
+abbrev pub GivesImage : Proposed → Option (List ℕ) → Option ℕ → Result (Vec ℕ Global) CommandRefusal → Type 0
+GivesImage q group slots result = MatchResult result (λ text. IsImage q group slots text.items) (OrMemory (IsNoGroup q.station.groups group))

@@ -1,10 +1,8 @@
 pub mod WordLines
-pub mod ScriptText
 pub mod Script
 pub mod Playing
 pub mod Replaying
 pub mod Opened
-pub mod LineFiles
 pub mod LineReports
 pub mod LineReplies
 pub mod PlanReplies

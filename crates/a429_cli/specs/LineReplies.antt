@@ -3,11 +3,13 @@ use Rattle.std.specs.Prelude.{◌≡◌, ◌==◌, ◌||◌, ◌+◌, ◌∷◌,
 use Rattle.a429_line.specs.declared.found.Symbol.{Symbol}
 use Rattle.a429_line.specs.Reports.{reports, rest}
 use Rattle.a429_filter.specs.declared.filters.Filter.{Filter}
-use Rattle.a429_table.specs.Stated.{filter_of}
-use Rattle.a429_table.specs.FilterTexts.{filter_read}
+use Rattle.a429_filter.specs.FilterTexts.{filter_of, filter_read}
 use Rattle.a429_console.specs.FileReadings.{readable, IsFileRefusal}
+use Rattle.a429_console.specs.Replying.{HasReplied}
+use Rattle.a429_console.specs.declared.files.FileFault.{FileFault}
+use Rattle.a429_console.specs.declared.output.OutputFault.{OutputFault}
 use Rattle.a429_line.specs.LineBytes.{symbols_of}
-use Rattle.a429_cli.specs.LineFiles.{first_bad_byte}
+use Rattle.a429_line.specs.LineBytes.{first_bad_byte}
 use Rattle.a429_cli.specs.LineReports.{printed, rest_line}
 use Rattle.a429_console.specs.Outputs.{memory_refused}
 use Rattle.a429_console.specs.RefusalText.{OrMemory, refusal_line}
@@ -86,3 +88,7 @@ abbrev pub IsLinesReply : (List ℕ → Option (List ℕ)) → List ℕ → List
 IsLinesReply file name filters status bytes =
     ((refusal : CommandRefusal) × OrMemory (IsLinesRefusal file name filters) refusal × (status ≡ 1) × (bytes ≡ refusal_line refusal ++ 10 ∷ []))
     ⊎ ((content : List ℕ) × IsRead file name filters content × (first_bad_byte content ≡ None) × IsTold (filter_list filters) (symbols_of content) status bytes)
+
+-- what `lines` answers of the files of a reader: the files are those that give what the reader answered in the call
+abbrev pub HasToldLines : {S X : Type 0} → (S → List ℕ → Result (List ℕ) FileFault → S → Type 0) → (X → Option (List ℕ)) → List ℕ → List (List ℕ) → S → S → X → X → Result ℕ OutputFault → Type 0
+HasToldLines Answers contents name filters = HasReplied Answers contents (λ file. IsLinesReply file name filters)

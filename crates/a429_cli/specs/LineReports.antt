@@ -1,5 +1,5 @@
 -- What the program prints of the reports of a line (profile: output).
-use Rattle.std.specs.Prelude.{◌++◌, ◌∷◌, [], ℕ, List, Bool, Option, Some, None, codes, filter, filter_map, if◌then◌else◌, nat_lt}
+use Rattle.std.specs.Prelude.{◌++◌, ◌∷◌, [], ℕ, List, Bool, Option, Some, None, Result, IfOk, codes, filter, filter_map, if◌then◌else◌, nat_lt}
 use Rattle.std.specs.List.{flat_map}
 use Rattle.std.specs.Fmt.{decimal}
 use Rattle.a429_line.specs.declared.found.Found.{Found}
@@ -8,6 +8,8 @@ use Rattle.a429_filter.specs.declared.filters.Filter.{Filter}
 use Rattle.a429_filter.specs.Receiving.{accepts}
 use Rattle.a429_filter.specs.Sources.{raw_found}
 use Rattle.a429_word.specs.Hexadecimal.{hex}
+use Rattle.a429_console.specs.Outputs.{AppendsPending}
+use Rattle.a429_cli.specs.declared.pending.Pending.{Pending}
 
 abbrev pub word_line : ℕ → List ℕ
 word_line raw = codes "word " ++ hex raw ++ 10 ∷ []
@@ -36,3 +38,8 @@ printed_if sufficed filters found = if sufficed then printed filters (found ∷ 
 abbrev pub rest_line : Option (List Filter) → ℕ → List ℕ
 rest_line None rest = if nat_lt 0 rest then codes "rest " ++ decimal rest ++ 10 ∷ [] else []
 rest_line (Some filters) rest = []
+
+-- what is printed of one report is put out or appended to the lines that are yet to be; the answer says whether memory sufficed for it
+abbrev pub PrintsReport : {X E : Type 0} → (X → Option (List ℕ)) → Option (List Filter) → Found → X → X → Pending → Pending → Result Bool E → Type 0
+PrintsReport contents filters found out out' lines lines' result =
+    IfOk result (λ all. AppendsPending (contents out) lines.text.items (contents out') lines'.text.items (printed_if all filters found))

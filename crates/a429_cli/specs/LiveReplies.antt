@@ -1,5 +1,5 @@
 -- The command `live`: what it writes, and its status (profile: output).
-use Rattle.std.specs.Prelude.{◌≡◌, ◌≤◌, ◌<◌, ◌+◌, slice_get, sum_by, zero, suc, ◌∷◌, [], ◌++◌, ◌⊎◌, ⊤, ℕ, List, true, false, Option, Some, Ok, Result, MatchResult, codes, length}
+use Rattle.std.specs.Prelude.{◌≡◌, ◌≤◌, ◌<◌, ◌+◌, ◌^◌, slice_get, sum_by, zero, suc, ◌∷◌, [], ◌++◌, ◌⊎◌, ⊤, ℕ, List, Bool, true, false, Option, Some, Ok, OnOk, Result, MatchResult, codes, length}
 use Rattle.std.specs.List.{AllByRecursion, concat}
 use Rattle.std.specs.Fmt.{decimal}
 use Rattle.std.specs.declared.vec.Vec.{Vec}
@@ -18,7 +18,11 @@ use Rattle.a429_workers.specs.declared.receiving.ReceiveTotals.{ReceiveTotals}
 use Rattle.a429_workers.specs.declared.sending.SendTotals.{SendTotals}
 use Rattle.a429_console.specs.Files.{bytes_of}
 use Rattle.a429_console.specs.FileReadings.{AreRead, IsFirstUnread}
-use Rattle.a429_console.specs.Requests.{LiveAsk}
+use Rattle.a429_console.specs.Replying.{HasReplied, RepliesByReader, RepliesToWords}
+use Rattle.a429_console.specs.Outputs.{FailedCalls, OrNoMemory}
+use Rattle.a429_console.specs.declared.files.FileFault.{FileFault}
+use Rattle.a429_console.specs.declared.output.OutputFault.{OutputFault}
+use Rattle.a429_console.specs.Requests.{Live, LiveAsk}
 use Rattle.a429_console.specs.Names.{naming_of}
 use Rattle.a429_console.specs.RefusalText.{OrMemory, refusal_line}
 use Rattle.a429_console.specs.Tables.{IsProposedBy, IsTableRefusal}
@@ -115,6 +119,10 @@ abbrev pub group_lines : List GroupRow → List SendTotals → List ℕ
 group_lines (row ∷ rows) (t ∷ totals) = group_line row.name t ++ group_lines rows totals
 group_lines _ _ = []
 
+-- one line for each receiver of a station, and then one for each group, in table order
+abbrev pub total_lines : TableRecord → List ReceiveTotals → List SendTotals → List ℕ
+total_lines t totals sent = receiver_lines t.receivers totals ++ group_lines t.groups sent
+
 -- The line of a further table that is submitted again to a station for which n plans were published, and how many there are then: its own refusal or
 -- that of its plan; that it is of another station; or the number under which its plan is published.
 abbrev pub IsResubmitLine : TableRecord → ℕ → List ℕ → ℕ → List ℕ → Type 0
@@ -129,10 +137,10 @@ AreResubmitLines t n [] [] = ⊤
 AreResubmitLines t n (table ∷ tables) (line ∷ lines) = (m : ℕ) × IsResubmitLine t n table m line × AreResubmitLines t m tables lines
 AreResubmitLines t n _ _ = ⊥
 
--- one line for each further table, then one for each receiver and one for each group of the station, in table order
+-- one line for each further table, then those of the station's receivers and groups
 abbrev pub IsReport : TableRecord → List (List ℕ) → List ReceiveTotals → List SendTotals → List ℕ → Type 0
 IsReport t further totals sent bytes =
-    (lines : List (List ℕ)) × AreResubmitLines t 0 further lines × (bytes ≡ concat lines ++ receiver_lines t.receivers totals ++ group_lines t.groups sent)
+    (lines : List (List ℕ)) × AreResubmitLines t 0 further lines × (bytes ≡ concat lines ++ total_lines t totals sent)
 
 -- The totals count what receiver r of the station, which had accepted nothing, answers to the words of the file that are for it, in order. There are at
 -- most a million of these.
@@ -200,6 +208,10 @@ IsPreparedLive i p = IsLiveStart i p.proposal p.arrivals.items
 abbrev pub IsAppended : Running → Running → List ℕ → List ℕ → List ℕ → Type 0
 IsAppended v w table old new = (line : List ℕ) × IsResubmitLine v.station v.planner.last.number table w.planner.last.number line × (new ≡ old ++ line)
 
+-- the same, if the number of the next plan can be counted and memory suffices
+abbrev pub AppendsLine : {A E : Type 0} → Running → Running → List ℕ → List ℕ → List ℕ → Result A E → Type 0
+AppendsLine v w table old new result = v.planner.last.number + 1 < 2 ^ 64 → OnOk result (IsAppended v w table old new)
+
 -- behind a text stand the lines of tables that were submitted again to a station for which no plan was published
 abbrev pub AreAppended : TableRecord → List (List ℕ) → List ℕ → List ℕ → Type 0
 AreAppended t tables old new = (lines : List (List ℕ)) × AreResubmitLines t 0 tables lines × (new ≡ old ++ concat lines)
@@ -211,3 +223,19 @@ IsRunResult t arrivals frames further result = MatchResult result (λ text. IsRu
 -- the text of the report of what is asked for, or why there is none
 abbrev pub IsLiving : (List ℕ → Option (List ℕ)) → LiveAsk → Result (Vec ℕ Global) CommandRefusal → Type 0
 IsLiving file r result = MatchResult result (λ text. IsReportOf file r text.items) (OrMemory (IsLiveRefusal file r))
+
+-- what `live` answers of the files of a reader: the files are those that give what the reader answered in the call
+abbrev pub HasToldRun : {S X : Type 0} → (S → List ℕ → Result (List ℕ) FileFault → S → Type 0) → (X → Option (List ℕ)) → LiveAsk → S → S → X → X → Result ℕ OutputFault → Type 0
+HasToldRun Answers contents r = HasReplied Answers contents (λ file. IsLiveReply file r)
+
+-- or want of memory, before anything else was written
+abbrev pub IsLiveReplyOrMemory : (List ℕ → Option (List ℕ)) → LiveAsk → ℕ → List ℕ → Type 0
+IsLiveReplyOrMemory file r = OrNoMemory (IsLiveReply file r)
+
+-- what `command_live` answers to words that ask for a run, if the reader tells its files and no call of the output failed
+abbrev pub RepliesToLive : {S X : Type 0} → (S → Bool) → (S → List ℕ → Option (List ℕ)) → (X → Option (List ℕ)) → (X → FailedCalls) → List (List ℕ) → S → X → X → ℕ → Type 0
+RepliesToLive = RepliesToWords Live IsLiveReplyOrMemory
+
+-- the same of a reader of any files
+abbrev pub RepliesToLiveByReader : {S X : Type 0} → (S → List ℕ → Result (List ℕ) FileFault → S → Type 0) → (X → Option (List ℕ)) → (X → FailedCalls) → List (List ℕ) → S → X → X → ℕ → Type 0
+RepliesToLiveByReader = RepliesByReader Live IsLiveReplyOrMemory

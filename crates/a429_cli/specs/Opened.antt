@@ -2,6 +2,7 @@
 use Rattle.std.specs.Prelude.{◌≡◌, ◌∷◌, [], ℕ, List, Option, Result, MatchResult}
 use Rattle.std.specs.declared.vec.Vec.{Vec}
 use Rattle.std.specs.declared.alloc.Global.{Global}
+use Rattle.a429_equipment.specs.Limits.{count_bits}
 use Rattle.a429_slots.specs.Proposed.{Proposed}
 use Rattle.a429_core.specs.MachineStates.{StandsForHistory}
 use Rattle.a429_console.specs.FileReadings.{AreRead, IsFirstUnread}
@@ -17,7 +18,7 @@ use Rattle.a429_cli.specs.declared.replay.station.ReplayStation.{ReplayStation}
 
 -- it has the names of the proposed station, and nothing happened to it since it was opened at slot 0
 abbrev pub IsOpened : Proposed → ReplayStation → Type 0
-IsOpened q s = (s.names ≡ naming_of q.station) × StandsForHistory 41 (record { proposal = q; first = 0 }) [] s.state
+IsOpened q s = (s.names ≡ naming_of q.station) × StandsForHistory count_bits (record { proposal = q; first = 0 }) [] s.state
 
 -- the station of a table's bytes, just opened
 abbrev pub IsOpenedFrom : List ℕ → ReplayStation → Type 0

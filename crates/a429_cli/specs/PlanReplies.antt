@@ -12,13 +12,15 @@ use Rattle.a429_documents.specs.Document.{csv_text_of, icd_rows}
 use Rattle.a429_documents.specs.Margins.{IsMarginText}
 use Rattle.a429_cli.specs.declared.plan_texts.PlanText.{PlanText}
 use Rattle.a429_cli.specs.declared.plan_texts.PlanText.TheVariants.{Plan, Document, Sheet, Margin}
-use Rattle.a429_cert.specs.Due.{IsDue, IsFirstUnfitOf}
-use Rattle.a429_cert.specs.Verdicts.{verdict}
+use Rattle.a429_cert.specs.Due.{IsFirstUnfitOf}
+use Rattle.a429_cert.specs.Judged.{IsVerdictOnBytes}
 use Rattle.a429_cert.specs.Printed.{verdict_text}
-use Rattle.a429_cert.specs.declared.due.DueTable.{DueTable}
 use Rattle.a429_cert.specs.declared.verdicts.Verdict.{Verdict}
 use Rattle.a429_cert.specs.declared.verdicts.Verdict.TheVariants as verdicts
 use Rattle.a429_console.specs.FileReadings.{AreRead, IsFirstUnread, IsFileRefusal, readable}
+use Rattle.a429_console.specs.Replying.{HasReplied}
+use Rattle.a429_console.specs.declared.files.FileFault.{FileFault}
+use Rattle.a429_console.specs.declared.output.OutputFault.{OutputFault}
 use Rattle.a429_console.specs.Names.{group_name, output_name}
 use Rattle.a429_console.specs.Tables.{IsProposedBy, IsTableRefusal}
 use Rattle.a429_console.specs.RefusalText.{OrMemory, refusal_line}
@@ -52,6 +54,10 @@ IsPlanReply file kind name status bytes =
     ((refusal : CommandRefusal) × OrMemory (IsNoPlan file name) refusal × (status ≡ 1) × (bytes ≡ refusal_line refusal ++ 10 ∷ []))
     ⊎ (IsPlanTextOf file kind name bytes × (status ≡ 0))
 
+-- what `plan`, `icd` and `margin` answer of the files of a reader: the files are those that give what the reader answered in the call
+abbrev pub HasToldPlan : {S X : Type 0} → (S → List ℕ → Result (List ℕ) FileFault → S → Type 0) → (X → Option (List ℕ)) → PlanText → List ℕ → S → S → X → X → Result ℕ OutputFault → Type 0
+HasToldPlan Answers contents kind name = HasReplied Answers contents (λ file. IsPlanReply file kind name)
+
 -- ---- check
 
 -- the fault of a table, or else its first output in table order that admits no grid period, by the names of group and source
@@ -61,13 +67,9 @@ IsUnjudged table (refused.Unfit group source) =
     (t : TableRecord) × (g : ℕ) × (o : ℕ) × (reading table ≡ Ok t) × IsFirstUnfitOf t g o × (string_bytes group ≡ group_name t g) × (string_bytes source ≡ output_name t g o)
 IsUnjudged table _ = ⊥
 
--- the verdict on a text by a table's bytes
-abbrev pub IsJudged : List ℕ → List ℕ → Verdict → Type 0
-IsJudged table text v = (t : TableRecord) × (due : DueTable) × (reading table ≡ Ok t) × IsDue t due × (v ≡ verdict due text)
-
 -- the verdict on the text in a file by the table in another
 abbrev pub IsVerdictOf : (List ℕ → Option (List ℕ)) → List ℕ → List ℕ → Verdict → Type 0
-IsVerdictOf file name plan v = (table : List ℕ) × (text : List ℕ) × AreRead file (name ∷ plan ∷ []) (table ∷ text ∷ []) × IsJudged table text v
+IsVerdictOf file name plan v = (table : List ℕ) × (text : List ℕ) × AreRead file (name ∷ plan ∷ []) (table ∷ text ∷ []) × IsVerdictOnBytes table text v
 
 -- why there is none: a file, or the table
 abbrev pub IsNoVerdict : (List ℕ → Option (List ℕ)) → List ℕ → List ℕ → CommandRefusal → Type 0
@@ -92,3 +94,7 @@ abbrev pub IsCheckReply : (List ℕ → Option (List ℕ)) → List ℕ → List
 IsCheckReply file name plan status bytes =
     ((refusal : CommandRefusal) × OrMemory (IsNoVerdict file name plan) refusal × (status ≡ 1) × (bytes ≡ refusal_line refusal ++ 10 ∷ []))
     ⊎ ((v : Verdict) × IsVerdictOf file name plan v × IsVerdictReply v status bytes)
+
+-- what `check` answers of the files of a reader: the files are those that give what the reader answered in the call
+abbrev pub HasToldVerdict : {S X : Type 0} → (S → List ℕ → Result (List ℕ) FileFault → S → Type 0) → (X → Option (List ℕ)) → List ℕ → List ℕ → S → S → X → X → Result ℕ OutputFault → Type 0
+HasToldVerdict Answers contents name plan = HasReplied Answers contents (λ file. IsCheckReply file name plan)

@@ -1,10 +1,15 @@
 -- The command `replay`: what it writes, and its status.
-use Rattle.std.specs.Prelude.{◌≡◌, ◌∷◌, [], ◌++◌, ◌⊎◌, ℕ, List, Option, Ok, take, length}
+use Rattle.std.specs.Prelude.{◌≡◌, ◌∷◌, [], ◌++◌, ◌⊎◌, ℕ, List, Option, Ok, Result, take, length}
+use Rattle.std.specs.Borrow.{Bor}
 use Rattle.a429_slots.specs.Events.{Event}
 use Rattle.a429_slots.specs.Proposed.{Proposed}
 use Rattle.a429_console.specs.Outputs.{memory_refused}
 use Rattle.a429_console.specs.Names.{naming_of}
 use Rattle.a429_console.specs.FileReadings.{AreRead, IsFirstUnread}
+use Rattle.a429_console.specs.Files.{texts_of}
+use Rattle.a429_console.specs.Replying.{HasReplied}
+use Rattle.a429_console.specs.declared.files.FileFault.{FileFault}
+use Rattle.a429_console.specs.declared.output.OutputFault.{OutputFault}
 use Rattle.a429_console.specs.Tables.{IsProposedBy, IsTableRefusal}
 use Rattle.a429_cli.specs.Script.{script_events, IsScriptFault}
 use Rattle.a429_cli.specs.Playing.{Played}
@@ -57,3 +62,7 @@ abbrev pub IsReplay : (List ℕ → Option (List ℕ)) → List ℕ → List ℕ
 IsReplay file table script further status bytes =
     ((refusal : CommandRefusal) × OrMemory (IsReplayRefusal file table script further) refusal × (status ≡ 1) × (bytes ≡ refusal_line refusal ++ 10 ∷ []))
     ⊎ ((i : ReplayInput) × (q : Proposed) × (events : List ScriptEvent) × IsInput file table script further i × IsStart i q events × IsOutcome i q events status bytes)
+
+-- what `replay` answers of the files of a reader: the files are those that give what the reader answered in the call
+abbrev pub HasReplayed : {S X : Type 0} → (S → List ℕ → Result (List ℕ) FileFault → S → Type 0) → (X → Option (List ℕ)) → List ℕ → List ℕ → List (Bor (List ℕ)) → S → S → X → X → Result ℕ OutputFault → Type 0
+HasReplayed Answers contents table script further = HasReplied Answers contents (λ file. IsReplay file table script (texts_of further))

@@ -1,7 +1,9 @@
 -- What `command` answers.
-use Rattle.std.specs.Prelude.{ℕ, List, Option, if◌then◌else◌}
-use Rattle.a429_console.specs.Outputs.{OrNoMemory}
-use Rattle.a429_console.specs.Requests.{CommandAsk, Word, Lines, Plan, Check, Replay, Icd, Margin, Draw}
+use Rattle.std.specs.Prelude.{ℕ, List, Bool, Option, Result, if◌then◌else◌}
+use Rattle.a429_console.specs.Outputs.{FailedCalls, OrNoMemory}
+use Rattle.a429_console.specs.Replying.{RepliesByReader, RepliesToWords}
+use Rattle.a429_console.specs.Requests.{Command, CommandAsk, Word, Lines, Plan, Check, Replay, Icd, Margin, Draw}
+use Rattle.a429_console.specs.declared.files.FileFault.{FileFault}
 use Rattle.a429_cli.specs.WordLines.{IsWordReply}
 use Rattle.a429_cli.specs.LineReplies.{IsLinesReply}
 use Rattle.a429_cli.specs.PlanReplies.{IsPlanReply, IsCheckReply}
@@ -23,3 +25,11 @@ IsReply file (Replay table script further) = IsReplay file table script further
 -- or want of memory, before anything else was written
 abbrev pub IsReplyOrMemory : (List ℕ → Option (List ℕ)) → CommandAsk → ℕ → List ℕ → Type 0
 IsReplyOrMemory file r = OrNoMemory (IsReply file r)
+
+-- what `command` answers to words that ask for something, if the reader tells its files and no call of the output failed
+abbrev pub RepliesToCommand : {S X : Type 0} → (S → Bool) → (S → List ℕ → Option (List ℕ)) → (X → Option (List ℕ)) → (X → FailedCalls) → List (List ℕ) → S → X → X → ℕ → Type 0
+RepliesToCommand = RepliesToWords Command IsReplyOrMemory
+
+-- the same of a reader of any files
+abbrev pub RepliesToCommandByReader : {S X : Type 0} → (S → List ℕ → Result (List ℕ) FileFault → S → Type 0) → (X → Option (List ℕ)) → (X → FailedCalls) → List (List ℕ) → S → X → X → ℕ → Type 0
+RepliesToCommandByReader = RepliesByReader Command IsReplyOrMemory

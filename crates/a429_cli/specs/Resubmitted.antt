@@ -1,20 +1,41 @@
 -- What it comes to that tables are submitted again to a running station, one after another.
-use Rattle.std.specs.Prelude.{◌≡◌, ◌≢◌, ◌∷◌, [], ℕ, List, Option, Some, None}
-use Rattle.a429_station.specs.Resubmitting.{IsReplanFault, Publishes, Running}
-use Rattle.a429_station.specs.declared.station.ReplanFault.{ReplanFault}
-use Rattle.a429_station.specs.declared.station.ReplanFault.TheVariants as replan
+use Rattle.std.specs.Prelude.{◌≡◌, ◌+◌, ◌^◌, ◌∷◌, [], ℕ, false, List, OnOk, Result, MatchResult}
+use Rattle.std.specs.declared.vec.Vec.{Vec}
+use Rattle.std.specs.declared.alloc.Global.{Global}
+use Rattle.a429_equipment.specs.TableRecord.{TableRecord}
+use Rattle.a429_workers.specs.declared.receiving.ReceiveTotals.{ReceiveTotals}
+use Rattle.a429_workers.specs.declared.sending.SendTotals.{SendTotals}
+use Rattle.a429_console.specs.RefusalText.{OrMemory}
+use Rattle.a429_console.specs.declared.refusals.CommandRefusal.{CommandRefusal}
+use Rattle.a429_console.specs.Tables.{IsProposedBy, IsTableRefusal}
+use Rattle.a429_equipment.specs.SameStation.{same_station}
+use Rattle.a429_slots.specs.Proposed.{Proposed}
+use Rattle.a429_station.specs.Resubmitting.{Publishes, Running}
+use Rattle.a429_cli.specs.declared.live.control.Answer.{Answer}
+use Rattle.a429_cli.specs.declared.live.control.Answer.TheVariants as answer
+use Rattle.a429_cli.specs.LiveReplies.{AreAppended, IsReport}
 
--- the table is refused by this station, and not for want of memory
-abbrev pub IsRefusedBy : Running → List ℕ → Type 0
-IsRefusedBy v table = (fault : ReplanFault) × IsReplanFault v table fault × (fault ≢ replan.NoMemory)
-
--- what a table is answered by a station, and the station behind it: the number under which its plan is published, or none where it is refused
-abbrev pub IsAnswer : Running → List ℕ → Option ℕ → Running → Type 0
-IsAnswer v table (Some number) w = Publishes v table number w
-IsAnswer v table None w = IsRefusedBy v table × (w ≡ v)
+-- What a table is answered by a station, and the station after it: the number under which its plan is published; or its refusal or that of its plan, that
+-- it is of another station, or that no number is left, and then the station is as before.
+abbrev pub IsAnswer : Running → List ℕ → Answer → Running → Type 0
+IsAnswer v table (answer.Published number) w = Publishes v table number w
+IsAnswer v table (answer.Refused refusal) w = IsTableRefusal table refusal × (w ≡ v)
+IsAnswer v table answer.OtherStation w = ((q : Proposed) × IsProposedBy table q × (same_station v.station q.station ≡ false)) × (w ≡ v)
+IsAnswer v table answer.NumbersSpent w = (v.planner.last.number + 1 ≡ 2 ^ 64) × (w ≡ v)
 
 -- what several are answered, one after another
-abbrev pub AreAnswers : Running → List (List ℕ) → List (Option ℕ) → Running → Type 0
+abbrev pub AreAnswers : Running → List (List ℕ) → List Answer → Running → Type 0
 AreAnswers v [] [] w = w ≡ v
-AreAnswers v (table ∷ tables) (answer ∷ answers) w = (u : Running) × IsAnswer v table answer u × AreAnswers u tables answers w
+AreAnswers v (table ∷ tables) (given ∷ answers) w = (u : Running) × IsAnswer v table given u × AreAnswers u tables answers w
 AreAnswers v _ _ w = ⊥
+
+-- behind a text stand the lines of these tables, which were answered so by a station for which no plan was published, if memory suffices
+abbrev pub AppendsAll : {A E : Type 0} → List (List ℕ) → List Answer → List ℕ → List ℕ → Result A E → Type 0
+AppendsAll tables answers old new result =
+    (begin end : Running) → begin.planner.last.number ≡ 0 → AreAnswers begin tables answers end → OnOk result (AreAppended begin.station tables old new)
+
+-- the report of a station for which no plan was published before, to which these tables were submitted again and answered so; or memory was refused
+abbrev pub ReportsRun : TableRecord → List (List ℕ) → List Answer → List ReceiveTotals → List SendTotals → Result (Vec ℕ Global) CommandRefusal → Type 0
+ReportsRun station tables answers received sent result =
+    (begin end : Running) → begin.station ≡ station → begin.planner.last.number ≡ 0 → AreAnswers begin tables answers end
+    → MatchResult result (λ text. IsReport station tables received sent text.items) (OrMemory (λ why. ⊥))

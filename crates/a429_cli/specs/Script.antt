@@ -1,10 +1,10 @@
 -- Scripts: one event a line (profile: replay script). A script is read with the names of its station and the number of further tables.
-use Rattle.std.specs.Prelude.{◌≡◌, ◌+◌, ◌∷◌, [], ◌++◌, ◌&&◌, ℕ, List, Option, Some, None, Result, Ok, Err, codes, if◌then◌else◌, nat_lt, nat_le, option_map, option_and_then}
+use Rattle.std.specs.Prelude.{◌≡◌, ◌+◌, ◌∷◌, [], ◌++◌, ◌&&◌, ℕ, List, Option, Some, None, Result, Ok, Err, MatchResult, codes, if◌then◌else◌, nat_lt, nat_le, option_map, option_and_then}
 use Rattle.std.specs.Str.{bytes_eq}
 use Rattle.a429_word.specs.Hexadecimal.{raw_word}
 use Rattle.a429_console.specs.CutText.{cut}
 use Rattle.a429_console.specs.Lines.{entries_of}
-use Rattle.a429_cli.specs.ScriptText.{decimal_number}
+use Rattle.a429_word.specs.Decimal.{decimal_number}
 use Rattle.a429_console.specs.Names.{Naming, number_named}
 use Rattle.a429_console.specs.declared.refusals.CommandRefusal.{CommandRefusal}
 use Rattle.a429_console.specs.declared.refusals.CommandRefusal.TheVariants as refused
@@ -50,3 +50,7 @@ IsScriptFault names further script _ = ⊥
 -- it has no faulty line
 abbrev pub IsScript : Naming → ℕ → List ℕ → Type 0
 IsScript names further script = (events : List ScriptEvent) × (script_events names further script ≡ Ok events)
+
+-- whether it has none, or which is the first
+abbrev pub ChecksScript : Naming → ℕ → List ℕ → Result (Unit {0}) CommandRefusal → Type 0
+ChecksScript names further script result = MatchResult result (λ _. IsScript names further script) (IsScriptFault names further script)

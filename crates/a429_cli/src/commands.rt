@@ -2,11 +2,11 @@
 ghost use Rattle.std.specs.Prelude.{◌≡◌, ◌≤◌, ◌+◌, ◌⊎◌, IfOk, IsTrue, OnErr, OnOk};
 ghost use Rattle.a429_console.specs.Ends.{EndsBy, EndsOrFails, writing};
 ghost use Rattle.a429_console.specs.Files.{texts_of};
-ghost use Rattle.a429_console.specs.Outputs.{CountsFault, IsPut, NoneFailed};
+ghost use Rattle.a429_console.specs.Outputs.{CountsFault, IsPut};
 ghost use Rattle.a429_console.specs.Readings.{HasRead, HasReadFrom};
 ghost use Rattle.a429_console.specs.RequestRows.{AsksFor};
 ghost use Rattle.a429_console.specs.Requests.{Command, CommandAsk, command_of, request_of};
-ghost use Rattle.a429_cli.specs.Replies.{IsReplyOrMemory};
+ghost use Rattle.a429_cli.specs.Replies.{IsReplyOrMemory, RepliesToCommand, RepliesToCommandByReader};
 ghost use Rattle.a429_console.specs.Usage.{elsewhere, is_run, kinds_of_words};
 
 use crate::drawings::print_drawing;
@@ -17,7 +17,7 @@ use crate::word::tell_word;
 use a429_console::arguments::replies::explain;
 use a429_console::arguments::requests::{CommandRequest, Request, other_call_error, parse};
 use a429_console::files::FileReader;
-use a429_console::hints::{Hints, tell_hint};
+use a429_console::hints::{Hints, Seen, tell_hint};
 use a429_console::output::endings::tell_fault;
 use a429_console::output::{Output, OutputFault};
 use std::alloc::Global;
@@ -35,12 +35,9 @@ pub fn command<'a, H: Hints, F: FileReader, O: Output, V: Output>(
     err: &mut V,
 ) -> u8
     // If the words ask for something and no call of the output failed, the bytes put are those of the answer, and so is the status.
-    ensures replied { (r : CommandAsk) → AsksFor (texts_of words.entry.now) (Command r) → IsTrue (F.tells files.old)
-        → NoneFailed (O.failures out.old) (O.failures out.new)
-        → IsPut (IsReplyOrMemory (F.file files.old) r) (O.contents out.old) (O.contents out.new) result }
+    ensures replied { RepliesToCommand F.tells F.file O.contents O.failures (texts_of words.entry.now) files.old out.old out.new result }
     // The same of a reader of any files: the answer is that of files which give what the reader answered in this call.
-    ensures read { (r : CommandAsk) → AsksFor (texts_of words.entry.now) (Command r) → NoneFailed (O.failures out.old) (O.failures out.new)
-        → HasReadFrom F.answers (λ file. IsPut (IsReplyOrMemory file r) (O.contents out.old) (O.contents out.new) result) files.old }
+    ensures read { RepliesToCommandByReader F.answers O.contents O.failures (texts_of words.entry.now) files.old out.old out.new result }
     ensures asked { (r : CommandAsk) → AsksFor (texts_of words.entry.now) (Command r) → result ≤ 1 }
     // How it ends: help, mistakes, failures of either output, and what was passed on.
     ensures ends { EndsBy (kinds_of_words (texts_of words.entry.now)) (writing O.contents O.failures O.is_flushed out.old out.new)
@@ -120,9 +117,10 @@ fn answer_with_hint<H: Hints, F: FileReader, O: Output, V: Output>(
     ensures failed { IfOk result (λ status. (status ≡ 1) ⊎ (V.failures err.new ≡ V.failures err.old)) }
     ensures once { (V.failures err.new).count ≤ (V.failures err.old).count + 1 }
 {
-    let result = answer(alloc, asked, files, out);
+    let mut seen = Seen::nothing();
+    let result = answer(alloc, asked, files, &mut seen, out);
     if let Ok(1) = result {
-        tell_hint(alloc, request, hints, files, err);
+        tell_hint(alloc, request, &seen, hints, err);
     }
     result
 }
@@ -132,6 +130,7 @@ fn answer<F: FileReader, O: Output>(
     alloc: Global,
     asked: &CommandRequest,
     files: &mut F,
+    seen: &mut Seen,
     out: &mut O,
 ) -> Result<u8, OutputFault>
     ensures read { HasRead F.answers (λ file. IfOk result
@@ -141,23 +140,41 @@ fn answer<F: FileReader, O: Output>(
     ensures faults { CountsFault result (O.failures out.old) (O.failures out.new) }
 {
     match asked {
-        CommandRequest::Word { text } => tell_word(alloc, text, out),
-        CommandRequest::Lines { file, filters } => tell_lines(alloc, files, file, filters, out),
-        CommandRequest::Plan { table } => print_plan(alloc, files, table, PlanText::Plan, out),
+        CommandRequest::Word { text } => tell_word(alloc, text, seen, out),
+        CommandRequest::Lines { file, filters } => tell_lines(
+            alloc, files, file, filters, seen, out,
+        ),
+        CommandRequest::Plan { table } => print_plan(
+            alloc,
+            files,
+            table,
+            PlanText::Plan,
+            seen,
+            out,
+        ),
         CommandRequest::Icd { table, csv } => {
-            print_plan(alloc, files, table, document_kind(*csv), out)
+            print_plan(alloc, files, table, document_kind(*csv), seen, out)
         }
-        CommandRequest::Margin { table } => print_plan(alloc, files, table, PlanText::Margin, out),
+        CommandRequest::Margin { table } => print_plan(
+            alloc,
+            files,
+            table,
+            PlanText::Margin,
+            seen,
+            out,
+        ),
         CommandRequest::Draw {
             table,
             group,
             slots,
-        } => print_drawing(alloc, files, table, *group, *slots, out),
-        CommandRequest::Check { table, plan } => print_verdict(alloc, files, table, plan, out),
+        } => print_drawing(alloc, files, table, *group, *slots, seen, out),
+        CommandRequest::Check { table, plan } => print_verdict(
+            alloc, files, table, plan, seen, out,
+        ),
         CommandRequest::Replay {
             table,
             script,
             further,
-        } => replay(alloc, files, table, script, further, out),
+        } => replay(alloc, files, table, script, further, seen, out),
     }
 }

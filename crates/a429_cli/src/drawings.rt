@@ -1,12 +1,13 @@
 //! The command that draws the plan of a table.
-ghost use Rattle.std.specs.Prelude.{◌≡◌, ◌≤◌, ◌<◌, IfOk, IfSome, IsTrue, MatchResult, OnOk, Some, length, option_map};
+ghost use Rattle.std.specs.Prelude.{◌≡◌, ◌≤◌, ◌<◌, IfOk, IfSome, IsTrue, OnOk, Some, length};
+ghost use Rattle.std.specs.Option.{option_copied};
 ghost use Rattle.a429_console.specs.Readings.{HasRead};
-ghost use Rattle.a429_console.specs.Outputs.{CountsFault, IsPut};
-ghost use Rattle.a429_console.specs.RefusalText.{OrMemory};
-ghost use Rattle.a429_cli.specs.Drawings.{IsDrawReply, IsDrawing, IsImage, IsNoGroup, group_asked, group_numbered};
+ghost use Rattle.a429_console.specs.Outputs.{CountsFault};
+ghost use Rattle.a429_cli.specs.Drawings.{GivesGroup, GivesImage, HasDrawn, IsDrawing, group_numbered};
 
 use a429_console::files::FileReader;
 use a429_console::files::reading::read_file;
+use a429_console::hints::Seen;
 use a429_console::output::endings::finish;
 use a429_console::output::{Output, OutputFault};
 use a429_console::refusals::tables::{no_group, propose};
@@ -32,7 +33,7 @@ fn group_asked(
     groups: &[GroupRow],
     group: Option<&str>,
 ) -> Result<Option<usize>, CommandRefusal>
-    ensures asked { MatchResult result (λ number. group_asked groups.now (option_map (λ name. name.now) group.entry) ≡ Some number) (OrMemory (IsNoGroup groups.now (option_map (λ name. name.now) group.entry))) }
+    ensures asked { GivesGroup groups.now (option_copied group.entry) result }
     ensures known { IfOk result (λ number. IfSome number (λ number. number < length groups.now)) }
 {
     let Some(name) = group else {
@@ -51,7 +52,7 @@ fn image_of(
     group: Option<&str>,
     slots: Option<u32>,
 ) -> Result<Vec<u8>, CommandRefusal>
-    ensures { MatchResult result (λ text. IsImage proposal.now (option_map (λ name. name.now) group.entry) slots text.items) (OrMemory (IsNoGroup proposal.now.station.groups (option_map (λ name. name.now) group.entry))) }
+    ensures { GivesImage proposal.now (option_copied group.entry) slots result }
 {
     let _plan = proposal.plan();
     let number = group_asked(alloc, proposal.equipment().groups(), group)?;
@@ -66,12 +67,17 @@ fn image_of_file<F: FileReader>(
     name: &str,
     group: Option<&str>,
     slots: Option<u32>,
+    seen: &mut Seen,
 ) -> Result<Vec<u8>, CommandRefusal>
-    ensures { HasRead F.answers (λ file. IsDrawing file name.now (option_map (λ name. name.now) group.entry) slots result) files.old files.new }
+    ensures { HasRead F.answers (λ file. IsDrawing file name.now (option_copied group.entry) slots result) files.old files.new }
 {
-    let table = read_file(alloc, files, name)?;
-    let proposal = propose(alloc, &table)?;
-    image_of(alloc, &proposal, group, slots)
+    let table = read_file(alloc, files, name, seen)?;
+    let proposal = propose(alloc, &table, seen)?;
+    let image = image_of(alloc, &proposal, group, slots);
+    if image.is_err() {
+        seen.proposal = Some(proposal);
+    }
+    image
 }
 
 /// Puts the image of the plan of the table in a file, of the group of this name or of all and of each bus so many slots
@@ -83,16 +89,16 @@ pub fn print_drawing<F: FileReader, O: Output>(
     name: &str,
     group: Option<&str>,
     slots: Option<u32>,
+    seen: &mut Seen,
     out: &mut O,
 ) -> Result<u8, OutputFault>
-    ensures drawn { HasRead F.answers (λ file. IfOk result
-        (IsPut (IsDrawReply file name.now (option_map (λ name. name.now) group.entry) slots) (O.contents out.old) (O.contents out.new))) files.old files.new }
+    ensures drawn { HasDrawn F.answers O.contents name.now (option_copied group.entry) slots files.old files.new out.old out.new result }
     ensures status { IfOk result (λ status. status ≤ 1) }
     ensures flushed { OnOk result (IsTrue (O.is_flushed out.new)) }
     ensures faults { CountsFault result (O.failures out.old) (O.failures out.new) }
 {
-    match image_of_file(alloc, files, name, group, slots) {
+    match image_of_file(alloc, files, name, group, slots, seen) {
         Ok(text) => finish(&text, true, out),
-        Err(refusal) => refuse(alloc, &refusal, out),
+        Err(refusal) => refuse(alloc, refusal, seen, out),
     }
 }

@@ -18,7 +18,7 @@ pub use a429_console::arguments::requests::Request;
 pub use a429_console::files::disk::DiskFiles;
 pub use a429_console::files::memory::MemoryFiles;
 pub use a429_console::files::{FileFault, FileReader, FileTrouble, LARGEST_FILE};
-pub use a429_console::hints::Hints;
+pub use a429_console::hints::{Hints, Seen};
 pub use a429_console::output::{CountedWriter, Output, OutputFault};
 pub use a429_console::refusals::CommandRefusal;
 pub use commands::command;

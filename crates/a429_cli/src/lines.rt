@@ -2,27 +2,24 @@
 ghost use Rattle.std.specs.Prelude.{◌≡◌, ◌==◌, ◌||◌, ◌≤◌, ◌++◌, ◌∷◌, [], Some, IfOk, IsTrue, MatchResult, is_none, length, not, OnOk};
 ghost use Rattle.std.specs.Io.KnownBytes.{append_known};
 ghost use Rattle.a429_filter.specs.Filters.{filters_of};
-ghost use Rattle.a429_table.specs.Stated.{filter_of};
-ghost use Rattle.a429_table.specs.FilterTexts.{filter_read};
+ghost use Rattle.a429_filter.specs.FilterTexts.{filter_of, filter_read};
 ghost use Rattle.a429_console.specs.Files.{texts_of};
-ghost use Rattle.a429_cli.specs.LineReplies.{AreFiltersOf, IsFilterRefusal, IsLinePrinted, IsLineReading, IsLineTold, IsLinesReply};
+ghost use Rattle.a429_cli.specs.LineReplies.{AreFiltersOf, IsFilterRefusal, IsLinePrinted, IsLineReading, IsLineTold, HasToldLines};
 ghost use Rattle.a429_console.specs.Readings.{HasRead};
 ghost use Rattle.a429_console.specs.Outputs.{CountsFault, IsPut};
 
-pub mod line_bytes;
 pub mod reports;
 
-use crate::lines::line_bytes::first_bad_byte;
 use crate::lines::reports::{print_report, push_rest};
 use crate::pending::Pending;
 use a429_console::files::FileReader;
 use a429_console::files::reading::read_file;
+use a429_console::hints::{Seen, SeenLine};
 use a429_console::output::endings::finish;
 use a429_console::output::{Output, OutputFault};
 use a429_console::refusals::{CommandRefusal, refuse};
-use a429_filter::FilterSet;
-use a429_line::LineReader;
-use a429_table::filter_of_text;
+use a429_filter::{Filter, FilterSet};
+use a429_line::{LineReader, first_bad_byte};
 use std::alloc::Global;
 
 /// The bytes of a line file, and the filters of its receiver.
@@ -33,13 +30,14 @@ struct Line {
 }
 
 /// Adds the filter of a text at the end of the list. Whether the text has one, and the list room for it.
+#[tactic(auto, unfolding(a429_filter::specs::FilterTexts::filter_of))]
 fn add_filter(filters: &mut FilterSet, text: &str) -> bool
     ensures added { result ≡ not (length (filters_of filters.old) == 32 || is_none (filter_read text.now)) }
     ensures list { IsTrue result → filters.new ≡ Some (filters_of filters.old ++ filter_of text.now ∷ []) }
 {
-    match filter_of_text(text) {
-        Some(filter) => filters.add(filter).is_ok(),
-        None => false,
+    match Filter::parse(text) {
+        Ok(filter) => filters.add(filter).is_ok(),
+        Err(_) => false,
     }
 }
 
@@ -56,19 +54,31 @@ fn read_filters(texts: &[&str]) -> Result<FilterSet, CommandRefusal>
     Ok(filters)
 }
 
+/// The line of the byte at this place, up to that byte, for a hint. `None` if memory is refused.
+fn line_at(alloc: Global, bytes: &[u8], place: usize) -> Option<SeenLine> {
+    let before = bytes.get(..place)?;
+    let feeds = before.iter().filter(|byte| **byte == b'\n').count();
+    SeenLine::of(alloc, before, feeds.saturating_add(1)).ok()
+}
+
 /// Reads a line file, and the filters of its receiver. Refused is the file, then a filter, then a byte.
 fn read_line<F: FileReader>(
     alloc: Global,
     files: &mut F,
     name: &str,
     filters: &[&str],
+    seen: &mut Seen,
 ) -> Result<Line, CommandRefusal>
     ensures { HasRead F.answers (λ file. IsLineReading file name.now (texts_of filters.now) result) files.old files.new }
 {
-    let bytes = read_file(alloc, files, name)?;
+    let bytes = read_file(alloc, files, name, seen)?;
     let filters = read_filters(filters)?;
     match first_bad_byte(&bytes) {
-        Some(place) => Err(CommandRefusal::LineByte(place)),
+        Some(place) => {
+            seen.line = line_at(alloc, &bytes, place);
+            seen.byte = bytes.get(place).copied();
+            Err(CommandRefusal::LineByte(place))
+        }
         None => Ok(Line { bytes, filters }),
     }
 }
@@ -117,16 +127,16 @@ pub fn tell_lines<F: FileReader, O: Output>(
     files: &mut F,
     name: &str,
     filters: &[&str],
+    seen: &mut Seen,
     out: &mut O,
 ) -> Result<u8, OutputFault>
-    ensures told { HasRead F.answers (λ file. IfOk result
-        (IsPut (IsLinesReply file name.now (texts_of filters.now)) (O.contents out.old) (O.contents out.new))) files.old files.new }
+    ensures told { HasToldLines F.answers O.contents name.now (texts_of filters.now) files.old files.new out.old out.new result }
     ensures status { IfOk result (λ status. status ≤ 1) }
     ensures flushed { OnOk result (IsTrue (O.is_flushed out.new)) }
     ensures faults { CountsFault result (O.failures out.old) (O.failures out.new) }
 {
-    match read_line(alloc, files, name, filters) {
+    match read_line(alloc, files, name, filters, seen) {
         Ok(line) => tell_line(alloc, &line, out),
-        Err(refusal) => refuse(alloc, &refusal, out),
+        Err(refusal) => refuse(alloc, refusal, seen, out),
     }
 }

@@ -4,6 +4,7 @@ ghost use Rattle.a429_slots.specs.declared.answers.Answer.TheVariants.{Accepted}
 ghost use Rattle.a429_cli.specs.AnswerLines.{answer_line};
 ghost use Rattle.a429_console.specs.Names.{naming_of, number_named};
 
+use a429_console::hints::SeenLine;
 use a429_equipment::{Equipment, GroupRow, ReceiverRow, SourceRow};
 use std::alloc::{AllocError, Global};
 use std::marker::Model;
@@ -73,6 +74,30 @@ impl Names {
             sources,
             groups,
         })
+    }
+
+    /// The refused line of a text with these names, for a hint. It can publish so many further tables. `None` if memory is
+    /// refused.
+    pub fn seen_line(
+        &self,
+        alloc: Global,
+        text: &[u8],
+        number: usize,
+        further: usize,
+    ) -> Option<SeenLine> {
+        let mut line = SeenLine::of(alloc, text, number).ok()?;
+        for name in &self.receivers {
+            line.receivers
+                .push(String::from_str(alloc, name.as_str()).ok()?)
+                .ok()?;
+        }
+        for name in &self.groups {
+            line.groups
+                .push(String::from_str(alloc, name.as_str()).ok()?)
+                .ok()?;
+        }
+        line.further = further;
+        Some(line)
     }
 
     /// The number of the receiver with this name.

@@ -1,20 +1,24 @@
 //! The commands that tell of the plan of a table, and `check`.
 ghost use Rattle.std.specs.Prelude.{◌≡◌, ◌≤◌, ◌++◌, ◌∷◌, [], IfOk, IsTrue, MatchResult, OnOk, if◌then◌else◌};
 ghost use Rattle.std.specs.Io.KnownBytes.{Appends};
+ghost use Rattle.a429_cert.specs.Judged.{IsVerdictOnBytes};
 ghost use Rattle.a429_cert.specs.Printed.{verdict_text};
 ghost use Rattle.a429_console.specs.Readings.{HasRead};
 ghost use Rattle.a429_console.specs.Outputs.{CountsFault, IsPut, OrNoMemory};
-ghost use Rattle.a429_cli.specs.PlanReplies.{IsCheckReply, IsJudged, IsJudging, IsPlanReply, IsPlanning, IsTextOf, IsUnjudged, IsVerdictReply, verdict_status};
+ghost use Rattle.a429_cli.specs.PlanReplies.{HasToldPlan, HasToldVerdict, IsJudging, IsPlanning, IsTextOf, IsUnjudged, IsVerdictReply, verdict_status};
 ghost use Rattle.a429_console.specs.RefusalText.{OrMemory};
+ghost use Rattle.a429_console.specs.Tables.{IsUnfitNamed};
 
 use a429_cert::{NoVerdict, Verdict, judge, plan_text};
 use a429_console::files::FileReader;
 use a429_console::files::reading::read_file;
+use a429_console::hints::{Objection, Seen};
 use a429_console::output::endings::{finish, refuse_memory};
 use a429_console::output::{Output, OutputFault};
 use a429_console::refusals::tables::{propose, read_table, unfit};
 use a429_console::refusals::{CommandRefusal, refuse};
 use a429_documents::{icd_csv, icd_text, margin_text};
+use a429_equipment::Equipment;
 use a429_slots::{OUTPUTS, Proposal};
 use std::alloc::{AllocError, Global};
 use std::io;
@@ -66,11 +70,12 @@ fn text_of_file<F: FileReader>(
     files: &mut F,
     name: &str,
     kind: PlanText,
+    seen: &mut Seen,
 ) -> Result<Vec<u8>, CommandRefusal>
     ensures { HasRead F.answers (λ file. IsPlanning file kind name.now result) files.old files.new }
 {
-    let table = read_file(alloc, files, name)?;
-    let proposal = propose(alloc, &table)?;
+    let table = read_file(alloc, files, name, seen)?;
+    let proposal = propose(alloc, &table, seen)?;
     Ok(text_of(alloc, kind, &proposal)?)
 }
 
@@ -81,29 +86,54 @@ pub fn print_plan<F: FileReader, O: Output>(
     files: &mut F,
     name: &str,
     kind: PlanText,
+    seen: &mut Seen,
     out: &mut O,
 ) -> Result<u8, OutputFault>
-    ensures planned { HasRead F.answers (λ file. IfOk result
-        (IsPut (IsPlanReply file kind name.now) (O.contents out.old) (O.contents out.new))) files.old files.new }
+    ensures planned { HasToldPlan F.answers O.contents kind name.now files.old files.new out.old out.new result }
     ensures status { IfOk result (λ status. status ≤ 1) }
     ensures flushed { OnOk result (IsTrue (O.is_flushed out.new)) }
     ensures faults { CountsFault result (O.failures out.old) (O.failures out.new) }
 {
-    match text_of_file(alloc, files, name, kind) {
+    match text_of_file(alloc, files, name, kind, seen) {
         Ok(text) => finish(&text, true, out),
-        Err(refusal) => refuse(alloc, &refusal, out),
+        Err(refusal) => refuse(alloc, refusal, seen, out),
     }
+}
+
+/// The refusal of an unfit output, by the names of its group and its source. The equipment is kept for a hint.
+fn keep_unfit(
+    alloc: Global,
+    equipment: Equipment,
+    group: usize,
+    output: usize,
+    seen: &mut Seen,
+) -> CommandRefusal
+    ensures { OrMemory (IsUnfitNamed equipment group output) result }
+{
+    let refusal = unfit(alloc, &equipment, group, output);
+    seen.equipment = Some(equipment);
+    refusal
 }
 
 /// The verdict on a text by a table's bytes. Refused is the table's fault, then the first output in table order
 /// whose interval admits no period of the grid.
-fn verdict_on(alloc: Global, table: &[u8], text: &[u8]) -> Result<Verdict, CommandRefusal>
-    ensures { MatchResult result (IsJudged table.now text.now) (OrMemory (IsUnjudged table.now)) }
+fn verdict_on(
+    alloc: Global,
+    table: &[u8],
+    text: &[u8],
+    seen: &mut Seen,
+) -> Result<Verdict, CommandRefusal>
+    ensures { MatchResult result (IsVerdictOnBytes table.now text.now) (OrMemory (IsUnjudged table.now)) }
 {
-    let equipment = read_table(alloc, table)?;
+    let equipment = read_table(alloc, table, seen)?;
     match judge(alloc, &equipment, text) {
-        Ok(verdict) => Ok(verdict),
-        Err(NoVerdict::Unfit { group, output }) => Err(unfit(alloc, &equipment, group, output)),
+        Ok(verdict) => {
+            seen.equipment = Some(equipment);
+            Ok(verdict)
+        }
+        Err(NoVerdict::Unfit { group, output }) => {
+            Err(keep_unfit(alloc, equipment, group, output, seen))
+        }
         Err(NoVerdict::NoMemory) => Err(CommandRefusal::Memory),
     }
 }
@@ -115,12 +145,15 @@ fn verdict_on_files<F: FileReader>(
     files: &mut F,
     table: &str,
     plan: &str,
+    seen: &mut Seen,
 ) -> Result<Verdict, CommandRefusal>
     ensures { HasRead F.answers (λ file. IsJudging file table.now plan.now result) files.old files.new }
 {
-    let table = read_file(alloc, files, table)?;
-    let text = read_file(alloc, files, plan)?;
-    verdict_on(alloc, &table, &text)
+    let table = read_file(alloc, files, table, seen)?;
+    let text = read_file(alloc, files, plan, seen)?;
+    let verdict = verdict_on(alloc, &table, &text, seen);
+    seen.text = Some(text);
+    verdict
 }
 
 /// Writes the line of a verdict.
@@ -137,6 +170,17 @@ fn status_of(verdict: Verdict) -> u8
     match verdict {
         Verdict::Fewest => 0,
         Verdict::No(_) => 1,
+    }
+}
+
+/// What a verdict finds wrong, for a hint.
+fn objection_to(verdict: Verdict) -> Option<Objection> {
+    match verdict {
+        Verdict::Fewest => None,
+        Verdict::No(no) => Some(Objection {
+            line: no.line,
+            reason: no.reason.text(),
+        }),
     }
 }
 
@@ -163,16 +207,19 @@ pub fn print_verdict<F: FileReader, O: Output>(
     files: &mut F,
     table: &str,
     plan: &str,
+    seen: &mut Seen,
     out: &mut O,
 ) -> Result<u8, OutputFault>
-    ensures judged { HasRead F.answers (λ file. IfOk result
-        (IsPut (IsCheckReply file table.now plan.now) (O.contents out.old) (O.contents out.new))) files.old files.new }
+    ensures judged { HasToldVerdict F.answers O.contents table.now plan.now files.old files.new out.old out.new result }
     ensures status { IfOk result (λ status. status ≤ 1) }
     ensures flushed { OnOk result (IsTrue (O.is_flushed out.new)) }
     ensures faults { CountsFault result (O.failures out.old) (O.failures out.new) }
 {
-    match verdict_on_files(alloc, files, table, plan) {
-        Ok(verdict) => tell_verdict(alloc, verdict, out),
-        Err(refusal) => refuse(alloc, &refusal, out),
+    match verdict_on_files(alloc, files, table, plan, seen) {
+        Ok(verdict) => {
+            seen.objection = objection_to(verdict);
+            tell_verdict(alloc, verdict, out)
+        }
+        Err(refusal) => refuse(alloc, refusal, seen, out),
     }
 }

@@ -2,9 +2,9 @@
 ghost use Rattle.std.specs.Prelude.{◌≤◌, IfOk, IsTrue, MatchResult, OnOk};
 ghost use Rattle.a429_console.specs.Files.{texts_of};
 ghost use Rattle.a429_console.specs.Readings.{HasRead};
-ghost use Rattle.a429_console.specs.Outputs.{CountsFault, IsPut};
+ghost use Rattle.a429_console.specs.Outputs.{CountsFault};
 ghost use Rattle.a429_console.specs.RefusalText.{OrMemory};
-ghost use Rattle.a429_cli.specs.Replaying.{IsNoStart, IsReplay};
+ghost use Rattle.a429_cli.specs.Replaying.{HasReplayed, IsNoStart};
 ghost use Rattle.a429_cli.specs.Opened.{AreTablesRead, IsInputReading, IsOutcomePut, IsPreparedFor, input_of};
 
 pub mod answers;
@@ -20,6 +20,7 @@ use crate::replay::script::{ScriptForm, check_script};
 use crate::replay::station::ReplayStation;
 use a429_console::files::FileReader;
 use a429_console::files::reading::{read_file, read_files};
+use a429_console::hints::Seen;
 use a429_console::output::endings::finish;
 use a429_console::output::{Output, OutputFault};
 use a429_console::refusals::{CommandRefusal, refuse};
@@ -38,10 +39,11 @@ fn read_further<F: FileReader>(
     alloc: Global,
     files: &mut F,
     names: &[&str],
+    seen: &mut Seen,
 ) -> Result<Vec<FurtherTable>, CommandRefusal>
     ensures { HasRead F.answers (λ file. AreTablesRead file (texts_of names.now) result) files.old files.new }
 {
-    let tables = read_files(alloc, files, names)?;
+    let tables = read_files(alloc, files, names, seen)?;
     Ok(plan_tables(alloc, tables)?)
 }
 
@@ -52,12 +54,13 @@ fn read_input<F: FileReader>(
     table: &str,
     script: &str,
     further: &[&str],
+    seen: &mut Seen,
 ) -> Result<Input, CommandRefusal>
     ensures { HasRead F.answers (λ file. IsInputReading file table.now script.now (texts_of further.now) result) files.old files.new }
 {
-    let table = read_file(alloc, files, table)?;
-    let script = read_file(alloc, files, script)?;
-    let further = read_further(alloc, files, further)?;
+    let table = read_file(alloc, files, table, seen)?;
+    let script = read_file(alloc, files, script, seen)?;
+    let further = read_further(alloc, files, further, seen)?;
     Ok(Input {
         table,
         script,
@@ -66,15 +69,15 @@ fn read_input<F: FileReader>(
 }
 
 /// The station that is given, where the script is one of it. Refused is the table, its plan, or the script.
-fn prepare(alloc: Global, input: &Input) -> Result<ReplayStation, CommandRefusal>
+fn prepare(alloc: Global, input: &Input, seen: &mut Seen) -> Result<ReplayStation, CommandRefusal>
     ensures { MatchResult result (IsPreparedFor (input_of input.now)) (OrMemory (IsNoStart (input_of input.now))) }
 {
-    let station = ReplayStation::open(alloc, &input.table)?;
+    let station = ReplayStation::open(alloc, &input.table, seen)?;
     let form = ScriptForm {
         names: &station.names,
         further: input.further.len(),
     };
-    check_script(&form, &input.script)?;
+    check_script(alloc, &form, &input.script, seen)?;
     Ok(station)
 }
 
@@ -106,20 +109,20 @@ pub fn replay<F: FileReader, O: Output>(
     table: &str,
     script: &str,
     further: &[&str],
+    seen: &mut Seen,
     out: &mut O,
 ) -> Result<u8, OutputFault>
-    ensures replayed { HasRead F.answers (λ file. IfOk result
-        (IsPut (IsReplay file table.now script.now (texts_of further.now)) (O.contents out.old) (O.contents out.new))) files.old files.new }
+    ensures replayed { HasReplayed F.answers O.contents table.now script.now further.now files.old files.new out.old out.new result }
     ensures status { IfOk result (λ status. status ≤ 1) }
     ensures flushed { OnOk result (IsTrue (O.is_flushed out.new)) }
     ensures faults { CountsFault result (O.failures out.old) (O.failures out.new) }
 {
-    let input = match read_input(alloc, files, table, script, further) {
+    let input = match read_input(alloc, files, table, script, further, seen) {
         Ok(input) => input,
-        Err(refusal) => return refuse(alloc, &refusal, out),
+        Err(refusal) => return refuse(alloc, refusal, seen, out),
     };
-    match prepare(alloc, &input) {
+    match prepare(alloc, &input, seen) {
         Ok(station) => play_prepared(alloc, station, &input, out),
-        Err(refusal) => refuse(alloc, &refusal, out),
+        Err(refusal) => refuse(alloc, refusal, seen, out),
     }
 }

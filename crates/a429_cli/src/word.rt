@@ -7,6 +7,7 @@ ghost use Rattle.std.specs.Io.KnownBytes.{Appends};
 ghost use Rattle.a429_console.specs.Outputs.{CountsFault, IsPut, OrNoMemory};
 ghost use Rattle.a429_cli.specs.WordLines.{IsWordReply, bcd_digits, bcd_line, bnr_line, data_text, fields_line, name_text, status_text, word_lines};
 
+use a429_console::hints::Seen;
 use a429_console::output::endings::{finish, refuse_memory};
 use a429_console::output::{Output, OutputFault};
 use a429_console::refusals::{CommandRefusal, refuse};
@@ -96,17 +97,22 @@ fn write_word<W: Write>(out: &mut W, word: Word) -> io::Result<()>
 
 /// Tells what the word of eight hexadecimal digits says, in either case. Another text is refused
 /// (`word-text`), and one of even parity (`parity`). The status is 0, or 1 where it was refused.
-pub fn tell_word<O: Output>(alloc: Global, text: &str, out: &mut O) -> Result<u8, OutputFault>
+pub fn tell_word<O: Output>(
+    alloc: Global,
+    text: &str,
+    seen: &mut Seen,
+    out: &mut O,
+) -> Result<u8, OutputFault>
     ensures replied { IfOk result (IsPut (OrNoMemory (IsWordReply text.now)) (O.contents out.old) (O.contents out.new)) }
     ensures status { IfOk result (λ status. status ≤ 1) }
     ensures flushed { OnOk result (IsTrue (O.is_flushed out.new)) }
     ensures faults { CountsFault result (O.failures out.old) (O.failures out.new) }
 {
     let Some(raw) = raw_word(text.as_bytes()) else {
-        return refuse(alloc, &CommandRefusal::WordText, out);
+        return refuse(alloc, CommandRefusal::WordText, seen, out);
     };
     let Ok(word) = Word::from_raw(raw) else {
-        return refuse(alloc, &CommandRefusal::Parity, out);
+        return refuse(alloc, CommandRefusal::Parity, seen, out);
     };
     let mut lines = Vec::new(alloc);
     match write_word(&mut lines, word) {

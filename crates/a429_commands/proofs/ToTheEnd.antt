@@ -11,4 +11,4 @@ played_to_the_end file table script bytes status (inr memory) done = absurd (ome
 played_to_the_end file table script bytes status (inl (inl refused)) done = absurd (omega (arith, refused.2, done))
 played_to_the_end file table script bytes status (inl (inr (i, q, events, read, start, inl played))) done =
     record { input = i; proposal = q; events = events; read = read; start = start; played = played.0 }
-played_to_the_end file table script bytes status (inl (inr (i, q, events, read, start, inr part))) done = absurd (omega (arith, part.3, done))
+played_to_the_end file table script bytes status (inl (inr (i, q, events, read, start, inr (n, lines, played, one, told)))) done = absurd (omega (arith, one, done))

@@ -64,7 +64,6 @@ fn a_word_of_any_length_is_read(rt: HostRuntime) {
     let long = [b'0'; 600];
     let words: [&[u8]; 3] = [b"a429", b"word", &long];
     let (status, out, err) = run_on(&rt, &words);
-    assert!(rt;
-        status == 1 && out.as_slice() == b"refused word-text\n".as_slice() && err.is_empty()
-    );
+    assert!(rt; status == 1 && out.as_slice() == b"refused word-text\n".as_slice());
+    assert!(rt; err.as_slice().starts_with(b"a429: \"000000000000"));
 }

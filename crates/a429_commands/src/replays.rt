@@ -1,10 +1,8 @@
 //! A replay over files in memory.
-ghost use Rattle.std.specs.Prelude.{◌≡◌, [], IfSome};
+ghost use Rattle.std.specs.Prelude.{◌≡◌, IfSome};
 ghost use Rattle.a429_console.specs.CommandLine.{IsName};
 ghost use Rattle.a429_console.specs.MemoryFile.{file_of};
-ghost use Rattle.a429_console.specs.Requests.{Replay};
-ghost use Rattle.a429_cli.specs.Replies.{IsReplyOrMemory};
-ghost use Rattle.a429_commands.specs.Replayed.{IsPlayedToTheEnd};
+ghost use Rattle.a429_commands.specs.Replayed.{IsPlayedToTheEnd, IsReplayReply};
 
 use a429_cli::{CountedWriter, MemoryFiles, command};
 use a429_console::laws::plain_words_ask;
@@ -21,7 +19,7 @@ pub fn replay_in_memory(
 ) -> Option<(u8, Vec<u8>)>
     requires table { IsName table.now }
     requires script { IsName script.now }
-    ensures replied { IfSome result (λ told. IsReplyOrMemory (file_of files.old.files.items) (Replay table.now script.now []) told.0 told.1.items) }
+    ensures replied { IfSome result (λ told. IsReplayReply (file_of files.old.files.items) table.now script.now told.0 told.1.items) }
     ensures done { IfSome result (λ told. told.0 ≡ 0 → IsPlayedToTheEnd (file_of files.old.files.items) table.now script.now told.1.items) }
 {
     plain_words_ask();

@@ -5,7 +5,8 @@ use Rattle.std.specs.Fmt.{decimal}
 use Rattle.std.specs.Str.Parse.{digits_value, without_leading_plus}
 use Rattle.clap.specs.ValueTests.{is_unsigned_in}
 use Rattle.clap.specs.Words.{Text, subcommand_of, takes}
-use Rattle.a429_console.specs.CommandLine.{command_line, most_frames, most_slots, IsName, IsPlainSlots}
+use Rattle.a429_equipment.specs.Limits.{most_frames}
+use Rattle.a429_console.specs.CommandLine.{command_line, most_slots, IsName, IsPlainSlots}
 use Rattle.a429_console.specs.Requests.{RequestBytes, Command, Word, Lines, Plan, Check, Icd, Margin, Draw, Replay, Live, LiveAsk, request_words, HasNames}
 use Rattle.a429_console.specs.RequestRows.{found_by, frames_of, number_of, request_by}
 use Rattle.a429_console.proofs.PlainWords.{IsPlainWord, name_is_plain}

@@ -18,7 +18,8 @@ use Rattle.clap.specs.declared.builder.command.Command.TheViews.{out-Command}
 use Rattle.clap.specs.declared.parser.matches.ArgMatches.{ArgMatches}
 use Rattle.clap.specs.declared.parser.matches.ArgMatches.TheViews.{out-ArgMatches, out-SubCommand}
 use Rattle.clap.proofs.ValueTestLemmas.{accepts-Accepts}
-use Rattle.a429_console.specs.CommandLine.{most_frames, most_slots}
+use Rattle.a429_equipment.specs.Limits.{most_frames}
+use Rattle.a429_console.specs.CommandLine.{most_slots}
 use Rattle.a429_console.specs.Requests.{CommandAsk, Word, Lines, Plan, Check, Icd, Margin, Draw, Replay, LiveAsk, IsReadOf}
 use Rattle.a429_console.specs.RequestRows.{flag_given, found_by, frames_of, number_of, values_of}
 use Rattle.a429_console.specs.RequestRows.{word_request, lines_request, plan_request, check_request, icd_request, margin_request, draw_request, replay_request, live_request}
@@ -105,9 +106,9 @@ module _ {E : Type 0} (gives : Text → Result ℕ E → Type 0) (parses : (t : 
   one_read t false read number is said asked = absurd (cc asked)
   one_read t true (Some n) number is said asked = ap Some (parses t _ said).1 ∙ same_Some (Some (digits_value 10 (without_leading_plus t))) number asked
   one_read t true None number is said asked =
-      let numeral = accepts-Accepts true (reads.Unsigned least most) t is in
-      let fits : digits_value 10 (without_leading_plus t) < 2 ^ 32 = omega (arith, numeral.3, small) in
-      absurd (parses t _ said.1 (numeral.0, fits))
+      let (numeral, counted, above, below) = accepts-Accepts true (reads.Unsigned least most) t is in
+      let fits : digits_value 10 (without_leading_plus t) < 2 ^ 32 = omega (arith, below, small) in
+      absurd (parses t _ said.1 (numeral, fits))
 
   -- what `get_one` says of the text of a number
   pub number_read : (text : Option Text) (read number : Option ℕ) → (text ≡ None → read ≡ None) → ((t : Text) → text ≡ Some t → ReadsOne gives t read)

@@ -8,7 +8,8 @@ use Rattle.clap.specs.Simple.{built, built_leaf, entered, inherited}
 use Rattle.clap.specs.Takes.{is_valid, level_passes, settle_passes, step_passes, walk_passes}
 use Rattle.clap.specs.ValueTests.{is_unsigned_in}
 use Rattle.clap.proofs.OnLiterals.{clap_on_literals}
-use Rattle.a429_console.specs.CommandLine.{command_line, top_shape, live_app, most_frames, IsName}
+use Rattle.a429_equipment.specs.Limits.{most_frames}
+use Rattle.a429_console.specs.CommandLine.{command_line, top_shape, live_app, IsName}
 use Rattle.a429_console.specs.Requests.{Live, LiveAsk}
 use Rattle.a429_console.specs.RequestRows.{found_by, frames_of, live_request, request_by}
 use Rattle.a429_console.proofs.PlainWords.{IsPlainWord, name_is_plain, at_word, for_none, walked_word, turn_of_word}

@@ -4,6 +4,7 @@ use Rattle.clap.specs.Words.{App, Rule, Shape, Text, new_app, new_rule, rule_of,
 use Rattle.clap.specs.declared.builder.arg.Arg.{Arg}
 use Rattle.clap.specs.declared.builder.action.ArgAction.TheVariants.{Append, SetTrue}
 use Rattle.clap.specs.declared.builder.value_parser.ValueParser.TheVariants as reads
+use Rattle.a429_equipment.specs.Limits.{most_frames}
 
 abbrev pub required_rule : Text → Rule
 required_rule id = record (new_rule id) { required = true }
@@ -58,10 +59,6 @@ abbrev pub draw_app : App
 draw_app =
     with_rule (with_rule (with_rule (new_app (codes "draw")) (required_rule (codes "TABLE"))) (option_rule (codes "group")))
     (number_option_rule (codes "slots") 1 most_slots)
-
--- how many frames can be sent
-abbrev pub most_frames : ℕ
-most_frames = 1000000
 
 abbrev pub replay_app : App
 replay_app = with_rule (with_rule (with_rule (new_app (codes "replay")) (required_rule (codes "TABLE"))) (required_rule (codes "SCRIPT"))) (many_rule (codes "FURTHER"))

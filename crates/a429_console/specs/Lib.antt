@@ -10,6 +10,7 @@ pub mod CutText
 pub mod GivenWords
 pub mod Ends
 pub mod Readings
+pub mod Replying
 pub mod Names
 pub mod FileReadings
 pub mod RefusalText

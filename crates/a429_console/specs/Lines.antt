@@ -1,5 +1,9 @@
 -- Files with one thing a line (profile: replay script, words file): what a text states, or its first faulty line. What one line states is given.
-use Rattle.std.specs.Prelude.{◌+◌, ◌∷◌, [], ◌++◌, ℕ, List, Option, Some, None, Result, Ok, Err, option_map, option_and_then}
+use Rattle.std.specs.Prelude.{◌≡◌, ◌+◌, ◌∷◌, [], ◌++◌, ℕ, List, Option, Some, None, Result, Ok, Err, MatchResult, option_map, option_and_then}
+use Rattle.std.specs.declared.vec.Vec.{Vec}
+use Rattle.std.specs.declared.alloc.Global.{Global}
+use Rattle.a429_console.specs.declared.files.lines.LinesFault.{LinesFault}
+use Rattle.a429_console.specs.declared.files.lines.LinesFault.TheVariants as fault
 use Rattle.a429_console.specs.CutText.{cut, lines_of}
 
 -- what the first line of a text states, and the text after the line
@@ -28,3 +32,15 @@ entries_after states n text = entries_from states (n + 1) (lines_of text).0 (lin
 -- the entries of a text, or the number of its first faulty line, from 1
 unfoldable pub entries_of : {A : Type 0} → (List ℕ → Option A) → List ℕ → Result (List A) ℕ
 entries_of states text = entries_after states 0 text
+
+-- ---- what calls answer
+
+-- no line is faulty, or this is the number of the first that is
+abbrev pub ChecksLines : {A : Type 0} → (List ℕ → Option A) → List ℕ → Result (Unit {0}) ℕ → Type 0
+ChecksLines {A} states text result =
+    MatchResult result (λ _. (entries : List A) × (entries_of states text ≡ Ok entries)) (λ n. entries_of states text ≡ Err n)
+
+-- the entries of all lines, or the first faulty one; memory may be refused
+abbrev pub ReadsLines : {A : Type 0} → (List ℕ → Option A) → List ℕ → Result (Vec A Global) LinesFault → Type 0
+ReadsLines states text result =
+    MatchResult result (λ entries. entries_of states text ≡ Ok entries.items) (λ e. (n : ℕ) → e ≡ fault.Line n → entries_of states text ≡ Err n)

@@ -1,11 +1,12 @@
 -- What is asked for by the values that were read of a command's words.
-use Rattle.std.specs.Prelude.{◌≡◌, [], ℕ, Bool, List, Option, Some, None, true, false, codes, if◌then◌else◌, option_and_then, option_map, unwrap_or}
+use Rattle.std.specs.Prelude.{◌≡◌, [], ◌∷◌, ℕ, Bool, List, Option, Some, None, true, false, codes, if◌then◌else◌, option_and_then, option_map, unwrap_or}
 use Rattle.std.specs.Str.{bytes_eq}
 use Rattle.std.specs.Str.Parse.{digits_value, without_leading_plus}
 use Rattle.clap.specs.ValueTests.{is_unsigned_in}
 use Rattle.clap.specs.Words.{Row, Text, first_of, one_of, all_of, subcommand_of, takes}
-use Rattle.a429_console.specs.CommandLine.{command_line, most_frames, most_slots}
-use Rattle.a429_console.specs.Requests.{CommandAsk, Word, Lines, Plan, Check, Icd, Margin, Draw, Replay, LiveAsk, RequestBytes, Command, Live}
+use Rattle.a429_equipment.specs.Limits.{most_frames}
+use Rattle.a429_console.specs.CommandLine.{IsName, command_line, most_slots}
+use Rattle.a429_console.specs.Requests.{CommandAsk, HasNames, Word, Lines, Plan, Check, Icd, Margin, Draw, Replay, LiveAsk, RequestBytes, Command, Live, request_words}
 
 -- the values of an argument that is given as often as one likes
 abbrev pub values_of : Text → List Row → List Text
@@ -79,3 +80,13 @@ found_by by found = option_and_then (λ p. by p.0 p.1) found
 -- the rules of the command line take these words, and by the values that they give them this is asked for
 unfoldable pub AsksFor : List (List ℕ) → RequestBytes → Type 0
 AsksFor words r = (takes command_line words ≡ true) × (found_by request_by (subcommand_of command_line words) ≡ Some r)
+
+-- the words of `live` ask for it with any text of the number of frames that the rules take
+abbrev pub LiveWordsAsk : Type 0
+LiveWordsAsk =
+    (r : LiveAsk) (text : List ℕ) → HasNames (Live r) → IsName text → frames_of (Some text) ≡ Some r.frames
+    → AsksFor (codes "live" ∷ r.table ∷ r.words ∷ text ∷ r.further) (Live r)
+
+-- a request in its plain form, which is what it names and then its options, asks for it
+abbrev pub PlainWordsAsk : Type 0
+PlainWordsAsk = (r : RequestBytes) → HasNames r → AsksFor (request_words r) r

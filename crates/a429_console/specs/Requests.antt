@@ -5,7 +5,8 @@ use Rattle.std.specs.List.{AllByRecursion}
 use Rattle.clap.specs.Words.{kind_of}
 use Rattle.clap.specs.declared.error.Error.{Error}
 use Rattle.clap.specs.declared.error.kind.ErrorKind.TheVariants.{OutOfMemory}
-use Rattle.a429_console.specs.CommandLine.{IsName, IsPlainSlots, most_frames}
+use Rattle.a429_equipment.specs.Limits.{most_frames}
+use Rattle.a429_console.specs.CommandLine.{IsName, IsPlainSlots}
 use Rattle.a429_console.specs.Files.{texts_of}
 use Rattle.a429_console.specs.declared.arguments.requests.CommandRequest.{CommandRequest}
 use Rattle.a429_console.specs.declared.arguments.requests.CommandRequest.TheVariants as asked

@@ -1,5 +1,5 @@
 -- Words that ask for no command: calls for help or for the version, and mistakes (profile: status 0, 1 and 2).
-use Rattle.std.specs.Prelude.{◌≡◌, ◌≢◌, ◌∷◌, [], ◌⊎◌, ℕ, Bool, true, false, not, List, Option, Some, None, Result, MatchResult, codes}
+use Rattle.std.specs.Prelude.{◌≡◌, ◌≢◌, ◌∷◌, [], ◌⊎◌, ℕ, Bool, true, false, not, List, Option, Some, None, Result, IfOk, IsTrue, MatchResult, codes}
 use Rattle.std.specs.List.{list_all, list_any}
 use Rattle.std.specs.Str.{bytes_eq}
 use Rattle.clap.specs.Kinds.{or_else}
@@ -8,7 +8,8 @@ use Rattle.clap.specs.declared.error.Error.{Error}
 use Rattle.clap.specs.declared.error.kind.ErrorKind.{ErrorKind}
 use Rattle.clap.specs.declared.error.kind.ErrorKind.TheVariants.{DisplayHelp, DisplayVersion, InvalidSubcommand, OutOfMemory}
 use Rattle.a429_console.specs.CommandLine.{command_line}
-use Rattle.a429_console.specs.Outputs.{FailedCalls, HasFailed, IsMemoryReply, OrNoMemory}
+use Rattle.a429_console.specs.Outputs.{FailedCalls, HasFailed, IsMemoryReply, IsPut, OrNoMemory}
+use Rattle.a429_console.specs.declared.output.OutputFault.{OutputFault}
 use Rattle.a429_console.specs.declared.arguments.requests.Request.{Request}
 use Rattle.a429_console.specs.declared.arguments.requests.Request.TheVariants as read
 
@@ -82,9 +83,13 @@ IsLiveMistake words = AreMistakes (live_kinds_of_words words)
 abbrev pub IsHelpReply : ℕ → List ℕ → Type 0
 IsHelpReply status bytes = status ≡ 0
 
--- Nothing was put. The other output took what was written to it, with status 2; or a call of it failed, with status 1.
+-- the other output took what was written to it, with status 2; or a call of it failed, with status 1
+abbrev pub IsWarned : FailedCalls → FailedCalls → ℕ → Type 0
+IsWarned old new status = ((status ≡ 2) × (new ≡ old)) ⊎ ((status ≡ 1) × HasFailed old new)
+
+-- nothing was put, and the other output was told of the mistake, or a call of it failed
 abbrev pub IsUsageReply : FailedCalls → FailedCalls → ℕ → List ℕ → Type 0
-IsUsageReply old new status bytes = (bytes ≡ []) × (((status ≡ 2) × (new ≡ old)) ⊎ ((status ≡ 1) × HasFailed old new))
+IsUsageReply old new status bytes = (bytes ≡ []) × IsWarned old new status
 
 -- what is put in place of an answer, by what the words are, and by the calls of the other output that failed before and after it
 abbrev pub IsReplyOfKind : FailedCalls → FailedCalls → ErrorKind → ℕ → List ℕ → Type 0
@@ -92,3 +97,19 @@ IsReplyOfKind old new OutOfMemory = IsMemoryReply
 IsReplyOfKind old new DisplayHelp = OrNoMemory IsHelpReply
 IsReplyOfKind old new DisplayVersion = OrNoMemory IsHelpReply
 IsReplyOfKind old new _ = OrNoMemory (IsUsageReply old new)
+
+-- this is put in place of an answer, by the kind of the parser's error and by what the calls of the other output count
+abbrev pub ExplainsKind : {X Y : Type 0} → (X → Option (List ℕ)) → (Y → FailedCalls) → ErrorKind → X → X → Y → Y → Result ℕ OutputFault → Type 0
+ExplainsKind contents failures kind out out' err err' result = IfOk result (IsPut (IsReplyOfKind (failures err) (failures err') kind) (contents out) (contents out'))
+
+-- the same of a mistake
+abbrev pub TellsMistake : {X Y : Type 0} → (X → Option (List ℕ)) → (Y → FailedCalls) → X → X → Y → Y → Result ℕ OutputFault → Type 0
+TellsMistake contents failures out out' err err' result = IfOk result (IsPut (OrNoMemory (IsUsageReply (failures err) (failures err'))) (contents out) (contents out'))
+
+-- with status 1 all that was put was passed on, unless this happened
+abbrev pub IsPassedOnUnless : Type 0 → Bool → Result ℕ OutputFault → Type 0
+IsPassedOnUnless Failed flushed result = IfOk result (λ status. status ≡ 1 → IsTrue flushed ⊎ Failed)
+
+-- a mistake was to be told on the other output, and a call of that failed
+abbrev pub IsMistakeUntold : {Y : Type 0} → (Y → FailedCalls) → ErrorKind → Y → Y → Type 0
+IsMistakeUntold failures kind old new = (kind ≢ OutOfMemory) × HasFailed (failures old) (failures new)

@@ -58,9 +58,9 @@ pub trait FileReader {
         ensures tells { tells self.new ≡ tells self.old }
         ensures keeps { (other : List ℕ) → file self.new other ≡ file self.old other };
 
-    /// The bytes of a file once more, or why there are none: for a hint to a person, and no contract rests on it.
-    fn look(&mut self, _name: &str) -> Result<Vec<u8>, FileTrouble> {
-        Err(FileTrouble::Unknown)
+    /// Why the file of this name, the last that was read, is refused: for a hint to a person. No contract rests on it.
+    fn trouble(&self, _name: &str) -> FileTrouble {
+        FileTrouble::Unknown
     }
 
     /// Where it tells what it has, each answer is of that, and it has the same after it.

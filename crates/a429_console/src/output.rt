@@ -104,7 +104,8 @@ impl<W: Flushing> CountedWriter<W> {
     /// Fails as the first call that failed did.
     fn fail_again(&mut self) -> Result<(), OutputFault>
         ensures fault { IsErr result }
-        ensures faults { CountsFault result (calls_of self.old.failures self.old.is_closed) (calls_of self.new.failures self.new.is_closed) }
+        ensures faults { CountsFault result (calls_of self.old.failures self.old.is_closed)
+            (calls_of self.new.failures self.new.is_closed) }
     {
         if self.is_closed {
             self.fail(OutputFault::Closed)
@@ -117,7 +118,8 @@ impl<W: Flushing> CountedWriter<W> {
     fn answer(&mut self, answer: io::Result<()>) -> Result<(), OutputFault>
         ensures writer { self.new.writer ≡ self.old.writer }
         ensures failed { IsErr answer → IsErr result }
-        ensures faults { CountsFault result (calls_of self.old.failures self.old.is_closed) (calls_of self.new.failures self.new.is_closed) }
+        ensures faults { CountsFault result (calls_of self.old.failures self.old.is_closed)
+            (calls_of self.new.failures self.new.is_closed) }
     {
         match answer {
             Ok(()) => Ok(()),

@@ -6,7 +6,8 @@ ghost use Rattle.a429_console.specs.RefusalText.{IsRefusalPut};
 pub mod names;
 pub mod tables;
 
-use crate::output::endings::{put_refused, refuse_memory};
+use crate::hints::Seen;
+use crate::output::endings::{REFUSED_MEMORY, put_refused, refuse_memory};
 use crate::output::{Output, OutputFault};
 use a429_table::{FaultKind, TablePlace};
 use std::alloc::{AllocError, AllocFailed, Global};
@@ -79,7 +80,7 @@ impl fmt::Display for CommandRefusal {
             CommandRefusal::Source => f.write_str("refused source"),
             CommandRefusal::Sink => f.write_str("refused sink"),
             CommandRefusal::TooMuch => f.write_str("refused too-much"),
-            CommandRefusal::Memory => f.write_str("refused memory"),
+            CommandRefusal::Memory => f.write_str(REFUSED_MEMORY),
         }
     }
 }
@@ -108,19 +109,23 @@ impl<T: Drop> From<AllocFailed<T>> for CommandRefusal {
     }
 }
 
-/// Puts the line of a refusal, or where memory for it is refused the one that says so. The status is 1.
+/// Puts the line of a refusal, which is kept in `seen`, or the line `refused memory` if memory for it is refused. The
+/// status is 1.
 pub fn refuse<O: Output>(
     alloc: Global,
-    refusal: &CommandRefusal,
+    refusal: CommandRefusal,
+    seen: &mut Seen,
     out: &mut O,
 ) -> Result<u8, OutputFault>
     ensures status { IfOk result (λ status. status ≡ 1) }
-    ensures line { OnOk result (IsRefusalPut refusal.now (O.contents out.old) (O.contents out.new)) }
+    ensures line { OnOk result (IsRefusalPut refusal (O.contents out.old) (O.contents out.new)) }
     ensures flushed { OnOk result (IsTrue (O.is_flushed out.new)) }
     ensures faults { CountsFault result (O.failures out.old) (O.failures out.new) }
 {
     let mut line = Vec::new(alloc);
-    match writeln!(line, "{refusal}") {
+    let written = writeln!(line, "{refusal}");
+    seen.refusal = Some(refusal);
+    match written {
         Ok(()) => put_refused(&line, out),
         Err(_) => refuse_memory(out),
     }

@@ -16,7 +16,7 @@ use Rattle.a429_slots.specs.declared.group_plan.SendLimits.{SendLimits}
 use Rattle.a429_slots.specs.Tables.{Placed, SlotTable, PlanTable, placed_at, outputs_of, place_of, limits_of, groups_of}
 use Rattle.a429_slots.specs.Planned.{IsServed, IsPlannedAt, IsPlanOf}
 use Rattle.a429_documents.specs.Document.{receiver_name, icd_row, output_row, output_rows, groups_rows}
-use Rattle.a429_cert.proofs.PlanLines.{output_is}
+use Rattle.a429_slots.proofs.Cells.{output_is}
 
 -- ---- an output
 

@@ -10,7 +10,7 @@ use Rattle.a429_equipment.specs.TableRecord.{TableRecord}
 use Rattle.a429_equipment.specs.declared.rows.GroupRow.{GroupRow}
 use Rattle.a429_equipment.specs.declared.rows.SourceRow.{SourceRow}
 use Rattle.a429_slots.specs.Tables.{Placed, SlotTable, PlanTable, buses_of, frame_of, groups_of, outputs_of, placed_at, source_of}
-use Rattle.a429_cert.proofs.PlanLines.{output_is}
+use Rattle.a429_slots.proofs.Cells.{output_is}
 use Rattle.a429_documents.specs.Drawing.{drawn_group, group_drawing, group_height, height_at, height_of, output_legend, output_shape, legend_text, legend_top, shape_text, slots_drawn}
 
 -- ---- pieces of a text, one behind the other

@@ -11,13 +11,12 @@ use Rattle.a429_equipment.specs.declared.rows.OutputRow.{OutputRow}
 use Rattle.a429_equipment.specs.declared.rows.SourceRow.{SourceRow}
 use Rattle.a429_pack.specs.Demanded.{IsBusCount, demand_of}
 use Rattle.a429_pack.specs.Demands.{greatest}
-use Rattle.a429_slots.specs.Tables.{Placed, SlotTable, PlanTable, outputs_of, frame_of, buses_of, groups_of}
+use Rattle.a429_slots.specs.Tables.{Placed, SlotTable, PlanTable, outputs_of, demands_of, frame_of, buses_of, groups_of}
 use Rattle.a429_slots.specs.Planned.{HaveSources, IsPlannedAt, IsPlannedFor, IsPlanOf, IsServed}
 use Rattle.a429_slots.proofs.Known.{served_known}
 use Rattle.a429_documents.specs.Margins.{AreMargins, IsGroupMargin, periods_of, window_of}
 use Rattle.a429_cert.specs.PlanText.{HasSources}
 use Rattle.a429_documents.proofs.DocumentRows.{served_length}
-use Rattle.a429_cert.proofs.DueOutputs.{length-outputs}
 use Rattle.a429_cert.proofs.OwnGroups.{FewestCarry, carried, frame_greatest, total_is}
 
 -- a table that has these sources, and of which nothing else is asked
@@ -34,11 +33,6 @@ some_windows rate [] ps served = tt
 some_windows rate (r ∷ rows) [] served = absurd served
 some_windows rate (r ∷ rows) (p ∷ ps) served = (some_slot rate r.max_us p.place.period served.0.1.1.1, some_windows rate rows ps served.1)
 
--- all of some numbers
-pub all_mapped : {X : Type 0} (f : X → ℕ) (xs : List X) → AllByRecursion (λ x. 0 < f x) xs → AllByRecursion (λ n. 0 < n) (map f xs)
-all_mapped f [] all = tt
-all_mapped f (x ∷ xs) all = (all.0, all_mapped f xs all.1)
-
 module _ (rate : ℕ) (sources : List SourceRow) (rows : List OutputRow) (t : SlotTable) (p : IsPlannedFor rate sources rows t) where
   pub known_sources : HaveSources sources rows → HasSources sources t
   known_sources known = served_known (length sources) rate rows (outputs_of t) p.served known
@@ -47,22 +41,22 @@ module _ (rate : ℕ) (sources : List SourceRow) (rows : List OutputRow) (t : Sl
   windows_there = some_windows rate rows (outputs_of t) p.served
 
   pub buses_count : FewestCarry → 1 ≤ length rows → IsBusCount (periods_of t) (buses_of t)
-  buses_count law some = carried (of_sources sources) rate rows t law p (omega (arith, some, served_length rate rows (outputs_of t) p.served, length-outputs t))
+  buses_count law some = carried (of_sources sources) rate rows t law p (omega (arith, some, served_length rate rows (outputs_of t) p.served))
 
-  demanded : sum t.demands ≡ demand_of (periods_of t)
+  demanded : sum (demands_of t) ≡ demand_of (periods_of t)
   demanded = total_is (of_sources sources) rate rows t p
 
   framed : frame_of t ≡ 2 ^ greatest (periods_of t)
   framed = frame_greatest (of_sources sources) rate rows t p
 
-  pub within_room : FewestCarry → 1 ≤ length rows → sum t.demands ≤ buses_of t * frame_of t
+  pub within_room : FewestCarry → 1 ≤ length rows → sum (demands_of t) ≤ buses_of t * frame_of t
   within_room law some =
-      subst (λ (f : ℕ). sum t.demands ≤ buses_of t * f) (sym framed) (subst (λ (d : ℕ). d ≤ buses_of t * 2 ^ greatest (periods_of t)) (sym demanded) (buses_count law some).within)
+      subst (λ (f : ℕ). sum (demands_of t) ≤ buses_of t * f) (sym framed) (subst (λ (d : ℕ). d ≤ buses_of t * 2 ^ greatest (periods_of t)) (sym demanded) (buses_count law some).within)
 
-  pub above_others : FewestCarry → 1 ≤ length rows → (buses_of t - 1) * frame_of t ≤ sum t.demands
+  pub above_others : FewestCarry → 1 ≤ length rows → (buses_of t - 1) * frame_of t ≤ sum (demands_of t)
   above_others law some =
-      let above : (buses_of t - 1) * frame_of t < sum t.demands =
-      subst (λ (f : ℕ). (buses_of t - 1) * f < sum t.demands) (sym framed) (subst (λ (d : ℕ). (buses_of t - 1) * 2 ^ greatest (periods_of t) < d) (sym demanded) (buses_count law some).above) in
+      let above : (buses_of t - 1) * frame_of t < sum (demands_of t) =
+      subst (λ (f : ℕ). (buses_of t - 1) * f < sum (demands_of t)) (sym framed) (subst (λ (d : ℕ). (buses_of t - 1) * 2 ^ greatest (periods_of t) < d) (sym demanded) (buses_count law some).above) in
       omega (arith, above)
 
 -- pieces of a text, one behind the other

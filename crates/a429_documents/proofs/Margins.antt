@@ -12,7 +12,7 @@ use Rattle.a429_slots.specs.declared.group_plan.SlotPlace.{SlotPlace}
 use Rattle.a429_slots.specs.Tables.{Placed, SlotTable, placed_at, outputs_of, place_of, source_of, frame_of}
 use Rattle.a429_documents.specs.Margins.{is_chosen, output_margin, wider_text}
 use Rattle.a429_cert.specs.PlanText.{source_name}
-use Rattle.a429_cert.proofs.PlanLines.{output_is}
+use Rattle.a429_slots.proofs.Cells.{output_is}
 
 -- where an output stands
 pub stands_at : (t : SlotTable) (o : ℕ) (place : SlotPlace) → o < length (outputs_of t) → place_of t o ≡ Some place → (placed_at t o).place ≡ place

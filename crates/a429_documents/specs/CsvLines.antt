@@ -1,10 +1,15 @@
 -- A writer of comma-separated lines.
-use Rattle.std.specs.Prelude.{◌≡◌, false}
+use Rattle.std.specs.Prelude.{◌≡◌, ℕ, List, Option, Result, OnOk, false}
+use Rattle.std.specs.Io.KnownBytes.{Appends}
 use Rattle.csv.specs.declared.writer.Writer.{Writer}
-use Rattle.csv.specs.Writing.{default_writer, writer_setup, fields_written, has_written}
+use Rattle.csv.specs.Writing.{default_writer, writer_setup, fields_written, has_written, text_written}
 
 -- it has the library's own settings, and nothing of the next line is written
 pub record IsAtLine {W : Type 0} (w : Writer W) : Type 0 where
   pub setup : writer_setup w ≡ default_writer
   pub fields : fields_written w ≡ 0
   pub clean : has_written w ≡ false
+
+-- where the call succeeds, the writer's output and what it has not passed on yet have these bytes more, together
+abbrev pub WritesText : {W A E : Type 0} → (W → Option (List ℕ)) → Result A E → Writer W → Writer W → List ℕ → Type 0
+WritesText contents result old new bytes = OnOk result (Appends (text_written contents old) (text_written contents new) bytes)

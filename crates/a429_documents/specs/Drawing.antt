@@ -178,6 +178,10 @@ drawn_group e p slots first k =
     option_map_or (λ row. option_map_or (λ t. group_drawing e.sources row t (first + k) (slots_drawn slots (frame_of t)) (height_of slots p first k)) (slice_get (groups_of p) (first + k)) [])
     (slice_get e.groups (first + k)) []
 
+-- as many groups as this, from the first that is drawn on
+abbrev pub drawn_groups : TableRecord → PlanTable → Option ℕ → ℕ → ℕ → List ℕ
+drawn_groups e p slots first count = flat_map (drawn_group e p slots first) (range_with_len 0 count)
+
 -- the beginning of an image of this height, and the white sheet that all stands on
 abbrev pub svg_text : ℕ → List ℕ
 svg_text height =
@@ -192,4 +196,4 @@ drawing_of e p group slots =
     let first = first_drawn group in
     let count = groups_drawn group p in
     let height = height_of slots p first count in
-    svg_text height ++ (sheet_text height ++ (flat_map (drawn_group e p slots first) (range_with_len 0 count) ++ codes "</svg>\n"))
+    svg_text height ++ (sheet_text height ++ (drawn_groups e p slots first count ++ codes "</svg>\n"))

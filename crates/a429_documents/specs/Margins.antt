@@ -9,7 +9,7 @@ use Rattle.a429_equipment.specs.declared.rows.SourceRow.{SourceRow}
 use Rattle.a429_grid.specs.Grid.{IsGridPeriod, IsPeriod, slot_time}
 use Rattle.a429_pack.specs.Widening.{IsLeastSaving, NoneSaves}
 use Rattle.a429_pack.specs.Windows.{raw_bound}
-use Rattle.a429_slots.specs.Tables.{SlotTable, PlanTable, placed_at, outputs_of, frame_of, buses_of, cells_of, groups_of}
+use Rattle.a429_slots.specs.Tables.{SlotTable, PlanTable, placed_at, outputs_of, demands_of, frame_of, buses_of, cells_of, groups_of}
 use Rattle.a429_cert.specs.Spelling.{group_text}
 use Rattle.a429_cert.specs.PlanText.{heading_of, source_name}
 use Rattle.a429_documents.specs.Document.{slots_us}
@@ -79,13 +79,18 @@ outputs_margin sources rate t chosen = flat_map (output_margin sources rate t ch
 -- a group: its frame and buses, its cells, what is too much for one bus fewer and who could make room for it, and the raw bound of its intervals
 abbrev pub group_margin : List SourceRow → GroupRow → List OutputRow → SlotTable → Option (List Bool) → List ℕ
 group_margin sources g rows t chosen =
-    group_text (heading_of 1 g t) ++ (cells_text (sum t.demands) (cells_of t) ++ (excess_text (sum t.demands - (buses_of t - 1) * frame_of t)
+    group_text (heading_of 1 g t) ++ (cells_text (sum (demands_of t)) (cells_of t) ++ (excess_text (sum (demands_of t) - (buses_of t - 1) * frame_of t)
     ++ (no_choice_text chosen ++ (outputs_margin sources g.rate t chosen ++ raw_text (raw_bound (map (window_of g.rate) rows)) (buses_of t)))))
 
 -- a group's text with a right choice
 abbrev pub IsGroupMargin : List SourceRow → GroupRow → List OutputRow → SlotTable → List ℕ → Type 0
 IsGroupMargin sources g rows t text =
     (chosen : Option (List Bool)) × IsChoice (periods_of t) (buses_of t) chosen × (text ≡ group_margin sources g rows t chosen)
+
+-- behind a text stands a right choice: that there is none, or the lines of the group's outputs
+abbrev pub IsChoiceWritten : List SourceRow → ℕ → SlotTable → List ℕ → List ℕ → Type 0
+IsChoiceWritten sources rate t old new =
+    (chosen : Option (List Bool)) × IsChoice (periods_of t) (buses_of t) chosen × (new ≡ old ++ (no_choice_text chosen ++ outputs_margin sources rate t chosen))
 
 -- that of each group, in table order
 abbrev pub AreMargins : List SourceRow → List GroupRow → List (List OutputRow) → List SlotTable → List ℕ → Type 0

@@ -1,6 +1,7 @@
 //! A document in columns, for people.
-ghost use Rattle.std.specs.Prelude.{◌≡◌, ◌++◌, ◌<◌, length, slice_index, IfOk, OnOk};
+ghost use Rattle.std.specs.Prelude.{◌≡◌, ◌<◌, length, slice_index, IfOk};
 ghost use Rattle.std.specs.List.{flat_map};
+ghost use Rattle.a429_word.specs.Written.{Gains};
 ghost use Rattle.a429_documents.specs.Aligned.{width_of, columns_of, widths_of, spaces, padded, column_text, aligned_row, aligned_text};
 ghost use Rattle.a429_documents.specs.Document.{icd_rows};
 
@@ -37,7 +38,7 @@ fn widths(alloc: Global, rows: &[Row]) -> Result<Vec<usize>, AllocError>
 
 /// Writes spaces.
 fn write_spaces(text: &mut Vec<u8>, count: usize) -> Result<(), AllocError>
-    ensures { OnOk result (text.new.items ≡ text.old.items ++ spaces count) }
+    ensures { Gains result text.old.items text.new.items (spaces count) }
 {
     for written in 0..count {
         text.push(b' ')?;
@@ -47,7 +48,7 @@ fn write_spaces(text: &mut Vec<u8>, count: usize) -> Result<(), AllocError>
 
 /// Writes a field, and spaces behind it up to the width of its column.
 fn write_padded(text: &mut Vec<u8>, width: usize, field: &str) -> Result<(), AllocError>
-    ensures { OnOk result (text.new.items ≡ text.old.items ++ padded width field.now) }
+    ensures { Gains result text.old.items text.new.items (padded width field.now) }
 {
     text.extend_from_slice(field.as_bytes())?;
     write_spaces(text, width.saturating_sub(field.len()))
@@ -68,7 +69,7 @@ fn write_column(
     column: usize,
 ) -> Result<(), AllocError>
     requires { column < length row.now }
-    ensures { OnOk result (text.new.items ≡ text.old.items ++ column_text widths.now row.now column) }
+    ensures { Gains result text.old.items text.new.items (column_text widths.now row.now column) }
 {
     let fields = row.len();
     let field = row.field(column);
@@ -82,7 +83,7 @@ fn write_column(
 
 /// Writes a row as a line.
 fn write_row(text: &mut Vec<u8>, widths: &[usize], row: &Row) -> Result<(), AllocError>
-    ensures { OnOk result (text.new.items ≡ text.old.items ++ aligned_row widths.now row.now) }
+    ensures { Gains result text.old.items text.new.items (aligned_row widths.now row.now) }
 {
     for column in 0..row.len() {
         write_column(text, widths, row, column)?;
@@ -93,7 +94,7 @@ fn write_row(text: &mut Vec<u8>, widths: &[usize], row: &Row) -> Result<(), Allo
 
 /// Writes a line for each row.
 fn write_rows(text: &mut Vec<u8>, widths: &[usize], rows: &[Row]) -> Result<(), AllocError>
-    ensures { OnOk result (text.new.items ≡ text.old.items ++ flat_map (aligned_row widths.now) rows.now) }
+    ensures { Gains result text.old.items text.new.items (flat_map (aligned_row widths.now) rows.now) }
 {
     for row in rows {
         write_row(text, widths, row)?;

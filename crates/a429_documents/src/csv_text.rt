@@ -1,9 +1,8 @@
 //! A document as comma-separated values.
 ghost use Rattle.std.specs.Prelude.{◌≡◌, IfOk, OnOk};
-ghost use Rattle.std.specs.Io.KnownBytes.{Appends};
-ghost use Rattle.csv.specs.Writing.{default_writer, row_text, text_written};
+ghost use Rattle.csv.specs.Writing.{default_writer, row_text};
 ghost use Rattle.a429_documents.specs.Document.{csv_text_of, icd_rows};
-ghost use Rattle.a429_documents.specs.CsvLines.{IsAtLine};
+ghost use Rattle.a429_documents.specs.CsvLines.{IsAtLine, WritesText};
 
 use crate::document::icd_rows;
 use crate::rows::Row;
@@ -16,7 +15,7 @@ use std::io::Write;
 fn write_row<W: Write + Drop>(writer: &mut Writer<W>, row: &Row) -> Result<(), Error>
     requires { IsAtLine writer.old }
     ensures line { OnOk result (IsAtLine writer.new) }
-    ensures text { OnOk result (Appends (text_written W.contents writer.old) (text_written W.contents writer.new) (row_text default_writer row.now)) }
+    ensures text { WritesText W.contents result writer.old writer.new (row_text default_writer row.now) }
 {
     writer.write_byte_record(row.record().as_byte_record())
 }
@@ -26,7 +25,7 @@ fn write_row<W: Write + Drop>(writer: &mut Writer<W>, row: &Row) -> Result<(), E
 fn write_rows<W: Write + Drop>(writer: &mut Writer<W>, rows: &[Row]) -> Result<(), Error>
     requires { IsAtLine writer.old }
     ensures line { OnOk result (IsAtLine writer.new) }
-    ensures text { OnOk result (Appends (text_written W.contents writer.old) (text_written W.contents writer.new) (csv_text_of rows.now)) }
+    ensures text { WritesText W.contents result writer.old writer.new (csv_text_of rows.now) }
 {
     for row in rows {
         write_row(writer, row)?;

@@ -1,5 +1,6 @@
 //! The interface control document of a plan, as rows of texts.
-ghost use Rattle.std.specs.Prelude.{◌≡◌, ◌++◌, ◌∷◌, [], ◌<◌, ◌≤◌, ◌^◌, length, IfOk, OnOk};
+ghost use Rattle.std.specs.Prelude.{◌≡◌, ◌∷◌, [], ◌<◌, ◌≤◌, ◌^◌, length, IfOk};
+ghost use Rattle.a429_word.specs.Written.{Gains};
 ghost use Rattle.a429_slots.specs.Tables.{outputs_of, placed_at};
 ghost use Rattle.a429_slots.specs.Planned.{HaveSources};
 ghost use Rattle.a429_word.specs.Texts.{octal};
@@ -41,7 +42,7 @@ fn columns(alloc: Global) -> Result<Row, AllocError>
 
 /// Adds a label: three octal digits.
 fn push_label(alloc: Global, row: &mut Row, label: Label) -> Result<(), AllocError>
-    ensures { OnOk result (row.new ≡ row.old ++ octal label ∷ []) }
+    ensures { Gains result row.old row.new (octal label ∷ []) }
 {
     let text = label.to_string(alloc)?;
     row.push(text.as_str())
@@ -49,7 +50,7 @@ fn push_label(alloc: Global, row: &mut Row, label: Label) -> Result<(), AllocErr
 
 /// Adds an SDI, which may be any.
 fn push_sdi(alloc: Global, row: &mut Row, sdi: Option<Sdi>) -> Result<(), AllocError>
-    ensures { OnOk result (row.new ≡ row.old ++ sdi_text sdi ∷ []) }
+    ensures { Gains result row.old row.new (sdi_text sdi ∷ []) }
 {
     match sdi {
         None => row.push("any"),
@@ -59,7 +60,7 @@ fn push_sdi(alloc: Global, row: &mut Row, sdi: Option<Sdi>) -> Result<(), AllocE
 
 /// Adds a limit, if there is one.
 fn push_limit(alloc: Global, row: &mut Row, limit: Option<u32>) -> Result<(), AllocError>
-    ensures { OnOk result (row.new ≡ row.old ++ limit_text limit ∷ []) }
+    ensures { Gains result row.old row.new (limit_text limit ∷ []) }
 {
     match limit {
         None => row.push("none"),
@@ -102,7 +103,7 @@ fn push_sent(
     source: &SourceRow,
 ) -> Result<(), AllocError>
     requires { source.now.receiver < length receivers.now }
-    ensures { OnOk result (row.new ≡ row.old ++ sent_fields receivers.now group.now source.now) }
+    ensures { Gains result row.old row.new (sent_fields receivers.now group.now source.now) }
 {
     row.push(group.name.as_str())?;
     row.push_number(alloc, u64::from(group.rate))?;
@@ -115,7 +116,7 @@ fn push_sent(
 /// Adds where an output stands, at the rate of its group in bit/s.
 fn push_place(alloc: Global, row: &mut Row, rate: u32, place: SlotPlace) -> Result<(), AllocError>
     requires { 1 ≤ rate }
-    ensures { OnOk result (row.new ≡ row.old ++ place_fields rate place) }
+    ensures { Gains result row.old row.new (place_fields rate place) }
 {
     let slots = place.period.slots();
     row.push_number(alloc, u64::from(place.bus))?;
@@ -131,7 +132,7 @@ fn push_limits(
     output: &OutputRow,
     limits: SendLimits,
 ) -> Result<(), AllocError>
-    ensures { OnOk result (row.new ≡ row.old ++ limit_fields output.now limits) }
+    ensures { Gains result row.old row.new (limit_fields output.now limits) }
 {
     row.push_number(alloc, u64::from(output.min_us))?;
     row.push_number(alloc, u64::from(output.max_us))?;
@@ -142,7 +143,7 @@ fn push_limits(
 /// Adds how old a word of an output is at most when it has gone out, at the rate of its group in bit/s.
 fn push_latency(alloc: Global, row: &mut Row, rate: u32, period: Period) -> Result<(), AllocError>
     requires { 1 ≤ rate }
-    ensures { OnOk result (row.new ≡ row.old ++ latency_fields rate (2 ^ period)) }
+    ensures { Gains result row.old row.new (latency_fields rate (2 ^ period)) }
 {
     row.push_number(alloc, latency_us(rate, period))
 }
@@ -208,7 +209,7 @@ fn push_outputs(
     requires known { HaveSources equipment.now.sources outputs.now }
     requires planned { length outputs.now ≡ length (outputs_of table.now) }
     requires rate { 1 ≤ group.now.rate }
-    ensures { OnOk result (document.new.items ≡ document.old.items ++ output_rows equipment.now group.now outputs.now (outputs_of table.now)) }
+    ensures { Gains result document.old.items document.new.items (output_rows equipment.now group.now outputs.now (outputs_of table.now)) }
 {
     for number in 0..outputs.len() {
         document.push(output_row(
@@ -229,7 +230,7 @@ fn push_groups(
     document: &mut Vec<Row>,
     proposal: &Proposal<OUTPUTS>,
 ) -> Result<(), AllocError>
-    ensures { OnOk result (document.new.items ≡ document.old.items ++ plan_rows proposal.now.station proposal.now.plan) }
+    ensures { Gains result document.old.items document.new.items (plan_rows proposal.now.station proposal.now.plan) }
 {
     let equipment = proposal.equipment();
     let groups = equipment.groups();

@@ -1,8 +1,8 @@
 //! The slot tables of a plan as an image.
-ghost use Rattle.std.specs.Prelude.{◌≡◌, ◌++◌, ◌≤◌, ◌<◌, ◌+◌, length, string_bytes, IfOk, IfSome, OnOk};
-ghost use Rattle.std.specs.List.{flat_map, range_with_len};
+ghost use Rattle.std.specs.Prelude.{◌≡◌, ◌≤◌, ◌<◌, ◌+◌, length, IfOk, IfSome};
+ghost use Rattle.a429_word.specs.Written.{Writes};
 ghost use Rattle.a429_slots.specs.Tables.{groups_of};
-ghost use Rattle.a429_documents.specs.Drawing.{drawing_of, drawn_group, first_drawn, group_drawing, groups_drawn, head_text, place_text, sheet_text, svg_text, title_text};
+ghost use Rattle.a429_documents.specs.Drawing.{drawing_of, drawn_groups, first_drawn, group_drawing, groups_drawn, head_text, place_text, sheet_text, svg_text, title_text};
 ghost use Rattle.a429_cert.specs.PlanText.{HasSources};
 
 mod places;
@@ -25,7 +25,7 @@ fn write_title(
     frame: u32,
     buses: u32,
 ) -> Result<(), AllocError>
-    ensures { OnOk result (string_bytes text.new ≡ string_bytes text.old ++ title_text name.now rate frame buses) }
+    ensures { Writes result text.old text.new (title_text name.now rate frame buses) }
 {
     writeln!(
         text,
@@ -35,7 +35,7 @@ fn write_title(
 
 /// Writes the upper edge of a group.
 fn write_place(text: &mut String, top: u32) -> Result<(), AllocError>
-    ensures { OnOk result (string_bytes text.new ≡ string_bytes text.old ++ place_text top) }
+    ensures { Writes result text.old text.new (place_text top) }
 {
     writeln!(text, "<g transform='translate(0 {top})'>")
 }
@@ -50,7 +50,7 @@ fn write_head(
     top: u32,
 ) -> Result<(), AllocError>
     requires known { HasSources sources.now table.now }
-    ensures { OnOk result (string_bytes text.new ≡ string_bytes text.old ++ head_text sources.now row.now table.now group top) }
+    ensures { Writes result text.old text.new (head_text sources.now row.now table.now group top) }
 {
     let name = row.name.as_str();
     write_place(text, top)?;
@@ -70,7 +70,7 @@ fn write_group(
 ) -> Result<(), AllocError>
     requires known { HasSources sources.now table.now }
     requires slots { slots ≤ 8192 }
-    ensures { OnOk result (string_bytes text.new ≡ string_bytes text.old ++ group_drawing sources.now row.now table.now group slots top) }
+    ensures { Writes result text.old text.new (group_drawing sources.now row.now table.now group slots top) }
 {
     write_head(text, sources, row, table, group, top)?;
     write_marks(text, table.buses(), slots)?;
@@ -89,7 +89,7 @@ fn write_groups(
 ) -> Result<(), AllocError>
     requires known { first + count ≤ length (groups_of proposal.now.plan) }
     requires few { first + count ≤ 8 }
-    ensures { OnOk result (string_bytes text.new ≡ string_bytes text.old ++ flat_map (drawn_group proposal.now.station proposal.now.plan slots first) (range_with_len 0 count)) }
+    ensures { Writes result text.old text.new (drawn_groups proposal.now.station proposal.now.plan slots first count) }
 {
     let equipment = proposal.equipment();
     let (sources, groups) = (equipment.sources(), equipment.groups());
@@ -106,7 +106,7 @@ fn write_groups(
 
 /// Begins an image of this height.
 fn write_svg(text: &mut String, height: u32) -> Result<(), AllocError>
-    ensures { OnOk result (string_bytes text.new ≡ string_bytes text.old ++ svg_text height) }
+    ensures { Writes result text.old text.new (svg_text height) }
 {
     writeln!(
         text,
@@ -116,7 +116,7 @@ fn write_svg(text: &mut String, height: u32) -> Result<(), AllocError>
 
 /// Writes the white sheet that all stands on.
 fn write_sheet(text: &mut String, height: u32) -> Result<(), AllocError>
-    ensures { OnOk result (string_bytes text.new ≡ string_bytes text.old ++ sheet_text height) }
+    ensures { Writes result text.old text.new (sheet_text height) }
 {
     writeln!(text, "<rect width='1132' height='{height}' fill='white'/>")
 }
@@ -144,7 +144,7 @@ fn write_drawing(
     slots: Option<u32>,
 ) -> Result<(), AllocError>
     requires { IfSome group (λ group. group < length (groups_of proposal.now.plan)) }
-    ensures { OnOk result (string_bytes text.new ≡ string_bytes text.old ++ drawing_of proposal.now.station proposal.now.plan group slots) }
+    ensures { Writes result text.old text.new (drawing_of proposal.now.station proposal.now.plan group slots) }
 {
     let plan = proposal.plan();
     let (first, count) = group_range(group, plan);

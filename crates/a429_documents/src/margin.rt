@@ -1,12 +1,14 @@
 //! How far the groups of a plan are from one bus fewer.
-ghost use Rattle.std.specs.Prelude.{◌≡◌, ◌++◌, ◌≤◌, ◌<◌, ◌-◌, ◌*◌, ◌^◌, ℕ, Bool, List, Option, length, map, option_map, string_bytes, IfOk, IfSome, OnOk};
+ghost use Rattle.std.specs.Prelude.{◌≡◌, ◌≤◌, ◌<◌, ◌-◌, ◌*◌, ◌^◌, Option, length, map, string_bytes, IfOk, IfSome, OnOk};
 ghost use Rattle.std.specs.List.{AllByRecursion};
+ghost use Rattle.std.specs.Option.{option_copied};
+ghost use Rattle.a429_word.specs.Written.{Writes, WritesSuch};
 ghost use Rattle.a429_equipment.specs.Sound.{IsInterval, IsRate};
 ghost use Rattle.a429_pack.specs.Demanded.{IsBusCount};
 ghost use Rattle.a429_pack.specs.Windows.{raw_bound};
 ghost use Rattle.a429_slots.specs.Planned.{HaveSources, IsPlannedFor};
 ghost use Rattle.a429_slots.specs.Tables.{buses_of, outputs_of, source_of};
-ghost use Rattle.a429_documents.specs.Margins.{IsChoice, IsGroupMargin, IsMarginText, cells_text, excess_text, is_chosen, no_choice_text, output_margin, outputs_margin, periods_of, raw_text, verb, wider_text, window_of};
+ghost use Rattle.a429_documents.specs.Margins.{IsChoice, IsChoiceWritten, IsGroupMargin, IsMarginText, cells_text, excess_text, is_chosen, no_choice_text, output_margin, outputs_margin, periods_of, raw_text, verb, wider_text, window_of};
 ghost use Rattle.a429_cert.specs.PlanText.{HasSources};
 
 use crate::document::slots_us;
@@ -57,7 +59,7 @@ fn choice<'a>(periods: &[Period], buses: u32, marks: &'a mut [bool]) -> Option<&
     requires many { length periods.now < 2 ^ 32 }
     requires each { length marks.old ≡ length periods.now }
     requires count { IsBusCount periods.now buses }
-    ensures { IsChoice periods.now buses (option_map (λ marks. marks.now) result) }
+    ensures { IsChoice periods.now buses (option_copied result) }
 {
     if buses >= 2 && widening_saves(periods, buses, marks) {
         Some(marks)
@@ -69,7 +71,7 @@ fn choice<'a>(periods: &[Period], buses: u32, marks: &'a mut [bool]) -> Option<&
 /// Writes how many cells of a frame are filled, of how many, and how many are free.
 fn write_cells(text: &mut String, demand: u32, room: u32) -> Result<(), AllocError>
     requires { demand ≤ room }
-    ensures { OnOk result (string_bytes text.new ≡ string_bytes text.old ++ cells_text demand room) }
+    ensures { Writes result text.old text.new (cells_text demand room) }
 {
     let free = room - demand;
     writeln!(text, "cells {demand} of {room} free {free}")
@@ -77,14 +79,14 @@ fn write_cells(text: &mut String, demand: u32, room: u32) -> Result<(), AllocErr
 
 /// Writes how many cells would have to go for one bus fewer.
 fn write_excess(text: &mut String, cells: u32) -> Result<(), AllocError>
-    ensures { OnOk result (string_bytes text.new ≡ string_bytes text.old ++ excess_text cells) }
+    ensures { Writes result text.old text.new (excess_text cells) }
 {
     writeln!(text, "excess {cells}")
 }
 
 /// Writes that nothing is chosen, where that is so.
 fn write_no_choice(text: &mut String, chosen: Option<&[bool]>) -> Result<(), AllocError>
-    ensures { OnOk result (string_bytes text.new ≡ string_bytes text.old ++ no_choice_text (option_map (λ marks. marks.now) chosen.entry)) }
+    ensures { Writes result text.old text.new (no_choice_text (option_copied chosen.entry)) }
 {
     match chosen {
         None => writeln!(text, "choose none"),
@@ -94,7 +96,7 @@ fn write_no_choice(text: &mut String, chosen: Option<&[bool]>) -> Result<(), All
 
 /// Whether an output is chosen.
 fn is_chosen(chosen: Option<&[bool]>, output: OutputId) -> bool
-    ensures { result ≡ is_chosen (option_map (λ marks. marks.now) chosen.entry) output }
+    ensures { result ≡ is_chosen (option_copied chosen.entry) output }
 {
     let number = output.number();
     match chosen {
@@ -120,7 +122,7 @@ fn write_wider(
     period: Period,
 ) -> Result<(), AllocError>
     requires rate { 1 ≤ rate }
-    ensures { OnOk result (string_bytes text.new ≡ string_bytes text.old ++ wider_text rate frame chosen name.now period) }
+    ensures { Writes result text.old text.new (wider_text rate frame chosen name.now period) }
 {
     let verb = verb(chosen);
     let from = period.slots();
@@ -146,7 +148,7 @@ fn write_output(
     requires rate { 1 ≤ rate }
     requires known { output < length (outputs_of table.now) }
     requires source { IfSome (source_of table.now output) (λ source. source < length sources.now) }
-    ensures { OnOk result (string_bytes text.new ≡ string_bytes text.old ++ output_margin sources.now rate table.now (option_map (λ marks. marks.now) chosen.entry) output) }
+    ensures { Writes result text.old text.new (output_margin sources.now rate table.now (option_copied chosen.entry) output) }
 {
     let name = sources[table.source(output)].name.as_str();
     let period = table.place(output).period;
@@ -168,7 +170,7 @@ fn write_outputs(
 ) -> Result<(), AllocError>
     requires rate { 1 ≤ rate }
     requires known { HasSources sources.now table.now }
-    ensures { OnOk result (string_bytes text.new ≡ string_bytes text.old ++ outputs_margin sources.now rate table.now (option_map (λ marks. marks.now) chosen.entry)) }
+    ensures { Writes result text.old text.new (outputs_margin sources.now rate table.now (option_copied chosen.entry)) }
 {
     for output in 0..table.outputs() {
         let output = OutputId::new(output);
@@ -179,7 +181,7 @@ fn write_outputs(
 
 /// Writes how many buses any schedule needs at least, of how many.
 fn write_raw_bound(text: &mut String, bound: usize, buses: u32) -> Result<(), AllocError>
-    ensures { OnOk result (string_bytes text.new ≡ string_bytes text.old ++ raw_text bound buses) }
+    ensures { Writes result text.old text.new (raw_text bound buses) }
 {
     writeln!(text, "raw bound {bound} of {buses}")
 }
@@ -195,8 +197,7 @@ fn write_choice(
     requires rate { 1 ≤ rate }
     requires known { HasSources sources.now table.now }
     requires count { IsBusCount (periods_of table.now) (buses_of table.now) }
-    ensures { OnOk result ((chosen : Option (List Bool)) × IsChoice (periods_of table.now) (buses_of table.now) chosen
-        × (string_bytes text.new ≡ string_bytes text.old ++ (no_choice_text chosen ++ outputs_margin sources.now rate table.now chosen))) }
+    ensures { OnOk result (IsChoiceWritten sources.now rate table.now (string_bytes text.old) (string_bytes text.new)) }
 {
     let periods = periods(alloc, table)?;
     let mut marks = Vec::from_elem(alloc, false, table.outputs())?;
@@ -216,7 +217,7 @@ fn write_bound(
     requires rate { rate ≤ 100000 }
     requires intervals { AllByRecursion IsInterval rows.now }
     requires windows { AllByRecursion (λ row. 0 < window_of rate row) rows.now }
-    ensures { OnOk result (string_bytes text.new ≡ string_bytes text.old ++ raw_text (raw_bound (map (window_of rate) rows.now)) buses) }
+    ensures { Writes result text.old text.new (raw_text (raw_bound (map (window_of rate) rows.now)) buses) }
 {
     let windows = windows(alloc, rate, rows)?;
     write_raw_bound(text, raw_bound(&windows), buses)
@@ -236,8 +237,7 @@ fn write_group(
     requires known { HaveSources sources.now rows.now }
     requires intervals { AllByRecursion IsInterval rows.now }
     requires planned { IsPlannedFor group.now.rate sources.now rows.now table.now }
-    ensures { OnOk result ((part : List ℕ) × IsGroupMargin sources.now group.now rows.now table.now part
-        × (string_bytes text.new ≡ string_bytes text.old ++ part)) }
+    ensures { WritesSuch result text.old text.new (IsGroupMargin sources.now group.now rows.now table.now) }
 {
     fewest_by_demand();
     let demand = table.demand();
@@ -256,8 +256,7 @@ fn write_groups(
     text: &mut String,
     proposal: &Proposal<OUTPUTS>,
 ) -> Result<(), AllocError>
-    ensures { OnOk result ((part : List ℕ) × IsMarginText proposal.now.station proposal.now.plan part
-        × (string_bytes text.new ≡ string_bytes text.old ++ part)) }
+    ensures { WritesSuch result text.old text.new (IsMarginText proposal.now.station proposal.now.plan) }
 {
     let equipment = proposal.equipment();
     let sources = equipment.sources();

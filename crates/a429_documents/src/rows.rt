@@ -1,6 +1,7 @@
 //! The rows of a document, as texts.
-ghost use Rattle.std.specs.Prelude.{◌≡◌, ◌++◌, ◌∷◌, [], length, map, IfOk, OnOk};
+ghost use Rattle.std.specs.Prelude.{◌≡◌, ◌∷◌, [], length, map, IfOk};
 ghost use Rattle.std.specs.Fmt.{decimal};
+ghost use Rattle.a429_word.specs.Written.{Gains};
 ghost use Rattle.csv.specs.Records.{fields_of};
 ghost use Rattle.a429_documents.specs.Aligned.{field_in};
 
@@ -43,14 +44,14 @@ impl Row {
 
     /// Adds a field behind the others.
     pub fn push(&mut self, text: &str) -> Result<(), AllocError>
-        ensures { OnOk result (self.new ≡ self.old ++ text.now ∷ []) }
+        ensures { Gains result self.old self.new (text.now ∷ []) }
     {
         self.fields.push_field(text)
     }
 
     /// Adds a number in decimal.
     pub fn push_number(&mut self, alloc: Global, number: u64) -> Result<(), AllocError>
-        ensures { OnOk result (self.new ≡ self.old ++ decimal number ∷ []) }
+        ensures { Gains result self.old self.new (decimal number ∷ []) }
     {
         let text = number.to_string(alloc)?;
         self.push(text.as_str())

@@ -1,6 +1,7 @@
 //! Hints about intervals that have no period of the grid.
 
-use a429_grid::SLOT_TIME;
+use crate::about::About;
+use a429_grid::{SLOT_TIME, grid_period};
 use std::io::Write;
 use std::{fmt, io};
 
@@ -9,9 +10,9 @@ const PERIODS: [u64; 14] = [
     1, 2, 4, 8, 16, 32, 64, 128, 256, 512, 1024, 2048, 4096, 8192,
 ];
 
-/// An output that has no period: its interval in microseconds, and the rate of its group in bit/s.
+/// An interval in microseconds, and the rate of its group in bit/s.
 #[derive(Clone, Copy)]
-pub struct Unfit {
+pub struct Interval {
     pub min_us: u32,
     pub max_us: u32,
     pub rate: u32,
@@ -28,36 +29,78 @@ impl fmt::Display for Slots {
     }
 }
 
-/// Tells an interval in slots, the periods next to it, and what would admit them.
-pub fn tell_unfit<V: Write>(unfit: Unfit, err: &mut V) -> io::Result<()> {
-    let Unfit {
+/// Tells an interval in slots, and that it has no period.
+pub fn tell_unfit_briefly<V: Write>(interval: Interval, err: &mut V) -> io::Result<()> {
+    let Interval {
         min_us,
         max_us,
         rate,
-    } = unfit;
+    } = interval;
     let shortest = u64::from(min_us).saturating_mul(u64::from(rate));
     let longest = u64::from(max_us).saturating_mul(u64::from(rate));
     let (least, most) = (Slots(shortest), Slots(longest));
     writeln!(
         err,
-        "a429: {min_us} to {max_us} us are {least} to {most} slots at {rate} bit/s, and no period (1, 2, 4 .. 8192 slots) lies within"
-    )?;
-    tell_period_below(shortest, rate, err)?;
-    tell_period_above(longest, rate, err)
+        "{min_us} to {max_us} us are {least} to {most} slots at {rate} bit/s, and no period (1, 2, 4 .. 8192 slots) lies within"
+    )
 }
 
-/// Tells the greatest period that is shorter than an interval, where there is one.
-fn tell_period_below<V: Write>(shortest: u64, rate: u32, err: &mut V) -> io::Result<()> {
+/// Tells the periods next to an interval, and what would admit them.
+pub fn tell_unfit<V: Write>(about: About, interval: Interval, err: &mut V) -> io::Result<()> {
+    let Interval {
+        min_us,
+        max_us,
+        rate,
+    } = interval;
+    let shortest = u64::from(min_us).saturating_mul(u64::from(rate));
+    let longest = u64::from(max_us).saturating_mul(u64::from(rate));
+    tell_period_below(about, shortest, rate, err)?;
+    tell_period_above(about, longest, rate, err)?;
+    tell_milliseconds(about, interval, err)
+}
+
+/// Tells the period that an interval in milliseconds would have, if it has one.
+fn tell_milliseconds<V: Write>(about: About, interval: Interval, err: &mut V) -> io::Result<()> {
+    let (Some(min_us), Some(max_us)) = (
+        interval.min_us.checked_mul(1000),
+        interval.max_us.checked_mul(1000),
+    ) else {
+        return Ok(());
+    };
+    match grid_period(min_us, max_us, interval.rate) {
+        Some(period) if max_us <= 30000000 => {
+            let slots = period.slots();
+            writeln!(
+                err,
+                "{about}: if these are milliseconds: min_us = {min_us}, max_us = {max_us} would have period {slots}"
+            )
+        }
+        _ => Ok(()),
+    }
+}
+
+/// Tells the greatest period that is shorter than an interval, if there is one.
+fn tell_period_below<V: Write>(
+    about: About,
+    shortest: u64,
+    rate: u32,
+    err: &mut V,
+) -> io::Result<()> {
     let is_shorter = |slots: &&u64| slots.saturating_mul(SLOT_TIME) < shortest;
     let Some(slots) = PERIODS.iter().rev().find(is_shorter) else {
         return Ok(());
     };
     let us = slots.saturating_mul(SLOT_TIME) / u64::from(rate.max(1));
-    writeln!(err, "a429: min_us = {us} would admit period {slots}")
+    writeln!(err, "{about}: min_us = {us} would admit period {slots}")
 }
 
-/// Tells the least period that is longer than an interval, where there is one.
-fn tell_period_above<V: Write>(longest: u64, rate: u32, err: &mut V) -> io::Result<()> {
+/// Tells the least period that is longer than an interval, if there is one.
+fn tell_period_above<V: Write>(
+    about: About,
+    longest: u64,
+    rate: u32,
+    err: &mut V,
+) -> io::Result<()> {
     let is_longer = |slots: &&u64| slots.saturating_mul(SLOT_TIME) > longest;
     let Some(slots) = PERIODS.iter().find(is_longer) else {
         return Ok(());
@@ -65,5 +108,5 @@ fn tell_period_above<V: Write>(longest: u64, rate: u32, err: &mut V) -> io::Resu
     let us = slots
         .saturating_mul(SLOT_TIME)
         .div_ceil(u64::from(rate.max(1)));
-    writeln!(err, "a429: max_us = {us} would admit period {slots}")
+    writeln!(err, "{about}: max_us = {us} would admit period {slots}")
 }

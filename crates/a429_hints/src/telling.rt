@@ -1,125 +1,208 @@
 //! The hint about a refused request.
 
-use crate::looks::{are_there, look_at};
-use crate::plans::{tell_no_drawing, tell_no_plan, tell_no_verdict};
+use crate::about::About;
+use crate::checks::{Judged, tell_objection};
+use crate::faults::tell_table_fault;
+use crate::files::tell_trouble;
+use crate::plans::{tell_all_unfit, tell_fewer_buses, tell_groups};
+use crate::scripts::{tell_script_line, tell_words_line};
+use crate::words::{tell_even_word, tell_filter, tell_line_byte, tell_word_text};
 use a429_console::arguments::requests::{CommandRequest, Request};
-use a429_console::files::FileReader;
-use a429_console::hints::Hints;
+use a429_console::files::reading::printable_name;
+use a429_console::hints::{Hints, Looks, Seen};
+use a429_console::refusals::CommandRefusal;
+use a429_table::FaultKind;
 use std::alloc::Global;
 use std::io;
 use std::io::Write;
 
-/// Hints in lines that begin with `a429: `. The files are looked at anew.
+/// Hints in lines that begin with `a429: `.
 #[derive(Clone, Copy)]
 pub struct HintLines;
 
 impl Hints for HintLines {
-    fn tell<F: FileReader, V: Write>(
+    fn tell<V: Write>(
         &self,
         alloc: Global,
         request: &Request,
-        files: &mut F,
+        seen: &Seen,
         err: &mut V,
     ) -> io::Result<()> {
-        tell_of_request(alloc, request, files, err)?;
+        if let Some(refusal) = &seen.refusal {
+            tell_refusal(alloc, request, refusal, seen, err)?;
+        }
+        if let (Some(objection), Some(equipment), Some(text)) = (
+            seen.objection,
+            &seen.equipment,
+            &seen.text,
+        ) {
+            let file = printable_name(alloc, text_name(request))?;
+            let judged = Judged {
+                equipment,
+                text: text.as_slice(),
+            };
+            tell_objection(file.as_str(), judged, objection, err)?;
+        }
         err.flush()
     }
 }
 
-fn tell_of_request<F: FileReader, V: Write>(
+fn tell_refusal<V: Write>(
     alloc: Global,
     request: &Request,
-    files: &mut F,
+    refusal: &CommandRefusal,
+    seen: &Seen,
     err: &mut V,
 ) -> io::Result<()> {
-    match request {
-        Request::Command(asked) => tell_of_command(alloc, asked, files, err),
-        Request::Live(run) => tell_of_run(alloc, files, run.table, run.words, &run.further, err),
-    }
-}
-
-fn tell_of_command<F: FileReader, V: Write>(
-    alloc: Global,
-    request: &CommandRequest,
-    files: &mut F,
-    err: &mut V,
-) -> io::Result<()> {
-    match request {
-        CommandRequest::Word { .. } => Ok(()),
-        CommandRequest::Lines { file, .. } => {
-            look_at(alloc, files, file, err)?;
-            Ok(())
+    match refusal {
+        CommandRefusal::File(name) => tell_trouble(seen.trouble, name.as_str(), err),
+        CommandRefusal::WordText | CommandRefusal::Parity | CommandRefusal::Filter(_) => {
+            tell_of_words(request, refusal, err)
         }
-        CommandRequest::Plan { table }
-        | CommandRequest::Icd { table, .. }
-        | CommandRequest::Margin { table } => tell_of_table(alloc, files, table, err),
-        CommandRequest::Draw { table, group, .. } => {
-            tell_of_drawing(alloc, files, table, *group, err)
+        CommandRefusal::LineByte(_) | CommandRefusal::Script(_) => {
+            tell_of_line(alloc, request, seen, err)
         }
-        CommandRequest::Check { table, plan } => tell_of_check(alloc, files, table, plan, err),
-        CommandRequest::Replay {
-            table,
-            script,
-            further,
-        } => tell_of_run(alloc, files, table, script, further, err),
+        _ => tell_of_table(alloc, request, refusal, seen, err),
     }
 }
 
-fn tell_of_table<F: FileReader, V: Write>(
-    alloc: Global,
-    files: &mut F,
-    table: &str,
+/// Tells of words of the command line.
+fn tell_of_words<V: Write>(
+    request: &Request,
+    refusal: &CommandRefusal,
     err: &mut V,
 ) -> io::Result<()> {
-    match look_at(alloc, files, table, err)? {
-        Some(table) => tell_no_plan(alloc, &table, err),
-        None => Ok(()),
+    match (refusal, request) {
+        (CommandRefusal::WordText, Request::Command(CommandRequest::Word { text })) => {
+            tell_word_text(text, err)
+        }
+        (CommandRefusal::Parity, Request::Command(CommandRequest::Word { text })) => {
+            tell_even_word(text, err)
+        }
+        (CommandRefusal::Filter(number), Request::Command(CommandRequest::Lines { filters, .. })) =>
+            {
+                let text = filters.get(number.saturating_sub(1)).copied();
+                tell_filter(*number, text.unwrap_or(""), err)
+            }
+        _ => Ok(()),
     }
 }
 
-fn tell_of_drawing<F: FileReader, V: Write>(
+/// Tells of a line of a script, of a file of words, or of a line file.
+fn tell_of_line<V: Write>(
     alloc: Global,
-    files: &mut F,
-    table: &str,
-    group: Option<&str>,
+    request: &Request,
+    seen: &Seen,
     err: &mut V,
 ) -> io::Result<()> {
-    match look_at(alloc, files, table, err)? {
-        Some(table) => tell_no_drawing(alloc, &table, group, err),
-        None => Ok(()),
-    }
-}
-
-fn tell_of_check<F: FileReader, V: Write>(
-    alloc: Global,
-    files: &mut F,
-    table: &str,
-    plan: &str,
-    err: &mut V,
-) -> io::Result<()> {
-    let Some(table) = look_at(alloc, files, table, err)? else {
+    let Some(line) = &seen.line else {
         return Ok(());
     };
-    match look_at(alloc, files, plan, err)? {
-        Some(text) => tell_no_verdict(alloc, &table, &text, err),
-        None => Ok(()),
+    let file = printable_name(alloc, text_name(request))?;
+    let about = About::line(file.as_str(), line.number);
+    match (request, seen.byte) {
+        (_, Some(byte)) => tell_line_byte(file.as_str(), line, byte, err),
+        (Request::Live(_), None) => tell_words_line(alloc, about, line, err),
+        (Request::Command(_), None) => tell_script_line(alloc, about, line, err),
     }
 }
 
-/// Of a replay, and of a run on threads, whose words are the script.
-fn tell_of_run<F: FileReader, V: Write>(
+/// Tells of the table, of its plan, or of the threads that it needs.
+fn tell_of_table<V: Write>(
     alloc: Global,
-    files: &mut F,
-    table: &str,
-    script: &str,
-    further: &[&str],
+    request: &Request,
+    refusal: &CommandRefusal,
+    seen: &Seen,
     err: &mut V,
 ) -> io::Result<()> {
-    let Some(table) = look_at(alloc, files, table, err)? else {
-        return Ok(());
-    };
-    if are_there(alloc, files, &[script], err)? && are_there(alloc, files, further, err)? {
-        tell_no_plan(alloc, &table, err)?;
+    let file = printable_name(alloc, table_name(request))?;
+    let about = About::file(file.as_str());
+    match refusal {
+        CommandRefusal::Table(kind, _) => {
+            tell_order(about, request, *kind, seen, err)?;
+            match &seen.document {
+                Some(document) => tell_table_fault(alloc, about, document, *kind, err),
+                None => Ok(()),
+            }
+        }
+        CommandRefusal::Unfit { .. } => match &seen.equipment {
+            Some(equipment) => tell_all_unfit(about, equipment, err),
+            None => Ok(()),
+        },
+        CommandRefusal::TooManyBuses { group, needed } => {
+            tell_fewer_buses(about, group.as_str(), *needed, err)
+        }
+        CommandRefusal::Group(_) => match &seen.proposal {
+            Some(proposal) => tell_groups(about, proposal.equipment().groups(), err),
+            None => Ok(()),
+        },
+        CommandRefusal::Join => {
+            let threads = seen.threads;
+            writeln!(
+                err,
+                "{about}: threads could not be started: this station needs {threads}, one for each receiver and each group"
+            )
+        }
+        _ => Ok(()),
     }
-    Ok(())
+}
+
+/// Tells the order of the files that is due, if the table looks like another of them.
+fn tell_order<V: Write>(
+    about: About,
+    request: &Request,
+    kind: FaultKind,
+    seen: &Seen,
+    err: &mut V,
+) -> io::Result<()> {
+    if kind != FaultKind::NotToml {
+        return Ok(());
+    }
+    let looks = match seen.looks {
+        Looks::PlanText => "the text of a plan",
+        Looks::Script => "a script",
+        Looks::Other => return Ok(()),
+    };
+    writeln!(
+        err,
+        "{about}: this looks like {looks}; the order is {}",
+        order_of(request)
+    )
+}
+
+/// The order of the files of a command.
+fn order_of(request: &Request) -> &'static str {
+    match request {
+        Request::Live(_) => "live TABLE WORDS FRAMES [FURTHER..]",
+        Request::Command(CommandRequest::Check { .. }) => "check TABLE PLAN",
+        Request::Command(CommandRequest::Replay { .. }) => "replay TABLE SCRIPT [FURTHER..]",
+        Request::Command(_) => "a table alone",
+    }
+}
+
+/// The name of the table; empty if the command has none.
+fn table_name<'a>(request: &'a Request) -> &'a str {
+    match request {
+        Request::Live(run) => run.table,
+        Request::Command(
+            CommandRequest::Plan { table }
+            | CommandRequest::Icd { table, .. }
+            | CommandRequest::Margin { table }
+            | CommandRequest::Draw { table, .. }
+            | CommandRequest::Check { table, .. }
+            | CommandRequest::Replay { table, .. },
+        ) => table,
+        Request::Command(CommandRequest::Word { .. } | CommandRequest::Lines { .. }) => "",
+    }
+}
+
+/// The name of the text that is read beside a table, or of a line file; empty if the command has none.
+fn text_name<'a>(request: &'a Request) -> &'a str {
+    match request {
+        Request::Live(run) => run.words,
+        Request::Command(CommandRequest::Check { plan, .. }) => plan,
+        Request::Command(CommandRequest::Replay { script, .. }) => script,
+        Request::Command(CommandRequest::Lines { file, .. }) => file,
+        Request::Command(_) => "",
+    }
 }

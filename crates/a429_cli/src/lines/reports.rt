@@ -1,8 +1,9 @@
 //! Lines of what is reported of a line.
-ghost use Rattle.std.specs.Prelude.{◌≡◌, ◌<◌, ◌++◌, ◌∷◌, [], IfOk, OnOk, OnErr, length};
+ghost use Rattle.std.specs.Prelude.{◌≡◌, ◌<◌, ◌++◌, ◌∷◌, [], OnOk, OnErr, length};
 ghost use Rattle.std.specs.Option.{option_to_list};
-ghost use Rattle.a429_cli.specs.LineReports.{found_line, printed, printed_if, received, rest_line};
-ghost use Rattle.a429_console.specs.Outputs.{AppendsPending, CountsFault};
+ghost use Rattle.a429_word.specs.Written.{Gains};
+ghost use Rattle.a429_cli.specs.LineReports.{PrintsReport, found_line, printed, received, rest_line};
+ghost use Rattle.a429_console.specs.Outputs.{CountsFault};
 
 use crate::pending::{Pending, put_if_full};
 use a429_console::output::from_end::{push_hex, push_number};
@@ -14,7 +15,7 @@ use std::alloc::AllocError;
 
 /// Appends the line of a report. Where memory is refused, nothing is appended.
 pub fn push_found(text: &mut Vec<u8>, found: Found) -> Result<(), AllocError>
-    ensures line { OnOk result (text.new.items ≡ text.old.items ++ found_line found) }
+    ensures line { Gains result text.old.items text.new.items (found_line found) }
     ensures kept { OnErr result (text.new.items ≡ text.old.items) }
 {
     match found {
@@ -65,8 +66,7 @@ pub fn print_report<O: Output>(
     lines: &mut Pending,
     out: &mut O,
 ) -> Result<bool, OutputFault>
-    ensures printed { IfOk result (λ all. AppendsPending (O.contents out.old) lines.old.text.items
-        (O.contents out.new) lines.new.text.items (printed_if all filters.now found)) }
+    ensures printed { PrintsReport O.contents filters.now found out.old out.new lines.old lines.new result }
     ensures few { OnOk result (length lines.old.text.items < 65536 → length lines.new.text.items < 65536) }
     ensures faults { CountsFault result (O.failures out.old) (O.failures out.new) }
 {

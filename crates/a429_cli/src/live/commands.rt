@@ -2,11 +2,11 @@
 ghost use Rattle.std.specs.Prelude.{◌≡◌, ◌≤◌, ◌+◌, ◌⊎◌, IfOk, IsTrue, OnErr, OnOk};
 ghost use Rattle.a429_console.specs.Ends.{EndsBy, EndsOrFails, writing};
 ghost use Rattle.a429_console.specs.Files.{texts_of};
-ghost use Rattle.a429_console.specs.Outputs.{CountsFault, IsPut, NoneFailed, OrNoMemory};
+ghost use Rattle.a429_console.specs.Outputs.{CountsFault, IsPut, OrNoMemory};
 ghost use Rattle.a429_console.specs.Readings.{HasReadFrom};
 ghost use Rattle.a429_console.specs.RequestRows.{AsksFor};
 ghost use Rattle.a429_console.specs.Requests.{Live, LiveAsk, live_of, request_of};
-ghost use Rattle.a429_cli.specs.LiveReplies.{IsLiveReply};
+ghost use Rattle.a429_cli.specs.LiveReplies.{IsLiveReply, RepliesToLive, RepliesToLiveByReader};
 ghost use Rattle.a429_console.specs.Usage.{elsewhere, is_run, live_kinds_of_words};
 ghost use Rattle.std.specs.Prelude.{not};
 
@@ -15,7 +15,7 @@ use crate::live::running::run_station;
 use a429_console::arguments::replies::explain;
 use a429_console::arguments::requests::{LiveRequest, Request, other_call_error, parse};
 use a429_console::files::FileReader;
-use a429_console::hints::{Hints, tell_hint};
+use a429_console::hints::{Hints, Seen, tell_hint};
 use a429_console::output::endings::tell_fault;
 use a429_console::output::{Output, OutputFault};
 use std::alloc::Global;
@@ -43,12 +43,9 @@ pub fn command_live<
     progress: &P,
 ) -> u8
     // If the words ask for a run and no call of the output failed, the bytes put are those of its report or of the one refusal, and so is the status.
-    ensures replied { (r : LiveAsk) → AsksFor (texts_of words.entry.now) (Live r) → IsTrue (F.tells files.old)
-        → NoneFailed (O.failures out.old) (O.failures out.new)
-        → IsPut (OrNoMemory (IsLiveReply (F.file files.old) r)) (O.contents out.old) (O.contents out.new) result }
+    ensures replied { RepliesToLive F.tells F.file O.contents O.failures (texts_of words.entry.now) files.old out.old out.new result }
     // The same of a reader of any files: the answer is that of files which give what the reader answered in this call.
-    ensures read { (r : LiveAsk) → AsksFor (texts_of words.entry.now) (Live r) → NoneFailed (O.failures out.old) (O.failures out.new)
-        → HasReadFrom F.answers (λ file. IsPut (OrNoMemory (IsLiveReply file r)) (O.contents out.old) (O.contents out.new) result) files.old }
+    ensures read { RepliesToLiveByReader F.answers O.contents O.failures (texts_of words.entry.now) files.old out.old out.new result }
     ensures asked { (r : LiveAsk) → AsksFor (texts_of words.entry.now) (Live r) → result ≤ 1 }
     // How it ends: help, mistakes, failures of either output, and what was passed on.
     ensures ends { EndsBy (live_kinds_of_words (texts_of words.entry.now)) (writing O.contents O.failures O.is_flushed out.old out.new)
@@ -151,9 +148,10 @@ fn run_with_hint<
     ensures failed { IfOk result (λ status. (status ≡ 1) ⊎ (V.failures err.new ≡ V.failures err.old)) }
     ensures once { (V.failures err.new).count ≤ (V.failures err.old).count + 1 }
 {
-    let result = run_station(rt, alloc, files, run, out, progress);
+    let mut seen = Seen::nothing();
+    let result = run_station(rt, alloc, files, run, &mut seen, out, progress);
     if let Ok(1) = result {
-        tell_hint(alloc, request, hints, files, err);
+        tell_hint(alloc, request, &seen, hints, err);
     }
     result
 }

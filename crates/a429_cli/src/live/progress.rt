@@ -1,5 +1,5 @@
 //! How far a run is, shown while it works.
-ghost use Rattle.std.specs.Prelude.{◌≡◌, ◌++◌, OnOk};
+ghost use Rattle.a429_word.specs.Written.{Gains};
 ghost use Rattle.a429_cli.specs.ProgressLines.{progress_line};
 
 use a429_slots::{OUTPUTS, Plan};
@@ -58,7 +58,7 @@ pub struct ProgressLine<W> {
 
 /// Appends the line's text. The error is a want of memory.
 fn push_line(text: &mut Vec<u8>, cells: u64, all: u64, words: u64) -> io::Result<()>
-    ensures { OnOk result (text.new.items ≡ text.old.items ++ progress_line cells all words) }
+    ensures { Gains result text.old.items text.new.items (progress_line cells all words) }
 {
     write!(text, "cells sent {cells} of {all}, words accepted {words}")
 }

@@ -1,25 +1,25 @@
 //! The report of a run.
-ghost use Rattle.std.specs.Prelude.{◌≡◌, ◌<◌, ◌+◌, ◌^◌, ◌++◌, ◌∷◌, [], OnOk, MatchResult};
+ghost use Rattle.std.specs.Prelude.{◌++◌, ◌∷◌, [], ℕ, List};
+ghost use Rattle.a429_word.specs.Written.{Gains};
 ghost use Rattle.a429_console.specs.Files.{bytes_of};
-ghost use Rattle.a429_cli.specs.LiveReplies.{AreAppended, IsAppended, IsReport, group_line, group_lines, receiver_line, receiver_lines, refused_words};
-ghost use Rattle.a429_cli.specs.Resubmitted.{AreAnswers, IsAnswer, IsRefusedBy};
+ghost use Rattle.a429_cli.specs.LiveReplies.{AppendsLine, group_line, group_lines, receiver_line, receiver_lines, refused_words, total_lines};
+ghost use Rattle.a429_cli.specs.Resubmitted.{AppendsAll, IsAnswer, ReportsRun};
 ghost use Rattle.a429_station.specs.Resubmitting.{Running};
-ghost use Rattle.a429_console.specs.RefusalText.{OrMemory, refusal_line};
+ghost use Rattle.a429_console.specs.RefusalText.{refusal_line};
 
+use crate::live::control::Answer;
 use a429_console::refusals::CommandRefusal;
-use a429_console::refusals::tables::propose;
 use a429_equipment::{Equipment, GroupRow, ReceiverRow};
 use a429_filter::MemoryLine;
-use a429_slots::laws::plans_are_unique;
 use a429_station::Report;
 use a429_workers::{CountSink, ReceiveTotals, SendTotals};
-use std::alloc::{AllocError, Global};
+use std::alloc::Global;
 use std::io;
 use std::io::Write;
 
 /// Appends how many words a receiver refused for another reason than parity.
 fn push_refused_words(text: &mut Vec<u8>, totals: ReceiveTotals) -> io::Result<()>
-    ensures { OnOk result (text.new.items ≡ text.old.items ++ refused_words totals) }
+    ensures { Gains result text.old.items text.new.items (refused_words totals) }
 {
     let (filtered, no_source, spent) = (totals.filtered, totals.no_source, totals.spent);
     writeln!(
@@ -30,7 +30,7 @@ fn push_refused_words(text: &mut Vec<u8>, totals: ReceiveTotals) -> io::Result<(
 
 /// Appends the line of a receiver. The error is a want of memory, and may leave a part of the line.
 fn push_receiver(text: &mut Vec<u8>, row: &ReceiverRow, totals: ReceiveTotals) -> io::Result<()>
-    ensures { OnOk result (text.new.items ≡ text.old.items ++ receiver_line row.now.name totals) }
+    ensures { Gains result text.old.items text.new.items (receiver_line row.now.name totals) }
 {
     let (name, accepted, parity) = (row.name.as_str(), totals.accepted, totals.parity);
     write!(text, "receiver {name} accepted {accepted} parity {parity}")?;
@@ -39,7 +39,7 @@ fn push_receiver(text: &mut Vec<u8>, row: &ReceiverRow, totals: ReceiveTotals) -
 
 /// Appends the line of a group. The error is a want of memory, and may leave a part of the line.
 fn push_group(text: &mut Vec<u8>, row: &GroupRow, totals: SendTotals) -> io::Result<()>
-    ensures { OnOk result (text.new.items ≡ text.old.items ++ group_line row.now.name totals) }
+    ensures { Gains result text.old.items text.new.items (group_line row.now.name totals) }
 {
     let (name, cells) = (row.name.as_str(), totals.cells);
     writeln!(text, "group {name} cells {cells}")
@@ -52,7 +52,7 @@ fn push_receivers(
     rows: &[ReceiverRow],
     totals: &[ReceiveTotals],
 ) -> io::Result<()>
-    ensures { OnOk result (text.new.items ≡ text.old.items ++ receiver_lines rows.now totals.now) }
+    ensures { Gains result text.old.items text.new.items (receiver_lines rows.now totals.now) }
 {
     for (place, row) in rows.iter().enumerate() {
         // there are as many totals
@@ -67,7 +67,7 @@ fn push_receivers(
 /// Appends the lines of the groups, in table order.
 #[tactic(auto, using(crate::proofs::ReportParts::groups_more, crate::proofs::ReportParts::groups_over, crate::proofs::ReportParts::groups_end))]
 fn push_groups(text: &mut Vec<u8>, rows: &[GroupRow], totals: &[SendTotals]) -> io::Result<()>
-    ensures { OnOk result (text.new.items ≡ text.old.items ++ group_lines rows.now totals.now) }
+    ensures { Gains result text.old.items text.new.items (group_lines rows.now totals.now) }
 {
     for (place, row) in rows.iter().enumerate() {
         // there are as many totals
@@ -81,55 +81,38 @@ fn push_groups(text: &mut Vec<u8>, rows: &[GroupRow], totals: &[SendTotals]) -> 
 
 /// Appends the line of a refusal. The error is a want of memory, and may leave a part of the line.
 fn push_refused(text: &mut Vec<u8>, refusal: &CommandRefusal) -> io::Result<()>
-    ensures { OnOk result (text.new.items ≡ text.old.items ++ (refusal_line refusal.now ++ 10 ∷ [])) }
+    ensures { Gains result text.old.items text.new.items (refusal_line refusal.now ++ 10 ∷ []) }
 {
     writeln!(text, "{refusal}")
 }
 
-/// Appends the line of a further table that was refused. Why is told by the table itself, with the names of its group
-/// and its source; a table that has a plan is of another station. The error is a want of memory.
-fn push_not_published(alloc: Global, text: &mut Vec<u8>, table: &[u8]) -> io::Result<()>
-    ensures { (v : Running) → IsRefusedBy v table.now → v.planner.last.number + 1 < 2 ^ 64 → OnOk result (IsAppended v v table.now text.old.items text.new.items) }
-{
-    plans_are_unique();
-    match propose(alloc, table) {
-        Ok(_) => writeln!(text, "refused station-differs"),
-        Err(CommandRefusal::Memory) => Err(io::Error::from(AllocError)),
-        Err(refusal) => push_refused(text, &refusal),
-    }
-}
-
 /// Appends the line of a further table, by what it was answered when it was resubmitted.
-fn push_resubmitted(
-    alloc: Global,
-    text: &mut Vec<u8>,
-    table: &[u8],
-    answer: Option<u64>,
-) -> io::Result<()>
-    ensures { (v w : Running) → IsAnswer v table.now answer w → v.planner.last.number + 1 < 2 ^ 64 → OnOk result (IsAppended v w table.now text.old.items text.new.items) }
+fn push_resubmitted(text: &mut Vec<u8>, answer: &Answer) -> io::Result<()>
+    ensures { (v w : Running) (table : List ℕ) → IsAnswer v table answer.now w → AppendsLine v w table text.old.items text.new.items result }
 {
     match answer {
-        Some(number) => writeln!(text, "published {number}"),
-        None => push_not_published(alloc, text, table),
+        Answer::Published(number) => writeln!(text, "published {number}"),
+        Answer::Refused(refusal) => push_refused(text, refusal),
+        Answer::OtherStation => writeln!(text, "refused station-differs"),
+        // a run publishes far fewer plans than there are numbers
+        Answer::NumbersSpent => Ok(()),
     }
 }
 
 /// Appends the lines of the further tables, in order, by what they were answered.
 fn push_all_resubmitted(
-    alloc: Global,
     text: &mut Vec<u8>,
     further: &[Vec<u8>],
-    answers: &[Option<u64>],
+    answers: &[Answer],
 ) -> io::Result<()>
-    ensures { (begin end : Running) → begin.planner.last.number ≡ 0 → AreAnswers begin (bytes_of further.now) answers.now end
-        → OnOk result (AreAppended begin.station (bytes_of further.now) text.old.items text.new.items) }
+    ensures { AppendsAll (bytes_of further.now) answers.now text.old.items text.new.items result }
 {
     for (place, table) in further.iter().enumerate() {
         // there are as many answers
         let Some(answer) = answers.get(place) else {
             return Ok(());
         };
-        push_resubmitted(alloc, text, table, *answer)?;
+        push_resubmitted(text, answer)?;
     }
     Ok(())
 }
@@ -139,14 +122,13 @@ pub fn report_text(
     alloc: Global,
     station: &Equipment,
     further: &[Vec<u8>],
-    answers: &[Option<u64>],
+    answers: &[Answer],
     report: &Report<MemoryLine, CountSink>,
 ) -> Result<Vec<u8>, CommandRefusal>
-    ensures { (begin end : Running) → begin.station ≡ station.now → begin.planner.last.number ≡ 0 → AreAnswers begin (bytes_of further.now) answers.now end
-        → MatchResult result (λ text. IsReport station.now (bytes_of further.now) report.now.receivers.items report.now.groups.items text.items) (OrMemory (λ why. ⊥)) }
+    ensures { ReportsRun station.now (bytes_of further.now) answers.now report.now.receivers.items report.now.groups.items result }
 {
     let mut text = Vec::new(alloc);
-    let Ok(()) = push_all_resubmitted(alloc, &mut text, further, answers) else {
+    let Ok(()) = push_all_resubmitted(&mut text, further, answers) else {
         return Err(CommandRefusal::Memory);
     };
     match push_totals(&mut text, station, report) {
@@ -161,8 +143,7 @@ fn push_totals(
     station: &Equipment,
     report: &Report<MemoryLine, CountSink>,
 ) -> io::Result<()>
-    ensures { OnOk result (text.new.items ≡ text.old.items
-        ++ receiver_lines station.now.receivers report.now.receivers.items ++ group_lines station.now.groups report.now.groups.items) }
+    ensures { Gains result text.old.items text.new.items (total_lines station.now report.now.receivers.items report.now.groups.items) }
 {
     push_receivers(text, station.receivers(), &report.receivers)?;
     push_groups(text, station.groups(), &report.groups)

@@ -1,9 +1,10 @@
 //! A run of the station, from files to its report.
 ghost use Rattle.std.specs.Prelude.{◌≡◌, ◌≤◌, IfOk, IsTrue, MatchResult, OnOk, vec_len};
 ghost use Rattle.a429_console.specs.Files.{bytes_of};
-ghost use Rattle.a429_cli.specs.LiveReplies.{IsLiveReading, IsLiveReply, IsLiving, IsNoLiveStart, IsPreparedLive, IsRunResult, files_of, refusal_of};
+ghost use Rattle.a429_slots.specs.Planned.{IsPlanOf};
+ghost use Rattle.a429_cli.specs.LiveReplies.{HasToldRun, IsLiveReading, IsLiving, IsNoLiveStart, IsPreparedLive, IsRunResult, files_of, refusal_of};
 ghost use Rattle.a429_console.specs.Requests.{live_of};
-ghost use Rattle.a429_console.specs.Outputs.{CountsFault, IsPut};
+ghost use Rattle.a429_console.specs.Outputs.{CountsFault};
 ghost use Rattle.a429_console.specs.Readings.{HasRead};
 ghost use Rattle.a429_console.specs.RefusalText.{OrMemory};
 
@@ -15,13 +16,14 @@ use crate::names::Names;
 use a429_console::arguments::requests::LiveRequest;
 use a429_console::files::FileReader;
 use a429_console::files::reading::{read_file, read_files};
+use a429_console::hints::Seen;
 use a429_console::output::endings::finish;
 use a429_console::output::{Output, OutputFault};
 use a429_console::refusals::tables::propose;
 use a429_console::refusals::{CommandRefusal, refuse};
 use a429_equipment::Equipment;
-use a429_slots::{OUTPUTS, Proposal};
-use a429_station::{LiveFault, live};
+use a429_slots::{OUTPUTS, Plan, Proposal};
+use a429_station::{LiveFault, live_planned};
 use a429_workers::CountSink;
 use std::alloc::{AllocError, Global};
 use std::sync::Wait;
@@ -47,12 +49,13 @@ fn read_input<F: FileReader>(
     alloc: Global,
     files: &mut F,
     request: &LiveRequest,
+    seen: &mut Seen,
 ) -> Result<LiveInput, CommandRefusal>
     ensures { HasRead F.answers (λ file. IsLiveReading file (live_of request.now) result) files.old files.new }
 {
-    let table = read_file(alloc, files, request.table)?;
-    let words = read_file(alloc, files, request.words)?;
-    let further = read_files(alloc, files, &request.further)?;
+    let table = read_file(alloc, files, request.table, seen)?;
+    let words = read_file(alloc, files, request.words, seen)?;
+    let further = read_files(alloc, files, &request.further, seen)?;
     Ok(LiveInput {
         table,
         words,
@@ -61,12 +64,12 @@ fn read_input<F: FileReader>(
 }
 
 /// The station and the words that are given. Refused is the table, its plan, or the file of words.
-fn prepare(alloc: Global, input: &LiveInput) -> Result<Prepared, CommandRefusal>
+fn prepare(alloc: Global, input: &LiveInput, seen: &mut Seen) -> Result<Prepared, CommandRefusal>
     ensures { MatchResult result (IsPreparedLive (files_of input.now)) (OrMemory (IsNoLiveStart (files_of input.now))) }
 {
-    let proposal = propose(alloc, &input.table)?;
+    let proposal = propose(alloc, &input.table, seen)?;
     let names = Names::of(alloc, proposal.equipment())?;
-    let arrivals = read_words(alloc, &names, &input.words)?;
+    let arrivals = read_words(alloc, &names, &input.words, seen)?;
     Ok(Prepared { proposal, arrivals })
 }
 
@@ -81,7 +84,7 @@ fn count_sinks(alloc: Global, groups: usize) -> Result<Vec<CountSink>, AllocErro
     Ok(sinks)
 }
 
-/// The refusal that tells of a fault of a run. The plan was made before: where it is not made again, memory was refused.
+/// The refusal that tells of a fault of a run. The plan was made before, so no fault of it is left but want of memory.
 fn run_refusal(fault: LiveFault) -> CommandRefusal
     ensures { result ≡ refusal_of fault }
 {
@@ -101,20 +104,23 @@ fn run<R: Threads + Wait, P: Progress + Sync>(
     rt: &R,
     alloc: Global,
     equipment: &Equipment,
+    plan: &Plan<OUTPUTS>,
     arrivals: &[Arrival],
     frames: u32,
     further: &[Vec<u8>],
     gate: &ProgressGate<P>,
 ) -> Result<Vec<u8>, CommandRefusal>
+    requires planned { IsPlanOf equipment.now plan.now }
     ensures { IsRunResult equipment.now arrivals.now frames (bytes_of further.now) result }
 {
     let sources = line_sources(alloc, arrivals, equipment.receivers().len())?;
     let sinks = count_sinks(alloc, equipment.groups().len())?;
     let mut control = Resubmits::new(alloc, further);
-    match live(
+    match live_planned(
         rt,
         alloc,
         equipment,
+        *plan,
         sources,
         sinks,
         frames,
@@ -126,6 +132,11 @@ fn run<R: Threads + Wait, P: Progress + Sync>(
     }
 }
 
+/// How many threads a run needs, for a hint: one for each receiver and each group.
+fn threads_of(equipment: &Equipment) -> usize {
+    equipment.receivers().len() + equipment.groups().len()
+}
+
 /// The text of the report of a run. Refused is a file, the table, its plan, the file of words, or the run: `TooMuch` for
 /// more than a million frames or words of a receiver, `Join` where a thread could not be started or taken in.
 fn run_report<R: Threads + Wait, F: FileReader, P: Progress + Sync>(
@@ -133,17 +144,20 @@ fn run_report<R: Threads + Wait, F: FileReader, P: Progress + Sync>(
     alloc: Global,
     files: &mut F,
     request: &LiveRequest,
+    seen: &mut Seen,
     progress: &P,
 ) -> Result<Vec<u8>, CommandRefusal>
     ensures { HasRead F.answers (λ file. IsLiving file (live_of request.now) result) files.old files.new }
 {
-    let input = read_input(alloc, files, request)?;
-    let prepared = prepare(alloc, &input)?;
+    let input = read_input(alloc, files, request, seen)?;
+    let prepared = prepare(alloc, &input, seen)?;
     let equipment = prepared.proposal.equipment();
+    seen.threads = threads_of(equipment);
     let (arrivals, further) = (&prepared.arrivals, &input.further);
     let frames = request.frames;
-    let gate = ProgressGate::begin(progress, prepared.proposal.plan(), frames);
-    let result = run(rt, alloc, equipment, arrivals, frames, further, &gate);
+    let plan = prepared.proposal.plan();
+    let gate = ProgressGate::begin(progress, plan, frames);
+    let result = run(rt, alloc, equipment, plan, arrivals, frames, further, &gate);
     progress.end();
     result
 }
@@ -155,17 +169,17 @@ pub fn run_station<R: Threads + Wait, F: FileReader, O: Output, P: Progress + Sy
     alloc: Global,
     files: &mut F,
     request: &LiveRequest,
+    seen: &mut Seen,
     out: &mut O,
     progress: &P,
 ) -> Result<u8, OutputFault>
-    ensures replied { HasRead F.answers (λ file. IfOk result
-        (IsPut (IsLiveReply file (live_of request.now)) (O.contents out.old) (O.contents out.new))) files.old files.new }
+    ensures replied { HasToldRun F.answers O.contents (live_of request.now) files.old files.new out.old out.new result }
     ensures status { IfOk result (λ status. status ≤ 1) }
     ensures flushed { OnOk result (IsTrue (O.is_flushed out.new)) }
     ensures faults { CountsFault result (O.failures out.old) (O.failures out.new) }
 {
-    match run_report(rt, alloc, files, request, progress) {
+    match run_report(rt, alloc, files, request, seen, progress) {
         Ok(text) => finish(&text, true, out),
-        Err(refusal) => refuse(alloc, &refusal, out),
+        Err(refusal) => refuse(alloc, refusal, seen, out),
     }
 }

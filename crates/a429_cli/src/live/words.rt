@@ -6,6 +6,7 @@ ghost use Rattle.a429_cli.specs.WordsFile.{IsWordsReading, line_arrival, raw_for
 
 use crate::names::Names;
 use a429_console::files::lines::{LineForm, LinesFault, read_lines};
+use a429_console::hints::Seen;
 use a429_console::refusals::CommandRefusal;
 use a429_console::texts::cut_at;
 use a429_filter::MemoryLine;
@@ -59,12 +60,16 @@ pub fn read_words(
     alloc: Global,
     names: &Names,
     bytes: &[u8],
+    seen: &mut Seen,
 ) -> Result<Vec<Arrival>, CommandRefusal>
     ensures { IsWordsReading names.now bytes.now result }
 {
     match read_lines(alloc, &WordsForm { names }, bytes) {
         Ok(arrivals) => Ok(arrivals),
-        Err(LinesFault::Line(number)) => Err(CommandRefusal::Script(number)),
+        Err(LinesFault::Line(number)) => {
+            seen.line = names.seen_line(alloc, bytes, number, 0);
+            Err(CommandRefusal::Script(number))
+        }
         Err(LinesFault::NoMemory) => Err(CommandRefusal::Memory),
     }
 }

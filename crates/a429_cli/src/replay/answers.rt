@@ -1,5 +1,6 @@
 //! Lines of answers.
-ghost use Rattle.std.specs.Prelude.{◌≡◌, ◌≤◌, ◌+◌, ◌++◌, [], drop, length, OnOk, OnErr};
+ghost use Rattle.std.specs.Prelude.{◌≡◌, ◌≤◌, ◌+◌, ◌++◌, [], drop, length, OnErr};
+ghost use Rattle.a429_word.specs.Written.{Gains};
 ghost use Rattle.a429_slots.specs.declared.answers.Answer.TheVariants.{Sent, Refused};
 ghost use Rattle.a429_cli.specs.AnswerLines.{answer_line, cell_text};
 
@@ -41,7 +42,7 @@ fn put_cell(room: &mut [u8], end: usize, word: Option<Word>) -> usize
 
 /// Appends the line of a cell that was sent. Where memory is refused, nothing is appended.
 fn push_sent(text: &mut Vec<u8>, bus: u32, slot: u64, word: Option<Word>) -> Result<(), AllocError>
-    ensures line { OnOk result (text.new.items ≡ text.old.items ++ answer_line [] (Sent bus slot word)) }
+    ensures line { Gains result text.old.items text.new.items (answer_line [] (Sent bus slot word)) }
     ensures kept { OnErr result (text.new.items ≡ text.old.items) }
 {
     let mut room = [0u8; ROOM];
@@ -57,7 +58,7 @@ fn push_sent(text: &mut Vec<u8>, bus: u32, slot: u64, word: Option<Word>) -> Res
 
 /// Appends the line of an answer. Where memory is refused, nothing is appended.
 pub fn push_answer(text: &mut Vec<u8>, names: &Names, answer: Answer) -> Result<(), AllocError>
-    ensures line { OnOk result (text.new.items ≡ text.old.items ++ answer_line names.now.sources answer) }
+    ensures line { Gains result text.old.items text.new.items (answer_line names.now.sources answer) }
     ensures kept { OnErr result (text.new.items ≡ text.old.items) }
 {
     match answer {

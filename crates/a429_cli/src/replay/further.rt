@@ -1,11 +1,10 @@
 //! Further tables, each read and planned once.
-ghost use Rattle.std.specs.Prelude.{◌≡◌, IfOk, IfSome, MatchResult};
-ghost use Rattle.a429_core.specs.Happened.{event_of};
+ghost use Rattle.std.specs.Prelude.{◌≡◌, IfOk};
 ghost use Rattle.a429_console.specs.Files.{bytes_of};
-ghost use Rattle.a429_cli.specs.Playing.{IsPublication};
-ghost use Rattle.a429_console.specs.RefusalText.{OrMemory};
+ghost use Rattle.a429_cli.specs.Playing.{GivesEvent, IsPublication};
 ghost use Rattle.a429_console.specs.Tables.{IsProposing, IsTableRefusal};
 
+use a429_console::hints::Seen;
 use a429_console::refusals::CommandRefusal;
 use a429_console::refusals::tables::propose;
 use a429_core::Event;
@@ -36,7 +35,8 @@ impl FurtherTable {
     pub fn of(alloc: Global, bytes: Vec<u8>) -> FurtherTable
         ensures { result ≡ bytes.items }
     {
-        let proposal = propose(alloc, &bytes);
+        let mut seen = Seen::nothing();
+        let proposal = propose(alloc, &bytes, &mut seen);
         FurtherTable { bytes, proposal }
     }
 
@@ -49,8 +49,7 @@ impl FurtherTable {
 
     /// The event that publishes it. Refused is its fault, or else that of its plan; with no refusal memory is.
     pub fn publication(&self, alloc: Global) -> Result<Event, Option<&CommandRefusal>>
-        ensures { MatchResult result (λ e. IsPublication self.now (event_of e))
-            (λ why. IfSome why (λ r. OrMemory (IsTableRefusal self.now) r.now)) }
+        ensures { GivesEvent (IsPublication self.now) (IsTableRefusal self.now) result }
     {
         match self.proposal() {
             Ok(proposal) => match proposal.copied(alloc) {

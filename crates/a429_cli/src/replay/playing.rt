@@ -1,9 +1,7 @@
 //! Scripts played on a station.
-ghost use Rattle.std.specs.Prelude.{◌≡◌, ◌<◌, OnOk, OnErr, IfOk, IfSome, MatchResult, length};
-ghost use Rattle.a429_core.specs.Happened.{event_of};
-ghost use Rattle.a429_console.specs.Outputs.{AppendsPending, CountsFault};
-ghost use Rattle.a429_cli.specs.Playing.{HasTable, IsEventOf, IsUnread, PlaysOne, PlaysScript};
-ghost use Rattle.a429_console.specs.RefusalText.{OrMemory};
+ghost use Rattle.std.specs.Prelude.{◌≡◌, ◌<◌, OnOk, OnErr, length};
+ghost use Rattle.a429_console.specs.Outputs.{CountsFault};
+ghost use Rattle.a429_cli.specs.Playing.{GivesEvent, HasTable, IsEventOf, IsUnread, PlaysAll, PlaysOne};
 
 use crate::names::Names;
 use crate::pending::{Pending, put_if_full};
@@ -23,8 +21,7 @@ fn machine_event(
     event: ScriptEvent,
 ) -> Result<Event, Option<&CommandRefusal>>
     requires { HasTable (length further.now) event }
-    ensures { MatchResult result (λ e. IsEventOf further.now event (event_of e))
-        (λ why. IfSome why (λ r. OrMemory (IsUnread further.now event) r.now)) }
+    ensures { GivesEvent (IsEventOf further.now event) (IsUnread further.now event) result }
 {
     match event {
         ScriptEvent::Arrive(receiver, raw) => Ok(Event::Arrive {
@@ -76,8 +73,7 @@ pub fn play_all<O: Output>(
     lines: &mut Pending,
     out: &mut O,
 ) -> Result<bool, OutputFault>
-    ensures played { IfOk result (PlaysScript names.now further.now script.now state.old
-        (AppendsPending (O.contents out.old) lines.old.text.items (O.contents out.new) lines.new.text.items)) }
+    ensures played { PlaysAll O.contents names.now further.now script.now state.old out.old out.new lines.old lines.new result }
     ensures few { OnOk result (length lines.old.text.items < 65536 → length lines.new.text.items < 65536) }
     ensures faults { CountsFault result (O.failures out.old) (O.failures out.new) }
 {

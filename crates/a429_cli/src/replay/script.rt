@@ -1,14 +1,15 @@
 //! Scripts of events, one a line.
-ghost use Rattle.std.specs.Prelude.{◌≡◌, ◌<◌, ℕ, IfSome, MatchResult};
-ghost use Rattle.a429_cli.specs.ScriptText.{decimal_digit, decimal_number};
-ghost use Rattle.a429_cli.specs.Script.{arrive_event, line_event, publish_event, IsScript, IsScriptFault};
+ghost use Rattle.std.specs.Prelude.{◌≡◌, ℕ, IfSome};
+ghost use Rattle.a429_cli.specs.Script.{arrive_event, line_event, publish_event, ChecksScript};
 ghost use Rattle.a429_cli.specs.Playing.{HasTable};
 
 use crate::names::Names;
 use a429_console::files::lines::{LineForm, check_lines};
+use a429_console::hints::Seen;
 use a429_console::refusals::CommandRefusal;
 use a429_console::texts::cut_at;
-use a429_word::raw_word;
+use a429_word::{decimal_number, raw_word};
+use std::alloc::Global;
 
 /// An event of a script. Receivers and groups are numbered from 0 in table order, the further tables of the
 /// command line from 1.
@@ -18,31 +19,6 @@ pub enum ScriptEvent {
     Cell(u8),
     Frame(u8),
     Publish(usize),
-}
-
-fn decimal_digit(digit: u8) -> Option<u64>
-    ensures value { result ≡ decimal_digit digit }
-    ensures small { IfSome result (λ d. d < 10) }
-{
-    match digit {
-        b'0'..=b'9' => Some(u64::from(digit - b'0')),
-        _ => None,
-    }
-}
-
-/// The number of one to ten decimal digits, of which the first is 0 only where it stands alone.
-#[tactic(auto, unfolding(crate::specs::ScriptText::decimal_number))]
-fn decimal_number(text: &[u8]) -> Option<u64>
-    ensures { result ≡ decimal_number text.now }
-{
-    if text.is_empty() || text.len() > 10 || text.len() > 1 && text[0] == b'0' {
-        return None;
-    }
-    let mut number = 0u64;
-    for digit in text {
-        number = number * 10 + decimal_digit(*digit)?;
-    }
-    Some(number)
 }
 
 fn arrive(names: &Names, words: &[u8]) -> Option<ScriptEvent>
@@ -108,13 +84,21 @@ impl LineForm for ScriptForm<'_> {
     }
 }
 
-/// Checks a script. Refused is the number of its first faulty line, from 1: of one that is no event, names nothing, or
-/// does not end with a line feed.
-pub fn check_script(form: &ScriptForm<'_>, script: &[u8]) -> Result<(), CommandRefusal>
-    ensures { MatchResult result (λ _. IsScript form.now.names.now form.now.further script.now) (IsScriptFault form.now.names.now form.now.further script.now) }
+/// Checks a script. The refusal has the number of its first faulty line, from 1: one that is no event, names nothing, or
+/// does not end with a line feed. That line is kept in `seen`.
+pub fn check_script(
+    alloc: Global,
+    form: &ScriptForm<'_>,
+    script: &[u8],
+    seen: &mut Seen,
+) -> Result<(), CommandRefusal>
+    ensures { ChecksScript form.now.names.now form.now.further script.now result }
 {
     match check_lines(form, script) {
         Ok(()) => Ok(()),
-        Err(line) => Err(CommandRefusal::Script(line)),
+        Err(line) => {
+            seen.line = form.names.seen_line(alloc, script, line, form.further);
+            Err(CommandRefusal::Script(line))
+        }
     }
 }

@@ -5,6 +5,7 @@ ghost use Rattle.a429_console.specs.RefusalText.{OrMemory};
 ghost use Rattle.a429_console.specs.Tables.{IsTableRefusal};
 
 use crate::names::Names;
+use a429_console::hints::Seen;
 use a429_console::refusals::CommandRefusal;
 use a429_console::refusals::tables::propose;
 use a429_core::{OpenFault, StationState};
@@ -20,10 +21,14 @@ pub struct ReplayStation {
 impl ReplayStation {
     /// The station of a table's bytes, to which nothing has happened, at slot 0. Refused is the table's
     /// fault, or else the first fault of its plan.
-    pub fn open(alloc: Global, table: &[u8]) -> Result<ReplayStation, CommandRefusal>
+    pub fn open(
+        alloc: Global,
+        table: &[u8],
+        seen: &mut Seen,
+    ) -> Result<ReplayStation, CommandRefusal>
         ensures { MatchResult result (IsOpenedFrom table.now) (OrMemory (IsTableRefusal table.now)) }
     {
-        let proposal = propose(alloc, table)?;
+        let proposal = propose(alloc, table, seen)?;
         let names = Names::of(alloc, proposal.equipment())?;
         match StationState::open(alloc, proposal, 0) {
             Ok(state) => Ok(ReplayStation { names, state }),

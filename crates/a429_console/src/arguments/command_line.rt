@@ -3,6 +3,7 @@ ghost use Rattle.std.specs.Prelude.{◌≡◌, IfOk, IsTrue, codes};
 ghost use Rattle.clap.specs.Words.{App, Rule, app_of, new_app, with_rule, with_subcommand};
 ghost use Rattle.a429_console.specs.CommandLine.{HasRule, bare_line, check_app, command_line, draw_app, flag_rule, icd_app, lines_app, live_app, many_rule, margin_app, most_slots, number_option_rule, number_rule, option_rule, plan_app, planning_line, reading_line, replay_app, required_rule, word_app};
 
+use a429_equipment::FRAMES as MOST_FRAMES;
 use clap::builder::ValueParser;
 use clap::{Arg, ArgAction, Command};
 use std::alloc::{AllocError, Global};
@@ -10,64 +11,108 @@ use std::alloc::{AllocError, Global};
 const PROGRAM: &str =
     "ARINC 429 data concentrator: takes in words, and sends them on by planned slots";
 
+const PROGRAM_END: &str = "\
+A table (TOML, version 2) has, each as often as it needs:
+  [[receiver]]      name, filters (may be left out)
+  [[source]]        name, receiver, label, sdi
+  [[group]]         name, rate (bit/s)
+  [[group.output]]  source, min_us, max_us, hold (may be left out)
+
+Examples:
+  a429 plan examples/first/table.toml
+  a429 help replay";
+
 const VERSION: &str = "0.2.0";
 
-const WORD: &str = "Tell what a word of 32 bits says: its fields, and its data as BNR and as BCD";
+const WORD: &str = "Print the fields of a 32-bit word, and its data as BNR and as BCD";
 
 const HEX: &str = "The word, as eight hexadecimal digits";
 
-const LINES: &str =
-    "Tell what a reader of a line reports: words, faults of the line, and what is left of it";
+const WORD_END: &str = "\
+Example:
+  a429 word 600000c1";
 
-const FILE: &str =
-    "File of a line, a byte a symbol: `1` for Hi, `0` for Lo, `.` for Null; spaces and line feeds are skipped";
+const LINES: &str = "Print what a reader of a line reports: words, faults, and the rest";
 
-const FILTER: &str =
-    "Filters of labels, `LLL/MMM` in octal, at most 32: then just the words that one of them passes are told";
+const FILE: &str = "File of a line, a byte a symbol";
 
-const PLAN: &str =
-    "Plan the slot tables of a station on the fewest buses, and print them with the bound that shows it";
+const FILTER: &str = "Label filters, LLL/MMM in octal, at most 32";
 
-const CHECK: &str = "Tell whether the text of a plan shows the fewest buses for a station";
+const LINES_END: &str = "\
+A line file has `1` for Hi, `0` for Lo and `.` for Null; spaces and line feeds
+are skipped. With filters, only the words that one of them passes are printed.
+
+Example:
+  a429 lines examples/displays/line 203/377";
+
+const PLAN: &str = "Plan a station on the fewest buses, with the bound that shows it";
+
+const PLAN_END: &str = "\
+Example:
+  a429 plan examples/first/table.toml";
+
+const CHECK: &str = "Check whether a plan's text shows the fewest buses for a station";
 
 const TEXT: &str = "Text of a plan, as `plan` prints it, whoever wrote it";
+
+const CHECK_END: &str = "\
+Example:
+  a429 check examples/displays/table.toml examples/displays/table.plan";
 
 const ICD: &str = "Print what an interface control document says of each output";
 
 const CSV: &str = "As comma-separated values, for spreadsheets";
 
-const MARGIN: &str =
-    "Tell how far each group is from one bus fewer, and which intervals would have to be wider";
+const ICD_END: &str = "\
+Example:
+  a429 icd --csv examples/displays/table.toml";
+
+const MARGIN: &str = "Print how far each group is from one bus fewer, and what would help";
+
+const MARGIN_END: &str = "\
+Example:
+  a429 margin examples/air_data_and_inertial/station.toml";
 
 const DRAW: &str = "Draw the slot tables of a plan as an image (SVG)";
 
 const GROUP: &str = "Only the group of this name";
 
-const SLOTS: &str =
-    "How many slots of each bus are drawn, from 1 to 8192; else a frame, of which 256 at most";
+const SLOTS: &str = "Slots of each bus, 1 to 8192; else a frame, at most 256";
 
-const REPLAY: &str = "Play the events of a script on a station and print what each is answered";
+const DRAW_END: &str = "\
+Example:
+  a429 draw --group displays examples/displays/table.toml > displays.svg";
 
-const TABLE: &str =
-    "Equipment table of the station (TOML): its receivers, sources and output groups";
+const REPLAY: &str = "Play the events of a script on a station, and print the answers";
 
-const SCRIPT: &str =
-    "Events, one a line: `arrive RECEIVER HEX`, `cell GROUP`, `frame GROUP` or `publish N`";
+const TABLE: &str = "Equipment table of the station (TOML)";
 
-const FURTHER: &str = "Further tables, whose plans the script may publish, numbered from 1";
+const SCRIPT: &str = "Script of events, one on each line";
 
-const LIVE: &str =
-    "Run a station on threads of its own, and print how many words and cells there were";
+const FURTHER: &str = "Further tables that the script can publish, from number 1";
 
-const WORDS: &str = "Words that come in, one a line: `RECEIVER HEX`";
+const REPLAY_END: &str = "\
+A script has an event on each line:
+  arrive RECEIVER HEX  a word comes in
+  cell GROUP           a group sends its next cell
+  frame GROUP          a group goes on to its next frame
+  publish N            the plan of further table N is published
 
-const RESUBMITTED: &str =
-    "Further tables of the same station, whose plans are published one after another while it runs";
+Example:
+  a429 replay examples/first/table.toml examples/first/script";
+
+const LIVE: &str = "Run a station on threads, and print how many words and cells passed";
+
+const WORDS: &str = "Words that come in, `RECEIVER HEX` on each line";
+
+const RESUBMITTED: &str = "Further tables, published one after another while it runs";
 
 const FRAMES: &str = "How many frames each group sends, at most 1000000";
 
-/// How many frames may be asked for (profile).
-const MOST_FRAMES: u64 = 1000000;
+const LIVE_END: &str = "\
+Example:
+  a429 live examples/air_data_and_inertial/station.toml \\
+      examples/air_data_and_inertial/words 100";
 
 /// How many slots of a bus may be asked for (profile).
 const MOST_SLOTS: u64 = 8192;
@@ -132,28 +177,29 @@ fn with_argument<'a>(
     command.arg(argument)
 }
 
-/// A command of this name without arguments.
+/// A command of this name without arguments. Its help begins with `about`, and ends with an example.
 fn named_command<'a>(
     alloc: Global,
     name: &'a str,
     about: &'a str,
+    end: &'a str,
 ) -> Result<Command<'a>, AllocError>
     ensures { IfOk result (λ c. app_of c ≡ new_app name.entry.now) }
 {
-    Ok(Command::new(alloc, name).about(about))
+    Ok(Command::new(alloc, name).about(about).after_help(end))
 }
 
 fn word_command<'a>(alloc: Global) -> Result<Command<'a>, AllocError>
     ensures { IfOk result (λ c. app_of c ≡ word_app) }
 {
-    let word = named_command(alloc, "word", WORD);
+    let word = named_command(alloc, "word", WORD, WORD_END);
     with_argument(word, required_argument(alloc, "HEX", HEX))
 }
 
 fn lines_command<'a>(alloc: Global) -> Result<Command<'a>, AllocError>
     ensures { IfOk result (λ c. app_of c ≡ lines_app) }
 {
-    let lines = named_command(alloc, "lines", LINES);
+    let lines = named_command(alloc, "lines", LINES, LINES_END);
     let lines = with_argument(lines, required_argument(alloc, "FILE", FILE));
     with_argument(lines, repeated_argument(alloc, "FILTER", FILTER))
 }
@@ -161,14 +207,14 @@ fn lines_command<'a>(alloc: Global) -> Result<Command<'a>, AllocError>
 fn plan_command<'a>(alloc: Global) -> Result<Command<'a>, AllocError>
     ensures { IfOk result (λ c. app_of c ≡ plan_app) }
 {
-    let plan = named_command(alloc, "plan", PLAN);
+    let plan = named_command(alloc, "plan", PLAN, PLAN_END);
     with_argument(plan, required_argument(alloc, "TABLE", TABLE))
 }
 
 fn check_command<'a>(alloc: Global) -> Result<Command<'a>, AllocError>
     ensures { IfOk result (λ c. app_of c ≡ check_app) }
 {
-    let check = named_command(alloc, "check", CHECK);
+    let check = named_command(alloc, "check", CHECK, CHECK_END);
     let check = with_argument(check, required_argument(alloc, "TABLE", TABLE));
     with_argument(check, required_argument(alloc, "PLAN", TEXT))
 }
@@ -176,7 +222,7 @@ fn check_command<'a>(alloc: Global) -> Result<Command<'a>, AllocError>
 fn icd_command<'a>(alloc: Global) -> Result<Command<'a>, AllocError>
     ensures { IfOk result (λ c. app_of c ≡ icd_app) }
 {
-    let icd = named_command(alloc, "icd", ICD);
+    let icd = named_command(alloc, "icd", ICD, ICD_END);
     let icd = with_argument(icd, required_argument(alloc, "TABLE", TABLE));
     with_argument(icd, flag_option(alloc, "csv", CSV))
 }
@@ -184,14 +230,14 @@ fn icd_command<'a>(alloc: Global) -> Result<Command<'a>, AllocError>
 fn margin_command<'a>(alloc: Global) -> Result<Command<'a>, AllocError>
     ensures { IfOk result (λ c. app_of c ≡ margin_app) }
 {
-    let margin = named_command(alloc, "margin", MARGIN);
+    let margin = named_command(alloc, "margin", MARGIN, MARGIN_END);
     with_argument(margin, required_argument(alloc, "TABLE", TABLE))
 }
 
 fn draw_command<'a>(alloc: Global) -> Result<Command<'a>, AllocError>
     ensures { IfOk result (λ c. app_of c ≡ draw_app) }
 {
-    let draw = named_command(alloc, "draw", DRAW);
+    let draw = named_command(alloc, "draw", DRAW, DRAW_END);
     let draw = with_argument(draw, required_argument(alloc, "TABLE", TABLE));
     let draw = with_argument(draw, value_option(alloc, "group", "NAME", GROUP));
     with_argument(draw, slots_option(alloc))
@@ -200,7 +246,7 @@ fn draw_command<'a>(alloc: Global) -> Result<Command<'a>, AllocError>
 fn replay_command<'a>(alloc: Global) -> Result<Command<'a>, AllocError>
     ensures { IfOk result (λ c. app_of c ≡ replay_app) }
 {
-    let replay = named_command(alloc, "replay", REPLAY);
+    let replay = named_command(alloc, "replay", REPLAY, REPLAY_END);
     let replay = with_argument(replay, required_argument(alloc, "TABLE", TABLE));
     let replay = with_argument(replay, required_argument(alloc, "SCRIPT", SCRIPT));
     with_argument(replay, repeated_argument(alloc, "FURTHER", FURTHER))
@@ -209,10 +255,13 @@ fn replay_command<'a>(alloc: Global) -> Result<Command<'a>, AllocError>
 fn live_command<'a>(alloc: Global) -> Result<Command<'a>, AllocError>
     ensures { IfOk result (λ c. app_of c ≡ live_app) }
 {
-    let live = named_command(alloc, "live", LIVE);
+    let live = named_command(alloc, "live", LIVE, LIVE_END);
     let live = with_argument(live, required_argument(alloc, "TABLE", TABLE));
     let live = with_argument(live, required_argument(alloc, "WORDS", WORDS));
-    let live = with_argument(live, number_argument(alloc, "FRAMES", FRAMES, MOST_FRAMES));
+    let live = with_argument(
+        live,
+        number_argument(alloc, "FRAMES", FRAMES, MOST_FRAMES as u64),
+    );
     with_argument(live, repeated_argument(alloc, "FURTHER", RESUBMITTED))
 }
 
@@ -221,7 +270,10 @@ fn top_command<'a>(alloc: Global) -> Result<Command<'a>, AllocError>
     ensures { IfOk result (λ c. app_of c ≡ bare_line) }
 {
     let named = Command::new(alloc, "a429").bin_name("a429")?;
-    let told = named.about(PROGRAM).version(VERSION);
+    let told = named
+        .about(PROGRAM)
+        .after_help(PROGRAM_END)
+        .version(VERSION);
     Ok(told.no_binary_name(true).subcommand_required(true))
 }
 

@@ -1,7 +1,8 @@
 //! The words that the program was given.
-ghost use Rattle.std.specs.Prelude.{◌≡◌, ◌≤◌, ℕ, List, IfOk, Err, Some, None, take, OnOk, IfErr, ◌++◌, ◌∷◌, [], map, string_bytes, IfSome};
+ghost use Rattle.std.specs.Prelude.{◌≡◌, ℕ, List, IfOk, Err, Some, None, take, IfErr, ◌∷◌, [], map, string_bytes, IfSome};
 ghost use Rattle.std.specs.Io.{WritesAtMost};
 ghost use Rattle.std.specs.Str.{IsUtf8};
+ghost use Rattle.a429_word.specs.Written.{Gains};
 ghost use Rattle.a429_console.specs.GivenWords.{AreGiven, HasNoText};
 
 use std::alloc::{AllocError, Global};
@@ -87,7 +88,7 @@ pub fn given_words<A: Arguments>(alloc: Global, arguments: &A) -> Result<Vec<Str
 }
 
 fn push_word(words: &mut Vec<String>, word: String) -> Result<(), WordsFault>
-    ensures pushed { OnOk result (words.new.items ≡ words.old.items ++ word ∷ []) }
+    ensures pushed { Gains result words.old.items words.new.items (word ∷ []) }
     ensures memory { IfErr result (λ fault. fault ≡ WordsFault.NoMemory) }
 {
     match words.push(word) {

@@ -1,8 +1,8 @@
 //! What is answered in place of a command: help, and the text of a mistake.
-ghost use Rattle.std.specs.Prelude.{◌≡◌, ◌≢◌, ◌≤◌, ◌+◌, ◌⊎◌, IfOk, IsTrue, OnErr, OnOk};
+ghost use Rattle.std.specs.Prelude.{◌≡◌, ◌≤◌, ◌+◌, ◌⊎◌, IfOk, IsTrue, OnErr, OnOk};
 ghost use Rattle.clap.specs.Words.{kind_of};
 ghost use Rattle.a429_console.specs.Outputs.{CountsFault, HasFailed, IsPut, OrNoMemory};
-ghost use Rattle.a429_console.specs.Usage.{IsHelpReply, IsReplyOfKind, IsUsageReply};
+ghost use Rattle.a429_console.specs.Usage.{ExplainsKind, IsHelpReply, IsMistakeUntold, IsPassedOnUnless, IsWarned, TellsMistake};
 
 use crate::output::endings::{finish, put_whole, refuse_memory};
 use crate::output::{Output, OutputFault};
@@ -19,13 +19,12 @@ pub fn explain<O: Output, V: Output>(
     out: &mut O,
     err: &mut V,
 ) -> Result<u8, OutputFault>
-    ensures replied { IfOk result (IsPut (IsReplyOfKind (V.failures err.old) (V.failures err.new) (kind_of error.now)) (O.contents out.old) (O.contents out.new)) }
+    ensures replied { ExplainsKind O.contents V.failures (kind_of error.now) out.old out.new err.old err.new result }
     ensures faults { CountsFault result (O.failures out.old) (O.failures out.new) }
     ensures status { IfOk result (λ status. status ≤ 2) }
     // Where the status is 0, all was passed on; so it is with status 1, unless a call of `err` failed.
     ensures flushed { IfOk result (λ status. status ≡ 0 → IsTrue (O.is_flushed out.new)) }
-    ensures told { IfOk result (λ status. status ≡ 1
-        → IsTrue (O.is_flushed out.new) ⊎ ((kind_of error.now ≢ ErrorKind.OutOfMemory) × HasFailed (V.failures err.old) (V.failures err.new))) }
+    ensures told { IsPassedOnUnless (IsMistakeUntold V.failures (kind_of error.now) err.old err.new) (O.is_flushed out.new) result }
     ensures warned { IfOk result (λ status. status ≡ 2 → IsTrue (V.is_flushed err.new)) }
     // Nothing is asked of `err` but where it is told of a mistake, nor of `out` there.
     ensures quiet { IfOk result (λ status. status ≡ 0 → err.new ≡ err.old) }
@@ -49,10 +48,10 @@ fn tell_mistake<O: Output, V: Output>(
     out: &mut O,
     err: &mut V,
 ) -> Result<u8, OutputFault>
-    ensures replied { IfOk result (IsPut (OrNoMemory (IsUsageReply (V.failures err.old) (V.failures err.new))) (O.contents out.old) (O.contents out.new)) }
+    ensures replied { TellsMistake O.contents V.failures out.old out.new err.old err.new result }
     ensures faults { CountsFault result (O.failures out.old) (O.failures out.new) }
     ensures status { IfOk result (λ status. (1 ≤ status) × (status ≤ 2)) }
-    ensures told { IfOk result (λ status. status ≡ 1 → IsTrue (O.is_flushed out.new) ⊎ HasFailed (V.failures err.old) (V.failures err.new)) }
+    ensures told { IsPassedOnUnless (HasFailed (V.failures err.old) (V.failures err.new)) (O.is_flushed out.new) result }
     ensures warned { IfOk result (λ status. status ≡ 2 → IsTrue (V.is_flushed err.new)) }
     ensures left { OnErr result (err.new ≡ err.old) }
     ensures silent { IfOk result (λ status. status ≡ 2 → out.new ≡ out.old) }
@@ -68,7 +67,7 @@ fn tell_mistake<O: Output, V: Output>(
 
 /// Writes a text about words that are a mistake. The status is 2, or 1 where the output fails.
 pub fn warn<V: Output>(text: &[u8], err: &mut V) -> u8
-    ensures status { ((result ≡ 2) × (V.failures err.new ≡ V.failures err.old)) ⊎ ((result ≡ 1) × HasFailed (V.failures err.old) (V.failures err.new)) }
+    ensures status { IsWarned (V.failures err.old) (V.failures err.new) result }
     ensures warned { result ≡ 2 → IsTrue (V.is_flushed err.new) }
     ensures once { (V.failures err.new).count ≤ (V.failures err.old).count + 1 }
 {

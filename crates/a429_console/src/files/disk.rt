@@ -2,21 +2,25 @@
 
 use crate::files::{FileFault, FileReader, FileTrouble, LARGEST_FILE};
 use std::fs::File;
+use std::io;
 use std::io::{ErrorKind, Read};
 use std::rt::Files;
-use std::{fs, io};
 
 /// The system's files, by their paths. A missing file, a directory, and a file of more than 16 MiB are
 /// refused; of the latter no more is read than shows it.
 #[derive(Drop)]
 pub struct DiskFiles<'a, R: Files + AllocGlobal> {
     rt: &'a R,
+    trouble: FileTrouble,
 }
 
 impl<'a, R: Files + AllocGlobal> DiskFiles<'a, R> {
     /// The files that this runtime reaches.
     pub fn new(rt: &'a R) -> DiskFiles<'a, R> {
-        DiskFiles { rt }
+        DiskFiles {
+            rt,
+            trouble: FileTrouble::Unknown,
+        }
     }
 }
 
@@ -35,26 +39,37 @@ impl<R: Files + AllocGlobal> FileReader for DiskFiles<'_, R> {
     fn read(&mut self, name: &str) -> Result<Vec<u8>, FileFault> {
         match first_bytes(self.rt, name) {
             Ok(bytes) if bytes.len() <= LARGEST_FILE => Ok(bytes),
-            Ok(_) => Err(FileFault::Refused),
-            Err(error) => match error.kind() {
-                ErrorKind::OutOfMemory => Err(FileFault::NoMemory),
-                _ => Err(FileFault::Refused),
-            },
+            Ok(_) => {
+                self.trouble = FileTrouble::TooLarge;
+                Err(FileFault::Refused)
+            }
+            Err(error) => {
+                self.trouble = trouble_of(error.kind());
+                Err(fault_of(error.kind()))
+            }
         }
     }
 
-    fn look(&mut self, name: &str) -> Result<Vec<u8>, FileTrouble> {
-        match bytes_again(self.rt, name) {
-            Ok(Some(bytes)) if bytes.len() <= LARGEST_FILE => Ok(bytes),
-            Ok(Some(_)) => Err(FileTrouble::TooLarge),
-            Ok(None) => Err(FileTrouble::Unknown),
-            Err(error) => Err(match error.kind() {
-                ErrorKind::NotFound => FileTrouble::Missing,
-                ErrorKind::IsADirectory => FileTrouble::Folder,
-                ErrorKind::PermissionDenied => FileTrouble::Forbidden,
-                _ => FileTrouble::Unknown,
-            }),
-        }
+    fn trouble(&self, _name: &str) -> FileTrouble {
+        self.trouble
+    }
+}
+
+/// The fault of a file that the system refused.
+fn fault_of(kind: ErrorKind) -> FileFault {
+    match kind {
+        ErrorKind::OutOfMemory => FileFault::NoMemory,
+        _ => FileFault::Refused,
+    }
+}
+
+/// Why the system refused a file.
+fn trouble_of(kind: ErrorKind) -> FileTrouble {
+    match kind {
+        ErrorKind::NotFound => FileTrouble::Missing,
+        ErrorKind::IsADirectory => FileTrouble::Folder,
+        ErrorKind::PermissionDenied => FileTrouble::Forbidden,
+        _ => FileTrouble::Unknown,
     }
 }
 
@@ -64,13 +79,4 @@ fn first_bytes<R: Files + AllocGlobal>(rt: &R, name: &str) -> io::Result<Vec<u8>
     let mut bytes = Vec::new(rt.alloc());
     file.take(LARGEST_FILE as u64 + 1).read_to_end(&mut bytes)?;
     Ok(bytes)
-}
-
-/// The same; None where the file gives its bytes only once, as a pipe does.
-fn bytes_again<R: Files + AllocGlobal>(rt: &R, name: &str) -> io::Result<Option<Vec<u8>>> {
-    let metadata = fs::metadata(rt, name)?;
-    if !metadata.is_file() && !metadata.is_dir() {
-        return Ok(None);
-    }
-    Ok(Some(first_bytes(rt, name)?))
 }

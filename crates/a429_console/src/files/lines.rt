@@ -1,8 +1,6 @@
 //! Files with one thing a line.
-ghost use Rattle.std.specs.Prelude.{◌≡◌, ◌<◌, ℕ, List, Option, Ok, Err, IfOk, IfSome, MatchResult, length, option_map};
-ghost use Rattle.a429_console.specs.Lines.{entries_of, first_entry};
-ghost use Rattle.a429_console.specs.declared.files.lines.LinesFault.{LinesFault};
-ghost use Rattle.a429_console.specs.declared.files.lines.LinesFault.TheVariants as fault;
+ghost use Rattle.std.specs.Prelude.{◌≡◌, ◌<◌, ℕ, List, Option, Ok, Err, IfSome, length, option_map};
+ghost use Rattle.a429_console.specs.Lines.{ChecksLines, ReadsLines, first_entry};
 
 use crate::texts::cut_at;
 use std::alloc::{AllocFailed, Global};
@@ -59,8 +57,7 @@ pub fn first_entry<'a, F: LineForm>(form: &F, text: &'a [u8]) -> Option<(F::Entr
 
 /// Checks that each line of a text has the form. The error is the number of the first faulty line, from 1.
 pub fn check_lines<F: LineForm>(form: &F, text: &[u8]) -> Result<(), usize>
-    ensures { MatchResult result (λ _. (entries : List F.Entry) × (entries_of (F.states form.now) text.now ≡ Ok entries))
-        (λ n. entries_of (F.states form.now) text.now ≡ Err n) }
+    ensures { ChecksLines (F.states form.now) text.now result }
 {
     let mut lines = 0;
     let mut left = text;
@@ -80,8 +77,7 @@ pub fn read_lines<F: LineForm>(
     form: &F,
     text: &[u8],
 ) -> Result<Vec<F::Entry>, LinesFault>
-    ensures { MatchResult result (λ entries. entries_of (F.states form.now) text.now ≡ Ok entries.items)
-        (λ e. (n : ℕ) → e ≡ fault.Line n → entries_of (F.states form.now) text.now ≡ Err n) }
+    ensures { ReadsLines (F.states form.now) text.now result }
 {
     let mut entries = Vec::new(alloc);
     let mut left = text;

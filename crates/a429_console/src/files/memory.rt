@@ -34,11 +34,11 @@ impl FileReader for MemoryFiles {
         }
     }
 
-    fn look(&mut self, name: &str) -> Result<Vec<u8>, FileTrouble> {
+    fn trouble(&self, name: &str) -> FileTrouble {
         match find_file(&self.files, name) {
-            None => Err(FileTrouble::Missing),
-            Some(bytes) if bytes.len() > LARGEST_FILE => Err(FileTrouble::TooLarge),
-            Some(bytes) => bytes.clone().map_err(|_| FileTrouble::Unknown),
+            None => FileTrouble::Missing,
+            Some(bytes) if bytes.len() > LARGEST_FILE => FileTrouble::TooLarge,
+            Some(_) => FileTrouble::Unknown,
         }
     }
 }

@@ -5,6 +5,7 @@ ghost use Rattle.a429_console.specs.Readings.{HasRead, IsAnswerOf, answer_of};
 ghost use Rattle.a429_console.specs.FileReadings.{AreReadings, IsReading, printable_char, printable_name};
 
 use crate::files::{FileFault, FileReader, LARGEST_FILE};
+use crate::hints::Seen;
 use crate::refusals::CommandRefusal;
 use std::alloc::{AllocError, Global};
 
@@ -46,10 +47,12 @@ pub fn read_file<F: FileReader>(
     alloc: Global,
     files: &mut F,
     name: &str,
+    seen: &mut Seen,
 ) -> Result<Vec<u8>, CommandRefusal>
     ensures { HasRead F.answers (λ file. IsReading file name.now result) files.old files.new }
 {
     let answer = files.read(name);
+    seen.trouble = files.trouble(name);
     bytes_of_answer(alloc, name, answer)
 }
 
@@ -58,12 +61,13 @@ pub fn read_files<F: FileReader>(
     alloc: Global,
     files: &mut F,
     names: &[&str],
+    seen: &mut Seen,
 ) -> Result<Vec<Vec<u8>>, CommandRefusal>
     ensures { HasRead F.answers (λ file. AreReadings file (texts_of names.now) result) files.old files.new }
 {
     let mut all = Vec::new(alloc);
     for name in names {
-        all.push(read_file(alloc, files, name)?)?;
+        all.push(read_file(alloc, files, name, seen)?)?;
     }
     Ok(all)
 }

@@ -5,8 +5,18 @@ ghost use Rattle.a429_console.specs.Outputs.{CountsFault, NoneFailed, ending, fa
 
 use crate::output::{Output, OutputFault};
 
-/// The line that says that memory was refused: putting it takes none.
-const MEMORY_REFUSED: &[u8] = b"refused memory\n";
+/// The words that say that memory was refused, with an ending.
+macro_rules! refused_memory {
+    ($ending:literal) => {
+        concat!("refused memory", $ending)
+    };
+}
+
+/// The text of the refusal of memory.
+pub const REFUSED_MEMORY: &str = refused_memory!("");
+
+/// Its line: a constant, since to put it must take no memory.
+const REFUSED_MEMORY_LINE: &str = refused_memory!("\n");
 
 /// What a person is told where the output failed.
 const OUTPUT_FAILED: &[u8] = b"a429: standard output failed\n";
@@ -39,7 +49,7 @@ pub fn refuse_memory<O: Output>(out: &mut O) -> Result<u8, OutputFault>
     ensures flushed { OnOk result (IsTrue (O.is_flushed out.new)) }
     ensures faults { CountsFault result (O.failures out.old) (O.failures out.new) }
 {
-    put_refused(MEMORY_REFUSED, out)
+    put_refused(REFUSED_MEMORY_LINE.as_bytes(), out)
 }
 
 /// Puts the lines that are left, and behind them, where memory did not suffice for all, the one that says so.

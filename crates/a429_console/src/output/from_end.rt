@@ -1,6 +1,7 @@
 //! Short lines, written from their end into a room on the stack: so each is appended whole, or not at all.
-ghost use Rattle.std.specs.Prelude.{◌≡◌, ◌+◌, ◌<◌, ◌≤◌, ◌++◌, ◌∷◌, [], drop, length, OnOk, OnErr};
+ghost use Rattle.std.specs.Prelude.{◌≡◌, ◌+◌, ◌<◌, ◌≤◌, ◌++◌, ◌∷◌, [], drop, length, OnErr};
 ghost use Rattle.std.specs.Fmt.{decimal};
+ghost use Rattle.a429_word.specs.Written.{Gains};
 ghost use Rattle.a429_word.specs.Hexadecimal.{hex};
 ghost use Rattle.a429_console.specs.Nibbles.{nibble};
 
@@ -67,7 +68,7 @@ pub fn put_decimal(room: &mut [u8], end: usize, number: u64) -> usize
 /// Appends a line of a short text and a number. Where memory is refused, nothing is appended.
 pub fn push_number(text: &mut Vec<u8>, before: &[u8], number: u64) -> Result<(), AllocError>
     requires { length before.now ≤ 32 }
-    ensures line { OnOk result (text.new.items ≡ text.old.items ++ before.now ++ decimal number ++ 10 ∷ []) }
+    ensures line { Gains result text.old.items text.new.items (before.now ++ decimal number ++ 10 ∷ []) }
     ensures kept { OnErr result (text.new.items ≡ text.old.items) }
 {
     let mut room = [0u8; ROOM];
@@ -80,7 +81,7 @@ pub fn push_number(text: &mut Vec<u8>, before: &[u8], number: u64) -> Result<(),
 /// Appends a line of a short text and a raw word. Where memory is refused, nothing is appended.
 pub fn push_hex(text: &mut Vec<u8>, before: &[u8], raw: u32) -> Result<(), AllocError>
     requires { length before.now ≤ 32 }
-    ensures line { OnOk result (text.new.items ≡ text.old.items ++ before.now ++ hex raw ++ 10 ∷ []) }
+    ensures line { Gains result text.old.items text.new.items (before.now ++ hex raw ++ 10 ∷ []) }
     ensures kept { OnErr result (text.new.items ≡ text.old.items) }
 {
     let mut room = [0u8; ROOM];

@@ -7,29 +7,39 @@ ghost use Rattle.a429_console.specs.RefusalText.{OrMemory};
 ghost use Rattle.a429_console.specs.Tables.{IsGroupRefusal, IsProposedBy, IsTableFault, IsTableRefusal, IsPlanRefusal, IsUnfitNamed};
 
 use crate::files::reading::printable_name;
+use crate::hints::{Looks, Seen};
 use crate::refusals::CommandRefusal;
 use crate::refusals::names::{group_name, source_name};
 use a429_equipment::Equipment;
 use a429_slots::{NoProposal, OUTPUTS, PlanFault, Proposal};
-use a429_table::{TableFault, read_equipment};
+use a429_table::{TableFault, read_or_keep};
 use std::alloc::Global;
 
-/// The proposal of a table's bytes. Refused is the table's fault, or else the first fault of its plan.
-pub fn propose(alloc: Global, table: &[u8]) -> Result<Proposal<OUTPUTS>, CommandRefusal>
+/// The proposal of a table's bytes. The refusal is the table's fault, or else the first fault of its plan.
+pub fn propose(
+    alloc: Global,
+    table: &[u8],
+    seen: &mut Seen,
+) -> Result<Proposal<OUTPUTS>, CommandRefusal>
     ensures { MatchResult result (IsProposedBy table.now) (OrMemory (IsTableRefusal table.now)) }
 {
-    let equipment = read_table(alloc, table)?;
+    let equipment = read_table(alloc, table, seen)?;
     match Proposal::of(alloc, equipment) {
         Ok(proposal) => Ok(proposal),
-        Err(none) => Err(plan_refusal(alloc, &none)),
+        Err(none) => {
+            let refusal = plan_refusal(alloc, &none);
+            seen.equipment = Some(none.equipment);
+            Err(refusal)
+        }
     }
 }
 
-/// The equipment of a table's bytes. Refused is the table's fault.
-pub fn read_table(alloc: Global, table: &[u8]) -> Result<Equipment, CommandRefusal>
+/// The equipment of a table's bytes. The refusal is the table's fault.
+pub fn read_table(alloc: Global, table: &[u8], seen: &mut Seen) -> Result<Equipment, CommandRefusal>
     ensures { MatchResult result (λ t. reading table.now ≡ Ok t) (OrMemory (IsTableFault table.now)) }
 {
-    match read_equipment(alloc, table) {
+    seen.looks = Looks::of(table);
+    match read_or_keep(alloc, table, &mut seen.document) {
         Ok(equipment) => Ok(equipment),
         Err(TableFault::NoMemory) => Err(CommandRefusal::Memory),
         Err(TableFault::At(kind, place)) => Err(CommandRefusal::Table(kind, place)),
@@ -62,7 +72,8 @@ pub fn unfit(alloc: Global, equipment: &Equipment, group: usize, output: usize) 
     }
 }
 
-fn too_many_buses(
+/// The refusal of a group that needs too many buses, by its name.
+pub fn too_many_buses(
     alloc: Global,
     equipment: &Equipment,
     group: usize,

@@ -1,7 +1,8 @@
 //! The rows of an image: a bus each, with its load and its cells.
-ghost use Rattle.std.specs.Prelude.{◌≡◌, ◌++◌, ◌≤◌, ◌<◌, ◌+◌, string_bytes, OnOk};
+ghost use Rattle.std.specs.Prelude.{◌≡◌, ◌≤◌, ◌<◌, ◌+◌};
 ghost use Rattle.std.specs.Int.{div_ceil};
 ghost use Rattle.std.specs.List.{flat_map, range_with_len};
+ghost use Rattle.a429_word.specs.Written.{Writes};
 ghost use Rattle.a429_slots.specs.Tables.{buses_of, frame_of};
 ghost use Rattle.a429_documents.specs.Drawing.{bus_text, cell_text, filled_on, folds_of, load_of, load_text, mark_text, row_text, stripe_text};
 
@@ -15,7 +16,7 @@ use std::fmt::Write;
 fn write_mark(text: &mut String, buses: u32, mark: u32) -> Result<(), AllocError>
     requires buses { buses ≤ 16 }
     requires mark { mark < 1024 }
-    ensures { OnOk result (string_bytes text.new ≡ string_bytes text.old ++ mark_text buses mark) }
+    ensures { Writes result text.old text.new (mark_text buses mark) }
 {
     let slot = 8 * mark;
     let left = slot_left(slot);
@@ -30,7 +31,7 @@ fn write_mark(text: &mut String, buses: u32, mark: u32) -> Result<(), AllocError
 pub(crate) fn write_marks(text: &mut String, buses: u32, slots: u32) -> Result<(), AllocError>
     requires buses { buses ≤ 16 }
     requires slots { slots ≤ 8192 }
-    ensures { OnOk result (string_bytes text.new ≡ string_bytes text.old ++ flat_map (mark_text buses) (range_with_len 0 (div_ceil slots 8))) }
+    ensures { Writes result text.old text.new (flat_map (mark_text buses) (range_with_len 0 (div_ceil slots 8))) }
 {
     for mark in 0..slots.div_ceil(8) {
         write_mark(text, buses, mark)?;
@@ -62,14 +63,14 @@ fn load_of(table: &GroupPlan<OUTPUTS>, bus: u32) -> u32
 
 /// Writes a bus and its load in per cent.
 fn write_load(text: &mut String, base: u32, bus: u32, load: u32) -> Result<(), AllocError>
-    ensures { OnOk result (string_bytes text.new ≡ string_bytes text.old ++ load_text base bus load) }
+    ensures { Writes result text.old text.new (load_text base bus load) }
 {
     writeln!(text, "<text x='8' y='{base}'>bus {bus} {load} %</text>")
 }
 
 /// Writes a stripe, on which cells stand.
 fn write_stripe(text: &mut String, top: u32, width: u32) -> Result<(), AllocError>
-    ensures { OnOk result (string_bytes text.new ≡ string_bytes text.old ++ stripe_text top width) }
+    ensures { Writes result text.old text.new (stripe_text top width) }
 {
     writeln!(
         text,
@@ -89,7 +90,7 @@ fn write_row(
     requires buses { buses ≤ 16 }
     requires bus { bus < buses }
     requires fold { fold ≤ 128 }
-    ensures { OnOk result (string_bytes text.new ≡ string_bytes text.old ++ row_text buses slots bus load fold) }
+    ensures { Writes result text.old text.new (row_text buses slots bus load fold) }
 {
     let top = row_top(buses, fold, bus);
     let width = 16 * FOLD.min(slots.saturating_sub(FOLD * fold));
@@ -108,7 +109,7 @@ fn write_rows(
     requires buses { buses ≤ 16 }
     requires bus { bus < buses }
     requires slots { slots ≤ 8192 }
-    ensures { OnOk result (string_bytes text.new ≡ string_bytes text.old ++ flat_map (row_text buses slots bus load) (range_with_len 0 (folds_of slots))) }
+    ensures { Writes result text.old text.new (flat_map (row_text buses slots bus load) (range_with_len 0 (folds_of slots))) }
 {
     for fold in 0..slots.div_ceil(FOLD) {
         write_row(text, buses, slots, bus, load, fold)?;
@@ -126,7 +127,7 @@ fn write_cell(
 ) -> Result<(), AllocError>
     requires bus { bus < buses_of table.now }
     requires slot { slot < 8192 }
-    ensures { OnOk result (string_bytes text.new ≡ string_bytes text.old ++ cell_text group table.now bus slot) }
+    ensures { Writes result text.old text.new (cell_text group table.now bus slot) }
 {
     let Some(output) = table.at(bus, u64::from(slot)) else {
         return Ok(());
@@ -145,7 +146,7 @@ fn write_cells(
 ) -> Result<(), AllocError>
     requires bus { bus < buses_of table.now }
     requires slots { slots ≤ 8192 }
-    ensures { OnOk result (string_bytes text.new ≡ string_bytes text.old ++ flat_map (cell_text group table.now bus) (range_with_len 0 slots)) }
+    ensures { Writes result text.old text.new (flat_map (cell_text group table.now bus) (range_with_len 0 slots)) }
 {
     for slot in 0..slots {
         write_cell(text, group, table, bus, slot)?;
@@ -163,7 +164,7 @@ fn write_bus(
 ) -> Result<(), AllocError>
     requires bus { bus < buses_of table.now }
     requires slots { slots ≤ 8192 }
-    ensures { OnOk result (string_bytes text.new ≡ string_bytes text.old ++ bus_text group table.now slots bus) }
+    ensures { Writes result text.old text.new (bus_text group table.now slots bus) }
 {
     write_rows(text, table.buses(), slots, bus, load_of(table, bus))?;
     write_cells(text, group, table, slots, bus)
@@ -177,7 +178,7 @@ pub(crate) fn write_buses(
     slots: u32,
 ) -> Result<(), AllocError>
     requires slots { slots ≤ 8192 }
-    ensures { OnOk result (string_bytes text.new ≡ string_bytes text.old ++ flat_map (bus_text group table.now slots) (range_with_len 0 (buses_of table.now))) }
+    ensures { Writes result text.old text.new (flat_map (bus_text group table.now slots) (range_with_len 0 (buses_of table.now))) }
 {
     for bus in 0..table.buses() {
         write_bus(text, group, table, slots, bus)?;

@@ -1,6 +1,7 @@
 //! The outputs of a group in an image: their shapes and the legend.
-ghost use Rattle.std.specs.Prelude.{◌≡◌, ◌++◌, ◌≤◌, ◌<◌, ◌+◌, length, string_bytes, IfSome, OnOk};
+ghost use Rattle.std.specs.Prelude.{◌≤◌, ◌<◌, ◌+◌, length, IfSome};
 ghost use Rattle.std.specs.List.{flat_map};
+ghost use Rattle.a429_word.specs.Written.{Writes};
 ghost use Rattle.a429_slots.specs.Tables.{outputs_of, source_of};
 ghost use Rattle.a429_documents.specs.Drawing.{entry_text, ground_text, label_text, legend_text, numbers_of, output_legend, output_shape, shape_name_text, shape_text, shapes_text, used_text};
 ghost use Rattle.a429_cert.specs.PlanText.{HasSources};
@@ -19,14 +20,14 @@ fn write_shape_name(
     output: usize,
     name: &str,
 ) -> Result<(), AllocError>
-    ensures { OnOk result (string_bytes text.new ≡ string_bytes text.old ++ shape_name_text group output name.now) }
+    ensures { Writes result text.old text.new (shape_name_text group output name.now) }
 {
     writeln!(text, "<g id='o{group}-{output}'><title>{name}</title>")
 }
 
 /// Writes the ground of a shape, in a colour of this hue.
 fn write_ground(text: &mut String, hue: usize) -> Result<(), AllocError>
-    ensures { OnOk result (string_bytes text.new ≡ string_bytes text.old ++ ground_text hue) }
+    ensures { Writes result text.old text.new (ground_text hue) }
 {
     writeln!(
         text,
@@ -36,7 +37,7 @@ fn write_ground(text: &mut String, hue: usize) -> Result<(), AllocError>
 
 /// Ends a shape with a label.
 fn write_label(text: &mut String, label: Label) -> Result<(), AllocError>
-    ensures { OnOk result (string_bytes text.new ≡ string_bytes text.old ++ label_text label) }
+    ensures { Writes result text.old text.new (label_text label) }
 {
     writeln!(
         text,
@@ -52,7 +53,7 @@ fn write_shape(
     source: &SourceRow,
 ) -> Result<(), AllocError>
     requires { output < 128 }
-    ensures { OnOk result (string_bytes text.new ≡ string_bytes text.old ++ shape_text group output source.now) }
+    ensures { Writes result text.old text.new (shape_text group output source.now) }
 {
     write_shape_name(text, group, output, source.name.as_str())?;
     write_ground(text, output * 137 % 360)?;
@@ -70,7 +71,7 @@ fn write_output_shape(
     requires known { output < length (outputs_of table.now) }
     requires few { output < 128 }
     requires source { IfSome (source_of table.now output) (λ source. source < length sources.now) }
-    ensures { OnOk result (string_bytes text.new ≡ string_bytes text.old ++ output_shape sources.now group table.now output) }
+    ensures { Writes result text.old text.new (output_shape sources.now group table.now output) }
 {
     let source = &sources[table.source(output)];
     write_shape(text, group, output.number(), source)
@@ -84,7 +85,7 @@ fn write_each_shape(
     table: &GroupPlan<OUTPUTS>,
 ) -> Result<(), AllocError>
     requires known { HasSources sources.now table.now }
-    ensures { OnOk result (string_bytes text.new ≡ string_bytes text.old ++ flat_map (output_shape sources.now group table.now) (numbers_of table.now)) }
+    ensures { Writes result text.old text.new (flat_map (output_shape sources.now group table.now) (numbers_of table.now)) }
 {
     for output in 0..table.outputs() {
         let output = OutputId::new(output);
@@ -101,7 +102,7 @@ pub(crate) fn write_shapes(
     table: &GroupPlan<OUTPUTS>,
 ) -> Result<(), AllocError>
     requires known { HasSources sources.now table.now }
-    ensures { OnOk result (string_bytes text.new ≡ string_bytes text.old ++ shapes_text sources.now group table.now) }
+    ensures { Writes result text.old text.new (shapes_text sources.now group table.now) }
 {
     writeln!(text, "<defs>")?;
     write_each_shape(text, sources, group, table)?;
@@ -116,7 +117,7 @@ pub(crate) fn write_used(
     left: u32,
     top: u32,
 ) -> Result<(), AllocError>
-    ensures { OnOk result (string_bytes text.new ≡ string_bytes text.old ++ used_text group output left top) }
+    ensures { Writes result text.old text.new (used_text group output left top) }
 {
     writeln!(
         text,
@@ -132,7 +133,7 @@ fn write_entry(
     source: &SourceRow,
     slots: u32,
 ) -> Result<(), AllocError>
-    ensures { OnOk result (string_bytes text.new ≡ string_bytes text.old ++ entry_text left base source.now slots) }
+    ensures { Writes result text.old text.new (entry_text left base source.now slots) }
 {
     let name = source.name.as_str();
     let label = source.label;
@@ -151,7 +152,7 @@ fn write_legend(
 ) -> Result<(), AllocError>
     requires output { output < 128 }
     requires top { top ≤ 50000 }
-    ensures { OnOk result (string_bytes text.new ≡ string_bytes text.old ++ legend_text group output top source.now slots) }
+    ensures { Writes result text.old text.new (legend_text group output top source.now slots) }
 {
     let number = output as u32;
     let left = 8 + 280 * (number % 4);
@@ -173,7 +174,7 @@ fn write_output_legend(
     requires known { output < length (outputs_of table.now) }
     requires few { output < 128 }
     requires source { IfSome (source_of table.now output) (λ source. source < length sources.now) }
-    ensures { OnOk result (string_bytes text.new ≡ string_bytes text.old ++ output_legend sources.now slots group table.now output) }
+    ensures { Writes result text.old text.new (output_legend sources.now slots group table.now output) }
 {
     let source = &sources[table.source(output)];
     let period = table.place(output).period;
@@ -191,7 +192,7 @@ pub(crate) fn write_legends(
 ) -> Result<(), AllocError>
     requires known { HasSources sources.now table.now }
     requires slots { slots ≤ 8192 }
-    ensures { OnOk result (string_bytes text.new ≡ string_bytes text.old ++ flat_map (output_legend sources.now slots group table.now) (numbers_of table.now)) }
+    ensures { Writes result text.old text.new (flat_map (output_legend sources.now slots group table.now) (numbers_of table.now)) }
 {
     for output in 0..table.outputs() {
         let output = OutputId::new(output);

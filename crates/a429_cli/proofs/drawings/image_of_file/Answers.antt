@@ -26,7 +26,7 @@ returns g c =
     let q = c.in_ok-proposal.proposal in
     let proposed = subst (λ (t : List ℕ). IsProposedBy t q) c.deref.ensures.value c.in_ok-proposal.ensures in
     read_weaker c.in_ok-table.ensures (λ file read.
-    matched_both c.image_of.result (λ text. IsImage q group c.args.slots text.items) (λ text. IsImageOf file name group c.args.slots text.items) (OrMemory (IsNoGroup q.station.groups group)) (OrMemory (IsNoImage file name group))
+    matched_both c.image_of-image.result (λ text. IsImage q group c.args.slots text.items) (λ text. IsImageOf file name group c.args.slots text.items) (OrMemory (IsNoGroup q.station.groups group)) (OrMemory (IsNoImage file name group))
     (λ text is. (table, q, read, proposed, is))
     (λ e bad. or_memory_weaker (IsNoGroup q.station.groups group) (IsNoImage file name group) e (λ one. inr (table, q, read, proposed, one)) bad)
-    c.image_of.ensures)
+    c.image_of-image.ensures)

@@ -3,7 +3,8 @@ use Rattle.std.proofs.Common.{◌∙◌, ◌∷◌, [], ap, inl, inr}
 use Rattle.std.specs.Prelude.{Err}
 use Rattle.std.proofs.lemmas.Result.{err_from_is_err_and}
 use Rattle.a429_console.specs.FileReadings.{AreRead, IsFileRefusal}
-use Rattle.a429_cli.specs.PlanReplies.{IsJudged, IsNoVerdict, IsUnjudged, IsVerdictOf}
+use Rattle.a429_cert.specs.Judged.{IsVerdictOnBytes}
+use Rattle.a429_cli.specs.PlanReplies.{IsNoVerdict, IsUnjudged, IsVerdictOf}
 use Rattle.a429_console.specs.RefusalText.{OrMemory}
 use Rattle.a429_console.proofs.Refused.{failed, matched_both, or_memory_weaker}
 use Rattle.a429_cli.proofs.plan_texts.verdict_on_files.Goals as goal
@@ -31,10 +32,10 @@ pub returns : goal.returns
 returns g c =
     let table = c.in_ok-table.table.items in
     let text = c.in_ok-text.text.items in
-    let judged = rw (c.deref.ensures.value, c.deref-2.ensures.value) at c.verdict_on.ensures in
+    let judged = rw (c.deref.ensures.value, c.deref-2.ensures.value) at c.verdict_on-verdict.ensures in
     read_then c.in_ok-table.ensures c.in_ok-text.ensures (λ file first second.
     let read : AreRead file (c.args.table.now ∷ c.args.plan.now ∷ []) (table ∷ text ∷ []) = (first, (second, tt)) in
-    matched_both c.verdict_on.result (IsJudged table text) (IsVerdictOf file c.args.table.now c.args.plan.now) (OrMemory (IsUnjudged table)) (OrMemory (IsNoVerdict file c.args.table.now c.args.plan.now))
+    matched_both c.verdict_on-verdict.result (IsVerdictOnBytes table text) (IsVerdictOf file c.args.table.now c.args.plan.now) (OrMemory (IsUnjudged table)) (OrMemory (IsNoVerdict file c.args.table.now c.args.plan.now))
     (λ v is. (table, text, read, is))
     (λ e bad. or_memory_weaker (IsUnjudged table) (IsNoVerdict file c.args.table.now c.args.plan.now) e (λ one. inr (table, text, read, one)) bad)
     judged)

@@ -19,15 +19,15 @@ returns-clause-played g c =
     let all = c.in_ok-sufficed.sufficed in
     let script : script_events c.args.station.names (length c.deref.result.now) c.deref-2.result.now ≡ Ok events =
     rw (opened.0, c.deref.ensures.value, c.deref-2.ensures.value) start.events_are in
-    let was = c.in_ok-sufficed.ensures.played events script o [] opened.1 in
-    let kept = rw c.new-lines.ensures at was.4 in
+    let (n, E, lines, told, appended, every) = c.in_ok-sufficed.ensures.played events script o [] opened.1 in
+    let kept = rw c.new-lines.ensures at appended in
     let sent = rw c.deref-3.ensures.value at put in
-    let played : Played o (naming_of q.station).sources i.further [] (take was.0 events) was.1 was.2 =
-    subst (λ (names : List (List ℕ)). Played o names i.further [] (take was.0 events) was.1 was.2) (ap (λ (n : Naming). n.sources) opened.0)
-    (subst (λ (ts : List (List ℕ)). Played o c.args.station.names.sources ts [] (take was.0 events) was.1 was.2) c.deref.ensures.value was.3) in
-    let bytes = was.2 ++ ending all in (
+    let played : Played o (naming_of q.station).sources i.further [] (take n events) E lines =
+    subst (λ (names : List (List ℕ)). Played o names i.further [] (take n events) E lines) (ap (λ (n : Naming). n.sources) opened.0)
+    (subst (λ (ts : List (List ℕ)). Played o c.args.station.names.sources ts [] (take n events) E lines) c.deref.ensures.value told) in
+    let bytes = lines ++ ending all in (
       bytes,
-      subst (λ (n : ℕ). IsOutcome i q events n bytes) (sym is) (played_ended i q events was.0 was.2 all (was.1, played) was.5),
-      Appends-ended (g.O.Output.contents c.args.out.now) _ _ c.play_all.new.lines.text.items was.2 (ending all) kept sent,
+      subst (λ (n : ℕ). IsOutcome i q events n bytes) (sym is) (played_ended i q events n lines all (E, played) every),
+      Appends-ended (g.O.Output.contents c.args.out.now) _ _ c.play_all.new.lines.text.items lines (ending all) kept sent,
     ))
     c.finish.ensures.status c.finish.ensures.put

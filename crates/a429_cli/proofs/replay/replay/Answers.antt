@@ -19,10 +19,10 @@ returns-in-Err-clause-replayed g c = read_weaker c.in-Err.ensures (λ file bad.
 
 pub returns-in-Ok-prepare-clause-replayed : goal.returns-in-Ok-prepare-clause-replayed
 returns-in-Ok-prepare-clause-replayed g c =
-    let p = c.in-Ok-prepare.ensures in
+    let (q, events, start, opened) = c.in-Ok-prepare.ensures in
     read_weaker c.in-Ok.ensures (λ file read. IfOk-weaker c.play_prepared.result _ _ (λ status played.
-    let was = played p.0 p.1 p.2 p.3 in
-    (was.0, inr (input_of c.in-Ok.input, p.0, p.1, read, p.2, was.1), was.2))
+    let was = played q events start opened in
+    (was.0, inr (input_of c.in-Ok.input, q, events, read, start, was.1), was.2))
     c.play_prepared.ensures.played)
 
 pub returns-clause-replayed : goal.returns-clause-replayed

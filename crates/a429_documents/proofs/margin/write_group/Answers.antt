@@ -2,7 +2,7 @@ use Rattle.std.proofs.Common.{◌≡◌, ◌++◌, ◌-◌, ◌*◌, ◌∙◌, 
 use Rattle.std.specs.Prelude.{sum}
 use Rattle.std.proofs.lemmas.Result.{IfOk-weaker}
 use Rattle.a429_pack.specs.Windows.{raw_bound}
-use Rattle.a429_slots.specs.Tables.{buses_of, cells_of, frame_of}
+use Rattle.a429_slots.specs.Tables.{buses_of, cells_of, demands_of, frame_of}
 use Rattle.a429_cert.specs.Spelling.{group_text}
 use Rattle.a429_cert.specs.PlanText.{heading_of}
 use Rattle.a429_documents.specs.Margins.{cells_text, excess_text, group_margin, no_choice_text, outputs_margin, raw_text, window_of}
@@ -35,16 +35,16 @@ returns c =
     let room : c.buses-buses.result * c.frame-frame.result ≡ cells_of t = ap₂ (λ (b f : ℕ). b * f) c.buses-buses.ensures.value c.frame-frame.ensures.value in
     let others : c.saturating_sub.result * c.frame-frame.result ≡ (buses_of t - 1) * frame_of t =
     ap₂ (λ (b f : ℕ). b * f) (c.saturating_sub.ensures ∙ ap (λ (b : ℕ). b - 1) c.buses-buses.ensures.value) c.frame-frame.ensures.value in
-    let over : c.demand-demand.result - c.saturating_sub.result * c.frame-frame.result ≡ sum t.demands - (buses_of t - 1) * frame_of t = ap₂ (λ (d o : ℕ). d - o) c.demand-demand.ensures others in
-    let cells : string_bytes c.write_cells.new.text ≡ string_bytes c.write_heading.new.text ++ cells_text (sum t.demands) (cells_of t) =
+    let over : c.demand-demand.result - c.saturating_sub.result * c.frame-frame.result ≡ sum (demands_of t) - (buses_of t - 1) * frame_of t = ap₂ (λ (d o : ℕ). d - o) c.demand-demand.ensures others in
+    let cells : string_bytes c.write_cells.new.text ≡ string_bytes c.write_heading.new.text ++ cells_text (sum (demands_of t)) (cells_of t) =
     c.in_ok-write_cells.ensures ∙ ap₂ (λ (d r : ℕ). string_bytes c.write_heading.new.text ++ cells_text d r) c.demand-demand.ensures room in
-    let excess : string_bytes c.write_excess.new.text ≡ string_bytes c.write_cells.new.text ++ excess_text (sum t.demands - (buses_of t - 1) * frame_of t) =
+    let excess : string_bytes c.write_excess.new.text ≡ string_bytes c.write_cells.new.text ++ excess_text (sum (demands_of t) - (buses_of t - 1) * frame_of t) =
     c.in_ok-write_excess.ensures ∙ ap (λ (x : ℕ). string_bytes c.write_cells.new.text ++ excess_text x) over in
     IfOk-weaker c.write_bound.result _ _ (λ _ last. (
       group_margin sources c.args.group.now c.args.rows.now t told.0,
       (told.0, told.1, refl),
       pieces (string_bytes c.args.text.now) (string_bytes c.write_heading.new.text) (string_bytes c.write_cells.new.text) (string_bytes c.write_excess.new.text) (string_bytes c.write_choice.new.text) (string_bytes c.write_bound.new.text)
-          (group_text (heading_of 1 c.args.group.now t)) (cells_text (sum t.demands) (cells_of t)) (excess_text (sum t.demands - (buses_of t - 1) * frame_of t)) (no_choice_text told.0) (outputs_margin sources rate t told.0)
+          (group_text (heading_of 1 c.args.group.now t)) (cells_text (sum (demands_of t)) (cells_of t)) (excess_text (sum (demands_of t) - (buses_of t - 1) * frame_of t)) (no_choice_text told.0) (outputs_margin sources rate t told.0)
           (raw_text (raw_bound (map (window_of rate) c.args.rows.now)) (buses_of t))
           c.in_ok-write_heading.ensures cells excess told.2 (last ∙ ap (λ (b : ℕ). string_bytes c.write_choice.new.text ++ raw_text (raw_bound (map (window_of rate) c.args.rows.now)) b) c.buses-buses.ensures.value),
     ))

@@ -24,8 +24,7 @@ loop-place-preserved c = λ begin end zero all.
     let at' = drop_more answers i answer (ltb-true i (length answers) (sym look.0)) ∙ ap (λ x. x ∷ drop (i + 1) answers) (sym look.1) in
     let room : i + 1 < 2 ^ 64 = search rules in
     one_told begin end further answers i table answer c.args.text.now.items mid new at at' room
-    (λ v w A few. subst (λ (bytes : List ℕ). IsAppended v w bytes mid new) c.deref.ensures.value
-    (c.in_ok-push_resubmitted.ensures v w (subst (λ (bytes : List ℕ). IsAnswer v bytes answer w) (sym c.deref.ensures.value) A) few))
+    (λ v w A few. c.in_ok-push_resubmitted.ensures v w table.items A few)
     (c.loop-place.invariant begin end zero all)
 
 pub returns-in_default : goal.returns-in_default

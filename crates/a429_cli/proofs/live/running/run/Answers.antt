@@ -1,18 +1,20 @@
 use Rattle.std.proofs.Common.{◌≡◌, ◌∙◌, ℕ, List, length, rules, subst, sym}
-use Rattle.std.specs.Prelude.{⊤, Option}
+use Rattle.std.specs.Prelude.{⊤, None, Option, Some}
 use Rattle.std.specs.declared.vec.Vec.{Vec}
 use Rattle.std.specs.declared.alloc.Global.{Global}
-use Rattle.a429_filter.specs.Sources.{Memory, all_given}
+use Rattle.a429_filter.specs.Sources.{Memory, SourceAnswer, all_given}
+use Rattle.a429_workers.specs.declared.cells.Sent.{Sent}
 use Rattle.a429_workers.specs.declared.gates.Point.{Point}
-use Rattle.a429_station.specs.Course.{IsHeardIn}
+use Rattle.a429_station.specs.Course.{IsHeardIn, asked}
 use Rattle.a429_station.specs.Faults.{IsLiveFault}
 use Rattle.a429_station.specs.Numbered.{AllOfThree}
 use Rattle.a429_console.specs.Files.{bytes_of}
 use Rattle.a429_cli.specs.LiveReplies.{AreSentWhole, IsReport, IsRunRefusal, IsRunReport}
+use Rattle.a429_cli.specs.declared.live.control.Answer.{Answer}
 use Rattle.a429_cli.specs.Resubmitted.{AreAnswers}
 use Rattle.a429_console.specs.RefusalText.{OrMemory}
 use Rattle.a429_console.specs.declared.refusals.CommandRefusal.{CommandRefusal}
-use Rattle.a429_cli.proofs.LiveRefusals.{lines_of, refusal_told}
+use Rattle.a429_cli.proofs.LiveRefusals.{lines_of, memory_lines, never_shut, refusal_told, sure_sinks}
 use Rattle.a429_cli.proofs.LiveRuns.{GivesFrom, as_many, heard_rows}
 use Rattle.a429_cli.proofs.WholeFrames.{all_sent_whole}
 use Rattle.a429_console.proofs.Refused.{matched_both, or_memory_weaker}
@@ -31,8 +33,8 @@ returns-in-Ok g c =
     let further = bytes_of c.args.further.now in
     let answers = c.deref.result.now in
     let answered : AreAnswers between.begin further answers between.end =
-    subst (λ (xs : List (Option ℕ)). AreAnswers between.begin further xs between.end) (sym c.deref.ensures.value)
-    (subst (λ (tables : List (Vec ℕ Global)). AreAnswers between.begin (bytes_of tables) c.live.new.control.answers.items between.end) c.new-control.ensures.tables (between.done c.new-control.ensures.none)) in
+    subst (λ (xs : List Answer). AreAnswers between.begin further xs between.end) (sym c.deref.ensures.value)
+    (subst (λ (tables : List (Vec ℕ Global)). AreAnswers between.begin (bytes_of tables) c.live_planned.new.control.answers.items between.end) c.new-control.ensures.tables (between.done c.new-control.ensures.none)) in
     let heard = heard_rows t ran.course words (length t.receivers) report.sources.items report.receivers.items
     (subst (λ l. AllOfThree (IsHeardIn GivesFrom all_given t ran.course) l report.sources.items report.receivers.items) (search rules) ran.heard) in
     let receivers = as_many _ c.in_ok-sources.sources.items report.sources.items report.receivers.items ran.heard ∙ many in
@@ -50,7 +52,11 @@ returns g c =
     let words = c.args.arrivals.now in
     let sinks = c.in_ok-sinks.sinks.items in
     let fault = c.in-Err.fault in
-    let idle = c.live.new.control ≡ c.new-control.result in
+    let idle = c.live_planned.new.control ≡ c.new-control.result in
     let lines : c.in_ok-sources.sources.items ≡ lines_of words (length t.receivers) = search rules in
-    let own = subst (λ (l : List Memory). IsLiveFault idle GivesFrom all_given (λ (line : Memory). 0) (λ (sink : ℕ). 0) (λ (p : Point). ⊤) (λ (p : Point). ⊥) t c.args.frames l sinks fault) lines c.in-Err.ensures.fault in
-    subst (λ (e : CommandRefusal). OrMemory (IsRunRefusal t words c.args.frames) e) (sym c.run_refusal.ensures) (refusal_told idle (λ (p : Point). ⊤) t words sinks c.args.frames fault own)
+    let steps : Memory → SourceAnswer → Memory → Type 0 = λ before answer after. Unit {0} in
+    let taken : ℕ → Option (List Sent) = λ sink. None in
+    let counted : ℕ → Option ℕ = λ sink. Some sink in
+    let passes : Point → Type 0 = λ point. ⊤ in
+    let own = subst (λ (l : List Memory). IsLiveFault idle (memory_lines steps) (sure_sinks taken counted) (never_shut passes) (asked t c.args.frames l sinks) fault) lines c.in-Err.ensures.fault in
+    subst (λ (e : CommandRefusal). OrMemory (IsRunRefusal t words c.args.frames) e) (sym c.run_refusal.ensures) (refusal_told idle steps taken counted passes t words c.args.frames sinks fault own)

@@ -13,30 +13,30 @@ loop-event-init g c = record { played = λ o E s. ([], E, [], sym (entries_befor
 
 pub returns-in_default-play-clause-played : goal.returns-in_default-play-clause-played
 returns-in_default-play-clause-played g c = λ events is o E s.
-    let was = c.loop-event.invariant.played o E s in
+    let (done, M, bytes, read, played, stands, put) = c.loop-event.invariant.played o E s in
     let kept : c.play.new.lines.text.items ≡ c.loop-event.lines.text.items = search rules in
-    let done = entries_so_far was.0 _ events (sym was.3 ∙ is) in
-    (length was.0, was.1, was.2, rw done was.4, rw kept was.6, λ no. cc)
+    let first = entries_so_far done _ events (sym read ∙ is) in
+    (length done, M, bytes, rw first played, rw kept put, λ no. cc)
 
 pub loop-event-preserved : goal.loop-event-preserved
 loop-event-preserved g c = record {
   played = λ o E s.
-      let was = c.loop-event.invariant.played o E s in
+      let (done, M, bytes, read, played, stands, put) = c.loop-event.invariant.played o E s in
       let names = c.args.names.now in
       let further = c.args.further.now in
       let event = c.in-Some.event in
       let first : first_entry (line_event names (length c.args.further.now)) c.loop-event.text.now ≡ Some (event, c.in-Some.rest.now) = search rules in
-      let now = c.in-Ok.ensures.played o was.1 was.5 in
-      let one : Appends (append_known (g.O.Output.contents c.loop-event.out) c.loop-event.lines.text.items) (append_known (g.O.Output.contents c.loop-event.out) c.play.new.lines.text.items) now.1 =
-      rw now.4 (Appends-text _ _ _) in
-      let last = rw (append-nil now.1) at (Appends-then _ _ _ _ _ one c.in_ok-put_if_full.ensures.put) in (
-        was.0 ++ event ∷ [],
-        now.0,
-        was.2 ++ now.1,
-        was.3 ∙ entries_next (line_event names (length c.args.further.now)) was.0 event c.loop-event.text.now c.in-Some.rest.now first,
-        played_push o names.sources further E was.0 event was.1 now.0 was.2 now.1 was.4 now.2,
-        now.3,
-        Appends-then _ _ _ _ _ was.6 last,
+      let (N, line, happens, stands_next, lines) = c.in-Ok.ensures.played o M stands in
+      let one : Appends (append_known (g.O.Output.contents c.loop-event.out) c.loop-event.lines.text.items) (append_known (g.O.Output.contents c.loop-event.out) c.play.new.lines.text.items) line =
+      rw lines (Appends-text _ _ _) in
+      let last = rw (append-nil line) at (Appends-then _ _ _ _ _ one c.in_ok-put_if_full.ensures.put) in (
+        done ++ event ∷ [],
+        N,
+        bytes ++ line,
+        read ∙ entries_next (line_event names (length c.args.further.now)) done event c.loop-event.text.now c.in-Some.rest.now first,
+        played_push o names.sources further E done event M N bytes line played happens,
+        stands_next,
+        Appends-then _ _ _ _ _ put last,
       );
   few = λ h. c.in_ok-put_if_full.ensures.few;
   kept = c.in_ok-put_if_full.ensures.faults ∙ c.loop-event.invariant.kept;
@@ -44,9 +44,9 @@ loop-event-preserved g c = record {
 
 pub returns-clause-played : goal.returns-clause-played
 returns-clause-played g c = λ events is o E s.
-    let was = c.loop-event.invariant.played o E s in
+    let (done, M, bytes, read, played, stands, put) = c.loop-event.invariant.played o E s in
     let names = c.args.names.now in
     let none : first_entry (line_event names (length c.args.further.now)) c.loop-event.text.now ≡ None = search rules in
-    let all = entries_last (line_event names (length c.args.further.now)) was.0 events c.loop-event.text.now none (sym was.3 ∙ is) in
-    let done = entries_so_far was.0 _ events (sym was.3 ∙ is) in
-    (length was.0, was.1, was.2, rw done was.4, was.6, λ sufficed. ap length (sym all))
+    let all = entries_last (line_event names (length c.args.further.now)) done events c.loop-event.text.now none (sym read ∙ is) in
+    let first = entries_so_far done _ events (sym read ∙ is) in
+    (length done, M, bytes, rw first played, put, λ sufficed. ap length (sym all))

@@ -1,7 +1,7 @@
 use Rattle.std.proofs.Common.{◌∙◌, arith, codes}
 use Rattle.clap.specs.Words.{found_of, rows_of}
 use Rattle.clap.proofs.WalkLemmas.{first_value-rows}
-use Rattle.a429_console.specs.CommandLine.{most_frames}
+use Rattle.a429_equipment.specs.Limits.{most_frames}
 use Rattle.a429_console.specs.Files.{texts_of}
 use Rattle.a429_console.proofs.Found.{live_is}
 use Rattle.a429_console.proofs.arguments.requests.asked_live.Goals as goal

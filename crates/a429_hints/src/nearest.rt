@@ -1,0 +1,40 @@
+//! The nearest of some names.
+
+use std::alloc::Global;
+use strsim::levenshtein;
+
+/// The name nearest to a text, and how many edits lead to it.
+#[derive(Clone, Copy)]
+pub struct Nearest<'a> {
+    text: &'a str,
+    best: Option<(usize, &'a str)>,
+}
+
+impl<'a> Nearest<'a> {
+    /// Among no names yet.
+    pub fn to(text: &'a str) -> Nearest<'a> {
+        Nearest { text, best: None }
+    }
+
+    /// Among one name more. If memory is refused, among those before.
+    pub fn or(self, alloc: Global, name: &'a str) -> Nearest<'a> {
+        let Ok(edits) = levenshtein(alloc, self.text, name) else {
+            return self;
+        };
+        match self.best {
+            Some((fewest, _)) if fewest <= edits => self,
+            _ => Nearest {
+                text: self.text,
+                best: Some((edits, name)),
+            },
+        }
+    }
+
+    /// The nearest name, if at most half of its letters differ.
+    pub fn name(self) -> Option<&'a str> {
+        match self.best {
+            Some((edits, name)) if edits <= name.len() / 2 => Some(name),
+            _ => None,
+        }
+    }
+}
