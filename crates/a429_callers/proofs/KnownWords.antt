@@ -1,5 +1,5 @@
 -- What a transmitter knows of goes out in time: its calls are a run, of which the machine's law speaks.
-use Rattle.std.proofs.Common.{◌≡◌, ℕ, zero, suc, ◌+◌, ◌-◌, ◌^◌, ◌<◌, ◌≤◌, Bool, true, false, List, [], ◌∷◌, ◌++◌, length, take, map, ◌∙◌, sym, ap, subst, refl, inl, inr, arith}
+use Rattle.std.proofs.Common.{◌≡◌, ℕ, zero, suc, ◌+◌, ◌-◌, ◌^◌, ◌<◌, ◌≤◌, List, [], ◌∷◌, ◌++◌, length, take, map, ◌∙◌, sym, ap, subst, refl, inl, inr, arith}
 use Rattle.std.specs.Prelude.{Option, Some, None, filter, filter_map, option_map, slice_get}
 use Rattle.std.specs.List.{AllByRecursion, zip}
 use Rattle.std.specs.Option.{option_map_or}
@@ -16,12 +16,12 @@ use Rattle.a429_slots.specs.declared.group_plan.SlotPlace.{SlotPlace}
 use Rattle.a429_slots.specs.Tables.{Placed, SlotTable, output_in}
 use Rattle.a429_slots.specs.Proposed.{Proposed}
 use Rattle.a429_slots.specs.Events.{Event, Arrive, Cell, Frame, Publish}
-use Rattle.a429_slots.specs.History.{Opening, OpensWith, AnsweredCell, accepted_by, accepted_in, cell_due, current}
+use Rattle.a429_slots.specs.History.{Opening, AnsweredCell, accepted_by, accepted_in, cell_due, current}
 use Rattle.a429_slots.specs.GoingOn.{OthersPass, TellsNextCell, stands_after}
 use Rattle.a429_slots.specs.FrameStates.{FrameState, next_cell}
 use Rattle.a429_slots.specs.Spacing.{HaveOwnPlans, IsOwnPlan}
 use Rattle.a429_slots.specs.declared.answers.Answer.{Answer}
-use Rattle.a429_slots.specs.declared.answers.Answer.TheVariants.{Accepted, Sent, Published, Refused}
+use Rattle.a429_slots.specs.declared.answers.Answer.TheVariants.{Sent, Published, Refused}
 use Rattle.a429_slots.specs.declared.answers.Refusal.TheVariants.{FrameEnd}
 use Rattle.a429_slots.specs.Answers.{answer, answers}
 use Rattle.a429_slots.proofs.Histories.{take_following}

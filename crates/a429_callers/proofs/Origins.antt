@@ -34,7 +34,7 @@ use Rattle.a429_station.specs.Course.{Course, HasRun, IsHeardIn, IsSentIn, RunAs
 use Rattle.a429_station.specs.declared.reports.Report.{Report}
 use Rattle.a429_slots.specs.Spacing.{IsOwnPlan}
 use Rattle.a429_callers.specs.KnownWords.{KnownWordsGoOutInTime}
-use Rattle.a429_callers.specs.Origins.{AreOwnWords, HasRunInTime, HasRunOnLatestWords, HasRunOnOwnWords, IsGiven, IsWordOf, SendsInTime, SendsLatestWords, SendsOwnWords, TookGivenWords}
+use Rattle.a429_callers.specs.Origins.{AreOwnWords, HasRunInTime, HasRunOnLatestWords, HasRunOnOwnWords, IsGiven, IsWordOf, HaveTakenGivenWords, SendsInTime, SendsLatestWords, SendsOwnWords, TookGivenWords}
 
 -- ---- lists
 
@@ -259,27 +259,30 @@ module _ {L B : Type 0} (source : LineSource.Ghosts L) (sink : BusSink.Ghosts B)
   -- the line of the receiver of a source gave each word of the source
   given_by : (c : Course) (sources lines : List L) (totals : _) → length sources ≡ length ask.table.receivers → AllOfThree (IsHeardIn (Gives source.given source.left) source.ended ask.table c) sources lines totals
       → ((i : ℕ) (row : SourceRow) → slice_get ask.table.sources i ≡ Some row → row.receiver < length ask.table.receivers)
-      → (s w : ℕ) → IsWordOf ask.table c.came s w → IsGiven source.given lines w
+      → (s w : ℕ) → IsWordOf ask.table c.came s w → IsGiven ask.table source.given lines w
   given_by c sources lines totals few heard received s w own =
       let inside = received s own.row own.there in
       let one = at_place (IsHeardIn (Gives source.given source.left) source.ended ask.table c) sources lines totals heard own.row.receiver (omega (arith, few, inside)) in
       record {
-        receiver = own.row.receiver;
+        source = s;
+        row = own.row;
+        has_row = own.there;
+        accepted = own.accepted;
         line = one.second;
         there = one.there;
         gave = subst (λ (ws : List ℕ). Contains ws w) (sym one.holds.gave.gave) (back_in w (source.given one.first) (c.came own.row.receiver) own.arrived);
       }
 
   pub all_given : (report : Report L B) → length ask.sources ≡ length ask.table.receivers
-      → HasRun source sink ask report → AllZip (TookGivenWords source.given sink.taken report.sources.items) ask.sinks report.sinks.items
+      → HasRun source sink ask report → HaveTakenGivenWords source sink ask report
   all_given report few H =
       let c : Course = H.course in
       let lines : List L = report.sources.items in
-      zipped (IsSentIn sink.taken ask.frames ask.table c) (TookGivenWords source.given sink.taken lines) (λ g before after totals S.
+      zipped (IsSentIn sink.taken ask.frames ask.table c) (TookGivenWords ask.table source.given sink.taken lines) (λ g before after totals S.
       record {
         cells = sent_in S.calls;
         took = S.took;
-        words = sent_all (IsGiven source.given lines) S.calls (λ k d w there is.
+        words = sent_all (IsGiven ask.table source.given lines) S.calls (λ k d w there is.
             let found = own_words sink.taken ask.frames ask.table c g before after totals S k d w there is in
             given_by c ask.sources lines report.receivers.items few H.heard S.works.wired.received found.output.source w found.word);
       }) ask.sinks report.sinks.items report.groups.items H.sent

@@ -1,10 +1,10 @@
 -- The places of a run of a group, and how many of its cells and frames come before each.
-use Rattle.std.proofs.Common.{◌≡◌, ℕ, zero, suc, ◌+◌, ◌-◌, ◌<◌, ◌≤◌, ◌⊎◌, Bool, true, false, List, [], ◌∷◌, ◌++◌, length, take, ◌∙◌, sym, ap, ap₂, subst, refl, inl, inr, arith, append-nil}
-use Rattle.std.specs.Prelude.{Option, Some, None, filter, filter_map, option_to_list, slice_get, cond}
+use Rattle.std.proofs.Common.{◌≡◌, ℕ, zero, suc, ◌+◌, ◌-◌, ◌<◌, ◌≤◌, ◌⊎◌, true, false, List, [], ◌∷◌, ◌++◌, length, take, ◌∙◌, sym, ap, subst, refl, inl, inr, arith, append-nil}
+use Rattle.std.specs.Prelude.{Option, Some, None, filter, filter_map, slice_get}
 use Rattle.std.specs.List.{zip}
 use Rattle.std.proofs.lemmas.Bool.{cases_Bool, cases_lt}
 use Rattle.std.proofs.lemmas.List.{length-append}
-use Rattle.std.proofs.lemmas.List.Elements.{filter-append, filter_map-append}
+use Rattle.std.proofs.lemmas.List.Elements.{filter-append}
 use Rattle.std.proofs.lemmas.Option.{none-some, same_Some, slice_get_within}
 use mathlib.Core.List.{IsPrefix}
 use Rattle.a429_word.proofs.Lists.{prefix_on, prefix_self, get_within}

@@ -1,6 +1,6 @@
 -- Where the words that a running station sends come from.
 use Rattle.std.specs.Prelude.{◌≡◌, ◌++◌, ℕ, List, Option, Some, Contains, IsTrue, slice_get, take}
-use Rattle.std.specs.List.{AllByRecursion}
+use Rattle.std.specs.List.{AllByRecursion, AllZip}
 use Rattle.a429_equipment.specs.Arrivals.{accepts}
 use Rattle.a429_equipment.specs.TableRecord.{TableRecord}
 use Rattle.a429_equipment.specs.declared.rows.SourceRow.{SourceRow}
@@ -27,22 +27,30 @@ use Rattle.a429_workers.specs.declared.sending.SendTotals.{SendTotals}
 
 -- ---- lines
 
--- one of these lines gave the word
-pub record IsGiven {L : Type 0} (given : L → List ℕ) (lines : List L) (w : ℕ) : Type 0 where
-  pub receiver : ℕ
+-- a source of the table accepts the word at its receiver, by its parity, its label, its SDI and the filters, and the line of that receiver gave it
+pub record IsGiven {L : Type 0} (t : TableRecord) (given : L → List ℕ) (lines : List L) (w : ℕ) : Type 0 where
+  pub source : ℕ
+  pub row : SourceRow
+  pub has_row : slice_get t.sources source ≡ Some row
+  pub accepted : IsTrue (accepts t row (row.receiver, w))
   pub line : L
-  pub there : slice_get lines receiver ≡ Some line
+  pub there : slice_get lines row.receiver ≡ Some line
   pub gave : Contains (given line) w
 
--- the cell is empty, or one of the lines gave its word
-abbrev pub HasGivenWord : {L : Type 0} → (L → List ℕ) → List L → cells.Sent → Type 0
-HasGivenWord given lines s = (w : ℕ) → s.word ≡ Some w → IsGiven given lines w
+-- the cell is empty, or the line of the receiver of a source gave its word
+abbrev pub HasGivenWord : {L : Type 0} → TableRecord → (L → List ℕ) → List L → cells.Sent → Type 0
+HasGivenWord t given lines s = (w : ℕ) → s.word ≡ Some w → IsGiven t given lines w
 
--- the sink took cells, and one of the lines gave the word of each
-pub record TookGivenWords {L B : Type 0} (given : L → List ℕ) (taken : B → Option (List cells.Sent)) (lines : List L) (before after : B) : Type 0 where
+-- the sink took cells, and the line of the receiver of a source gave the word of each
+pub record TookGivenWords {L B : Type 0} (t : TableRecord) (given : L → List ℕ) (taken : B → Option (List cells.Sent)) (lines : List L) (before after : B) : Type 0 where
   pub cells : List cells.Sent
   pub took : taken after ≡ with_cells (taken before) cells
-  pub words : AllByRecursion (HasGivenWord given lines) cells
+  pub words : AllByRecursion (HasGivenWord t given lines) cells
+
+-- so it was with each sink of the station
+abbrev pub HaveTakenGivenWords : {L B : Type 0} → LineSource.Ghosts L → BusSink.Ghosts B → RunAsk L B → Report L B → Type 0
+HaveTakenGivenWords source sink ask report =
+    AllZip (TookGivenWords ask.table source.given sink.taken report.sources.items) ask.sinks report.sinks.items
 
 -- ---- sources
 

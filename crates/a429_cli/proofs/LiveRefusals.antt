@@ -11,6 +11,7 @@ use Rattle.a429_workers.specs.Gates.{GatePoints}
 use Rattle.a429_workers.specs.declared.cells.Sent.{Sent}
 use Rattle.a429_workers.specs.declared.gates.Point.{Point}
 use Rattle.a429_workers.specs.declared.receiving.ReceiveFault.{ReceiveFault}
+use Rattle.a429_workers.specs.declared.receiving.ReceiveTotals.{ReceiveTotals}
 use Rattle.a429_workers.specs.declared.receiving.ReceiveFault.TheVariants as receive
 use Rattle.a429_workers.specs.declared.sending.SendFault.{SendFault}
 use Rattle.a429_workers.specs.declared.sending.SendFault.TheVariants as send
@@ -62,8 +63,8 @@ module _ {B : Type 0} (idle : Type 0) (steps : Memory → SourceAnswer → Memor
   ask = asked t frames (lines_of arrivals (length t.receivers)) sinks
 
   -- the line of the first receiver with a fault gave a word after a million
-  gave_more : HasFault (EndsLine source gate) (lines_of arrivals (length t.receivers)) receive.TooMuch → HasTooMuch t arrivals
-  gave_more F =
+  gave_more : (raw : ℕ) (totals : ReceiveTotals) → HasFault (EndsLine source gate) (lines_of arrivals (length t.receivers)) (receive.TooMuch raw totals) → HasTooMuch t arrivals
+  gave_more raw totals F =
       let E = F.holds in
       let at = line_at (λ r. at_start (words_for arrivals r)) 0 (length t.receivers) F.place F.item F.there in
       let left : F.item.left ≡ E.words ++ E.after.left = same_Some F.item.left (E.words ++ E.after.left) E.gave.kept in
@@ -86,7 +87,7 @@ module _ {B : Type 0} (idle : Type 0) (steps : Memory → SourceAnswer → Memor
   stopped_too_much S = by (first_fault S.heard) (first_fault S.sent) refl S.first
     where
       by : (x : Option ReceiveFault) (y : Option SendFault) → first_fault S.heard ≡ x → IsFirst x y live.TooMuch → HasTooMuch t arrivals
-      by (Some receive.TooMuch) y heard h = gave_more (first_found (EndsLine source gate) (lines_of arrivals (length t.receivers)) S.heard receive.TooMuch S.lines heard)
+      by (Some (receive.TooMuch raw totals)) y heard h = gave_more raw totals (first_found (EndsLine source gate) (lines_of arrivals (length t.receivers)) S.heard (receive.TooMuch raw totals) S.lines heard)
       by (Some receive.Source) y heard h = absurd (cc h)
       by (Some receive.Gate) y heard h = absurd (cc h)
       by None (Some send.Gate) heard h = absurd (cc h)
@@ -99,7 +100,7 @@ module _ {B : Type 0} (idle : Type 0) (steps : Memory → SourceAnswer → Memor
     where
       by : (x : Option ReceiveFault) (y : Option SendFault) → first_fault S.heard ≡ x → IsFirst x y live.Source → ⊥
       by (Some receive.Source) y heard h = no_source (first_found (EndsLine source gate) (lines_of arrivals (length t.receivers)) S.heard receive.Source S.lines heard)
-      by (Some receive.TooMuch) y heard h = absurd (cc h)
+      by (Some (receive.TooMuch raw totals)) y heard h = absurd (cc h)
       by (Some receive.Gate) y heard h = absurd (cc h)
       by None (Some send.Gate) heard h = absurd (cc h)
       by None (Some send.Sink) heard h = absurd (cc h)
@@ -111,7 +112,7 @@ module _ {B : Type 0} (idle : Type 0) (steps : Memory → SourceAnswer → Memor
     where
       by : (x : Option ReceiveFault) (y : Option SendFault) → first_fault S.sent ≡ y → IsFirst x y live.Sink → ⊥
       by (Some receive.Source) y sent h = absurd (cc h)
-      by (Some receive.TooMuch) y sent h = absurd (cc h)
+      by (Some (receive.TooMuch raw totals)) y sent h = absurd (cc h)
       by (Some receive.Gate) y sent h = absurd (cc h)
       by None (Some send.Sink) sent h = no_sink (first_found (EndsGroup sink gate) sinks S.sent send.Sink S.groups sent)
       by None (Some send.Gate) sent h = absurd (cc h)

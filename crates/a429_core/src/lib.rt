@@ -1,4 +1,14 @@
 //! The machine: what each event of a station is answered.
+//!
+//! `State::open` begins a station by a proposal, at a slot. `step` takes one event: a word arrives, a cell or a frame
+//! is due, a plan is published. `run` takes a list of them. `step` takes no memory. There is no thread and no clock:
+//! the caller says what happens when. `laws` has what is proved of whole histories, such as bounds of latency.
+//!
+//! ```text
+//! let mut state = StationState::open(alloc, proposal, 0)?;
+//! state.step(Event::Arrive { receiver: 0, raw })?;
+//! if let Answer::Sent { bus, slot, word } = state.step(Event::Cell { group: 0 })? { .. }
+//! ```
 #![tactic(auto)]
 
 mod events;

@@ -1,4 +1,18 @@
 //! An equipment: the station that its table states, and the sources that words are for.
+//!
+//! `Equipment` is made by `read_equipment` of `a429_table`. `receivers`, `sources`, `groups` and `outputs` are its
+//! rows, in table order, which number them from 0. `source_for` says for which source a word of a receiver is, or why
+//! for none. `same_station` compares two equipments as a change of plan does. All limits of the project are constants
+//! here.
+//!
+//! ```text
+//! let equipment = read_equipment(alloc, table)?;
+//! for row in equipment.sources() { println!(rt; "{}", row.name.as_str())?; }
+//! match equipment.source_for(receiver, raw) {
+//!     Ok((source, word)) => ..,
+//!     Err(refusal) => ..,
+//! }
+//! ```
 #![tactic(auto)]
 
 mod arrivals;

@@ -1,4 +1,15 @@
 //! Which words of a line are received: filters of labels, and where words come from (profile).
+//!
+//! A `FilterSet` says which labels pass: all, or those of at most 32 filters. `LineSource` is the trait of what gives
+//! the words of a line: write one for your receiver, or take `MemoryLine`. A `Socket` gives the words of a line that
+//! have odd parity and pass its filters.
+//!
+//! ```text
+//! let mut filters = FilterSet::none();
+//! filters.add(Filter::parse("203")?)?;
+//! let mut socket = Socket::new(MemoryLine::from_words(words), filters);
+//! while let Some(word) = socket.recv()? { .. }
+//! ```
 #![tactic(auto)]
 
 mod filters;

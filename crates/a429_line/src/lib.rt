@@ -1,4 +1,16 @@
 //! Lines of ARINC 429: from symbols to words, and back (ARINC 429 Part 1, levels and gap).
+//!
+//! A line is a list of symbols, high, null or low. `LineReader` takes it in pieces of any length and reports words,
+//! words of even parity, runs of another length, and short gaps: `feed` for symbols, `next` for bytes of a line file.
+//! `write_slot` makes the 36 symbols of a slot, and takes no memory.
+//!
+//! ```text
+//! let mut reader = LineReader::new();
+//! let mut found = Vec::new(alloc);
+//! reader.feed(&write_slot(Some(word)), &mut found)?;
+//! reader.feed(&[Symbol::Null], &mut found)?;
+//! // found has Found::Word(word)
+//! ```
 #![tactic(auto)]
 
 mod found;

@@ -1,4 +1,14 @@
 //! The packing of a group's outputs onto the fewest buses (profile: layout).
+//!
+//! `pack` takes the demand of each output: its period, label and SDI. Its answer has the frame, the number of buses,
+//! and the outputs in the order in which they are laid out. `SumTable` keeps running sums and finds a place in them.
+//! `raw_bound` and `widening_saves` say how few buses other intervals would need.
+//!
+//! ```text
+//! let packed = pack::<128>(alloc, &demands)?;
+//! let (frame, buses) = (packed.frame().slots(), packed.buses());
+//! let first = packed.input(0);
+//! ```
 #![tactic(auto)]
 
 mod bounds;

@@ -1,4 +1,17 @@
 //! Slot tables: which output stands in which cell, and the plans of a station (profile: layout).
+//!
+//! `plan` makes the plan of an equipment: a `GroupPlan` for each group, on the fewest buses. A `Proposal` is an
+//! equipment with its own plan. `GroupPlan::at` says which output is in a cell, `place` where an output is. `Sender`
+//! and `GroupSends` go through the cells of frames, for the machine and for transmitters. `gap` bounds the slots
+//! between two sends when plans change.
+//!
+//! ```text
+//! let proposal: Proposal<OUTPUTS> = Proposal::of(alloc, equipment)?;
+//! let group = proposal.plan().group(0);
+//! if let Some(output) = group.at(0, slot) {
+//!     let source = group.source(output);
+//! }
+//! ```
 #![tactic(auto)]
 
 mod answers;

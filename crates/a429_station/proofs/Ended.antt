@@ -2,7 +2,7 @@
 use Rattle.std.proofs.Common.{◌≡◌, ◌∙◌, ℕ, ◌+◌, ◌-◌, ◌^◌, ◌≤◌, Bool, true, false, List, [], ◌∷◌, ◌++◌, length, drop, map, ap, subst, sym, refl, arith}
 use Rattle.std.specs.Prelude.{Option, None, Result, Ok, Err, if◌then◌else◌, nat_lt, slice_get}
 use Rattle.std.specs.List.{AllByRecursion, AllZip, range_with_len}
-use Rattle.std.proofs.lemmas.List.{map-append}
+use Rattle.std.proofs.lemmas.List.{length_push, map-append}
 use Rattle.std.proofs.lemmas.Option.{same_Some}
 use Rattle.a429_equipment.specs.declared.arrivals.ArrivalRefusal.{ArrivalRefusal}
 use Rattle.a429_equipment.specs.TableRecord.{TableRecord}
@@ -48,14 +48,14 @@ use Rattle.a429_station.proofs.Plans.{plan_small}
 pub receiver_stays : (at : ends.Place) (k : ℕ) (words : List ℕ) (answer : Result ReceiveTotals ReceiveFault) (old new : ends.ReceiverEnd) → AreTaken words answer old new → old ≡ fresh at k → IsReceiverAt at k new
 receiver_stays at k words (Ok totals) old new h is = (ap (λ (r : ends.ReceiverEnd). r.at) (h.0) ∙ ap (λ (r : ends.ReceiverEnd). r.at) is, ap (λ (r : ends.ReceiverEnd). r.number) (h.0) ∙ ap (λ (r : ends.ReceiverEnd). r.number) is)
 receiver_stays at k words (Err receive.Source) old new h is = (ap (λ (r : ends.ReceiverEnd). r.at) (h.0) ∙ ap (λ (r : ends.ReceiverEnd). r.at) is, ap (λ (r : ends.ReceiverEnd). r.number) (h.0) ∙ ap (λ (r : ends.ReceiverEnd). r.number) is)
-receiver_stays at k words (Err receive.TooMuch) old new h is = (ap (λ (r : ends.ReceiverEnd). r.at) (h.0) ∙ ap (λ (r : ends.ReceiverEnd). r.at) is, ap (λ (r : ends.ReceiverEnd). r.number) (h.0) ∙ ap (λ (r : ends.ReceiverEnd). r.number) is)
+receiver_stays at k words (Err (receive.TooMuch raw totals)) old new h is = (ap (λ (r : ends.ReceiverEnd). r.at) h.taken ∙ ap (λ (r : ends.ReceiverEnd). r.at) is, ap (λ (r : ends.ReceiverEnd). r.number) h.taken ∙ ap (λ (r : ends.ReceiverEnd). r.number) is)
 receiver_stays at k words (Err receive.Gate) old new h is = (ap (λ (r : ends.ReceiverEnd). r.at) (h.1) ∙ ap (λ (r : ends.ReceiverEnd). r.at) is, ap (λ (r : ends.ReceiverEnd). r.number) (h.1) ∙ ap (λ (r : ends.ReceiverEnd). r.number) is)
 
 gave_too_much : (words : List ℕ) (answer : Result ReceiveTotals ReceiveFault) (old new : ends.ReceiverEnd) → AreTaken words answer old new → GaveTooMuch words answer
 gave_too_much words (Ok totals) old new h = tt
 gave_too_much words (Err receive.Source) old new h = tt
 gave_too_much words (Err receive.Gate) old new h = tt
-gave_too_much words (Err receive.TooMuch) old new h = h.1
+gave_too_much words (Err (receive.TooMuch raw totals)) old new h = ap (λ (ws : List ℕ). length ws) h.all ∙ (length_push h.words raw ∙ omega (arith, h.million))
 
 module _ {L : Type 0} (source : LineSource.Ghosts L) (gate : GatePoints) where
   pub line_ended : (k : ℕ) (old new : Listening L) (answer : Result ReceiveTotals ReceiveFault) → HasReceived source gate k old new answer → EndsLine source gate k old.line answer

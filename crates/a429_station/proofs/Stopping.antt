@@ -60,7 +60,7 @@ module _ {L B : Type 0} (source : LineSource.Ghosts L) (sink : BusSink.Ghosts B)
       by : (x : Option ReceiveFault) (y : Option SendFault) → first_fault S.heard ≡ x → first_fault S.sent ≡ y → IsFirst x y Gate → (at : Point) × gate.shuts at
       by (Some receive.Gate) y heard sent h = of_line (first_found (EndsLine source gate) ask.sources S.heard receive.Gate S.lines heard)
       by (Some receive.Source) y heard sent h = absurd (cc h)
-      by (Some receive.TooMuch) y heard sent h = absurd (cc h)
+      by (Some (receive.TooMuch raw totals)) y heard sent h = absurd (cc h)
       by None (Some send.Gate) heard sent h = of_sink (first_found (EndsGroup sink gate) ask.sinks S.sent send.Gate S.groups sent)
       by None (Some send.Sink) heard sent h = absurd (cc h)
       by None (Some send.Change) heard sent h = absurd h
@@ -72,7 +72,7 @@ module _ {L B : Type 0} (source : LineSource.Ghosts L) (sink : BusSink.Ghosts B)
 never_plan : (why : PlanFault) (x : Option ReceiveFault) (y : Option SendFault) → IsFirst x y (Plan why) → ⊥
 never_plan why (Some receive.Source) y h = absurd (cc h)
 never_plan why (Some receive.Gate) y h = absurd (cc h)
-never_plan why (Some receive.TooMuch) y h = absurd (cc h)
+never_plan why (Some (receive.TooMuch raw totals)) y h = absurd (cc h)
 never_plan why None (Some send.Sink) h = absurd (cc h)
 never_plan why None (Some send.Gate) h = absurd (cc h)
 never_plan why None (Some send.Change) h = h

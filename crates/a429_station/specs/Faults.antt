@@ -25,7 +25,7 @@ use Rattle.a429_station.specs.declared.faults.LiveFault.TheVariants as live
 abbrev pub of_receiver : ReceiveFault → LiveFault
 of_receiver receive.Source = live.Source
 of_receiver receive.Gate = live.Gate
-of_receiver receive.TooMuch = live.TooMuch
+of_receiver (receive.TooMuch raw totals) = live.TooMuch
 
 -- the slots of a million frames can be counted, so a group is never refused its next frame
 abbrev pub IsOfGroup : SendFault → LiveFault → Type 0
@@ -49,7 +49,7 @@ IsFirst None None fault = fault ≡ live.NoMemory
 
 -- the line gave a word after a million, where that is why its receiver's loop ended
 abbrev pub GaveTooMuch : List ℕ → Result ReceiveTotals ReceiveFault → Type 0
-GaveTooMuch words (Err receive.TooMuch) = length words ≡ 1000001
+GaveTooMuch words (Err (receive.TooMuch raw totals)) = length words ≡ 1000001
 GaveTooMuch words (Err receive.Source) = ⊤
 GaveTooMuch words (Err receive.Gate) = ⊤
 GaveTooMuch words (Ok totals) = ⊤

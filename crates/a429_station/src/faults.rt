@@ -77,7 +77,7 @@ impl From<ReceiveFault> for LiveFault {
         match why {
             ReceiveFault::Source => LiveFault::Source,
             ReceiveFault::Gate => LiveFault::Gate,
-            ReceiveFault::TooMuch => LiveFault::TooMuch,
+            ReceiveFault::TooMuch { .. } => LiveFault::TooMuch,
         }
     }
 }

@@ -1,4 +1,14 @@
 //! A running station: its receivers and groups on threads of their own, and plans that are published meanwhile.
+//!
+//! `live` runs a station of an equipment, with a line for each receiver and a bus for each group, and answers their
+//! totals when all have ended. A `Control` runs meanwhile on the calling thread: `Station::resubmit` publishes the
+//! plan of a further table. `live_planned` does the same by a plan that was made before. `docs/EMBEDDING.md` has a
+//! program.
+//!
+//! ```text
+//! let report = live(rt, alloc, &equipment, lines, buses, 1000, &OpenGate, &mut NoControl)?;
+//! for totals in &report.groups { println!(rt; "{} cells", totals.cells)?; }
+//! ```
 #![tactic(auto)]
 
 mod control;

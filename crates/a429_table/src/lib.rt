@@ -1,4 +1,16 @@
 //! Equipment tables as TOML: the equipment that a table states, or the first of its faults.
+//!
+//! `read_equipment` takes the bytes of a table. Its error is the kind of the first fault with its place, or
+//! `NoMemory`. `read_or_keep` also keeps what was read of a refused table, for hints. `columns_of` lists the keys of a
+//! row.
+//!
+//! ```text
+//! match read_equipment(alloc, bytes) {
+//!     Ok(equipment) => ..,
+//!     Err(TableFault::At(kind, place)) => println!(rt; "{kind} {place}")?,
+//!     Err(TableFault::NoMemory) => ..,
+//! }
+//! ```
 #![tactic(auto)]
 
 mod build;

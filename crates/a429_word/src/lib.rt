@@ -1,4 +1,15 @@
 //! Words of ARINC 429: labels, fields, parity (ARINC 429 Part 1).
+//!
+//! A `Word` has 32 bits, of which an odd number are ones. `Word::build` makes one of its label, SDI, data and SSM,
+//! `Word::from_raw` takes one from a number, `raw_word` reads eight hexadecimal digits. `label`, `sdi`, `data`, `ssm`,
+//! `bnr` and `bcd` read its fields. `Label::parse` takes three octal digits. No call takes memory.
+//!
+//! ```text
+//! let altitude = Label::new(0o203);
+//! let word = Word::build(altitude, Sdi::new(0), 8000, Ssm::new(3))?;
+//! let same = Word::from_raw(word.raw())?;
+//! let feet = same.bnr(17);
+//! ```
 #![tactic(auto)]
 
 mod decimal;

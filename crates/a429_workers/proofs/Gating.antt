@@ -54,13 +54,13 @@ module _ {L : Type 0} (source : LineSource.Ghosts L) (gate : GatePoints) (r : �
         }
   ]
 
-  -- the line gave one word too many
-  pub one_too_many : n ≡ 1000000 → HasTaken source gate r old (listening line mid.receiver) (Err receive.TooMuch)
+  -- the line gave one word too many, which is handed back
+  pub one_too_many : n ≡ 1000000 → HasTaken source gate r old (listening line mid.receiver) (Err (receive.TooMuch raw totals))
   one_too_many full =
       let is : mid.receiver ≡ after_words old.receiver (take n (S.came ++ raw ∷ [])) = S.taken ∙ ap (after_words old.receiver) (sym front) in
       record {
         words = S.came ++ raw ∷ [];
         gave = on S.came S.given;
-        taken = (subst (λ (m : ℕ). mid.receiver ≡ after_words old.receiver (take m (S.came ++ raw ∷ []))) full is, omega (arith, many, full));
+        taken = record { words = S.came; million = S.many ∙ full; all = refl; taken = S.taken; counted = S.counts };
         gated = (n, is, (many, P));
       }

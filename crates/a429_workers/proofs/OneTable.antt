@@ -3,14 +3,13 @@ use Rattle.std.proofs.Common.{◌≡◌, ℕ, zero, suc, ◌+◌, ◌-◌, ◌*�
 use Rattle.std.specs.Prelude.{Option, Some, None, if◌then◌else◌, length, nat_lt, slice_get, option_and_then, option_map, unwrap_or}
 use Rattle.std.specs.List.{AllByRecursion}
 use Rattle.std.specs.Option.{option_map_or}
-use Rattle.std.proofs.Math.Nat.{mod-add-div', mul-le-mul_right, mul-add-mod_self_right}
-use Rattle.std.proofs.lemmas.Nat.{pow-add}
+use Rattle.std.proofs.Math.Nat.{mul-le-mul_right}
 use Rattle.std.proofs.lemmas.Bool.{cases_eq, cases_lt, lt-ltb, ltb-true}
 use Rattle.std.proofs.lemmas.Option.{none-some, same_Some}
 use mathlib.Core.List.{IsPrefix}
 use Rattle.a429_word.proofs.Lists.{all_beginning, in_frame, prefix_on, prefix_self}
 use Rattle.a429_equipment.specs.declared.loads.Load.{Load}
-use Rattle.a429_slots.specs.Tables.{Placed, SlotTable, PlanTable, outputs_of, groups_of, frame_of, buses_of, cells_of, cell_at, output_in}
+use Rattle.a429_slots.specs.Tables.{Placed, SlotTable, PlanTable, groups_of, frame_of, buses_of, cells_of, output_in}
 use Rattle.a429_slots.specs.History.{last_of}
 use Rattle.a429_slots.specs.FrameStates.{FrameState, after_cell, fits_next, turned}
 use Rattle.a429_slots.specs.Spacing.{IsSpacedTable}

@@ -63,7 +63,7 @@ pub record IsShutAfterWord (gate : GatePoints) (r given taken : ℕ) : Type 0 wh
 abbrev pub IsGatedLine : GatePoints → ℕ → ℕ → ℕ → Result ReceiveTotals ReceiveFault → Type 0
 IsGatedLine gate r given taken (Ok totals) = (given ≡ taken) × HaveWordsPassed gate.passes r taken
 IsGatedLine gate r given taken (Err receive.Source) = (given ≡ taken) × HaveWordsPassed gate.passes r taken
-IsGatedLine gate r given taken (Err receive.TooMuch) = (given ≡ taken + 1) × HaveWordsPassed gate.passes r taken
+IsGatedLine gate r given taken (Err (receive.TooMuch raw totals)) = (given ≡ taken + 1) × HaveWordsPassed gate.passes r taken
 IsGatedLine gate r given taken (Err receive.Gate) =
     ((given ≡ taken + 1) × EndsBefore gate (point_before_word r) (point_after_word r) taken)
     ⊎ IsShutAfterWord gate r given taken

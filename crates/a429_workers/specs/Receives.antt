@@ -89,17 +89,25 @@ pub record Gives {L : Type 0} (given : L → List ℕ) (left : L → Option (Lis
   pub gave : given after ≡ given before ++ words
   pub kept : left before ≡ option_map (λ more. words ++ more) (left after)
 
--- The line gave these words: the receiver took them, all of them where the line ended or failed, all but the last where they were too many, and
--- all or all but the last where the gate ended the loop.
+-- The line gave a million words and then this one: the receiver took the million, which the totals count, and the last word is handed back.
+pub record IsHandedBack (given : List ℕ) (raw : ℕ) (totals : ReceiveTotals) (old new : ReceiverEnd) : Type 0 where
+  pub words : List ℕ
+  pub million : length words ≡ 1000000
+  pub all : given ≡ words ++ raw ∷ []
+  pub taken : new ≡ after_words old words
+  pub counted : totals ≡ totals_of (answers_to old words)
+
+-- The line gave these words: the receiver took them, all of them where the line ended or failed, all but the last, which is handed back, where they
+-- were too many, and all or all but the last where the gate ended the loop.
 abbrev pub AreTaken : List ℕ → Result ReceiveTotals ReceiveFault → ReceiverEnd → ReceiverEnd → Type 0
 AreTaken given (Ok totals) old new = (new ≡ after_words old given) × (totals ≡ totals_of (answers_to old given)) × (length given ≤ 1000000)
 AreTaken given (Err Source) old new = (new ≡ after_words old given) × (length given ≤ 1000000)
-AreTaken given (Err TooMuch) old new = (new ≡ after_words old (take 1000000 given)) × (length given ≡ 1000001)
+AreTaken given (Err (TooMuch raw totals)) old new = IsHandedBack given raw totals old new
 AreTaken given (Err Gate) old new = (taken : ℕ) × (new ≡ after_words old (take taken given)) × (length given ≤ taken + 1) × (length given ≤ 1000000)
 
 -- the count of failures of the line: it rises by one where the line failed
 abbrev pub source_failures : ℕ → Result ReceiveTotals ReceiveFault → ℕ
 source_failures n (Ok totals) = n
 source_failures n (Err Source) = failures_by {A = ℕ} {E = ReceiveFault} n (Err Source)
-source_failures n (Err TooMuch) = n
+source_failures n (Err (TooMuch raw totals)) = n
 source_failures n (Err Gate) = n

@@ -29,9 +29,10 @@ pub enum ReceiveFault {
     /// The gate ended the loop.
     #[error("the gate is shut")]
     Gate,
-    /// The line gave a word more than a million.
+    /// The line gave a million words and then this one, which is handed back: the receiver has not taken it. With it
+    /// come the totals of the million before it.
     #[error("too many words")]
-    TooMuch,
+    TooMuch { raw: u32, totals: ReceiveTotals },
 }
 
 /// Counts one more answer.
@@ -72,10 +73,11 @@ fn receive<G: Gate>(
 }
 
 /// Takes the words of a line for a receiver, each between two points of the gate, until the line ends. Answers how
-/// many it accepted and refused. `Source` where the line failed, `TooMuch` where it gave a word after a million,
-/// before that word's gate, and `Gate` where the gate ended the loop, at the point that the loop had come to: a word
-/// is taken only after its first point. What was taken before stays taken, and what was accepted accepted. It takes no
-/// memory.
+/// many it accepted and refused. `Source` if the line failed. `TooMuch` if the line gave a word after a million: before
+/// that word's gate, with the word, which the receiver has not taken, and the totals of the million. `Gate` if the gate
+/// ended the loop, at the point that the loop had come to: a word is taken only after its first point. What was taken
+/// before stays taken, and what was accepted accepted. After `TooMuch` nothing is lost: give the word to
+/// `Receiver::accept` and call again. It takes no memory.
 pub fn receive_all<L: LineSource, G: Gate>(
     line: &mut L,
     receiver: &mut Receiver,
@@ -106,7 +108,7 @@ pub fn receive_all<L: LineSource, G: Gate>(
         }
     }
     match line.next() {
-        Ok(Some(_)) => Err(ReceiveFault::TooMuch),
+        Ok(Some(raw)) => Err(ReceiveFault::TooMuch { raw, totals }),
         Ok(None) => Ok(totals),
         Err(_) => Err(ReceiveFault::Source),
     }

@@ -1,8 +1,7 @@
 //! The words that the sinks of a running station took.
 ghost use Rattle.std.specs.Prelude.{◌≡◌, length, vec_len, IfSome};
-ghost use Rattle.std.specs.List.{AllZip};
 ghost use Rattle.a429_station.specs.Course.{asked};
-ghost use Rattle.a429_callers.specs.Origins.{HasRunInTime, HasRunOnLatestWords, HasRunOnOwnWords, TookGivenWords};
+ghost use Rattle.a429_callers.specs.Origins.{HasRunInTime, HasRunOnLatestWords, HasRunOnOwnWords, HaveTakenGivenWords};
 
 use crate::latency::known_words_go_out_in_time;
 use a429_core::laws::word_was_accepted;
@@ -15,12 +14,12 @@ use std::alloc::Global;
 use std::sync::Wait;
 use std::thread::Threads;
 
-/// Runs a station beside a control. Each word that a sink took is one that some line gave. It belongs to the source of
-/// the output that stands in its cell, by the plan that is in force there: it has the source's label and SDI, and came
-/// in at its receiver in this run. What each group was asked for, the words that came in and the plans that were
-/// published are one run of the machine, in which each word that the group sends is the latest that was accepted before
-/// for its source. A word that a group knows of has gone out, it or a later one of its source, before one period of its
-/// output has passed, where the output had stayed for a period.
+/// Runs a station beside a control. Each word that a sink took is one that the line of the receiver of a source gave,
+/// and that the source accepts. It belongs to the source of the output that stands in its cell, by the plan that is in
+/// force there: it has the source's label and SDI, and came in at its receiver in this run. What each group was asked
+/// for, the words that came in and the plans that were published are one run of the machine, in which each word that
+/// the group sends is the latest that was accepted before for its source. A word that a group knows of has gone out, it
+/// or a later one of its source, before one period of its output has passed, where the output had stayed for a period.
 pub fn run_station<
     R: Threads + Wait,
     L: LineSource + Send + Drop,
@@ -39,7 +38,7 @@ pub fn run_station<
 ) -> Option<Report<L, B>>
     requires sources { vec_len sources ≡ length equipment.now.receivers }
     requires sinks { vec_len sinks ≡ length equipment.now.groups }
-    ensures given { IfSome result (λ report. AllZip (TookGivenWords L.given B.taken report.sources.items) sinks.items report.sinks.items) }
+    ensures given { IfSome result (HaveTakenGivenWords L.LineSource B.BusSink (asked equipment.now frames sources.items sinks.items)) }
     ensures own { IfSome result (HasRunOnOwnWords L.LineSource B.BusSink (asked equipment.now frames sources.items sinks.items)) }
     ensures latest { IfSome result (HasRunOnLatestWords L.LineSource B.BusSink (asked equipment.now frames sources.items sinks.items)) }
     ensures in_time { IfSome result (HasRunInTime L.LineSource B.BusSink (asked equipment.now frames sources.items sinks.items)) }

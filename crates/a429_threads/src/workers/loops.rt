@@ -6,7 +6,7 @@ use super::{ends, open_workers, standard};
 use crate::support::{EVEN, FIRST, ONE, SECOND};
 use a429_equipment::Equipment;
 use a429_filter::MemoryLine;
-use a429_values::{Receiver, Transmitter};
+use a429_values::{Accept, Receiver, Transmitter};
 use a429_word::Word;
 use a429_workers::{
     CountSink, Gate, MemorySink, OpenGate, Point, ReceiveFault, ReceiveTotals, SendFault,
@@ -125,12 +125,24 @@ fn a_shut_gate_ends_a_receiver(rt: HostRuntime) {
 }
 
 #[test]
-fn a_million_words_are_enough(rt: HostRuntime) {
+fn a_line_goes_on_after_a_million_words(rt: HostRuntime) {
     let (mut receiver, _) = one(&rt, rt.alloc());
-    let words = vec![in rt.alloc(); EVEN; WORDS as usize + 1].expect(&rt, "memory");
+    let mut words = vec![in rt.alloc(); EVEN; WORDS as usize].expect(&rt, "memory");
+    words.push(FIRST).expect(&rt, "memory");
+    words.push(SECOND).expect(&rt, "memory");
     let mut line = MemoryLine::from_words(words);
-    let answer = receive_all(&mut line, &mut receiver, 0, &OpenGate);
-    assert!(rt; answer == Err(ReceiveFault::TooMuch));
+    let Err(ReceiveFault::TooMuch { raw, totals }) = receive_all(
+        &mut line,
+        &mut receiver,
+        0,
+        &OpenGate,
+    ) else {
+        panic!(rt; "the line gave a word after a million")
+    };
+    assert!(rt; raw == FIRST && totals.parity == WORDS);
+    assert_eq!(rt; receiver.accept(raw), Accept::Accepted(0));
+    let rest = receive_all(&mut line, &mut receiver, 0, &OpenGate).expect(&rt, "the rest");
+    assert_eq!(rt; rest.accepted, 1);
 }
 
 /// What two frames of a group come to, which sends a, b and c to a sink that fails in this call, or in none; and how

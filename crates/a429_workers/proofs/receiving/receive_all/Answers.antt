@@ -30,6 +30,6 @@ loop-place-preserved g c =
 pub returns-in-Ok-Some-next-clause-taken : goal.returns-in-Ok-Some-next-clause-taken
 returns-in-Ok-Some-next-clause-taken g c =
     let answer = c.in-Ok-Some-next.is ∙ ap (λ f. Ok f) c.in-Ok-Some-next.field-0-is in
-    one_too_many g.L.LineSource (points_of g.G.Gate c.args.gate.now) c.args.number (listening c.args.line.now c.args.receiver.now) (listening c.loop-place.line c.loop-place.receiver) c.next-2.new.self _ c.loop-place.place c.in-Ok-Some-next.field-0-0 c.loop-place.invariant.so_far
-    (λ words came. gives_word g.L.LineSource.given g.L.LineSource.left c.args.line.now c.loop-place.line c.next-2.new.self words c.next-2.result c.in-Ok-Some-next.field-0-0 answer came c.next-2.ensures.given c.next-2.ensures.left)
+    one_too_many g.L.LineSource (points_of g.G.Gate c.args.gate.now) c.args.number (listening c.args.line.now c.args.receiver.now) (listening c.loop-place.line c.loop-place.receiver) c.next-2.new.self _ c.loop-place.place c.in-Ok-Some-next.raw c.loop-place.invariant.so_far
+    (λ words came. gives_word g.L.LineSource.given g.L.LineSource.left c.args.line.now c.loop-place.line c.next-2.new.self words c.next-2.result c.in-Ok-Some-next.raw answer came c.next-2.ensures.given c.next-2.ensures.left)
     c.loop-place.invariant.passed (omega arith)

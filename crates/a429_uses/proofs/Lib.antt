@@ -1,0 +1,2 @@
+pub mod AnyLength
+pub mod Printing

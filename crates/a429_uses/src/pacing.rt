@@ -1,0 +1,63 @@
+//! When sending begins.
+
+use a429_workers::{Gate, GateFault, Point};
+use std::sync::atomic::{AtomicU64, Ordering};
+use std::thread;
+use std::time::{Clock, Duration};
+
+/// How many words were taken so far, and how many plans were published.
+#[derive(Drop)]
+pub struct Marks {
+    pub words: AtomicU64,
+    pub plans: AtomicU64,
+}
+
+impl Marks {
+    /// None yet.
+    pub fn none() -> Marks {
+        Marks {
+            words: AtomicU64::new(0),
+            plans: AtomicU64::new(0),
+        }
+    }
+}
+
+/// How many turns of a millisecond a group waits at most.
+const TURNS: u64 = 10000;
+
+/// Lets no group send before so many words were taken and a plan was published, so that the same words go out in each
+/// run. A station that runs beside real buses takes `OpenGate` in its place.
+#[derive(Drop)]
+pub struct LateStart<'a, R: Clock> {
+    pub rt: &'a R,
+    pub words: u64,
+    pub marks: &'a Marks,
+}
+
+impl<'a, R: Clock> LateStart<'a, R> {
+    /// Waits for the words and the plan. The error is that they did not come in time.
+    fn wait(&self) -> Result<(), GateFault> {
+        let marks = self.marks;
+        for _ in 0..TURNS {
+            let words = marks.words.load(Ordering::SeqCst);
+            if words >= self.words && marks.plans.load(Ordering::SeqCst) > 0 {
+                return Ok(());
+            }
+            thread::sleep(self.rt, Duration::from_millis(1));
+        }
+        Err(GateFault)
+    }
+}
+
+impl<'a, R: Clock> Gate for LateStart<'a, R> {
+    fn pass(&self, point: Point) -> Result<(), GateFault> {
+        match point {
+            Point::AfterAccept(..) => {
+                self.marks.words.fetch_add(1, Ordering::SeqCst);
+                Ok(())
+            }
+            Point::BeforeCell(_, 0) => self.wait(),
+            _ => Ok(()),
+        }
+    }
+}
