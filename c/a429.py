@@ -1,0 +1,183 @@
+"""The machine of an ARINC 429 data concentrator, by its C interface (a429.h).
+
+    with a429.Station(open("table.toml", "rb").read()) as station:
+        station.arrive(station.receiver("r"), 0x600000C1)
+        for sent in station.cells(station.group("g")):
+            print(sent)
+
+The library is liba429.so; the variable A429_LIBRARY names another file. A call that is refused raises `Refused`. One
+thread at a time uses a station.
+"""
+import ctypes
+import os
+from typing import Iterator, NamedTuple, Optional
+
+(OK, NO_SUCH, PARITY, FILTERED, NO_SOURCE, COUNT_SPENT, FRAME_END, MID_FRAME, SLOTS_SPENT, STATION_DIFFERS, CLOSED, MEMORY,
+ TABLE, UNFIT, TOO_MANY_BUSES, TOO_LARGE, NO_ROOM) = range(17)
+
+NAME_ROOM = 16
+REFUSAL_ROOM = 92
+
+
+class _Station(ctypes.Structure):
+    _fields_ = [("held", ctypes.c_void_p), ("refusal_length", ctypes.c_uint32), ("refusal_text", ctypes.c_uint8 * REFUSAL_ROOM)]
+
+
+class _Sent(ctypes.Structure):
+    _fields_ = [("slot", ctypes.c_uint64), ("bus", ctypes.c_uint32), ("filled", ctypes.c_uint32), ("word", ctypes.c_uint32)]
+
+
+class Sent(NamedTuple):
+    """A cell that was sent. The slot is counted from the station's first; the word is None if there is none."""
+    bus: int
+    slot: int
+    word: Optional[int]
+
+
+class Refused(Exception):
+    """A call is refused: its status, and the text of why."""
+
+    def __init__(self, status: int, text: str):
+        super().__init__(text)
+        self.status = status
+
+
+_TEXT = [ctypes.c_char_p, ctypes.c_size_t]
+_ROOM = [ctypes.c_void_p, ctypes.c_size_t, ctypes.POINTER(ctypes.c_size_t)]
+_SIZE = ctypes.POINTER(ctypes.c_size_t)
+_CALLS = {
+    "open": _TEXT + [ctypes.c_uint64],
+    "arrive": [ctypes.c_size_t, ctypes.c_uint32, _SIZE],
+    "cell": [ctypes.c_size_t, ctypes.POINTER(_Sent)],
+    "frame": [ctypes.c_size_t, ctypes.POINTER(ctypes.c_uint64)],
+    "publish": _TEXT + [ctypes.POINTER(ctypes.c_uint64)],
+    "receiver": _TEXT + [_SIZE],
+    "group": _TEXT + [_SIZE],
+    "receiver_name": [ctypes.c_size_t] + _ROOM,
+    "group_name": [ctypes.c_size_t] + _ROOM,
+    "source_name": [ctypes.c_size_t] + _ROOM,
+    "receivers": [_SIZE],
+    "groups": [_SIZE],
+    "buses": [ctypes.c_size_t, ctypes.POINTER(ctypes.c_uint32)],
+    "frame_slots": [ctypes.c_size_t, ctypes.POINTER(ctypes.c_uint32)],
+    "refusal": _ROOM,
+}
+
+
+def _load():
+    library = ctypes.CDLL(os.environ.get("A429_LIBRARY", "liba429.so"))
+    for name, arguments in _CALLS.items():
+        call = getattr(library, "a429_" + name)
+        call.argtypes, call.restype = [ctypes.POINTER(_Station)] + arguments, ctypes.c_uint32
+    library.a429_close.argtypes, library.a429_close.restype = [ctypes.POINTER(_Station)], None
+    return library
+
+
+class Station:
+    """A station in operation. Receivers, groups and sources are numbered from 0 in table order."""
+
+    def __init__(self, table: bytes, first_slot: int = 0):
+        self._library, self._own = _load(), _Station()
+        self._call("open", table, len(table), first_slot)
+
+    def __enter__(self):
+        return self
+
+    def __exit__(self, *_why):
+        self.close()
+
+    def __del__(self):
+        if hasattr(self, "_own"):
+            self.close()
+
+    def close(self):
+        """Closes the station. Each later call is refused with CLOSED."""
+        self._library.a429_close(self._own)
+
+    def arrive(self, receiver: int, word: int) -> int:
+        """A word of 32 bits comes in at a receiver: the number of the source that keeps it."""
+        return self._give("arrive", ctypes.c_size_t, receiver, word).value
+
+    def cell(self, group: int) -> Sent:
+        """The next cell of a group."""
+        sent = self._give("cell", _Sent, group)
+        return Sent(sent.bus, sent.slot, sent.word if sent.filled else None)
+
+    def cells(self, group: int) -> Iterator[Sent]:
+        """The cells of a group up to the end of its frame."""
+        while True:
+            try:
+                yield self.cell(group)
+            except Refused as refused:
+                if refused.status != FRAME_END:
+                    raise
+                return
+
+    def frame(self, group: int) -> int:
+        """A group goes on to its next frame: the number of the plan that is in force for it."""
+        return self._give("frame", ctypes.c_uint64, group).value
+
+    def publish(self, table: bytes) -> int:
+        """Proposes the plan of a newer table of the same station: its number."""
+        return self._give("publish", ctypes.c_uint64, table, len(table)).value
+
+    def receiver(self, name) -> int:
+        """The number of the receiver with this name."""
+        return self._numbered("receiver", name)
+
+    def group(self, name) -> int:
+        """The number of the group with this name."""
+        return self._numbered("group", name)
+
+    def receiver_name(self, receiver: int) -> str:
+        return self._named("receiver_name", receiver)
+
+    def group_name(self, group: int) -> str:
+        return self._named("group_name", group)
+
+    def source_name(self, source: int) -> str:
+        return self._named("source_name", source)
+
+    def receivers(self) -> int:
+        """How many receivers the station has."""
+        return self._give("receivers", ctypes.c_size_t).value
+
+    def groups(self) -> int:
+        """How many groups the station has."""
+        return self._give("groups", ctypes.c_size_t).value
+
+    def buses(self, group: int) -> int:
+        """How many buses a group has by the plan in force."""
+        return self._give("buses", ctypes.c_uint32, group).value
+
+    def frame_slots(self, group: int) -> int:
+        """How many slots a group's frame has by the plan in force."""
+        return self._give("frame_slots", ctypes.c_uint32, group).value
+
+    def _call(self, name, *words):
+        for word, kind in zip(words, _CALLS[name]):
+            # ctypes would cut a number that is out of range
+            if isinstance(word, int) and not 0 <= word < 256 ** ctypes.sizeof(kind):
+                raise OverflowError(f"{name}: {word} is out of range")
+        status = getattr(self._library, "a429_" + name)(self._own, *words)
+        if status:
+            raise Refused(status, self._refusal())
+
+    def _refusal(self) -> str:
+        room, length = ctypes.create_string_buffer(REFUSAL_ROOM), ctypes.c_size_t()
+        self._library.a429_refusal(self._own, room, REFUSAL_ROOM, length)
+        return room.raw[:length.value].decode()
+
+    def _give(self, name, kind, *words):
+        place = kind()
+        self._call(name, *words, place)
+        return place
+
+    def _numbered(self, name, text) -> int:
+        text = text.encode() if isinstance(text, str) else text
+        return self._give(name, ctypes.c_size_t, text, len(text)).value
+
+    def _named(self, name, number) -> str:
+        room, length = ctypes.create_string_buffer(NAME_ROOM), ctypes.c_size_t()
+        self._call(name, number, room, NAME_ROOM, length)
+        return room.raw[:length.value].decode()

@@ -1,0 +1,5 @@
+pub mod Histories
+pub mod KeptSizes
+pub mod Moving
+pub mod Numbers
+pub mod OnePointer

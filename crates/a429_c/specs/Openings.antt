@@ -1,0 +1,109 @@
+-- Tables as calls from C read them, and the stations that are opened of them.
+use Rattle.std.specs.Prelude.{◌≡◌, ◌≤◌, ◌<◌, ◌⊎◌, [], ℕ, List, Option, Some, None, Result, true, false, length}
+use Rattle.a429_slots.specs.Tables.{groups_of}
+use Rattle.a429_slots.specs.FrameStates.{all_fit}
+use Rattle.a429_slots.specs.Proposed.{Proposed}
+use Rattle.a429_core.specs.MachineStates.{IsWhole, StandsForHistory}
+use Rattle.a429_core.specs.MachineSteps.{publish_asked}
+use Rattle.a429_console.specs.Names.{naming_of}
+use Rattle.a429_console.specs.Tables.{IsProposedBy, IsTableRefusal}
+use Rattle.a429_console.specs.RefusalText.{IsToldOf, OrMemory, refusal_line}
+use Rattle.a429_c.specs.Stations.{Held}
+use Rattle.a429_c.specs.Statuses.{code_of, line_of, table_code}
+use Rattle.a429_c.specs.Calls.{given_or, kept_text, plan_of, status_of, text_after, with_state}
+use Rattle.a429_c.specs.declared.statuses.Status.{Status}
+use Rattle.a429_c.specs.declared.statuses.Status.TheVariants.{Closed, Memory, SlotsSpent, TooLarge}
+use Rattle.a429_c.specs.declared.tables.TableRefusal.{TableRefusal}
+use Rattle.a429_c.specs.declared.tables.TableRefusal.TheVariants.{Call, Table}
+
+-- the greatest table: 16 MiB (profile: limits)
+abbrev pub table_limit : ℕ
+table_limit = 16777216
+
+-- why a table's bytes give no proposal: they are too many, or the table or its plan has this first fault, or memory was refused
+abbrev pub IsNoProposal : List ℕ → TableRefusal → Type 0
+IsNoProposal table (Call TooLarge) = table_limit < length table
+IsNoProposal table (Call status) = ⊥
+IsNoProposal table (Table refusal) = (length table ≤ table_limit) × OrMemory (IsTableRefusal table) refusal
+
+-- why they give no station whose first frames begin at this slot: that, or the slots cannot be counted, or memory was refused
+abbrev pub IsNoOpening : List ℕ → ℕ → TableRefusal → Type 0
+IsNoOpening table first (Call SlotsSpent) = (q : Proposed) × IsProposedBy table q × (all_fit first (groups_of q.plan) ≡ false)
+IsNoOpening table first (Call Memory) = Unit {0}
+IsNoOpening table first refusal = IsNoProposal table refusal
+
+-- why nothing of them is published: that, or memory was refused
+abbrev pub IsNoPublication : List ℕ → TableRefusal → Type 0
+IsNoPublication table (Call Memory) = Unit {0}
+IsNoPublication table refusal = IsNoProposal table refusal
+
+-- the number and the text of a refusal; of a table's fault the line that the program prints
+abbrev pub IsPutAs : TableRefusal → ℕ → List ℕ → Type 0
+IsPutAs (Call status) code text = (code ≡ code_of status) × (text ≡ kept_text (line_of status))
+IsPutAs (Table refusal) code text = (code ≡ table_code refusal) × (text ≡ kept_text (refusal_line refusal))
+
+-- what is put for a refusal: it, or in place of a table's fault that memory was refused
+abbrev pub IsPutFor : TableRefusal → TableRefusal → Type 0
+IsPutFor (Call status) put = put ≡ Call status
+IsPutFor (Table refusal) (Table put) = IsToldOf refusal put
+IsPutFor (Table refusal) (Call status) = ⊥
+
+-- a station of the table's bytes to which nothing has happened, whose first frames begin at this slot
+pub record IsOpenedFrom (table : List ℕ) (first : ℕ) (m : Held) : Type 0 where
+  pub proposal : Proposed
+  pub proposed : IsProposedBy table proposal
+  pub small : length table ≤ table_limit
+  pub fits : all_fit first (groups_of proposal.plan) ≡ true
+  pub names : m.names ≡ naming_of proposal.station
+  pub stands : StandsForHistory 41 (record { proposal = proposal; first = first }) [] m.state
+
+abbrev pub IsOpenIn : List ℕ → ℕ → Option Held → Type 0
+IsOpenIn table first (Some m) = IsOpenedFrom table first m
+IsOpenIn table first None = ⊥
+
+-- an opening is refused with this number and this text
+abbrev pub IsRefusedOpening : List ℕ → ℕ → ℕ → List ℕ → Type 0
+IsRefusedOpening table first code text = (why : TableRefusal) × IsNoOpening table first why × IsPutAs why code text
+
+-- a proposal of the table's bytes was published, which has a slot table for each group: the machine's answer, and the station after it
+pub record IsPublication (table : List ℕ) (before after : Held) (outcome : Result ℕ Status) : Type 0 where
+  pub proposal : Proposed
+  pub proposed : IsProposedBy table proposal
+  pub whole : IsWhole proposal
+  pub small : length table ≤ table_limit
+  pub answer : outcome ≡ plan_of (publish_asked before.state proposal).0
+  pub moved : after ≡ with_state before (publish_asked before.state proposal).1
+
+-- what a publication finds and leaves in the caller's memory: the station that is held, the number of a plan, the text of the last refusal
+pub record Found : Type 0 where
+  pub held : Option Held
+  pub number : ℕ
+  pub refusal_text : List ℕ
+
+-- on a closed station its status is answered, and nothing else is looked at
+abbrev pub IsClosedPublication : Found → Found → ℕ → Type 0
+IsClosedPublication before after code =
+    (code ≡ 10) × (after.held ≡ None) × (after.number ≡ before.number) × (after.refusal_text ≡ kept_text (line_of Closed))
+
+-- a proposal of the table was answered by the machine
+pub record IsAnsweredPublication (table : List ℕ) (m : Held) (before after : Found) (code : ℕ) : Type 0 where
+  pub next : Held
+  pub outcome : Result ℕ Status
+  pub publication : IsPublication table m next outcome
+  pub held : after.held ≡ Some next
+  pub status : code ≡ status_of outcome
+  pub number : after.number ≡ given_or outcome before.number
+  pub refusal_text : after.refusal_text ≡ text_after outcome before.refusal_text
+
+-- the table was refused with this number and this text, or memory was, and nothing else changed
+pub record IsRefusedPublication (table : List ℕ) (m : Held) (before after : Found) (code : ℕ) : Type 0 where
+  pub why : TableRefusal
+  pub stands : IsNoPublication table why
+  pub put : IsPutAs why code after.refusal_text
+  pub held : after.held ≡ Some m
+  pub number : after.number ≡ before.number
+
+-- what a publication comes to
+abbrev pub IsPublishing : List ℕ → Found → Found → Option Held → ℕ → Type 0
+IsPublishing table before after None code = IsClosedPublication before after code
+IsPublishing table before after (Some m) code = IsAnsweredPublication table m before after code ⊎ IsRefusedPublication table m before after code

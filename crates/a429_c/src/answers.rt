@@ -1,0 +1,69 @@
+//! Answers of the machine as a program in C reads them.
+ghost use Rattle.std.specs.Prelude.{◌≡◌};
+ghost use Rattle.a429_c.specs.Calls.{cell_of, plan_of, source_of};
+
+use crate::statuses::{Status, status_for};
+use a429_core::Answer;
+
+/// A cell that was sent, on a bus, in a slot that is counted from the station's first. `filled` is 1 if the cell has a
+/// word, else 0, and then the word is 0.
+#[repr(C)]
+#[derive(Clone, Copy)]
+pub struct SentCell {
+    pub slot: u64,
+    pub bus: u32,
+    pub filled: u32,
+    pub word: u32,
+}
+
+/// The source for which a word is accepted.
+pub(crate) fn source_of(answer: Answer) -> Result<usize, Status>
+    ensures { result ≡ source_of answer }
+{
+    match answer {
+        Answer::Accepted { source } => Ok(source),
+        Answer::Refused(refusal) => Err(status_for(refusal)),
+        _ => Err(Status::NoSuch),
+    }
+}
+
+/// The cell that is sent.
+pub(crate) fn cell_of(answer: Answer) -> Result<SentCell, Status>
+    ensures { result ≡ cell_of answer }
+{
+    match answer {
+        Answer::Sent {
+            bus,
+            slot,
+            word: Some(word),
+        } => Ok(SentCell {
+            slot,
+            bus,
+            filled: 1,
+            word: word.raw(),
+        }),
+        Answer::Sent {
+            bus,
+            slot,
+            word: None,
+        } => Ok(SentCell {
+            slot,
+            bus,
+            filled: 0,
+            word: 0,
+        }),
+        Answer::Refused(refusal) => Err(status_for(refusal)),
+        _ => Err(Status::NoSuch),
+    }
+}
+
+/// The number of a plan.
+pub(crate) fn plan_of(answer: Answer) -> Result<u64, Status>
+    ensures { result ≡ plan_of answer }
+{
+    match answer {
+        Answer::Changed { plan } | Answer::Published { plan } => Ok(plan),
+        Answer::Refused(refusal) => Err(status_for(refusal)),
+        _ => Err(Status::NoSuch),
+    }
+}

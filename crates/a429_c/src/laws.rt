@@ -1,0 +1,19 @@
+//! What follows for all calls of a station.
+ghost use denote.Param.Send.{IsSend};
+ghost use Rattle.a429_c.specs.Histories.{StationsKeepHistory};
+ghost use Rattle.a429_c.specs.contracts.station.Station.{the_row as station_row};
+
+use a429_core::laws::calls_are_answered;
+
+/// Whatever calls were made of a station, each next one gives, or is refused for, what the definition of answers says
+/// after the history of all of them.
+pub fn histories_are_answered()
+    ensures { StationsKeepHistory }
+{
+    calls_are_answered();
+}
+
+/// A station may go to another thread: what it owns lies in memory that any thread may free.
+pub fn stations_may_move()
+    ensures { IsSend station_row }
+{}

@@ -1,0 +1,24 @@
+//! The machine for programs in C: a station in memory of its own, and a call for each thing that it does. The header
+//! `c/a429.h` says what a caller owes.
+//!
+//! Each call answers a status: 0, or the number of why it is refused. Then nothing is changed but the text of the last
+//! refusal. A call on a closed station is refused for that first, whatever else is wrong with it.
+#![tactic(auto)]
+
+mod answers;
+mod events;
+mod handle;
+pub mod laws;
+mod machine;
+mod naming;
+mod pointers;
+mod refusal_text;
+mod sizes;
+mod station;
+mod statuses;
+mod tables;
+
+pub use answers::SentCell;
+pub use handle::Handle;
+pub use refusal_text::RefusalText;
+pub use station::Station;

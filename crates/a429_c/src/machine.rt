@@ -1,0 +1,174 @@
+//! A station in operation, with its names and the sizes of the plans in force.
+ghost use Rattle.std.specs.Prelude.{◌≡◌, MatchResult, map, option_map, slice_get};
+ghost use Rattle.a429_slots.specs.Tables.{buses_of, frame_of, groups_of};
+ghost use Rattle.a429_core.specs.MachineStates.{IsWhole};
+ghost use Rattle.a429_core.specs.MachineSteps.{arrived, cell_asked, frame_asked, publish_asked};
+ghost use Rattle.a429_console.specs.Names.{number_named};
+ghost use Rattle.a429_c.specs.Calls.{with_state};
+ghost use Rattle.a429_c.specs.Openings.{IsNoOpening, IsOpenedFrom};
+ghost use Rattle.a429_c.specs.Sizes.{size_of};
+
+use crate::sizes::{GroupSize, follow, sizes_of};
+use crate::statuses::Status;
+use crate::tables::{TableRefusal, read_proposal};
+use a429_core::{Answer, OpenFault, StationState};
+use a429_equipment::{Equipment, GroupRow, ReceiverRow};
+use a429_slots::{OUTPUTS, Proposal};
+use std::alloc::Global;
+use std::marker::Model;
+
+/// A station in operation, the equipment of its table, and the sizes of each group's plan: of that in force, and of the
+/// newest.
+#[derive(Drop)]
+pub struct Machine {
+    pub(crate) state: StationState,
+    pub(crate) equipment: Equipment,
+    sizes: Vec<GroupSize>,
+    newest: Vec<GroupSize>,
+}
+
+impl Model for Machine {
+    ghost use Rattle.a429_console.specs.Names.{naming_of};
+    ghost use Rattle.std.specs.Prelude.{◌≡◌};
+    ghost use Rattle.a429_c.specs.Stations.{Held};
+    ghost use Rattle.a429_c.specs.Sizes.{newest_sizes, sizes_in_force};
+
+    ghost Value = { Held };
+
+    ghost view = { λ m. record { state = m.state; names = naming_of m.equipment } };
+
+    ghost invariant = { λ m. (m.sizes.items ≡ sizes_in_force m.state) × (m.newest.items ≡ newest_sizes m.state) };
+}
+
+impl Machine {
+    /// A raw word comes in at a receiver.
+    pub(crate) fn arrive(&mut self, receiver: usize, raw: u32) -> Answer
+        ensures answer { result ≡ (arrived 41 self.old.state receiver raw).0 }
+        ensures after { self.new ≡ with_state self.old (arrived 41 self.old.state receiver raw).1 }
+    {
+        self.state.arrive(receiver, raw)
+    }
+
+    /// A group sends its next cell.
+    pub(crate) fn cell(&mut self, group: usize) -> Answer
+        ensures answer { result ≡ (cell_asked self.old.state group).0 }
+        ensures after { self.new ≡ with_state self.old (cell_asked self.old.state group).1 }
+    {
+        self.state.cell(group)
+    }
+
+    /// A group goes on to its next frame.
+    pub(crate) fn frame(&mut self, group: usize) -> Answer
+        ensures answer { result ≡ (frame_asked self.old.state group).0 }
+        ensures after { self.new ≡ with_state self.old (frame_asked self.old.state group).1 }
+    {
+        let answer = self.state.frame(group);
+        if let Answer::Changed { .. } = answer {
+            follow(&mut self.sizes, &self.newest, group);
+        }
+        answer
+    }
+
+    /// A newer plan is proposed, for all groups, of these sizes.
+    pub(crate) fn publish(&mut self, proposal: Proposal<OUTPUTS>, sizes: Vec<GroupSize>) -> Answer
+        requires { sizes.items ≡ map size_of (groups_of proposal.plan) }
+        ensures answer { result ≡ (publish_asked self.old.state proposal).0 }
+        ensures after { self.new ≡ with_state self.old (publish_asked self.old.state proposal).1 }
+        ensures whole { IsWhole proposal }
+    {
+        let answer = self.state.publish(proposal);
+        if let Answer::Published { .. } = answer {
+            self.newest = sizes;
+        }
+        answer
+    }
+
+    /// How many buses a group has by the plan that is in force for it.
+    pub(crate) fn buses(&self, group: usize) -> Option<u32>
+        ensures { result ≡ option_map (λ s. buses_of s.table) (slice_get self.now.state.groups group) }
+    {
+        let size = self.sizes.get(group)?;
+        Some(size.buses)
+    }
+
+    /// How many slots a group's frame has by the plan that is in force for it.
+    pub(crate) fn frame_slots(&self, group: usize) -> Option<u32>
+        ensures { result ≡ option_map (λ s. frame_of s.table) (slice_get self.now.state.groups group) }
+    {
+        let size = self.sizes.get(group)?;
+        Some(size.slots)
+    }
+
+    /// The name of a receiver.
+    pub(crate) fn receiver_name(&self, number: usize) -> Option<&[u8]>
+        ensures { option_map (λ b. b.now) result ≡ slice_get self.now.names.receivers number }
+    {
+        let row = self.equipment.receivers().get(number)?;
+        Some(row.name.as_str().as_bytes())
+    }
+
+    /// The name of a group.
+    pub(crate) fn group_name(&self, number: usize) -> Option<&[u8]>
+        ensures { option_map (λ b. b.now) result ≡ slice_get self.now.names.groups number }
+    {
+        let row = self.equipment.groups().get(number)?;
+        Some(row.name.as_str().as_bytes())
+    }
+
+    /// The name of a source.
+    pub(crate) fn source_name(&self, number: usize) -> Option<&[u8]>
+        ensures { option_map (λ b. b.now) result ≡ slice_get self.now.names.sources number }
+    {
+        let row = self.equipment.sources().get(number)?;
+        Some(row.name.as_str().as_bytes())
+    }
+}
+
+/// The number of the first of these receivers that has this name.
+#[tactic(auto, unfolding(a429_console::specs::Names::number_named))]
+pub(crate) fn receiver_number(rows: &[ReceiverRow], name: &[u8]) -> Option<usize>
+    ensures { result ≡ number_named (map (λ r. r.name) rows.now) name.now }
+{
+    rows.iter()
+        .position(|row| row.name.as_str().as_bytes() == name)
+}
+
+/// The number of the first of these groups that has this name.
+#[tactic(auto, unfolding(a429_console::specs::Names::number_named))]
+pub(crate) fn group_number(rows: &[GroupRow], name: &[u8]) -> Option<usize>
+    ensures { result ≡ number_named (map (λ g. g.name) rows.now) name.now }
+{
+    rows.iter()
+        .position(|row| row.name.as_str().as_bytes() == name)
+}
+
+/// The station of a table's bytes, to which nothing has happened, whose first frames begin at this slot.
+pub(crate) fn build(alloc: Global, table: &[u8], first: u64) -> Result<Box<Machine>, TableRefusal>
+    ensures { MatchResult result (λ b. IsOpenedFrom table.now first b.value) (IsNoOpening table.now first) }
+{
+    let proposal = read_proposal(alloc, table)?;
+    let Ok(sizes) = sizes_of(alloc, proposal.plan()) else {
+        return Err(TableRefusal::Call(Status::Memory));
+    };
+    let Ok(newest) = sizes_of(alloc, proposal.plan()) else {
+        return Err(TableRefusal::Call(Status::Memory));
+    };
+    let Ok(equipment) = proposal.equipment().copied(alloc) else {
+        return Err(TableRefusal::Call(Status::Memory));
+    };
+    let state = match StationState::open(alloc, proposal, first) {
+        Ok(state) => state,
+        Err(OpenFault::NoMemory) => return Err(TableRefusal::Call(Status::Memory)),
+        Err(OpenFault::SlotsSpent) => return Err(TableRefusal::Call(Status::SlotsSpent)),
+    };
+    let machine = Machine {
+        state,
+        equipment,
+        sizes,
+        newest,
+    };
+    match Box::new(alloc, machine) {
+        Ok(machine) => Ok(machine),
+        Err(_) => Err(TableRefusal::Call(Status::Memory)),
+    }
+}
