@@ -5,3 +5,14 @@ pub mod MarginGroups
 pub mod RowFields
 pub mod AlignedRows
 pub mod DocumentRows
+pub mod Findings
+pub mod Changes
+pub mod Words
+pub mod Losses
+pub mod BusCounts
+pub mod Differences
+pub mod SameOrder
+pub mod SameTables
+pub mod SamePlans
+pub mod StatedTexts
+pub mod OnePlan

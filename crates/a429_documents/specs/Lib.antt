@@ -3,3 +3,7 @@ pub mod Drawing
 pub mod Aligned
 pub mod Document
 pub mod CsvLines
+pub mod Lint
+pub mod Diff
+pub mod Losses
+pub mod Unchanged

@@ -1,8 +1,45 @@
 //! What holds of the definitions that the contracts cite.
+ghost use Rattle.a429_documents.specs.Losses.{BusCountsAreFewest, NoLossIsAllServed};
 ghost use Rattle.a429_documents.specs.Margins.{WiderIntervalsAreNext};
+ghost use Rattle.a429_documents.specs.Unchanged.{NoStationLineIsOneStation, SameIsNoLine, SameIsOnePlan};
+
+use a429_pack::laws::fewest_by_demand;
 
 /// An interval whose greatest time becomes what twice its grid period lasts, rounded up to a whole microsecond, has
 /// that as its grid period, where the grid has such a period.
 pub fn wider_intervals_are_next()
     ensures { WiderIntervalsAreNext }
 {}
+
+/// The text of `lint` has no line of an output without a grid period, of a source that no filter passes and of one that
+/// no group sends, just if each source can be accepted and is sent and each output has a grid period: some raw word is
+/// for the source, some group has an output of it, and some period of the grid is within the output's interval.
+pub fn no_loss_is_all_served()
+    ensures { NoLossIsAllServed }
+{}
+
+/// The number of buses that `lint` counts by the demand of a frame is the fewest that any schedule needs.
+pub fn bus_counts_are_fewest()
+    ensures { BusCountsAreFewest }
+{
+    fewest_by_demand();
+}
+
+/// The text of `diff` has no `station` line just if the two tables are of one station: then the second can be published
+/// while the first one runs.
+pub fn no_station_line_is_one_station()
+    ensures { NoStationLineIsOneStation }
+{}
+
+/// The text of `diff` is the one line `same` just if nothing differs: no version, no rate, no part of the station, and
+/// of each group neither its name nor its size nor an output.
+pub fn same_is_no_line()
+    ensures { SameIsNoLine }
+{}
+
+/// The text of `diff` is the one line `same` just if the plans' texts are equal and the tables are of one station.
+pub fn same_is_one_plan()
+    ensures { SameIsOnePlan }
+{
+    fewest_by_demand();
+}

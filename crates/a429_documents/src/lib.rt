@@ -1,17 +1,33 @@
-//! What a plan is shown as: its interface control document, how far it is from one bus fewer, and an image of its slot
-//! tables.
+//! What a plan is shown as: its interface control document, how far it is from one bus fewer, an image of its slot
+//! tables, what its table does in silence, and what another plan changes.
+//!
+//! `icd_text` and `icd_csv` have a row for each output: bus, offset, period, intervals and latency. `margin_text` says
+//! which intervals would have to be wider to save a bus. `draw_text` is an image (SVG) of one group or of all.
+//! `diff_text` takes two proposals, and says what changes from the one to the other. `lint_text` takes an equipment, and
+//! says which words never arrive and what has no use. The others take a proposal. Each answers bytes; the error is that
+//! memory is refused.
+//!
+//! ```text
+//! let proposal: Proposal<OUTPUTS> = Proposal::of(alloc, equipment)?;
+//! let rows = icd_csv(alloc, &proposal)?;
+//! let margin = margin_text(alloc, &proposal)?;
+//! ```
 #![tactic(auto)]
 
 mod aligned;
 mod csv_text;
+mod diff;
 mod document;
 mod drawing;
 pub mod laws;
+mod lint;
 mod margin;
 mod rows;
 
 pub use aligned::icd_text;
 pub use csv_text::icd_csv;
+pub use diff::diff_text;
 pub use document::latency_us;
 pub use drawing::draw_text;
+pub use lint::lint_text;
 pub use margin::margin_text;

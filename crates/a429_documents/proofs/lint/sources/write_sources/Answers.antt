@@ -1,0 +1,19 @@
+use Rattle.std.proofs.Common.{◌≡◌, ◌++◌, ◌∙◌, [], ap, string_bytes, sym, ℕ, List}
+use Rattle.std.specs.Prelude.{Option, Some, slice_get}
+use Rattle.std.specs.Option.{option_map_or}
+use Rattle.a429_word.proofs.Lists.{read_is}
+use Rattle.a429_equipment.specs.TableRecord.{TableRecord}
+use Rattle.a429_equipment.specs.declared.rows.SourceRow.{SourceRow}
+use Rattle.a429_documents.specs.Lint.{source_finding, source_lines}
+use Rattle.a429_documents.proofs.Margins.{lines_more}
+use Rattle.a429_documents.proofs.lint.sources.write_sources.Goals as goal
+
+pub loop-number-preserved : goal.loop-number-preserved
+loop-number-preserved c =
+    let e : TableRecord = c.args.equipment.now in
+    let i = c.loop-number.number in
+    let row : SourceRow = c.index-sources-number.result in
+    let here : slice_get e.sources i ≡ Some row = ap (λ (ss : List SourceRow). slice_get ss i) (sym c.sources-sources.ensures.rows) ∙ read_is c.sources-sources.result.now i row c.loop-number-test.true c.index-sources-number.is in
+    let same : source_finding e c.args.kind i row ≡ source_lines e c.args.kind i = sym (ap (λ (r : Option SourceRow). option_map_or (source_finding e c.args.kind i) r []) here) in
+    lines_more (source_lines e c.args.kind) (string_bytes c.loop-number.text) (string_bytes c.write_source.new.text) (string_bytes c.args.text.now) i c.loop-number.invariant
+    (c.in_ok-write_source.ensures ∙ ap (λ (l : List ℕ). string_bytes c.loop-number.text ++ l) same)

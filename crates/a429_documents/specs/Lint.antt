@@ -1,0 +1,180 @@
+-- What a table does in silence: the text of `lint` (profile: lint text).
+use Rattle.std.specs.Prelude.{ℕ, ◌+◌, ◌*◌, ◌^◌, ◌≡◌, ◌==◌, ◌&&◌, Bool, true, false, List, [], ◌∷◌, ◌++◌, Option, None, Some, codes, if◌then◌else◌, is_some, nat_le, nat_lt, length, slice_get, slice_index_or}
+use Rattle.std.specs.Fmt.{decimal}
+use Rattle.std.specs.Int.{div_ceil}
+use Rattle.std.specs.List.{AllZip, flat_map, list_all, list_any, range_with_len}
+use Rattle.std.specs.Option.{option_map_or}
+use Rattle.a429_equipment.specs.TableRecord.{TableRecord, outputs_in}
+use Rattle.a429_equipment.specs.declared.rows.OutputRow.{OutputRow}
+use Rattle.a429_equipment.specs.declared.rows.ReceiverRow.{ReceiverRow}
+use Rattle.a429_equipment.specs.declared.rows.SourceRow.{SourceRow}
+use Rattle.a429_filter.specs.Filters.{filters_of, passes, set_passes}
+use Rattle.a429_filter.specs.declared.filters.Filter.{Filter}
+use Rattle.a429_pack.specs.Demanded.{demand_of}
+use Rattle.a429_pack.specs.Demands.{demand_at, exponents_of, greatest}
+use Rattle.a429_pack.specs.declared.demands.Demand.{Demand}
+use Rattle.a429_slots.specs.Asked.{IsAsked}
+use Rattle.a429_slots.specs.Planned.{rated_outputs}
+use Rattle.a429_cert.specs.PlanText.{source_name}
+use Rattle.a429_documents.specs.declared.lint.Finding.{Finding}
+use Rattle.a429_documents.specs.declared.lint.Finding.TheVariants.{OfGroup, OfSource, OfReceiver}
+use Rattle.a429_documents.specs.declared.lint.GroupFinding.{GroupFinding}
+use Rattle.a429_documents.specs.declared.lint.GroupFinding.TheVariants.{Unfit, TooManyBuses, Alike, Full}
+use Rattle.a429_documents.specs.declared.lint.SourceFinding.{SourceFinding}
+use Rattle.a429_documents.specs.declared.lint.SourceFinding.TheVariants.{Unheard, Unsent}
+use Rattle.a429_documents.specs.declared.lint.ReceiverFinding.{ReceiverFinding}
+use Rattle.a429_documents.specs.declared.lint.ReceiverFinding.TheVariants.{Idle, Blind}
+
+-- what is written of each of so many, by their numbers
+abbrev pub of_each : ℕ → (ℕ → List ℕ) → List ℕ
+of_each count line = flat_map line (range_with_len 0 count)
+
+-- ---- groups
+
+-- What the outputs of each group ask of its layout: the grid period of the interval, none if it admits none, and the label and SDI of the
+-- source.
+abbrev pub AreAsked : TableRecord → List (List Demand) → Type 0
+AreAsked e asked = AllZip (λ rated demands. AllZip (IsAsked rated.0 e.sources) rated.1 demands) (rated_outputs e) asked
+
+-- what those of one group ask, or none if there is no such group
+abbrev pub asked_in : List (List Demand) → ℕ → List Demand
+asked_in asked group = slice_index_or asked group []
+
+-- the name of the source of an output; after the last output, nothing
+abbrev pub output_name : List SourceRow → List OutputRow → ℕ → List ℕ
+output_name sources rows o = option_map_or (λ row. source_name sources row.source) (slice_get rows o) []
+
+-- each output has a grid period
+abbrev pub are_fit : List Demand → Bool
+are_fit demands = list_all (λ d. is_some d.period) demands
+
+-- the fewest buses for outputs of these periods' exponents: those that carry the demand of a frame
+abbrev pub bus_count : List ℕ → ℕ
+bus_count exponents = div_ceil (demand_of exponents) (2 ^ greatest exponents)
+
+-- an output without a grid period
+abbrev pub unfit_line : List SourceRow → List ℕ → List OutputRow → List Demand → ℕ → List ℕ
+unfit_line sources group rows demands o =
+    if is_some (demand_at demands o).period then []
+    else codes "unfit " ++ (group ++ (codes " " ++ (output_name sources rows o ++ codes "\n")))
+
+-- each output has a grid period, and the fewest buses are more than a group can have
+abbrev pub needs_too_many : List Demand → Bool
+needs_too_many demands = are_fit demands && nat_lt 16 (bus_count (exponents_of demands))
+
+abbrev pub too_many_text : List ℕ → ℕ → List ℕ
+too_many_text group buses = codes "too-many-buses " ++ (group ++ (codes " " ++ (decimal buses ++ codes "\n")))
+
+-- such a group, with the fewest buses that it needs
+abbrev pub too_many_line : List ℕ → List Demand → List ℕ
+too_many_line group demands = if needs_too_many demands then too_many_text group (bus_count (exponents_of demands)) else []
+
+-- one of the two is any, and the other a certain one
+abbrev pub one_is_any : Option ℕ → Option ℕ → Bool
+one_is_any None (Some sdi) = true
+one_is_any (Some sdi) None = true
+one_is_any _ _ = false
+
+-- an output and a later one that have one label, of which just one takes any SDI
+abbrev pub are_alike : List Demand → ℕ → ℕ → Bool
+are_alike demands o p =
+    nat_lt o p && ((demand_at demands o).label == (demand_at demands p).label && one_is_any (demand_at demands o).sdi (demand_at demands p).sdi)
+
+abbrev pub alike_line : List SourceRow → List ℕ → List OutputRow → List Demand → ℕ → ℕ → List ℕ
+alike_line sources group rows demands o p =
+    if are_alike demands o p
+    then codes "alike " ++ (group ++ (codes " " ++ (output_name sources rows o ++ (codes " " ++ (output_name sources rows p ++ codes "\n")))))
+    else []
+
+-- those of one output with each later one
+abbrev pub alike_lines : List SourceRow → List ℕ → List OutputRow → List Demand → ℕ → List ℕ
+alike_lines sources group rows demands o = of_each (length rows) (alike_line sources group rows demands o)
+
+-- the group can be planned, and its demand fills each cell of its buses
+abbrev pub is_full : List Demand → Bool
+is_full demands =
+    are_fit demands && (nat_le (bus_count (exponents_of demands)) 16
+    && demand_of (exponents_of demands) == bus_count (exponents_of demands) * 2 ^ greatest (exponents_of demands))
+
+abbrev pub full_line : List ℕ → List Demand → List ℕ
+full_line group demands = if is_full demands then codes "full " ++ (group ++ codes "\n") else []
+
+-- the findings of one kind in a group, outputs in table order
+abbrev pub group_finding : List SourceRow → GroupFinding → List ℕ → List OutputRow → List Demand → List ℕ
+group_finding sources Unfit group rows demands = of_each (length rows) (unfit_line sources group rows demands)
+group_finding sources TooManyBuses group rows demands = too_many_line group demands
+group_finding sources Alike group rows demands = of_each (length rows) (alike_lines sources group rows demands)
+group_finding sources Full group rows demands = full_line group demands
+
+abbrev pub group_lines : TableRecord → List (List Demand) → GroupFinding → ℕ → List ℕ
+group_lines e asked kind n =
+    option_map_or (λ g. group_finding e.sources kind g.name (outputs_in e n) (asked_in asked n)) (slice_get e.groups n) []
+
+-- of each group
+abbrev pub group_findings : TableRecord → List (List Demand) → GroupFinding → List ℕ
+group_findings e asked kind = of_each (length e.groups) (group_lines e asked kind)
+
+-- ---- sources
+
+-- a filter of its receiver passes its label, or the receiver has no list of filters
+abbrev pub is_heard : List ReceiverRow → SourceRow → Bool
+is_heard receivers s = option_map_or (λ r. set_passes r.filters s.label) (slice_get receivers s.receiver) false
+
+-- the group has an output of the source
+abbrev pub has_output_of : List OutputRow → ℕ → Bool
+has_output_of rows source = list_any (λ row. row.source == source) rows
+
+-- some group has one
+abbrev pub is_sent : TableRecord → ℕ → Bool
+is_sent e source = list_any (λ group. has_output_of (outputs_in e group) source) (range_with_len 0 (length e.groups))
+
+-- the finding of one kind of a source
+abbrev pub source_finding : TableRecord → SourceFinding → ℕ → SourceRow → List ℕ
+source_finding e Unheard n s = if is_heard e.receivers s then [] else codes "unheard " ++ (s.name ++ codes "\n")
+source_finding e Unsent n s = if is_sent e n then [] else codes "unsent " ++ (s.name ++ codes "\n")
+
+abbrev pub source_lines : TableRecord → SourceFinding → ℕ → List ℕ
+source_lines e kind n = option_map_or (source_finding e kind n) (slice_get e.sources n) []
+
+-- ---- receivers
+
+-- some source is one of the receiver
+abbrev pub has_source : List SourceRow → ℕ → Bool
+has_source sources r = list_any (λ s. s.receiver == r) sources
+
+-- the filter passes the label of a source of the receiver
+abbrev pub sees_source : List SourceRow → ℕ → Filter → Bool
+sees_source sources r f = list_any (λ s. s.receiver == r && passes f s.label) sources
+
+-- a filter that passes no label of the receiver's sources, by its number from 1
+abbrev pub blind_line : List SourceRow → ℕ → List ℕ → List Filter → ℕ → List ℕ
+blind_line sources r name filters n =
+    option_map_or (λ f. if sees_source sources r f then [] else codes "blind " ++ (name ++ (codes " " ++ (decimal (n + 1) ++ codes "\n")))) (slice_get filters n) []
+
+-- the findings of one kind of a receiver, filters in order
+abbrev pub receiver_finding : List SourceRow → ReceiverFinding → ℕ → ReceiverRow → List ℕ
+receiver_finding sources Idle n r = if has_source sources n then [] else codes "idle " ++ (r.name ++ codes "\n")
+receiver_finding sources Blind n r = of_each (length (filters_of r.filters)) (blind_line sources n r.name (filters_of r.filters))
+
+abbrev pub receiver_lines : TableRecord → ReceiverFinding → ℕ → List ℕ
+receiver_lines e kind n = option_map_or (receiver_finding e.sources kind n) (slice_get e.receivers n) []
+
+-- ---- the text
+
+-- the findings of one kind, in table order
+abbrev pub finding_lines : TableRecord → List (List Demand) → Finding → List ℕ
+finding_lines e asked (OfGroup kind) = group_findings e asked kind
+finding_lines e asked (OfSource kind) = of_each (length e.sources) (source_lines e kind)
+finding_lines e asked (OfReceiver kind) = of_each (length e.receivers) (receiver_lines e kind)
+
+-- the kinds, in the order of the text
+abbrev pub findings : List Finding
+findings =
+    OfGroup Unfit ∷ OfGroup TooManyBuses ∷ OfSource Unheard ∷ OfSource Unsent ∷ OfReceiver Idle ∷ OfReceiver Blind ∷ OfGroup Alike ∷ OfGroup Full ∷ []
+
+-- a line for each finding, kind by kind, by what the outputs of the groups ask
+abbrev pub lint_text_of : TableRecord → List (List Demand) → List ℕ
+lint_text_of e asked = flat_map (finding_lines e asked) findings
+
+abbrev pub IsLintText : TableRecord → List ℕ → Type 0
+IsLintText e text = (asked : List (List Demand)) × AreAsked e asked × (text ≡ lint_text_of e asked)

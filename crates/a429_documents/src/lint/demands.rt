@@ -1,0 +1,103 @@
+//! What the groups of an equipment ask of their layout.
+ghost use Rattle.std.specs.Prelude.{◌≡◌, ◌≤◌, IfOk, length, map};
+ghost use Rattle.std.specs.List.{AllZip};
+ghost use Rattle.a429_pack.specs.Demanded.{demand_of};
+ghost use Rattle.a429_pack.specs.Demands.{exponent_of, exponents_of, frame_of};
+ghost use Rattle.a429_slots.specs.Asked.{IsAsked};
+ghost use Rattle.a429_slots.specs.Planned.{HaveSources};
+ghost use Rattle.a429_documents.specs.Lint.{AreAsked, are_fit, bus_count};
+
+use a429_equipment::{Equipment, OutputRow, SourceRow};
+use a429_grid::{Period, grid_period};
+use a429_pack::Demand;
+use std::alloc::{AllocError, Global};
+
+/// What the outputs of a group ask of its layout, at this rate in bit/s.
+#[tactic(auto, using(a429_slots::proofs::Rows::all_below, a429_slots::proofs::Rows::zipped_more, a429_word::proofs::Lists::read_is))]
+fn demands_of(
+    alloc: Global,
+    rate: u32,
+    sources: &[SourceRow],
+    outputs: &[OutputRow],
+) -> Result<Vec<Demand>, AllocError>
+    requires { HaveSources sources.now outputs.now }
+    ensures { IfOk result (λ demands. AllZip (IsAsked rate sources.now) outputs.now demands.items) }
+{
+    let mut demands = Vec::new(alloc);
+    for output in outputs {
+        let source = &sources[output.source];
+        let period = grid_period(output.min_us, output.max_us, rate);
+        demands.push(Demand {
+            period,
+            label: source.label,
+            sdi: source.sdi,
+        })?;
+    }
+    Ok(demands)
+}
+
+/// What the outputs of each group ask of its layout, in table order.
+pub fn demands_of_groups(
+    alloc: Global,
+    equipment: &Equipment,
+) -> Result<Vec<Vec<Demand>>, AllocError>
+    ensures { IfOk result (λ asked. AreAsked equipment.now (map (λ v. v.items) asked.items)) }
+{
+    let sources = equipment.sources();
+    let mut all = Vec::new(alloc);
+    for group in 0..equipment.groups().len() {
+        let rate = equipment.group_rate(group);
+        all.push(demands_of(alloc, rate, sources, equipment.outputs(group))?)?;
+    }
+    Ok(all)
+}
+
+/// Whether each output has a grid period.
+pub fn are_fit(demands: &[Demand]) -> bool
+    ensures { result ≡ are_fit demands.now }
+{
+    demands.iter().all(|demand| demand.period.is_some())
+}
+
+/// The period that is asked for, one slot if there is none.
+fn period_of(demand: &Demand) -> Period
+    ensures { result ≡ exponent_of demand.now }
+{
+    match demand.period {
+        Some(period) => period,
+        None => Period::of_digits(0),
+    }
+}
+
+/// The frame of a group: the greatest period that is asked for, one slot if there is none.
+pub fn frame_of(demands: &[Demand]) -> Period
+    ensures { result ≡ frame_of demands.now }
+{
+    let mut digits = 0;
+    for demand in demands {
+        digits = digits.max(period_of(demand).digits());
+    }
+    Period::of_digits(digits)
+}
+
+/// How many cells of a frame the outputs fill.
+pub fn cells_of(demands: &[Demand], frame: Period) -> u32
+    requires few { length demands.now ≤ 128 }
+    requires frame { frame ≡ frame_of demands.now }
+    ensures { result ≡ demand_of (exponents_of demands.now) }
+{
+    let mut cells = 0;
+    for demand in demands {
+        cells += frame.slots() / period_of(demand).slots();
+    }
+    cells
+}
+
+/// The fewest buses that carry the demand of a frame.
+pub fn bus_count(demands: &[Demand]) -> u32
+    requires few { length demands.now ≤ 128 }
+    ensures { result ≡ bus_count (exponents_of demands.now) }
+{
+    let frame = frame_of(demands);
+    cells_of(demands, frame).div_ceil(frame.slots())
+}
