@@ -186,18 +186,30 @@ impl<'a> Case<'a> {
 
     /// Whether this is what the case states.
     pub fn is_met(&self, outcome: &Outcome) -> bool {
-        self.wanted.is_met(&outcome.out, outcome.status) && self.has_told(&outcome.err)
+        self.wanted.is_met(&outcome.out, outcome.status) && self.has_told(outcome)
     }
 
-    fn has_told(&self, err: &[u8]) -> bool {
+    fn has_told(&self, outcome: &Outcome) -> bool {
+        let err = outcome.err.as_slice();
         let Some(texts) = &self.err else {
-            return err.is_empty() || self.wanted.status == 1 && are_hints(err);
+            let may_tell = self.wanted.status == 1 || refuses_a_table(&outcome.out);
+            return err.is_empty() || may_tell && are_hints(err);
         };
         !err.is_empty()
             && texts
                 .split(|byte| *byte == b'\n')
                 .all(|text| text.is_empty() || cut_around(err, text).is_some())
     }
+}
+
+/// Whether a line says that a table is refused, a further one while the command goes on.
+fn refuses_a_table(out: &[u8]) -> bool {
+    out.split(|byte| *byte == b'\n').any(|line| {
+        line.starts_with(b"refused table ")
+            || line.starts_with(b"refused unfit ")
+            || line.starts_with(b"refused too-many-buses ")
+            || line.starts_with(b"refused station-differs")
+    })
 }
 
 /// Whether each line is a hint.

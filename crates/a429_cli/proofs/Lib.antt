@@ -12,3 +12,5 @@ pub mod Resubmits
 pub mod WholeFrames
 pub mod Left
 pub mod Ran
+pub mod Taken
+pub mod Found

@@ -7,6 +7,7 @@ pub mod LineReports
 pub mod LineReplies
 pub mod PlanReplies
 pub mod Drawings
+pub mod Findings
 pub mod Replies
 pub mod AnswerLines
 pub mod WordsFile

@@ -25,7 +25,7 @@ use Rattle.a429_console.specs.declared.output.OutputFault.{OutputFault}
 use Rattle.a429_console.specs.Requests.{Live, LiveAsk}
 use Rattle.a429_console.specs.Names.{naming_of}
 use Rattle.a429_console.specs.RefusalText.{OrMemory, refusal_line}
-use Rattle.a429_console.specs.Tables.{IsProposedBy, IsTableRefusal}
+use Rattle.a429_console.specs.Tables.{IsProposedBy, IsTableRefusal, TakesAll}
 use Rattle.a429_station.specs.Course.{fresh}
 use Rattle.a429_station.specs.Numbered.{AllNumbered}
 use Rattle.a429_station.specs.Resubmitting.{Running}
@@ -49,6 +49,10 @@ pub record LiveFiles : Type 0 where
 -- they are those of the files that are asked for, which are all read before any is looked at
 abbrev pub AreLiveFiles : (List ℕ → Option (List ℕ)) → LiveAsk → LiveFiles → Type 0
 AreLiveFiles file r i = AreRead file (r.table ∷ r.words ∷ r.further) (i.table ∷ i.words ∷ i.further)
+
+-- the station of the table takes the plans of the further ones
+abbrev pub TakesLive : (List ℕ → Option (List ℕ)) → LiveAsk → Type 0
+TakesLive file r = (i : LiveFiles) → AreLiveFiles file r i → TakesAll i.table i.further
 
 -- the table has a plan, and the file of words these
 pub record IsLiveStart (i : LiveFiles) (q : Proposed) (arrivals : List Arrival) : Type 0 where

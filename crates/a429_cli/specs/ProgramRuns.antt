@@ -1,14 +1,14 @@
 -- What the program does with the words that it is given.
 use Rattle.std.specs.Prelude.{◌≡◌, ◌≤◌, [], ◌∷◌, ◌⊎◌, ℕ, List, Bool, true, false, Option, IsTrue, codes}
 use Rattle.std.specs.Str.{bytes_eq}
-use Rattle.a429_console.specs.Ends.{EndsBy, IsMemoryRefused, IsMistakeTold, IsPutTo, IsWhole, Writing}
+use Rattle.a429_console.specs.Ends.{EndsBy, IsLeft, IsMemoryRefused, IsMistakeTold, IsPutTo, IsWhole, Writing}
 use Rattle.a429_console.specs.GivenWords.{AreGiven, HasNoText}
 use Rattle.a429_console.specs.Outputs.{OrNoMemory}
 use Rattle.a429_console.specs.RequestRows.{AsksFor}
 use Rattle.a429_console.specs.Requests.{Command, CommandAsk, Live, LiveAsk}
 use Rattle.a429_console.specs.Usage.{kinds_of_words, live_kinds_of_words}
-use Rattle.a429_cli.specs.Replies.{IsReplyOrMemory}
-use Rattle.a429_cli.specs.LiveReplies.{IsLiveReply}
+use Rattle.a429_cli.specs.Replies.{IsReplyOrMemory, TakesEach}
+use Rattle.a429_cli.specs.LiveReplies.{IsLiveReply, TakesLive}
 
 -- what files a reader has, and whether it tells them
 pub record Reader : Type 0 where
@@ -28,12 +28,14 @@ IsAnswered {R} Asks Says reader out status = (r : R) → Asks r → (status ≤ 
 pub record IsLiveDone {X Y : Type 0} (words : List (List ℕ)) (reader : Reader) (Reads : ((List ℕ → Option (List ℕ)) → Type 0) → Type 0) (out : Writing X) (err : Writing Y) (status : ℕ) : Type 0 where
   pub answered : IsAnswered (λ (r : LiveAsk). AsksFor words (Live r)) (λ (r : LiveAsk). OrNoMemory (IsLiveReply reader.file r)) reader out status
   pub read : (r : LiveAsk) → AsksFor words (Live r) → IsWhole out → Reads (λ file. IsPutTo (OrNoMemory (IsLiveReply file r)) out status)
+  pub quiet : (r : LiveAsk) → AsksFor words (Live r) → Reads (λ file. TakesLive file r → status ≡ 0 → IsLeft err)
   pub ends : EndsBy (live_kinds_of_words words) out err status
 
 -- the words went to the other commands
 pub record IsCommandDone {X Y : Type 0} (words : List (List ℕ)) (reader : Reader) (Reads : ((List ℕ → Option (List ℕ)) → Type 0) → Type 0) (out : Writing X) (err : Writing Y) (status : ℕ) : Type 0 where
   pub answered : IsAnswered (λ (r : CommandAsk). AsksFor words (Command r)) (λ (r : CommandAsk). IsReplyOrMemory reader.file r) reader out status
   pub read : (r : CommandAsk) → AsksFor words (Command r) → IsWhole out → Reads (λ file. IsPutTo (IsReplyOrMemory file r) out status)
+  pub quiet : (r : CommandAsk) → AsksFor words (Command r) → Reads (λ file. TakesEach file r → status ≡ 0 → IsLeft err)
   pub ends : EndsBy (kinds_of_words words) out err status
 
 -- the words went to the command that the first of them names

@@ -10,7 +10,7 @@ use Rattle.a429_console.specs.Files.{texts_of}
 use Rattle.a429_console.specs.Replying.{HasReplied}
 use Rattle.a429_console.specs.declared.files.FileFault.{FileFault}
 use Rattle.a429_console.specs.declared.output.OutputFault.{OutputFault}
-use Rattle.a429_console.specs.Tables.{IsProposedBy, IsTableRefusal}
+use Rattle.a429_console.specs.Tables.{IsProposedBy, IsTableRefusal, TakesAll}
 use Rattle.a429_cli.specs.Script.{script_events, IsScriptFault}
 use Rattle.a429_cli.specs.Playing.{Played}
 use Rattle.a429_console.specs.RefusalText.{OrMemory, refusal_line}
@@ -26,6 +26,10 @@ pub record ReplayInput : Type 0 where
 -- they are those of the files of these names, which are all read before any is looked at
 abbrev pub IsInput : (List ℕ → Option (List ℕ)) → List ℕ → List ℕ → List (List ℕ) → ReplayInput → Type 0
 IsInput file table script further i = AreRead file (table ∷ script ∷ further) (i.table ∷ i.script ∷ i.further)
+
+-- the station of the first of these files takes the plans of the further ones
+abbrev pub TakesFurther : (List ℕ → Option (List ℕ)) → List ℕ → List ℕ → List (List ℕ) → Type 0
+TakesFurther file table script further = (i : ReplayInput) → IsInput file table script further i → TakesAll i.table i.further
 
 -- the table has a plan, at whose slot 0 the station opens, and the script these events
 pub record IsStart (i : ReplayInput) (q : Proposed) (events : List ScriptEvent) : Type 0 where

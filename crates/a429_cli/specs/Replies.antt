@@ -1,14 +1,15 @@
 -- What `command` answers.
-use Rattle.std.specs.Prelude.{ℕ, List, Bool, Option, Result, if◌then◌else◌}
+use Rattle.std.specs.Prelude.{⊤, ℕ, List, Bool, Option, Result, if◌then◌else◌}
 use Rattle.a429_console.specs.Outputs.{FailedCalls, OrNoMemory}
 use Rattle.a429_console.specs.Replying.{RepliesByReader, RepliesToWords}
-use Rattle.a429_console.specs.Requests.{Command, CommandAsk, Word, Lines, Plan, Check, Replay, Icd, Margin, Draw}
+use Rattle.a429_console.specs.Requests.{Command, CommandAsk, Word, Lines, Plan, Check, Replay, Icd, Margin, Lint, Diff, Draw}
 use Rattle.a429_console.specs.declared.files.FileFault.{FileFault}
 use Rattle.a429_cli.specs.WordLines.{IsWordReply}
 use Rattle.a429_cli.specs.LineReplies.{IsLinesReply}
 use Rattle.a429_cli.specs.PlanReplies.{IsPlanReply, IsCheckReply}
 use Rattle.a429_cli.specs.Drawings.{IsDrawReply}
-use Rattle.a429_cli.specs.Replaying.{IsReplay}
+use Rattle.a429_cli.specs.Findings.{IsDiffReply, IsLintReply}
+use Rattle.a429_cli.specs.Replaying.{IsReplay, TakesFurther}
 use Rattle.a429_cli.specs.declared.plan_texts.PlanText.TheVariants as told
 
 -- the status and the bytes that answer what `command` is asked for, by these files
@@ -18,9 +19,16 @@ IsReply file (Lines name filters) = IsLinesReply file name filters
 IsReply file (Plan table) = IsPlanReply file told.Plan table
 IsReply file (Icd table csv) = IsPlanReply file (if csv then told.Sheet else told.Document) table
 IsReply file (Margin table) = IsPlanReply file told.Margin table
+IsReply file (Lint table) = IsLintReply file table
+IsReply file (Diff table other) = IsDiffReply file table other
 IsReply file (Draw table group slots) = IsDrawReply file table group slots
 IsReply file (Check table text) = IsCheckReply file table text
 IsReply file (Replay table script further) = IsReplay file table script further
+
+-- the station takes the plans of all further tables of the request
+abbrev pub TakesEach : (List ℕ → Option (List ℕ)) → CommandAsk → Type 0
+TakesEach file (Replay table script further) = TakesFurther file table script further
+TakesEach file _ = ⊤
 
 -- or want of memory, before anything else was written
 abbrev pub IsReplyOrMemory : (List ℕ → Option (List ℕ)) → CommandAsk → ℕ → List ℕ → Type 0

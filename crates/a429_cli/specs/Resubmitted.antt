@@ -1,5 +1,5 @@
 -- What it comes to that tables are submitted again to a running station, one after another.
-use Rattle.std.specs.Prelude.{◌≡◌, ◌+◌, ◌^◌, ◌∷◌, [], ℕ, false, List, OnOk, Result, MatchResult}
+use Rattle.std.specs.Prelude.{◌≡◌, ◌+◌, ◌^◌, ◌∷◌, [], ℕ, Bool, true, false, List, Ok, IfOk, OnOk, Result, MatchResult}
 use Rattle.std.specs.declared.vec.Vec.{Vec}
 use Rattle.std.specs.declared.alloc.Global.{Global}
 use Rattle.a429_equipment.specs.TableRecord.{TableRecord}
@@ -10,10 +10,12 @@ use Rattle.a429_console.specs.declared.refusals.CommandRefusal.{CommandRefusal}
 use Rattle.a429_console.specs.Tables.{IsProposedBy, IsTableRefusal}
 use Rattle.a429_equipment.specs.SameStation.{same_station}
 use Rattle.a429_slots.specs.Proposed.{Proposed}
-use Rattle.a429_station.specs.Resubmitting.{Publishes, Running}
+use Rattle.a429_table.specs.Reading.{reading}
+use Rattle.a429_station.specs.Resubmitting.{IsReplanFault, Publishes, Running}
+use Rattle.a429_station.specs.declared.station.ReplanFault.{ReplanFault}
 use Rattle.a429_cli.specs.declared.live.control.Answer.{Answer}
 use Rattle.a429_cli.specs.declared.live.control.Answer.TheVariants as answer
-use Rattle.a429_cli.specs.LiveReplies.{AreAppended, IsReport}
+use Rattle.a429_cli.specs.LiveReplies.{AppendsLine, AreAppended, IsReport}
 
 -- What a table is answered by a station, and the station after it: the number under which its plan is published; or its refusal or that of its plan, that
 -- it is of another station, or that no number is left, and then the station is as before.
@@ -22,6 +24,20 @@ IsAnswer v table (answer.Published number) w = Publishes v table number w
 IsAnswer v table (answer.Refused refusal) w = IsTableRefusal table refusal × (w ≡ v)
 IsAnswer v table answer.OtherStation w = ((q : Proposed) × IsProposedBy table q × (same_station v.station q.station ≡ false)) × (w ≡ v)
 IsAnswer v table answer.NumbersSpent w = (v.planner.last.number + 1 ≡ 2 ^ 64) × (w ≡ v)
+
+-- a table was refused, or is of another station
+abbrev pub is_refused : Answer → Bool
+is_refused (answer.Refused refusal) = true
+is_refused answer.OtherStation = true
+is_refused _ = false
+
+-- the answer by the fault of a table of this equipment, to whatever station it is submitted
+abbrev pub AnswersFault : {E : Type 0} → TableRecord → ReplanFault → Result Answer E → Type 0
+AnswersFault t fault result = (v : Running) (table : List ℕ) → reading table ≡ Ok t → IsReplanFault v table fault → IfOk result (λ answer. IsAnswer v table answer v)
+
+-- the line of a table that was answered so is appended to a text, if memory suffices
+abbrev pub AppendsAnswer : {A E : Type 0} → Answer → List ℕ → List ℕ → Result A E → Type 0
+AppendsAnswer given old new result = (v w : Running) (table : List ℕ) → IsAnswer v table given w → AppendsLine v w table old new result
 
 -- what several are answered, one after another
 abbrev pub AreAnswers : Running → List (List ℕ) → List Answer → Running → Type 0

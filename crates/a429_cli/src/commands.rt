@@ -6,10 +6,11 @@ ghost use Rattle.a429_console.specs.Outputs.{CountsFault, IsPut};
 ghost use Rattle.a429_console.specs.Readings.{HasRead, HasReadFrom};
 ghost use Rattle.a429_console.specs.RequestRows.{AsksFor};
 ghost use Rattle.a429_console.specs.Requests.{Command, CommandAsk, command_of, request_of};
-ghost use Rattle.a429_cli.specs.Replies.{IsReplyOrMemory, RepliesToCommand, RepliesToCommandByReader};
+ghost use Rattle.a429_cli.specs.Replies.{IsReplyOrMemory, RepliesToCommand, RepliesToCommandByReader, TakesEach};
 ghost use Rattle.a429_console.specs.Usage.{elsewhere, is_run, kinds_of_words};
 
 use crate::drawings::print_drawing;
+use crate::findings::{print_diff, print_lint};
 use crate::lines::tell_lines;
 use crate::plan_texts::{PlanText, document_kind, print_plan, print_verdict};
 use crate::replay::replay;
@@ -17,7 +18,7 @@ use crate::word::tell_word;
 use a429_console::arguments::replies::explain;
 use a429_console::arguments::requests::{CommandRequest, Request, other_call_error, parse};
 use a429_console::files::FileReader;
-use a429_console::hints::{Hints, Seen, tell_hint};
+use a429_console::hints::{FurtherFault, Hints, Seen, tell_hints};
 use a429_console::output::endings::tell_fault;
 use a429_console::output::{Output, OutputFault};
 use std::alloc::Global;
@@ -38,6 +39,9 @@ pub fn command<'a, H: Hints, F: FileReader, O: Output, V: Output>(
     ensures replied { RepliesToCommand F.tells F.file O.contents O.failures (texts_of words.entry.now) files.old out.old out.new result }
     // The same of a reader of any files: the answer is that of files which give what the reader answered in this call.
     ensures read { RepliesToCommandByReader F.answers O.contents O.failures (texts_of words.entry.now) files.old out.old out.new result }
+    // With status 0 nothing is written to the other output, if each further table was taken: that of any files which give what the reader answered.
+    ensures quiet { (r : CommandAsk) → AsksFor (texts_of words.entry.now) (Command r)
+        → HasReadFrom F.answers (λ file. TakesEach file r → result ≡ 0 → err.new ≡ err.old) files.old }
     ensures asked { (r : CommandAsk) → AsksFor (texts_of words.entry.now) (Command r) → result ≤ 1 }
     // How it ends: help, mistakes, failures of either output, and what was passed on.
     ensures ends { EndsBy (kinds_of_words (texts_of words.entry.now)) (writing O.contents O.failures O.is_flushed out.old out.new)
@@ -63,13 +67,15 @@ fn answer_words<'a, H: Hints, F: FileReader, O: Output, V: Output>(
 ) -> Result<u8, OutputFault>
     ensures read { (r : CommandAsk) → AsksFor (texts_of words.entry.now) (Command r)
         → HasReadFrom F.answers (λ file. IfOk result (IsPut (IsReplyOrMemory file r) (O.contents out.old) (O.contents out.new))) files.old }
+    ensures quiet { (r : CommandAsk) → AsksFor (texts_of words.entry.now) (Command r)
+        → HasReadFrom F.answers (λ file. TakesEach file r → IfOk result (λ status. status ≡ 0 → err.new ≡ err.old)) files.old }
     ensures asked { (r : CommandAsk) → AsksFor (texts_of words.entry.now) (Command r) → IfOk result (λ status. status ≤ 1) }
     ensures ends { EndsOrFails (kinds_of_words (texts_of words.entry.now)) (writing O.contents O.failures O.is_flushed out.old out.new)
         (writing V.contents V.failures V.is_flushed err.old err.new) result }
 {
     match parse(alloc, words) {
         Ok(request) => answer_here(alloc, &request, hints, files, out, err),
-        Err(error) => explain(alloc, &error, out, err),
+        Err(error) => explain(alloc, &error, words, hints, out, err),
     }
 }
 
@@ -84,6 +90,8 @@ fn answer_here<H: Hints, F: FileReader, O: Output, V: Output>(
 ) -> Result<u8, OutputFault>
     ensures read { (r : CommandAsk) → request_of request.now ≡ Command r
         → HasReadFrom F.answers (λ file. IfOk result (IsPut (IsReplyOrMemory file r) (O.contents out.old) (O.contents out.new))) files.old }
+    ensures quiet { (r : CommandAsk) → request_of request.now ≡ Command r
+        → HasReadFrom F.answers (λ file. TakesEach file r → IfOk result (λ status. status ≡ 0 → err.new ≡ err.old)) files.old }
     ensures asked { (r : CommandAsk) → request_of request.now ≡ Command r → IfOk result (λ status. status ≤ 1) }
     ensures ends { EndsOrFails (elsewhere (is_run request.now)) (writing O.contents O.failures O.is_flushed out.old out.new)
         (writing V.contents V.failures V.is_flushed err.old err.new) result }
@@ -92,12 +100,13 @@ fn answer_here<H: Hints, F: FileReader, O: Output, V: Output>(
         Request::Command(asked) => answer_with_hint(alloc, request, asked, hints, files, out, err),
         Request::Live(_) => {
             let error = other_call_error(alloc, "this call runs no station");
-            explain(alloc, &error, out, err)
+            explain(alloc, &error, &[], hints, out, err)
         }
     }
 }
 
-/// Answers what `command` is asked for, and after a refusal tells on `err` what can be done about it.
+/// Answers what `command` is asked for. After a refusal, also of a further table, it tells on `err` what can be done
+/// about it.
 fn answer_with_hint<H: Hints, F: FileReader, O: Output, V: Output>(
     alloc: Global,
     request: &Request,
@@ -112,15 +121,16 @@ fn answer_with_hint<H: Hints, F: FileReader, O: Output, V: Output>(
     ensures status { IfOk result (λ status. status ≤ 1) }
     ensures flushed { OnOk result (IsTrue (O.is_flushed out.new)) }
     ensures faults { CountsFault result (O.failures out.old) (O.failures out.new) }
-    ensures quiet { IfOk result (λ status. status ≡ 0 → err.new ≡ err.old) }
+    ensures quiet { HasReadFrom F.answers (λ file. TakesEach file (command_of asked.now)
+        → IfOk result (λ status. status ≡ 0 → err.new ≡ err.old)) files.old }
     ensures left { OnErr result (err.new ≡ err.old) }
-    ensures failed { IfOk result (λ status. (status ≡ 1) ⊎ (V.failures err.new ≡ V.failures err.old)) }
     ensures once { (V.failures err.new).count ≤ (V.failures err.old).count + 1 }
 {
-    let mut seen = Seen::nothing();
-    let result = answer(alloc, asked, files, &mut seen, out);
-    if let Ok(1) = result {
-        tell_hint(alloc, request, &seen, hints, err);
+    let mut seen = Seen::nothing(alloc);
+    let mut faults = Vec::new(alloc);
+    let result = answer(alloc, asked, files, &mut seen, &mut faults, out);
+    if let Ok(status) = result {
+        tell_hints(alloc, request, status, &seen, &faults, hints, err);
     }
     result
 }
@@ -131,10 +141,13 @@ fn answer<F: FileReader, O: Output>(
     asked: &CommandRequest,
     files: &mut F,
     seen: &mut Seen,
+    faults: &mut Vec<FurtherFault>,
     out: &mut O,
 ) -> Result<u8, OutputFault>
     ensures read { HasRead F.answers (λ file. IfOk result
         (IsPut (IsReplyOrMemory file (command_of asked.now)) (O.contents out.old) (O.contents out.new))) files.old files.new }
+    ensures taken { HasRead F.answers (λ file. TakesEach file (command_of asked.now)
+        → faults.new.items ≡ faults.old.items) files.old files.new }
     ensures status { IfOk result (λ status. status ≤ 1) }
     ensures flushed { OnOk result (IsTrue (O.is_flushed out.new)) }
     ensures faults { CountsFault result (O.failures out.old) (O.failures out.new) }
@@ -144,25 +157,17 @@ fn answer<F: FileReader, O: Output>(
         CommandRequest::Lines { file, filters } => tell_lines(
             alloc, files, file, filters, seen, out,
         ),
-        CommandRequest::Plan { table } => print_plan(
-            alloc,
-            files,
-            table,
-            PlanText::Plan,
-            seen,
-            out,
-        ),
+        CommandRequest::Plan { table } => {
+            print_plan(alloc, files, table, PlanText::Plan, seen, out)
+        }
         CommandRequest::Icd { table, csv } => {
             print_plan(alloc, files, table, document_kind(*csv), seen, out)
         }
-        CommandRequest::Margin { table } => print_plan(
-            alloc,
-            files,
-            table,
-            PlanText::Margin,
-            seen,
-            out,
-        ),
+        CommandRequest::Margin { table } => {
+            print_plan(alloc, files, table, PlanText::Margin, seen, out)
+        }
+        CommandRequest::Lint { table } => print_lint(alloc, files, table, seen, out),
+        CommandRequest::Diff { table, other } => print_diff(alloc, files, table, other, seen, out),
         CommandRequest::Draw {
             table,
             group,
@@ -175,6 +180,6 @@ fn answer<F: FileReader, O: Output>(
             table,
             script,
             further,
-        } => replay(alloc, files, table, script, further, seen, out),
+        } => replay(alloc, files, table, script, further, seen, faults, out),
     }
 }

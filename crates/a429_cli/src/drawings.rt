@@ -72,7 +72,7 @@ fn image_of_file<F: FileReader>(
     ensures { HasRead F.answers (λ file. IsDrawing file name.now (option_copied group.entry) slots result) files.old files.new }
 {
     let table = read_file(alloc, files, name, seen)?;
-    let proposal = propose(alloc, &table, seen)?;
+    let proposal = propose(alloc, &table, &mut seen.table)?;
     let image = image_of(alloc, &proposal, group, slots);
     if image.is_err() {
         seen.proposal = Some(proposal);

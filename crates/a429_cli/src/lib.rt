@@ -1,9 +1,20 @@
 //! Commands of the program `a429`: from the words of a command line and files to output bytes and a status. `command`
 //! does all but `live`, which `command_live` does.
+//!
+//! `run_program` is the whole program: it is given what has the words, hints, files, both outputs and threads, and
+//! answers the status. So tests run it over files in memory. A folder of `src/` is a command.
+//!
+//! ```text
+//! let mut files = DiskFiles::new(&rt);
+//! let mut out = CountedWriter::new(rt.stdout());
+//! let mut err = CountedWriter::new(rt.stderr());
+//! let status = run_program(&rt, &rt, &hints, &mut files, &mut out, &mut err, &NoProgress);
+//! ```
 #![tactic(auto)]
 
 mod commands;
 mod drawings;
+mod findings;
 mod lines;
 mod live;
 mod names;

@@ -75,7 +75,7 @@ fn text_of_file<F: FileReader>(
     ensures { HasRead F.answers (λ file. IsPlanning file kind name.now result) files.old files.new }
 {
     let table = read_file(alloc, files, name, seen)?;
-    let proposal = propose(alloc, &table, seen)?;
+    let proposal = propose(alloc, &table, &mut seen.table)?;
     Ok(text_of(alloc, kind, &proposal)?)
 }
 
@@ -111,7 +111,7 @@ fn keep_unfit(
     ensures { OrMemory (IsUnfitNamed equipment group output) result }
 {
     let refusal = unfit(alloc, &equipment, group, output);
-    seen.equipment = Some(equipment);
+    seen.table.equipment = Some(equipment);
     refusal
 }
 
@@ -125,10 +125,10 @@ fn verdict_on(
 ) -> Result<Verdict, CommandRefusal>
     ensures { MatchResult result (IsVerdictOnBytes table.now text.now) (OrMemory (IsUnjudged table.now)) }
 {
-    let equipment = read_table(alloc, table, seen)?;
+    let equipment = read_table(alloc, table, &mut seen.table)?;
     match judge(alloc, &equipment, text) {
         Ok(verdict) => {
-            seen.equipment = Some(equipment);
+            seen.table.equipment = Some(equipment);
             Ok(verdict)
         }
         Err(NoVerdict::Unfit { group, output }) => {

@@ -1,10 +1,11 @@
 //! The command `replay`.
-ghost use Rattle.std.specs.Prelude.{◌≤◌, IfOk, IsTrue, MatchResult, OnOk};
+ghost use Rattle.std.specs.Prelude.{◌≡◌, ◌≤◌, IfOk, IsTrue, MatchResult, OnOk};
 ghost use Rattle.a429_console.specs.Files.{texts_of};
 ghost use Rattle.a429_console.specs.Readings.{HasRead};
 ghost use Rattle.a429_console.specs.Outputs.{CountsFault};
 ghost use Rattle.a429_console.specs.RefusalText.{OrMemory};
-ghost use Rattle.a429_cli.specs.Replaying.{HasReplayed, IsNoStart};
+ghost use Rattle.a429_console.specs.Tables.{TakesAll};
+ghost use Rattle.a429_cli.specs.Replaying.{HasReplayed, IsNoStart, TakesFurther};
 ghost use Rattle.a429_cli.specs.Opened.{AreTablesRead, IsInputReading, IsOutcomePut, IsPreparedFor, input_of};
 
 pub mod answers;
@@ -14,13 +15,13 @@ pub mod script;
 pub mod station;
 
 use crate::pending::Pending;
-use crate::replay::further::{FurtherTable, plan_tables};
+use crate::replay::further::{FurtherTable, hand_published, none_published, plan_tables};
 use crate::replay::playing::play_all;
 use crate::replay::script::{ScriptForm, check_script};
 use crate::replay::station::ReplayStation;
 use a429_console::files::FileReader;
 use a429_console::files::reading::{read_file, read_files};
-use a429_console::hints::Seen;
+use a429_console::hints::{FurtherFault, Seen};
 use a429_console::output::endings::finish;
 use a429_console::output::{Output, OutputFault};
 use a429_console::refusals::{CommandRefusal, refuse};
@@ -44,7 +45,7 @@ fn read_further<F: FileReader>(
     ensures { HasRead F.answers (λ file. AreTablesRead file (texts_of names.now) result) files.old files.new }
 {
     let tables = read_files(alloc, files, names, seen)?;
-    Ok(plan_tables(alloc, tables)?)
+    Ok(plan_tables(alloc, tables, seen)?)
 }
 
 /// Reads the files of these names.
@@ -68,11 +69,18 @@ fn read_input<F: FileReader>(
     })
 }
 
-/// The station that is given, where the script is one of it. Refused is the table, its plan, or the script.
-fn prepare(alloc: Global, input: &Input, seen: &mut Seen) -> Result<ReplayStation, CommandRefusal>
-    ensures { MatchResult result (IsPreparedFor (input_of input.now)) (OrMemory (IsNoStart (input_of input.now))) }
+/// The station that is given, where the script is one of it. Refused is the table, its plan, or the script. The further
+/// tables whose plans the station does not take are noted.
+fn prepare(
+    alloc: Global,
+    input: &Input,
+    seen: &mut Seen,
+    faults: &mut Vec<FurtherFault>,
+) -> Result<ReplayStation, CommandRefusal>
+    ensures prepared { MatchResult result (IsPreparedFor (input_of input.now)) (OrMemory (IsNoStart (input_of input.now))) }
+    ensures taken { TakesAll (input_of input.now).table (input_of input.now).further → faults.new.items ≡ faults.old.items }
 {
-    let station = ReplayStation::open(alloc, &input.table, seen)?;
+    let station = ReplayStation::open(alloc, &input.table, &input.further, seen, faults)?;
     let form = ScriptForm {
         names: &station.names,
         further: input.further.len(),
@@ -87,6 +95,7 @@ fn play_prepared<O: Output>(
     alloc: Global,
     station: ReplayStation,
     input: &Input,
+    published: &mut [bool],
     out: &mut O,
 ) -> Result<u8, OutputFault>
     ensures played { IfOk result (IsOutcomePut (input_of input.now) station (O.contents out.old) (O.contents out.new)) }
@@ -97,12 +106,15 @@ fn play_prepared<O: Output>(
     let ReplayStation { names, mut state } = station;
     let mut lines = Pending::new(alloc);
     let (further, script) = (&input.further, &input.script);
-    let sufficed = play_all(alloc, &mut state, &names, further, script, &mut lines, out)?;
+    let sufficed = play_all(
+        alloc, &mut state, &names, further, script, published, &mut lines, out,
+    )?;
     finish(&lines.text, sufficed, out)
 }
 
 /// Plays a script on the station of a table, and puts one line for each event, or in their place the
-/// one line of a refusal. The status is 0, or 1 where it was refused, by want of memory also in the midst.
+/// one line of a refusal. The status is 0, or 1 where it was refused, by want of memory also in the midst. The further
+/// tables that were published, and that the station did not take, are noted.
 pub fn replay<F: FileReader, O: Output>(
     alloc: Global,
     files: &mut F,
@@ -110,9 +122,12 @@ pub fn replay<F: FileReader, O: Output>(
     script: &str,
     further: &[&str],
     seen: &mut Seen,
+    faults: &mut Vec<FurtherFault>,
     out: &mut O,
 ) -> Result<u8, OutputFault>
     ensures replayed { HasReplayed F.answers O.contents table.now script.now further.now files.old files.new out.old out.new result }
+    ensures taken { HasRead F.answers (λ file. TakesFurther file table.now script.now (texts_of further.now)
+        → faults.new.items ≡ faults.old.items) files.old files.new }
     ensures status { IfOk result (λ status. status ≤ 1) }
     ensures flushed { OnOk result (IsTrue (O.is_flushed out.new)) }
     ensures faults { CountsFault result (O.failures out.old) (O.failures out.new) }
@@ -121,8 +136,14 @@ pub fn replay<F: FileReader, O: Output>(
         Ok(input) => input,
         Err(refusal) => return refuse(alloc, refusal, seen, out),
     };
-    match prepare(alloc, &input, seen) {
-        Ok(station) => play_prepared(alloc, station, &input, out),
+    let mut found = Vec::new(alloc);
+    match prepare(alloc, &input, seen, &mut found) {
+        Ok(station) => {
+            let mut published = none_published(alloc, input.further.len());
+            let status = play_prepared(alloc, station, &input, &mut published, out);
+            hand_published(found, &published, faults);
+            status
+        }
         Err(refusal) => refuse(alloc, refusal, seen, out),
     }
 }

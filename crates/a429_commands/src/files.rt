@@ -76,7 +76,7 @@ fn a_reader_may_refuse_any_file(rt: HostRuntime) {
 
 #[test]
 fn each_file_is_read_once(rt: HostRuntime) {
-    let commands: [(&[&str], usize); 8] = [
+    let commands: [(&[&str], usize); 10] = [
         (&["word", "600000c1"], 0),
         (&["lines", "t"], 1),
         (&["plan", "t"], 1),
@@ -84,6 +84,8 @@ fn each_file_is_read_once(rt: HostRuntime) {
         (&["icd", "t"], 1),
         (&["draw", "t"], 1),
         (&["margin", "t"], 1),
+        (&["lint", "t"], 1),
+        (&["diff", "t", "u"], 2),
         (&["replay", "t", "s", "u", "u"], 4),
     ];
     for (words, reads) in commands {

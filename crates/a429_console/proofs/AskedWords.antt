@@ -7,12 +7,14 @@ use Rattle.clap.specs.ValueTests.{is_unsigned_in}
 use Rattle.clap.specs.Words.{Text, subcommand_of, takes}
 use Rattle.a429_equipment.specs.Limits.{most_frames}
 use Rattle.a429_console.specs.CommandLine.{command_line, most_slots, IsName, IsPlainSlots}
-use Rattle.a429_console.specs.Requests.{RequestBytes, Command, Word, Lines, Plan, Check, Icd, Margin, Draw, Replay, Live, LiveAsk, request_words, HasNames}
+use Rattle.a429_console.specs.Requests.{RequestBytes, Command, Word, Lines, Plan, Check, Icd, Margin, Lint, Diff, Draw, Replay, Live, LiveAsk, request_words, HasNames}
 use Rattle.a429_console.specs.RequestRows.{found_by, frames_of, number_of, request_by}
 use Rattle.a429_console.proofs.PlainWords.{IsPlainWord, name_is_plain}
 use Rattle.a429_console.proofs.RequestWords.{check_asked, check_level, check_takes, lines_asked, lines_takes, plan_asked, plan_level, plan_takes, replay_asked, replay_takes, word_asked, word_level, word_takes}
 use Rattle.a429_console.proofs.IcdWords.{icd_asked, icd_csv_asked, icd_csv_takes, icd_takes}
 use Rattle.a429_console.proofs.MarginWords.{margin_asked, margin_takes}
+use Rattle.a429_console.proofs.LintWords.{lint_asked, lint_takes}
+use Rattle.a429_console.proofs.DiffWords.{diff_asked, diff_takes}
 use Rattle.a429_console.proofs.DrawWords.{Passes, draw_asked, draw_takes}
 use Rattle.a429_console.proofs.Decimals.{decimal_is_name, decimal_passes, number_of_decimal}
 use Rattle.a429_console.proofs.LiveWords.{live_asked, live_takes}
@@ -62,6 +64,8 @@ asked_words (Command (Check t s)) (a, b) = check_asked t s a b
 asked_words (Command (Icd t false)) a = icd_asked t a
 asked_words (Command (Icd t true)) a = icd_csv_asked t a
 asked_words (Command (Margin t)) a = margin_asked t a
+asked_words (Command (Lint t)) a = lint_asked t a
+asked_words (Command (Diff t s)) (a, b) = diff_asked t s a b
 asked_words (Command (Draw t group slots)) (a, b, c) =
     draw_asked t group (option_map decimal slots) (name_is_plain t a) (options_pass group slots b c)
     ∙ ap (λ n. option_map Command (option_map (Draw t group) n)) (number_of_decimal 1 most_slots slots (omega arith) c)
@@ -76,6 +80,8 @@ takes_words (Command (Check t s)) (a, b) = check_takes t s ∙ rw (check_level t
 takes_words (Command (Icd t false)) a = icd_takes t a
 takes_words (Command (Icd t true)) a = icd_csv_takes t a
 takes_words (Command (Margin t)) a = margin_takes t a
+takes_words (Command (Lint t)) a = lint_takes t a
+takes_words (Command (Diff t s)) (a, b) = diff_takes t s a b
 takes_words (Command (Draw t group slots)) (a, b, c) = draw_takes t group (option_map decimal slots) (name_is_plain t a) (options_pass group slots b c)
 takes_words (Command (Replay t s further)) (a, b, names) = replay_takes t s further (name_is_plain t a) (name_is_plain s b) names
 takes_words (Live r) (a, b, few, names) = live_takes_by r (decimal r.frames) (a, b, few, names) (decimal_is_name r.frames (few_is_small r.frames few)) (frames_of_decimal r.frames few)

@@ -14,10 +14,6 @@ use Rattle.a429_console.specs.declared.output.OutputFault.{OutputFault}
 use Rattle.a429_console.proofs.Endings.{counted_once, failure_shows, none_counted_once, none_has_failed}
 use Rattle.a429_console.proofs.KindReplies.{help_replied, mistake_is_told, mistake_replied, no_request_or}
 
-with_the_rest : {A B C : Type 0} → A → B ⊎ C → B ⊎ (A × C)
-with_the_rest a (inl b) = inl b
-with_the_rest a (inr c) = inr (a, c)
-
 -- the output did not fail
 pub done_ends : {X Y : Type 0} (kinds : Kinds) (out : Writing X) (err : Writing Y) (status : ℕ) → EndsOrFails kinds out err (Ok status) → EndsBy kinds out err status
 done_ends kinds out err status e = record {
@@ -26,7 +22,8 @@ done_ends kinds out err status e = record {
   mistaken = λ mistake whole. e.mistaken mistake;
   usage = e.usage;
   unasked = e.unasked;
-  failed = with_the_rest e.faults e.failed;
+  failed = inr e.faults;
+  failed_told = e.failed_told;
   once = none_counted_once (out.failures out.old) (out.failures out.new) e.faults;
   once_told = e.once_told;
   failure = record {
@@ -53,6 +50,7 @@ failed_ends {X} {Y} kinds out err mid fault e announced hushed once =
       usage = λ mistake none. absurd (omega (arith, none));
       unasked = λ is. absurd (omega (arith, is));
       failed = inl refl;
+      failed_told = λ none. inl refl;
       once = counted_once fault (out.failures out.old) (out.failures out.new) e.faults;
       once_told = subst (λ (y : Y). (err.failures err.new).count ≤ (err.failures y).count + 1) e.left once;
       failure = record {
@@ -61,7 +59,7 @@ failed_ends {X} {Y} kinds out err mid fault e announced hushed once =
             (announced (sym e.faults.1 ∙ failed.1) (subst (λ (y : Y). NoneFailed (err.failures y) (err.failures err.new)) (sym e.left) whole));
         hushed = λ failed. hushed (sym e.faults.1 ∙ failed.1) ∙ e.left;
       };
-      quiet = λ is. absurd (omega (arith, is));
+      quiet = λ none is. absurd (omega (arith, is));
       silent = λ is. absurd (omega (arith, is));
       warned = λ is. absurd (omega (arith, is));
       flushed = λ is. absurd (omega (arith, is));
@@ -87,18 +85,17 @@ passed_on P Q (Err fault) more p = tt
 -- what is asked for was answered
 pub answered_ends : {X Y : Type 0} (out : Writing X) (err : Writing Y) (result : Result ℕ OutputFault)
     → IfOk result (λ status. status ≤ 1) → OnOk result (IsPassedOn out) → CountsFault result (out.failures out.old) (out.failures out.new)
-    → IfOk result (λ status. status ≡ 0 → IsLeft err) → OnErr result (IsLeft err)
-    → IfOk result (λ status. (status ≡ 1) ⊎ (err.failures err.new ≡ err.failures err.old)) → FailsOnce err → EndsOrFails [] out err result
-answered_ends out err result few flushed faults quiet left failed once = record {
+    → OnErr result (IsLeft err) → FailsOnce err → EndsOrFails [] out err result
+answered_ends out err result few flushed faults left once = record {
   few = few_means result few;
   helped = no_help;
   mistaken = no_mistake;
   usage = no_mistake;
   unasked = not_two (λ status. [] ≢ []) result few;
-  failed = failed;
+  failed_told = λ none. absurd (none refl);
   faults = faults;
   once_told = once;
-  quiet = quiet;
+  quiet = λ none. absurd (none refl);
   left = left;
   silent = not_two (λ status. IsLeft out) result few;
   warned = not_two (λ status. IsPassedOn err) result few;
@@ -128,10 +125,10 @@ explained_ends kinds error out err result has replied faults few flushed told wa
   mistaken = λ mistake. IfOk-weaker result _ _ (λ status put. (put.0, mistake_replied kinds error _ _ has mistake.1 status put.0 put.1, put.2)) replied;
   usage = λ mistake. IfOk-weaker result _ _ (λ status put. mistake_is_told _ _ status put.0 (mistake_replied kinds error _ _ has mistake.1 status put.0 put.1)) replied;
   unasked = IfOk-weaker result _ _ (λ status put two. two_is_a_mistake kinds error _ _ has status put.0 put.1 two) replied;
-  failed = failed;
+  failed_told = λ none. failed;
   faults = faults;
   once_told = once;
-  quiet = quiet;
+  quiet = λ none. quiet;
   left = left;
   silent = silent;
   warned = warned;

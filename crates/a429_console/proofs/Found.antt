@@ -20,9 +20,9 @@ use Rattle.clap.specs.declared.parser.matches.ArgMatches.TheViews.{out-ArgMatche
 use Rattle.clap.proofs.ValueTestLemmas.{accepts-Accepts}
 use Rattle.a429_equipment.specs.Limits.{most_frames}
 use Rattle.a429_console.specs.CommandLine.{most_slots}
-use Rattle.a429_console.specs.Requests.{CommandAsk, Word, Lines, Plan, Check, Icd, Margin, Draw, Replay, LiveAsk, IsReadOf}
+use Rattle.a429_console.specs.Requests.{CommandAsk, Word, Lines, Plan, Check, Icd, Margin, Lint, Diff, Draw, Replay, LiveAsk, IsReadOf}
 use Rattle.a429_console.specs.RequestRows.{flag_given, found_by, frames_of, number_of, values_of}
-use Rattle.a429_console.specs.RequestRows.{word_request, lines_request, plan_request, check_request, icd_request, margin_request, draw_request, replay_request, live_request}
+use Rattle.a429_console.specs.RequestRows.{word_request, lines_request, plan_request, check_request, icd_request, margin_request, lint_request, diff_request, draw_request, replay_request, live_request}
 
 was_not : (b : Bool) → not b ≡ true → b ≡ false
 was_not true e = cc
@@ -98,6 +98,12 @@ icd_is rows t flag r at said asked =
 
 pub margin_is : (rows : List Row) (t : Text) (r : CommandAsk) → Some t ≡ first_of (codes "TABLE") rows → margin_request rows ≡ Some r → Margin t ≡ r
 margin_is rows t r at asked = same_Some (Margin t) r (ap (option_map Margin) at ∙ asked)
+
+pub lint_is : (rows : List Row) (t : Text) (r : CommandAsk) → Some t ≡ first_of (codes "TABLE") rows → lint_request rows ≡ Some r → Lint t ≡ r
+lint_is rows t r at asked = same_Some (Lint t) r (ap (option_map Lint) at ∙ asked)
+
+pub diff_is : (rows : List Row) (t s : Text) (r : CommandAsk) → Some t ≡ first_of (codes "TABLE") rows → Some s ≡ first_of (codes "OTHER") rows → diff_request rows ≡ Some r → Diff t s ≡ r
+diff_is rows t s r table other asked = same_Some (Diff t s) r (rw (← table, ← other) at asked)
 
 -- a text is read as a number of 32 bits
 module _ {E : Type 0} (gives : Text → Result ℕ E → Type 0) (parses : (t : Text) (r : Result ℕ E) → gives t r → ParsesUnsigned 32 10 t r) (least most : ℕ) (small : most < 2 ^ 32) where

@@ -3,6 +3,8 @@ pub mod StoppedWords
 pub mod ManyWords
 pub mod RequestWords
 pub mod MarginWords
+pub mod LintWords
+pub mod DiffWords
 pub mod IcdWords
 pub mod DrawWords
 pub mod Decimals

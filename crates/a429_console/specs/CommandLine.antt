@@ -51,6 +51,12 @@ icd_app = with_rule (with_rule (new_app (codes "icd")) (required_rule (codes "TA
 abbrev pub margin_app : App
 margin_app = with_rule (new_app (codes "margin")) (required_rule (codes "TABLE"))
 
+abbrev pub lint_app : App
+lint_app = with_rule (new_app (codes "lint")) (required_rule (codes "TABLE"))
+
+abbrev pub diff_app : App
+diff_app = with_rule (with_rule (new_app (codes "diff")) (required_rule (codes "TABLE"))) (required_rule (codes "OTHER"))
+
 -- how many slots of a bus can be drawn
 abbrev pub most_slots : ℕ
 most_slots = 8192
@@ -82,7 +88,8 @@ reading_line = with_subcommand (with_subcommand bare_line word_app.top) lines_ap
 -- and those on plans, but for their image
 abbrev pub planning_line : App
 planning_line =
-    with_subcommand (with_subcommand (with_subcommand (with_subcommand reading_line plan_app.top) check_app.top) icd_app.top) margin_app.top
+    with_subcommand (with_subcommand (with_subcommand (with_subcommand (with_subcommand (with_subcommand reading_line plan_app.top) check_app.top) icd_app.top) margin_app.top)
+    lint_app.top) diff_app.top
 
 unfoldable pub command_line : App
 command_line = with_subcommand (with_subcommand (with_subcommand planning_line draw_app.top) replay_app.top) live_app.top

@@ -76,16 +76,18 @@ pub record EndsBy {X Y : Type 0} (kinds : Kinds) (out : Writing X) (err : Writin
   pub usage : AreMistakes kinds → status ≢ 0
   -- with status 2 the words ask for no command of this call
   pub unasked : status ≡ 2 → kinds ≢ []
-  -- if a call of an output failed, the status is 1
-  pub failed : (status ≡ 1) ⊎ ((out.failures out.new ≡ out.failures out.old) × (err.failures err.new ≡ err.failures err.old))
+  -- if a call of the output failed, the status is 1
+  pub failed : (status ≡ 1) ⊎ (out.failures out.new ≡ out.failures out.old)
+  -- so it is of the other output, unless the words ask for a command: a hint that cannot be written changes no status
+  pub failed_told : kinds ≢ [] → (status ≡ 1) ⊎ (err.failures err.new ≡ err.failures err.old)
   -- at most one call of the output failed
   pub once : FailsOnce out
   -- at most one call of the other output failed
   pub once_told : FailsOnce err
   -- a failure of the output is told on the other one
   pub failure : TellsFailure out err
-  -- with status 0 nothing is written to the other output
-  pub quiet : status ≡ 0 → IsLeft err
+  -- with status 0 nothing is written to the other output, unless the words ask for a command: see its clause `quiet`
+  pub quiet : kinds ≢ [] → status ≡ 0 → IsLeft err
   -- with status 2 nothing is put
   pub silent : status ≡ 2 → IsLeft out
   -- with status 2 the text of the mistake was passed on
@@ -102,10 +104,10 @@ pub record EndsOrFails {X Y : Type 0} (kinds : Kinds) (out : Writing X) (err : W
   pub mistaken : AreMistakes kinds → IfOk result (IsPutTo (OrNoMemory (IsUsageReply (err.failures err.old) (err.failures err.new))) out)
   pub usage : AreMistakes kinds → IfOk result (λ status. status ≢ 0)
   pub unasked : IfOk result (λ status. status ≡ 2 → kinds ≢ [])
-  pub failed : IfOk result (λ status. (status ≡ 1) ⊎ (err.failures err.new ≡ err.failures err.old))
+  pub failed_told : kinds ≢ [] → IfOk result (λ status. (status ≡ 1) ⊎ (err.failures err.new ≡ err.failures err.old))
   pub faults : CountsFault result (out.failures out.old) (out.failures out.new)
   pub once_told : FailsOnce err
-  pub quiet : IfOk result (λ status. status ≡ 0 → IsLeft err)
+  pub quiet : kinds ≢ [] → IfOk result (λ status. status ≡ 0 → IsLeft err)
   pub left : OnErr result (IsLeft err)
   pub silent : IfOk result (λ status. status ≡ 2 → IsLeft out)
   pub warned : IfOk result (λ status. status ≡ 2 → IsPassedOn err)

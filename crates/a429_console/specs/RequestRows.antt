@@ -6,7 +6,7 @@ use Rattle.clap.specs.ValueTests.{is_unsigned_in}
 use Rattle.clap.specs.Words.{Row, Text, first_of, one_of, all_of, subcommand_of, takes}
 use Rattle.a429_equipment.specs.Limits.{most_frames}
 use Rattle.a429_console.specs.CommandLine.{IsName, command_line, most_slots}
-use Rattle.a429_console.specs.Requests.{CommandAsk, HasNames, Word, Lines, Plan, Check, Icd, Margin, Draw, Replay, LiveAsk, RequestBytes, Command, Live, request_words}
+use Rattle.a429_console.specs.Requests.{CommandAsk, HasNames, Word, Lines, Plan, Check, Icd, Margin, Lint, Diff, Draw, Replay, LiveAsk, RequestBytes, Command, Live, request_words}
 
 -- the values of an argument that is given as often as one likes
 abbrev pub values_of : Text → List Row → List Text
@@ -40,6 +40,12 @@ icd_request rows = option_and_then (λ table. option_map (Icd table) (flag_given
 abbrev pub margin_request : List Row → Option CommandAsk
 margin_request rows = option_map Margin (first_of (codes "TABLE") rows)
 
+abbrev pub lint_request : List Row → Option CommandAsk
+lint_request rows = option_map Lint (first_of (codes "TABLE") rows)
+
+abbrev pub diff_request : List Row → Option CommandAsk
+diff_request rows = option_and_then (λ table. option_map (Diff table) (first_of (codes "OTHER") rows)) (first_of (codes "TABLE") rows)
+
 abbrev pub draw_request : List Row → Option CommandAsk
 draw_request rows = option_and_then (λ table. option_map (Draw table (first_of (codes "group") rows)) (number_of 1 most_slots (one_of (codes "slots") rows))) (first_of (codes "TABLE") rows)
 
@@ -66,8 +72,10 @@ command_by name rows =
     else (if bytes_eq name (codes "check") then check_request rows
     else (if bytes_eq name (codes "icd") then icd_request rows
     else (if bytes_eq name (codes "margin") then margin_request rows
+    else (if bytes_eq name (codes "lint") then lint_request rows
+    else (if bytes_eq name (codes "diff") then diff_request rows
     else (if bytes_eq name (codes "draw") then draw_request rows
-    else (if bytes_eq name (codes "replay") then replay_request rows else None)))))))
+    else (if bytes_eq name (codes "replay") then replay_request rows else None)))))))))
 
 -- of either call
 abbrev pub request_by : Text → List Row → Option RequestBytes

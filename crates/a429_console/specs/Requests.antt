@@ -28,6 +28,10 @@ pub data CommandAsk : Type 0 where
   Icd : List ℕ → Bool → CommandAsk
   -- a table
   Margin : List ℕ → CommandAsk
+  -- a table
+  Lint : List ℕ → CommandAsk
+  -- a table, and the one that it becomes
+  Diff : List ℕ → List ℕ → CommandAsk
   -- a table, the group that is drawn where one alone is, and how many slots of each bus where that is said
   Draw : List ℕ → Option (List ℕ) → Option ℕ → CommandAsk
   -- a table, a script and further tables
@@ -59,6 +63,8 @@ request_words (Command (Check table text)) = codes "check" ∷ table ∷ text �
 request_words (Command (Icd table false)) = codes "icd" ∷ table ∷ []
 request_words (Command (Icd table true)) = codes "icd" ∷ table ∷ codes "--csv" ∷ []
 request_words (Command (Margin table)) = codes "margin" ∷ table ∷ []
+request_words (Command (Lint table)) = codes "lint" ∷ table ∷ []
+request_words (Command (Diff table other)) = codes "diff" ∷ table ∷ other ∷ []
 request_words (Command (Draw table group slots)) =
     codes "draw" ∷ table ∷ (option_words (codes "--group") group ++ option_words (codes "--slots") (option_map decimal slots))
 request_words (Command (Replay table script further)) = codes "replay" ∷ table ∷ script ∷ further
@@ -72,6 +78,8 @@ HasNames (Command (Plan table)) = IsName table
 HasNames (Command (Check table text)) = IsName table × IsName text
 HasNames (Command (Icd table csv)) = IsName table
 HasNames (Command (Margin table)) = IsName table
+HasNames (Command (Lint table)) = IsName table
+HasNames (Command (Diff table other)) = IsName table × IsName other
 HasNames (Command (Draw table group slots)) = IsName table × IfSome group IsName × IfSome slots IsPlainSlots
 HasNames (Command (Replay table script further)) = IsName table × IsName script × AllByRecursion IsName further
 HasNames (Live r) = IsName r.table × IsName r.words × (r.frames ≤ most_frames) × AllByRecursion IsName r.further
@@ -85,6 +93,8 @@ command_of (asked.Plan table) = Plan table.now
 command_of (asked.Check table text) = Check table.now text.now
 command_of (asked.Icd table csv) = Icd table.now csv
 command_of (asked.Margin table) = Margin table.now
+command_of (asked.Lint table) = Lint table.now
+command_of (asked.Diff table other) = Diff table.now other.now
 command_of (asked.Draw table group slots) = Draw table.now (option_map (λ g. g.now) group) slots
 command_of (asked.Replay table script further) = Replay table.now script.now (texts_of further.items)
 

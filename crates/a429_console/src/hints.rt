@@ -1,5 +1,6 @@
 //! Hints to a person about a refusal.
-ghost use Rattle.std.specs.Prelude.{◌≤◌, ◌+◌};
+ghost use Rattle.std.specs.Prelude.{◌≡◌, ◌≤◌, ◌+◌, [], IsNone};
+ghost use Rattle.a429_console.specs.declared.refusals.CommandRefusal.TheVariants.{Memory};
 
 use crate::arguments::requests::Request;
 use crate::files::FileTrouble;
@@ -8,7 +9,7 @@ use crate::output::endings::put_whole;
 use crate::refusals::CommandRefusal;
 use a429_equipment::Equipment;
 use a429_slots::{OUTPUTS, Proposal};
-use a429_table::RefusedTable;
+use a429_table::{FaultKind, RefusedTable};
 use std::alloc::{AllocError, Global};
 use std::io;
 use std::io::Write;
@@ -82,6 +83,108 @@ impl Looks {
     }
 }
 
+/// What was read of a table that has a fault or no plan.
+#[derive(Drop)]
+pub struct SeenTable {
+    /// What it looks like.
+    pub looks: Looks,
+    /// What it was read as.
+    pub document: Option<RefusedTable>,
+    /// Its equipment, if it has no plan.
+    pub equipment: Option<Equipment>,
+}
+
+impl SeenTable {
+    /// Nothing yet.
+    pub fn nothing() -> SeenTable {
+        SeenTable {
+            looks: Looks::Other,
+            document: None,
+            equipment: None,
+        }
+    }
+
+    /// Keeps the equipment of a table that was read.
+    pub fn keep_equipment(&mut self, equipment: Equipment) {
+        self.equipment = Some(equipment);
+    }
+}
+
+/// Why the plan of a further table cannot be published.
+#[derive(Drop)]
+pub enum FurtherCause {
+    /// The table has a fault of this kind.
+    Fault(FaultKind),
+    /// The table has outputs without a period.
+    Unfit,
+    /// The group needs so many buses, which are more than 16.
+    TooManyBuses {
+        group: String,
+        needed: usize,
+    },
+    /// The table is of another station than the one that runs.
+    OtherStation {
+        running: Equipment,
+        other: Equipment,
+    },
+}
+
+impl FurtherCause {
+    /// The cause by the refusal of the table. `None` if memory was refused.
+    pub fn of(alloc: Global, refusal: &CommandRefusal) -> Option<FurtherCause>
+        ensures { refusal.now ≡ Memory → IsNone result }
+    {
+        match refusal {
+            CommandRefusal::Table(kind, _) => Some(FurtherCause::Fault(*kind)),
+            CommandRefusal::Unfit { .. } => Some(FurtherCause::Unfit),
+            CommandRefusal::TooManyBuses { group, needed } => {
+                let group = String::from_str(alloc, group.as_str()).ok()?;
+                Some(FurtherCause::TooManyBuses {
+                    group,
+                    needed: *needed,
+                })
+            }
+            _ => None,
+        }
+    }
+
+    /// The cause of a table of another station than the one that runs. `None` if memory was refused.
+    pub fn of_stations(
+        alloc: Global,
+        running: &Equipment,
+        other: &Equipment,
+    ) -> Option<FurtherCause> {
+        let running = running.copied(alloc).ok()?;
+        let other = other.copied(alloc).ok()?;
+        Some(FurtherCause::OtherStation { running, other })
+    }
+}
+
+/// A further table whose plan cannot be published.
+#[derive(Drop)]
+pub struct FurtherFault {
+    /// Its number among the further tables, from 1.
+    pub number: usize,
+    pub cause: FurtherCause,
+    pub table: SeenTable,
+}
+
+impl FurtherFault {
+    /// Notes a further table whose plan cannot be published, if memory suffices.
+    pub fn note(
+        faults: &mut Vec<FurtherFault>,
+        number: usize,
+        cause: FurtherCause,
+        table: SeenTable,
+    ) {
+        let _ = faults.push(FurtherFault {
+            number,
+            cause,
+            table,
+        });
+    }
+}
+
 /// What a command refused and what it read before, as far as a hint needs it. A command fills it in while it works; no
 /// contract rests on it.
 #[derive(Drop)]
@@ -90,12 +193,10 @@ pub struct Seen {
     pub refusal: Option<CommandRefusal>,
     /// Why the last file cannot be read.
     pub trouble: FileTrouble,
-    /// What the refused table looks like.
-    pub looks: Looks,
-    /// What the refused table was read as.
-    pub document: Option<RefusedTable>,
-    /// The equipment of a table without a plan.
-    pub equipment: Option<Equipment>,
+    /// The refused table.
+    pub table: SeenTable,
+    /// The further tables of a script, in order.
+    pub further: Vec<SeenTable>,
     /// The plan of a table without the group that was asked for.
     pub proposal: Option<Proposal<OUTPUTS>>,
     /// What `check` found in a plan's text.
@@ -106,24 +207,29 @@ pub struct Seen {
     pub byte: Option<u8>,
     /// The plan's text that is refused.
     pub text: Option<Vec<u8>>,
+    /// What `lint` found of a table.
+    pub findings: Option<Vec<u8>>,
+    /// Whether the table is the second of two.
+    pub is_second: bool,
     /// How many threads a run needs.
     pub threads: usize,
 }
 
 impl Seen {
     /// Nothing yet.
-    pub fn nothing() -> Seen {
+    pub fn nothing(alloc: Global) -> Seen {
         Seen {
             refusal: None,
             trouble: FileTrouble::Unknown,
-            looks: Looks::Other,
-            document: None,
-            equipment: None,
+            table: SeenTable::nothing(),
+            further: Vec::new(alloc),
             proposal: None,
             objection: None,
             line: None,
             byte: None,
             text: None,
+            findings: None,
+            is_second: false,
             threads: 0,
         }
     }
@@ -140,11 +246,24 @@ pub trait Hints {
         seen: &Seen,
         err: &mut V,
     ) -> io::Result<()>;
+
+    /// Writes what may have been meant by words that are a mistake, if anything. The error is the writer's, or a want of
+    /// memory.
+    fn tell_mistake<V: Write>(&self, alloc: Global, words: &[&str], err: &mut V) -> io::Result<()>;
+
+    /// Writes why further tables of a request cannot be published. The error is the writer's, or a want of memory.
+    fn tell_further<V: Write>(
+        &self,
+        alloc: Global,
+        request: &Request,
+        faults: &[FurtherFault],
+        err: &mut V,
+    ) -> io::Result<()>;
 }
 
 /// Writes to `err` the hint about a request that was refused. If memory does not suffice for the hint, nothing is written;
 /// if `err` fails, that changes nothing else.
-pub fn tell_hint<H: Hints, V: Output>(
+fn tell_hint<H: Hints, V: Output>(
     alloc: Global,
     request: &Request,
     seen: &Seen,
@@ -157,5 +276,51 @@ pub fn tell_hint<H: Hints, V: Output>(
     // a part of a hint would end in a broken line
     if hints.tell(alloc, request, seen, &mut text).is_ok() {
         let _ = put_whole(&text, err);
+    }
+}
+
+/// Writes to `err` why further tables of a request cannot be published; nothing if there is none. If memory does not
+/// suffice for the hint, nothing is written; if `err` fails, that changes nothing else.
+fn tell_further<H: Hints, V: Output>(
+    alloc: Global,
+    request: &Request,
+    faults: &[FurtherFault],
+    hints: &H,
+    err: &mut V,
+)
+    ensures once { (V.failures err.new).count ≤ (V.failures err.old).count + 1 }
+    ensures quiet { faults.now ≡ [] → err.new ≡ err.old }
+{
+    if faults.is_empty() {
+        return;
+    }
+    let mut text = Vec::new(alloc);
+    if hints
+        .tell_further(alloc, request, faults, &mut text)
+        .is_ok()
+    {
+        let _ = put_whole(&text, err);
+    }
+}
+
+/// Writes to `err` what can be done about a request that was answered with this status: if it was refused, the hint about
+/// that; else why further tables cannot be published, if there are such. If memory does not suffice for the hint, nothing
+/// is written; if `err` fails, that changes nothing else.
+pub fn tell_hints<H: Hints, V: Output>(
+    alloc: Global,
+    request: &Request,
+    status: u8,
+    seen: &Seen,
+    faults: &[FurtherFault],
+    hints: &H,
+    err: &mut V,
+)
+    ensures once { (V.failures err.new).count ≤ (V.failures err.old).count + 1 }
+    ensures quiet { faults.now ≡ [] → status ≡ 0 → err.new ≡ err.old }
+{
+    if status == 0 {
+        tell_further(alloc, request, faults, hints, err);
+    } else {
+        tell_hint(alloc, request, seen, hints, err);
     }
 }

@@ -1,14 +1,22 @@
 //! What a person can do about a refusal: lines on the error output that begin with `a429: `.
 //!
 //! A hint is made of what the command read and refused: nothing is read or planned again. No contract rests on it.
+//! `HintLines` gives them to `run_program` of `a429_cli`.
+//!
+//! ```text
+//! let status = run_program(&rt, &rt, &HintLines, &mut files, &mut out, &mut err, &NoProgress);
+//! ```
 #![tactic(auto)]
 
 mod about;
 mod checks;
+mod differences;
 mod faults;
 mod files;
+mod findings;
 mod keys;
 mod lists;
+mod mistakes;
 mod nearest;
 mod periods;
 mod plans;

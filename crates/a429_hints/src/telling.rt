@@ -2,14 +2,17 @@
 
 use crate::about::About;
 use crate::checks::{Judged, tell_objection};
+use crate::differences::tell_difference;
 use crate::faults::tell_table_fault;
 use crate::files::tell_trouble;
+use crate::findings::tell_findings;
+use crate::mistakes::tell_nearest_word;
 use crate::plans::{tell_all_unfit, tell_fewer_buses, tell_groups};
 use crate::scripts::{tell_script_line, tell_words_line};
 use crate::words::{tell_even_word, tell_filter, tell_line_byte, tell_word_text};
 use a429_console::arguments::requests::{CommandRequest, Request};
 use a429_console::files::reading::printable_name;
-use a429_console::hints::{Hints, Looks, Seen};
+use a429_console::hints::{FurtherCause, FurtherFault, Hints, Looks, Seen, SeenTable};
 use a429_console::refusals::CommandRefusal;
 use a429_table::FaultKind;
 use std::alloc::Global;
@@ -33,7 +36,7 @@ impl Hints for HintLines {
         }
         if let (Some(objection), Some(equipment), Some(text)) = (
             seen.objection,
-            &seen.equipment,
+            &seen.table.equipment,
             &seen.text,
         ) {
             let file = printable_name(alloc, text_name(request))?;
@@ -43,7 +46,52 @@ impl Hints for HintLines {
             };
             tell_objection(file.as_str(), judged, objection, err)?;
         }
+        if let Some(findings) = &seen.findings {
+            let file = printable_name(alloc, table_name(request))?;
+            let text = str::from_utf8(findings).unwrap_or("");
+            tell_findings(About::file(file.as_str()), text, err)?;
+        }
         err.flush()
+    }
+
+    fn tell_mistake<V: Write>(&self, alloc: Global, words: &[&str], err: &mut V) -> io::Result<()> {
+        tell_nearest_word(alloc, words, err)
+    }
+
+    fn tell_further<V: Write>(
+        &self,
+        alloc: Global,
+        request: &Request,
+        faults: &[FurtherFault],
+        err: &mut V,
+    ) -> io::Result<()> {
+        for fault in faults {
+            let name = further_name(request, fault.number);
+            let file = printable_name(alloc, name)?;
+            tell_further_fault(alloc, About::file(file.as_str()), request, fault, err)?;
+        }
+        err.flush()
+    }
+}
+
+/// Tells why a further table is not taken: what its own refusal would tell, or in what its station differs.
+fn tell_further_fault<V: Write>(
+    alloc: Global,
+    about: About,
+    request: &Request,
+    fault: &FurtherFault,
+    err: &mut V,
+) -> io::Result<()> {
+    match &fault.cause {
+        FurtherCause::Fault(kind) => tell_fault(alloc, about, request, *kind, &fault.table, err),
+        FurtherCause::Unfit => tell_unfit_of_table(about, &fault.table, err),
+        FurtherCause::TooManyBuses { group, needed } => {
+            tell_fewer_buses(about, group.as_str(), *needed, err)
+        }
+        FurtherCause::OtherStation { running, other } => {
+            let table = printable_name(alloc, table_name(request))?;
+            tell_difference(about, table.as_str(), running, other, err)
+        }
     }
 }
 
@@ -115,20 +163,13 @@ fn tell_of_table<V: Write>(
     seen: &Seen,
     err: &mut V,
 ) -> io::Result<()> {
-    let file = printable_name(alloc, table_name(request))?;
+    let file = printable_name(alloc, refused_table(request, seen))?;
     let about = About::file(file.as_str());
     match refusal {
         CommandRefusal::Table(kind, _) => {
-            tell_order(about, request, *kind, seen, err)?;
-            match &seen.document {
-                Some(document) => tell_table_fault(alloc, about, document, *kind, err),
-                None => Ok(()),
-            }
+            tell_fault(alloc, about, request, *kind, &seen.table, err)
         }
-        CommandRefusal::Unfit { .. } => match &seen.equipment {
-            Some(equipment) => tell_all_unfit(about, equipment, err),
-            None => Ok(()),
-        },
+        CommandRefusal::Unfit { .. } => tell_unfit_of_table(about, &seen.table, err),
         CommandRefusal::TooManyBuses { group, needed } => {
             tell_fewer_buses(about, group.as_str(), *needed, err)
         }
@@ -147,18 +188,42 @@ fn tell_of_table<V: Write>(
     }
 }
 
+/// Tells of a table with a fault of this kind.
+fn tell_fault<V: Write>(
+    alloc: Global,
+    about: About,
+    request: &Request,
+    kind: FaultKind,
+    table: &SeenTable,
+    err: &mut V,
+) -> io::Result<()> {
+    tell_order(about, request, kind, table, err)?;
+    match &table.document {
+        Some(document) => tell_table_fault(alloc, about, document, kind, err),
+        None => Ok(()),
+    }
+}
+
+/// Tells of a table's outputs without a period.
+fn tell_unfit_of_table<V: Write>(about: About, table: &SeenTable, err: &mut V) -> io::Result<()> {
+    match &table.equipment {
+        Some(equipment) => tell_all_unfit(about, equipment, err),
+        None => Ok(()),
+    }
+}
+
 /// Tells the order of the files that is due, if the table looks like another of them.
 fn tell_order<V: Write>(
     about: About,
     request: &Request,
     kind: FaultKind,
-    seen: &Seen,
+    table: &SeenTable,
     err: &mut V,
 ) -> io::Result<()> {
     if kind != FaultKind::NotToml {
         return Ok(());
     }
-    let looks = match seen.looks {
+    let looks = match table.looks {
         Looks::PlanText => "the text of a plan",
         Looks::Script => "a script",
         Looks::Other => return Ok(()),
@@ -175,6 +240,7 @@ fn order_of(request: &Request) -> &'static str {
     match request {
         Request::Live(_) => "live TABLE WORDS FRAMES [FURTHER..]",
         Request::Command(CommandRequest::Check { .. }) => "check TABLE PLAN",
+        Request::Command(CommandRequest::Diff { .. }) => "diff TABLE OTHER",
         Request::Command(CommandRequest::Replay { .. }) => "replay TABLE SCRIPT [FURTHER..]",
         Request::Command(_) => "a table alone",
     }
@@ -188,11 +254,21 @@ fn table_name<'a>(request: &'a Request) -> &'a str {
             CommandRequest::Plan { table }
             | CommandRequest::Icd { table, .. }
             | CommandRequest::Margin { table }
+            | CommandRequest::Lint { table }
+            | CommandRequest::Diff { table, .. }
             | CommandRequest::Draw { table, .. }
             | CommandRequest::Check { table, .. }
             | CommandRequest::Replay { table, .. },
         ) => table,
         Request::Command(CommandRequest::Word { .. } | CommandRequest::Lines { .. }) => "",
+    }
+}
+
+/// The name of the table that is refused; empty if the command has none.
+fn refused_table<'a>(request: &'a Request, seen: &Seen) -> &'a str {
+    match request {
+        Request::Command(CommandRequest::Diff { other, .. }) if seen.is_second => other,
+        _ => table_name(request),
     }
 }
 
@@ -204,5 +280,18 @@ fn text_name<'a>(request: &'a Request) -> &'a str {
         Request::Command(CommandRequest::Replay { script, .. }) => script,
         Request::Command(CommandRequest::Lines { file, .. }) => file,
         Request::Command(_) => "",
+    }
+}
+
+/// The name of a further table, by its number from 1; empty if there is none.
+fn further_name<'a>(request: &'a Request, number: usize) -> &'a str {
+    let further = match request {
+        Request::Live(run) => &run.further,
+        Request::Command(CommandRequest::Replay { further, .. }) => further,
+        Request::Command(_) => return "",
+    };
+    match further.get(number.saturating_sub(1)) {
+        Some(name) => name,
+        None => "",
     }
 }

@@ -6,7 +6,7 @@ ghost use Rattle.a429_console.specs.Outputs.{CountsFault, IsPut, OrNoMemory};
 ghost use Rattle.a429_console.specs.Readings.{HasReadFrom};
 ghost use Rattle.a429_console.specs.RequestRows.{AsksFor};
 ghost use Rattle.a429_console.specs.Requests.{Live, LiveAsk, live_of, request_of};
-ghost use Rattle.a429_cli.specs.LiveReplies.{IsLiveReply, RepliesToLive, RepliesToLiveByReader};
+ghost use Rattle.a429_cli.specs.LiveReplies.{IsLiveReply, RepliesToLive, RepliesToLiveByReader, TakesLive};
 ghost use Rattle.a429_console.specs.Usage.{elsewhere, is_run, live_kinds_of_words};
 ghost use Rattle.std.specs.Prelude.{not};
 
@@ -15,7 +15,7 @@ use crate::live::running::run_station;
 use a429_console::arguments::replies::explain;
 use a429_console::arguments::requests::{LiveRequest, Request, other_call_error, parse};
 use a429_console::files::FileReader;
-use a429_console::hints::{Hints, Seen, tell_hint};
+use a429_console::hints::{Hints, Seen, tell_hints};
 use a429_console::output::endings::tell_fault;
 use a429_console::output::{Output, OutputFault};
 use std::alloc::Global;
@@ -46,6 +46,9 @@ pub fn command_live<
     ensures replied { RepliesToLive F.tells F.file O.contents O.failures (texts_of words.entry.now) files.old out.old out.new result }
     // The same of a reader of any files: the answer is that of files which give what the reader answered in this call.
     ensures read { RepliesToLiveByReader F.answers O.contents O.failures (texts_of words.entry.now) files.old out.old out.new result }
+    // With status 0 nothing is written to the other output, if each further table was taken: that of any files which give what the reader answered.
+    ensures quiet { (r : LiveAsk) → AsksFor (texts_of words.entry.now) (Live r)
+        → HasReadFrom F.answers (λ file. TakesLive file r → result ≡ 0 → err.new ≡ err.old) files.old }
     ensures asked { (r : LiveAsk) → AsksFor (texts_of words.entry.now) (Live r) → result ≤ 1 }
     // How it ends: help, mistakes, failures of either output, and what was passed on.
     ensures ends { EndsBy (live_kinds_of_words (texts_of words.entry.now)) (writing O.contents O.failures O.is_flushed out.old out.new)
@@ -81,13 +84,15 @@ fn run_words<
 ) -> Result<u8, OutputFault>
     ensures read { (r : LiveAsk) → AsksFor (texts_of words.entry.now) (Live r)
         → HasReadFrom F.answers (λ file. IfOk result (IsPut (OrNoMemory (IsLiveReply file r)) (O.contents out.old) (O.contents out.new))) files.old }
+    ensures quiet { (r : LiveAsk) → AsksFor (texts_of words.entry.now) (Live r)
+        → HasReadFrom F.answers (λ file. TakesLive file r → IfOk result (λ status. status ≡ 0 → err.new ≡ err.old)) files.old }
     ensures asked { (r : LiveAsk) → AsksFor (texts_of words.entry.now) (Live r) → IfOk result (λ status. status ≤ 1) }
     ensures ends { EndsOrFails (live_kinds_of_words (texts_of words.entry.now)) (writing O.contents O.failures O.is_flushed out.old out.new)
         (writing V.contents V.failures V.is_flushed err.old err.new) result }
 {
     match parse(alloc, words) {
         Ok(request) => run_here(rt, alloc, &request, hints, files, out, err, progress),
-        Err(error) => explain(alloc, &error, out, err),
+        Err(error) => explain(alloc, &error, words, hints, out, err),
     }
 }
 
@@ -104,6 +109,8 @@ fn run_here<R: Threads + Wait, H: Hints, F: FileReader, O: Output, V: Output, P:
 ) -> Result<u8, OutputFault>
     ensures read { (r : LiveAsk) → request_of request.now ≡ Live r
         → HasReadFrom F.answers (λ file. IfOk result (IsPut (IsLiveReply file r) (O.contents out.old) (O.contents out.new))) files.old }
+    ensures quiet { (r : LiveAsk) → request_of request.now ≡ Live r
+        → HasReadFrom F.answers (λ file. TakesLive file r → IfOk result (λ status. status ≡ 0 → err.new ≡ err.old)) files.old }
     ensures asked { (r : LiveAsk) → request_of request.now ≡ Live r → IfOk result (λ status. status ≤ 1) }
     ensures ends { EndsOrFails (elsewhere (not (is_run request.now))) (writing O.contents O.failures O.is_flushed out.old out.new)
         (writing V.contents V.failures V.is_flushed err.old err.new) result }
@@ -114,12 +121,13 @@ fn run_here<R: Threads + Wait, H: Hints, F: FileReader, O: Output, V: Output, P:
         }
         Request::Command(_) => {
             let error = other_call_error(alloc, "this call runs stations, and does nothing else");
-            explain(alloc, &error, out, err)
+            explain(alloc, &error, &[], hints, out, err)
         }
     }
 }
 
-/// Runs the station that is asked for, and after a refusal tells on `err` what can be done about it.
+/// Runs the station that is asked for. After a refusal, also of a further table, it tells on `err` what can be done
+/// about it.
 fn run_with_hint<
     R: Threads + Wait,
     H: Hints,
@@ -143,15 +151,16 @@ fn run_with_hint<
     ensures status { IfOk result (λ status. status ≤ 1) }
     ensures flushed { OnOk result (IsTrue (O.is_flushed out.new)) }
     ensures faults { CountsFault result (O.failures out.old) (O.failures out.new) }
-    ensures quiet { IfOk result (λ status. status ≡ 0 → err.new ≡ err.old) }
+    ensures quiet { HasReadFrom F.answers (λ file. TakesLive file (live_of run.now)
+        → IfOk result (λ status. status ≡ 0 → err.new ≡ err.old)) files.old }
     ensures left { OnErr result (err.new ≡ err.old) }
-    ensures failed { IfOk result (λ status. (status ≡ 1) ⊎ (V.failures err.new ≡ V.failures err.old)) }
     ensures once { (V.failures err.new).count ≤ (V.failures err.old).count + 1 }
 {
-    let mut seen = Seen::nothing();
-    let result = run_station(rt, alloc, files, run, &mut seen, out, progress);
-    if let Ok(1) = result {
-        tell_hint(alloc, request, &seen, hints, err);
+    let mut seen = Seen::nothing(alloc);
+    let mut faults = Vec::new(alloc);
+    let result = run_station(rt, alloc, files, run, &mut seen, &mut faults, out, progress);
+    if let Ok(status) = result {
+        tell_hints(alloc, request, status, &seen, &faults, hints, err);
     }
     result
 }

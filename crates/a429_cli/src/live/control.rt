@@ -1,19 +1,19 @@
 //! Further tables, resubmitted while a station runs.
-ghost use Rattle.std.specs.Prelude.{◌≡◌, ◌≢◌, Ok, [], IfOk, List, MatchResult, ℕ};
+ghost use Rattle.std.specs.Prelude.{◌≡◌, ◌≢◌, false, Ok, [], IfOk};
 ghost use Rattle.a429_table.specs.Reading.{reading};
-ghost use Rattle.a429_cli.specs.Resubmitted.{IsAnswer};
+ghost use Rattle.std.specs.List.{list_any};
+ghost use Rattle.a429_cli.specs.Resubmitted.{AnswersFault, IsAnswer, is_refused};
 ghost use Rattle.a429_cli.specs.declared.live.control.Answer.TheVariants.{Refused};
 ghost use Rattle.a429_console.specs.declared.refusals.CommandRefusal.TheVariants.{Memory};
-ghost use Rattle.a429_console.specs.RefusalText.{OrMemory};
-ghost use Rattle.a429_console.specs.Tables.{IsTableFault};
-ghost use Rattle.a429_station.specs.Resubmitting.{GoesOn, IsReplanFault, Running};
+ghost use Rattle.a429_station.specs.Resubmitting.{GoesOn};
 
-use a429_console::hints::Seen;
+use a429_console::hints::{FurtherCause, FurtherFault, SeenTable};
 use a429_console::refusals::CommandRefusal;
 use a429_console::refusals::tables::{read_table, too_many_buses, unfit};
 use a429_equipment::Equipment;
 use a429_station::{Control, ReplanFault, Station};
 use std::alloc::{AllocError, Global};
+use std::mem::swap;
 use std::sync::Wait;
 
 /// What a table is answered that is submitted to a running station.
@@ -33,20 +33,35 @@ pub enum Answer {
 #[derive(Drop)]
 pub struct Resubmits<'a> {
     alloc: Global,
+    running: &'a Equipment,
     tables: &'a [Vec<u8>],
     pub answers: Vec<Answer>,
+    /// The tables that are refused, for a hint.
+    faults: Vec<FurtherFault>,
 }
 
 impl<'a> Resubmits<'a> {
-    /// None was resubmitted yet.
-    pub fn new(alloc: Global, tables: &'a [Vec<u8>]) -> Resubmits<'a>
+    /// None was resubmitted yet to the station of this equipment.
+    pub fn new(alloc: Global, running: &'a Equipment, tables: &'a [Vec<u8>]) -> Resubmits<'a>
         ensures tables { result.tables.now ≡ tables.now }
         ensures none { result.answers.items ≡ [] }
     {
         Resubmits {
             alloc,
+            running,
             tables,
             answers: Vec::new(alloc),
+            faults: Vec::new(alloc),
+        }
+    }
+
+    /// Hands on what was noted for a hint, if a table was refused.
+    pub fn hand_faults(&mut self, faults: &mut Vec<FurtherFault>)
+        ensures taken { list_any is_refused self.old.answers.items ≡ false → faults.new.items ≡ faults.old.items }
+        ensures answers { self.new.answers.items ≡ self.old.answers.items }
+    {
+        if self.answers.iter().any(is_refused) {
+            swap(&mut self.faults, faults);
         }
     }
 }
@@ -67,7 +82,7 @@ fn answer_of_fault(
     equipment: &Equipment,
     fault: ReplanFault,
 ) -> Result<Answer, AllocError>
-    ensures { (v : Running) (table : List ℕ) → reading table ≡ Ok equipment.now → IsReplanFault v table fault → IfOk result (λ answer. IsAnswer v table answer v) }
+    ensures { AnswersFault equipment.now fault result }
 {
     match fault {
         ReplanFault::Unfit { group, output } => refused(unfit(alloc, equipment, group, output)),
@@ -79,14 +94,6 @@ fn answer_of_fault(
         // a table that was read has no fault
         ReplanFault::Table(_) | ReplanFault::NoMemory => Err(AllocError),
     }
-}
-
-/// The equipment of a table, whose refusal has no hint.
-fn read_alone(alloc: Global, table: &[u8]) -> Result<Equipment, CommandRefusal>
-    ensures { MatchResult result (λ t. reading table.now ≡ Ok t) (OrMemory (IsTableFault table.now)) }
-{
-    let mut seen = Seen::nothing();
-    read_table(alloc, table, &mut seen)
 }
 
 /// Resubmits a table whose equipment was read. The error is that memory was refused.
@@ -106,19 +113,80 @@ fn answer_read<R: Wait>(
     }
 }
 
-/// Resubmits a table. The error is that memory was refused.
+/// Resubmits a table. What was read of it is kept in `seen`. The error is that memory was refused.
 fn answer_to<R: Wait>(
     alloc: Global,
     station: &mut Station<'_, R>,
     table: &[u8],
+    seen: &mut SeenTable,
 ) -> Result<Answer, AllocError>
     ensures answer { IfOk result (λ answer. IsAnswer station.old table.now answer station.new) }
     ensures on { GoesOn station.old station.new }
 {
-    match read_alone(alloc, table) {
-        Ok(equipment) => answer_read(alloc, station, table, &equipment),
+    match read_table(alloc, table, seen) {
+        Ok(equipment) => {
+            let answer = answer_read(alloc, station, table, &equipment);
+            seen.keep_equipment(equipment);
+            answer
+        }
         Err(refusal) => refused(refusal),
     }
+}
+
+/// Why the table of an answer was not taken, for a hint. `None` if it was, or if memory is refused.
+fn cause_of(
+    alloc: Global,
+    running: &Equipment,
+    answer: &Answer,
+    seen: &SeenTable,
+) -> Option<FurtherCause> {
+    match (answer, &seen.equipment) {
+        (Answer::Refused(refusal), _) => FurtherCause::of(alloc, refusal),
+        (Answer::OtherStation, Some(other)) => FurtherCause::of_stations(alloc, running, other),
+        _ => None,
+    }
+}
+
+/// Notes the table of this number, from 1, if its answer is a refusal.
+fn note_answer(
+    alloc: Global,
+    running: &Equipment,
+    number: usize,
+    answer: &Result<Answer, AllocError>,
+    table: SeenTable,
+    faults: &mut Vec<FurtherFault>,
+) {
+    let Ok(answer) = answer else {
+        return;
+    };
+    if let Some(cause) = cause_of(alloc, running, answer, &table) {
+        FurtherFault::note(faults, number, cause, table);
+    }
+}
+
+/// Resubmits the table of this number, from 1, and notes it if it is refused. The error is that memory was refused.
+fn answer_and_note<R: Wait>(
+    alloc: Global,
+    station: &mut Station<'_, R>,
+    running: &Equipment,
+    table: &[u8],
+    number: usize,
+    faults: &mut Vec<FurtherFault>,
+) -> Result<Answer, AllocError>
+    ensures answer { IfOk result (λ answer. IsAnswer station.old table.now answer station.new) }
+    ensures on { GoesOn station.old station.new }
+{
+    let mut seen = SeenTable::nothing();
+    let answer = answer_to(alloc, station, table, &mut seen);
+    note_answer(alloc, running, number, &answer, seen, faults);
+    answer
+}
+
+/// Whether a table was refused.
+fn is_refused(answer: &Answer) -> bool
+    ensures { result ≡ is_refused answer.now }
+{
+    matches!(answer, Answer::Refused(_) | Answer::OtherStation)
 }
 
 impl<'a, R: Wait> Control<R> for Resubmits<'a> {
@@ -131,7 +199,15 @@ impl<'a, R: Wait> Control<R> for Resubmits<'a> {
 
     fn run(&mut self, station: &mut Station<'_, R>) -> Result<(), AllocError> {
         for table in self.tables {
-            let answer = answer_to(self.alloc, station, table)?;
+            let number = self.answers.len().saturating_add(1);
+            let answer = answer_and_note(
+                self.alloc,
+                station,
+                self.running,
+                table,
+                number,
+                &mut self.faults,
+            )?;
             self.answers.push(answer)?;
         }
         Ok(())

@@ -1,10 +1,9 @@
 //! The report of a run.
-ghost use Rattle.std.specs.Prelude.{◌++◌, ◌∷◌, [], ℕ, List};
+ghost use Rattle.std.specs.Prelude.{◌++◌, ◌∷◌, []};
 ghost use Rattle.a429_word.specs.Written.{Gains};
 ghost use Rattle.a429_console.specs.Files.{bytes_of};
-ghost use Rattle.a429_cli.specs.LiveReplies.{AppendsLine, group_line, group_lines, receiver_line, receiver_lines, refused_words, total_lines};
-ghost use Rattle.a429_cli.specs.Resubmitted.{AppendsAll, IsAnswer, ReportsRun};
-ghost use Rattle.a429_station.specs.Resubmitting.{Running};
+ghost use Rattle.a429_cli.specs.LiveReplies.{group_line, group_lines, receiver_line, receiver_lines, refused_words, total_lines};
+ghost use Rattle.a429_cli.specs.Resubmitted.{AppendsAll, AppendsAnswer, ReportsRun};
 ghost use Rattle.a429_console.specs.RefusalText.{refusal_line};
 
 use crate::live::control::Answer;
@@ -88,7 +87,7 @@ fn push_refused(text: &mut Vec<u8>, refusal: &CommandRefusal) -> io::Result<()>
 
 /// Appends the line of a further table, by what it was answered when it was resubmitted.
 fn push_resubmitted(text: &mut Vec<u8>, answer: &Answer) -> io::Result<()>
-    ensures { (v w : Running) (table : List ℕ) → IsAnswer v table answer.now w → AppendsLine v w table text.old.items text.new.items result }
+    ensures { AppendsAnswer answer.now text.old.items text.new.items result }
 {
     match answer {
         Answer::Published(number) => writeln!(text, "published {number}"),

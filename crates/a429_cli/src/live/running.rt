@@ -2,11 +2,13 @@
 ghost use Rattle.std.specs.Prelude.{◌≡◌, ◌≤◌, IfOk, IsTrue, MatchResult, OnOk, vec_len};
 ghost use Rattle.a429_console.specs.Files.{bytes_of};
 ghost use Rattle.a429_slots.specs.Planned.{IsPlanOf};
-ghost use Rattle.a429_cli.specs.LiveReplies.{HasToldRun, IsLiveReading, IsLiving, IsNoLiveStart, IsPreparedLive, IsRunResult, files_of, refusal_of};
+ghost use Rattle.a429_cli.specs.LiveReplies.{HasToldRun, IsLiveReading, IsLiving, IsNoLiveStart, IsPreparedLive, IsRunResult, TakesLive, files_of, refusal_of};
 ghost use Rattle.a429_console.specs.Requests.{live_of};
 ghost use Rattle.a429_console.specs.Outputs.{CountsFault};
 ghost use Rattle.a429_console.specs.Readings.{HasRead};
 ghost use Rattle.a429_console.specs.RefusalText.{OrMemory};
+ghost use Rattle.a429_console.specs.Tables.{IsTakenBy};
+ghost use Rattle.std.specs.List.{AllByRecursion};
 
 use crate::live::control::Resubmits;
 use crate::live::progress::{Progress, ProgressGate};
@@ -16,12 +18,13 @@ use crate::names::Names;
 use a429_console::arguments::requests::LiveRequest;
 use a429_console::files::FileReader;
 use a429_console::files::reading::{read_file, read_files};
-use a429_console::hints::Seen;
+use a429_console::hints::{FurtherFault, Seen};
 use a429_console::output::endings::finish;
 use a429_console::output::{Output, OutputFault};
 use a429_console::refusals::tables::propose;
 use a429_console::refusals::{CommandRefusal, refuse};
 use a429_equipment::Equipment;
+use a429_slots::laws::plans_are_unique;
 use a429_slots::{OUTPUTS, Plan, Proposal};
 use a429_station::{LiveFault, live_planned};
 use a429_workers::CountSink;
@@ -67,7 +70,7 @@ fn read_input<F: FileReader>(
 fn prepare(alloc: Global, input: &LiveInput, seen: &mut Seen) -> Result<Prepared, CommandRefusal>
     ensures { MatchResult result (IsPreparedLive (files_of input.now)) (OrMemory (IsNoLiveStart (files_of input.now))) }
 {
-    let proposal = propose(alloc, &input.table, seen)?;
+    let proposal = propose(alloc, &input.table, &mut seen.table)?;
     let names = Names::of(alloc, proposal.equipment())?;
     let arrivals = read_words(alloc, &names, &input.words, seen)?;
     Ok(Prepared { proposal, arrivals })
@@ -99,23 +102,26 @@ fn run_refusal(fault: LiveFault) -> CommandRefusal
 }
 
 /// Runs a station with the words of its receivers for so many frames, and resubmits further tables meanwhile. Answers
-/// the text of the report.
-fn run<R: Threads + Wait, P: Progress + Sync>(
+/// the text of the report. The further tables whose plans the station does not take are noted.
+fn run<'a, R: Threads + Wait, P: Progress + Sync>(
     rt: &R,
     alloc: Global,
-    equipment: &Equipment,
+    equipment: &'a Equipment,
     plan: &Plan<OUTPUTS>,
     arrivals: &[Arrival],
     frames: u32,
-    further: &[Vec<u8>],
+    further: &'a [Vec<u8>],
     gate: &ProgressGate<P>,
+    faults: &mut Vec<FurtherFault>,
 ) -> Result<Vec<u8>, CommandRefusal>
     requires planned { IsPlanOf equipment.now plan.now }
-    ensures { IsRunResult equipment.now arrivals.now frames (bytes_of further.now) result }
+    ensures report { IsRunResult equipment.now arrivals.now frames (bytes_of further.now) result }
+    ensures taken { AllByRecursion (IsTakenBy equipment.now) (bytes_of further.now) → faults.new.items ≡ faults.old.items }
 {
+    plans_are_unique();
     let sources = line_sources(alloc, arrivals, equipment.receivers().len())?;
     let sinks = count_sinks(alloc, equipment.groups().len())?;
-    let mut control = Resubmits::new(alloc, further);
+    let mut control = Resubmits::new(alloc, equipment, further);
     match live_planned(
         rt,
         alloc,
@@ -127,7 +133,10 @@ fn run<R: Threads + Wait, P: Progress + Sync>(
         gate,
         &mut control,
     ) {
-        Ok(report) => report_text(alloc, equipment, further, &control.answers, &report),
+        Ok(report) => {
+            control.hand_faults(faults);
+            report_text(alloc, equipment, further, &control.answers, &report)
+        }
         Err(fault) => Err(run_refusal(fault)),
     }
 }
@@ -145,9 +154,12 @@ fn run_report<R: Threads + Wait, F: FileReader, P: Progress + Sync>(
     files: &mut F,
     request: &LiveRequest,
     seen: &mut Seen,
+    faults: &mut Vec<FurtherFault>,
     progress: &P,
 ) -> Result<Vec<u8>, CommandRefusal>
-    ensures { HasRead F.answers (λ file. IsLiving file (live_of request.now) result) files.old files.new }
+    ensures report { HasRead F.answers (λ file. IsLiving file (live_of request.now) result) files.old files.new }
+    ensures taken { HasRead F.answers (λ file. TakesLive file (live_of request.now)
+        → faults.new.items ≡ faults.old.items) files.old files.new }
 {
     let input = read_input(alloc, files, request, seen)?;
     let prepared = prepare(alloc, &input, seen)?;
@@ -157,7 +169,9 @@ fn run_report<R: Threads + Wait, F: FileReader, P: Progress + Sync>(
     let frames = request.frames;
     let plan = prepared.proposal.plan();
     let gate = ProgressGate::begin(progress, plan, frames);
-    let result = run(rt, alloc, equipment, plan, arrivals, frames, further, &gate);
+    let result = run(
+        rt, alloc, equipment, plan, arrivals, frames, further, &gate, faults,
+    );
     progress.end();
     result
 }
@@ -170,15 +184,18 @@ pub fn run_station<R: Threads + Wait, F: FileReader, O: Output, P: Progress + Sy
     files: &mut F,
     request: &LiveRequest,
     seen: &mut Seen,
+    faults: &mut Vec<FurtherFault>,
     out: &mut O,
     progress: &P,
 ) -> Result<u8, OutputFault>
     ensures replied { HasToldRun F.answers O.contents (live_of request.now) files.old files.new out.old out.new result }
+    ensures taken { HasRead F.answers (λ file. TakesLive file (live_of request.now)
+        → faults.new.items ≡ faults.old.items) files.old files.new }
     ensures status { IfOk result (λ status. status ≤ 1) }
     ensures flushed { OnOk result (IsTrue (O.is_flushed out.new)) }
     ensures faults { CountsFault result (O.failures out.old) (O.failures out.new) }
 {
-    match run_report(rt, alloc, files, request, seen, progress) {
+    match run_report(rt, alloc, files, request, seen, faults, progress) {
         Ok(text) => finish(&text, true, out),
         Err(refusal) => refuse(alloc, refusal, seen, out),
     }

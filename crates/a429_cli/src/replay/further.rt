@@ -1,16 +1,21 @@
 //! Further tables, each read and planned once.
-ghost use Rattle.std.specs.Prelude.{◌≡◌, IfOk};
+ghost use Rattle.std.specs.Prelude.{◌≡◌, [], true, IfOk, IsNone};
+ghost use Rattle.a429_equipment.specs.SameStation.{same_station};
+ghost use Rattle.std.specs.List.{AllByRecursion};
 ghost use Rattle.a429_console.specs.Files.{bytes_of};
 ghost use Rattle.a429_cli.specs.Playing.{GivesEvent, IsPublication};
-ghost use Rattle.a429_console.specs.Tables.{IsProposing, IsTableRefusal};
+ghost use Rattle.a429_console.specs.Tables.{IsProposing, IsTableRefusal, IsTakenBy};
 
-use a429_console::hints::Seen;
+use a429_console::hints::{FurtherCause, FurtherFault, Seen, SeenTable};
 use a429_console::refusals::CommandRefusal;
 use a429_console::refusals::tables::propose;
 use a429_core::Event;
+use a429_equipment::Equipment;
+use a429_slots::laws::plans_are_unique;
 use a429_slots::{OUTPUTS, Proposal};
 use std::alloc::{AllocError, Global};
 use std::marker::Model;
+use std::mem::replace;
 
 /// A table by its bytes, and what these come to. Many events may publish it: so it is read and planned once.
 #[derive(Drop)]
@@ -31,12 +36,11 @@ impl Model for FurtherTable {
 }
 
 impl FurtherTable {
-    /// Reads and plans a table.
-    pub fn of(alloc: Global, bytes: Vec<u8>) -> FurtherTable
+    /// Reads and plans a table. What was read of it is kept in `seen`.
+    pub fn of(alloc: Global, bytes: Vec<u8>, seen: &mut SeenTable) -> FurtherTable
         ensures { result ≡ bytes.items }
     {
-        let mut seen = Seen::nothing();
-        let proposal = propose(alloc, &bytes, &mut seen);
+        let proposal = propose(alloc, &bytes, seen);
         FurtherTable { bytes, proposal }
     }
 
@@ -59,15 +63,98 @@ impl FurtherTable {
             Err(refusal) => Err(Some(refusal)),
         }
     }
+
+    /// Why a station does not take its plan, for a hint. `None` if the station takes it, or if memory is refused.
+    fn cause_at(&self, alloc: Global, station: &Equipment) -> Option<FurtherCause>
+        ensures { IsTakenBy station.now self.now → IsNone result }
+    {
+        plans_are_unique();
+        match self.proposal() {
+            Err(refusal) => FurtherCause::of(alloc, refusal),
+            Ok(proposal) => cause_of_proposal(alloc, station, proposal),
+        }
+    }
 }
 
-/// Reads and plans tables.
-pub fn plan_tables(alloc: Global, tables: Vec<Vec<u8>>) -> Result<Vec<FurtherTable>, AllocError>
+/// Why a station does not take a plan, for a hint.
+fn cause_of_proposal(
+    alloc: Global,
+    station: &Equipment,
+    proposal: &Proposal<OUTPUTS>,
+) -> Option<FurtherCause>
+    ensures { same_station station.now proposal.now.station ≡ true → IsNone result }
+{
+    let other = proposal.equipment();
+    if station.same_station(other) {
+        None
+    } else {
+        FurtherCause::of_stations(alloc, station, other)
+    }
+}
+
+/// Reads and plans tables. What was read of each is kept in `seen`.
+pub fn plan_tables(
+    alloc: Global,
+    tables: Vec<Vec<u8>>,
+    seen: &mut Seen,
+) -> Result<Vec<FurtherTable>, AllocError>
     ensures { IfOk result (λ planned. planned.items ≡ bytes_of tables.items) }
 {
     let mut planned = Vec::new(alloc);
     for bytes in tables {
-        planned.push(FurtherTable::of(alloc, bytes))?;
+        let mut read = SeenTable::nothing();
+        let table = FurtherTable::of(alloc, bytes, &mut read);
+        planned.push(table)?;
+        seen.further.push(read)?;
     }
     Ok(planned)
+}
+
+/// What was read of the further table at a place, which is given away.
+fn take_seen(seen: &mut Seen, place: usize) -> SeenTable {
+    match seen.further.get_mut(place) {
+        Some(table) => replace(table, SeenTable::nothing()),
+        None => SeenTable::nothing(),
+    }
+}
+
+/// Notes the further tables whose plans a station does not take, for a hint.
+pub fn note_faults(
+    alloc: Global,
+    station: &Equipment,
+    further: &[FurtherTable],
+    seen: &mut Seen,
+    faults: &mut Vec<FurtherFault>,
+)
+    ensures { AllByRecursion (IsTakenBy station.now) further.now → faults.new.items ≡ faults.old.items }
+{
+    for (place, table) in further.iter().enumerate() {
+        if let Some(cause) = table.cause_at(alloc, station) {
+            let read = take_seen(seen, place);
+            FurtherFault::note(faults, place.saturating_add(1), cause, read);
+        }
+    }
+}
+
+/// A mark for each further table, of which none is published yet. Without memory it has fewer.
+pub fn none_published(alloc: Global, tables: usize) -> Vec<bool> {
+    let mut marks = Vec::new(alloc);
+    for _ in 0..tables {
+        let _ = marks.push(false);
+    }
+    marks
+}
+
+/// Hands on the faults of the tables that are marked as published.
+pub fn hand_published(found: Vec<FurtherFault>, published: &[bool], faults: &mut Vec<FurtherFault>)
+    ensures { found.items ≡ [] → faults.new.items ≡ faults.old.items }
+{
+    if found.is_empty() {
+        return;
+    }
+    for fault in found {
+        if let Some(true) = published.get(fault.number.saturating_sub(1)) {
+            FurtherFault::note(faults, fault.number, fault.cause, fault.table);
+        }
+    }
 }

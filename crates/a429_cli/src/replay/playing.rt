@@ -62,14 +62,25 @@ fn play(
     }
 }
 
+/// Marks the further table that an event publishes.
+fn mark_published(published: &mut [bool], event: ScriptEvent) {
+    if let ScriptEvent::Publish(number) = event {
+        if let Some(mark) = published.get_mut(number.saturating_sub(1)) {
+            *mark = true;
+        }
+    }
+}
+
 /// Plays the events of a script one after another, each as it is read. Their lines are put out where they have
-/// become many, and those that are left stand in `lines`. Whether memory sufficed for all.
+/// become many, and those that are left stand in `lines`. The further tables that are published are marked. Whether
+/// memory sufficed for all.
 pub fn play_all<O: Output>(
     alloc: Global,
     state: &mut StationState,
     names: &Names,
     further: &[FurtherTable],
     script: &[u8],
+    published: &mut [bool],
     lines: &mut Pending,
     out: &mut O,
 ) -> Result<bool, OutputFault>
@@ -83,6 +94,7 @@ pub fn play_all<O: Output>(
     };
     let mut text = script;
     while let Some((event, rest)) = first_entry(&form, text) {
+        mark_published(published, event);
         let Ok(()) = play(alloc, state, names, further, event, lines) else {
             return Ok(false);
         };

@@ -1,7 +1,7 @@
 //! The command line: its commands, and the texts of their help.
 ghost use Rattle.std.specs.Prelude.{◌≡◌, IfOk, IsTrue, codes};
 ghost use Rattle.clap.specs.Words.{App, Rule, app_of, new_app, with_rule, with_subcommand};
-ghost use Rattle.a429_console.specs.CommandLine.{HasRule, bare_line, check_app, command_line, draw_app, flag_rule, icd_app, lines_app, live_app, many_rule, margin_app, most_slots, number_option_rule, number_rule, option_rule, plan_app, planning_line, reading_line, replay_app, required_rule, word_app};
+ghost use Rattle.a429_console.specs.CommandLine.{HasRule, bare_line, check_app, command_line, diff_app, draw_app, flag_rule, icd_app, lines_app, lint_app, live_app, many_rule, margin_app, most_slots, number_option_rule, number_rule, option_rule, plan_app, planning_line, reading_line, replay_app, required_rule, word_app};
 
 use a429_equipment::FRAMES as MOST_FRAMES;
 use clap::builder::ValueParser;
@@ -72,6 +72,33 @@ const MARGIN: &str = "Print how far each group is from one bus fewer, and what w
 const MARGIN_END: &str = "\
 Example:
   a429 margin examples/air_data_and_inertial/station.toml";
+
+const LINT: &str = "Print what a table does in silence, such as words that never arrive";
+
+const LINT_END: &str = "\
+There is a line for each finding, and the status is 1 if there is one:
+  unfit GROUP SOURCE        its interval has no period
+  too-many-buses GROUP N    it needs N buses, and 16 are the most
+  unheard SOURCE            no filter of its receiver passes it
+  unsent SOURCE             no group has an output of it
+  idle RECEIVER             it has no source
+  blind RECEIVER N          its filter N passes none of its sources
+  alike GROUP SOURCE OTHER  they have one label, and one of them any SDI
+  full GROUP                it has no empty cell
+
+Example:
+  a429 lint examples/air_data_and_inertial/station.toml";
+
+const DIFF: &str = "Print what changes from the plan of a table to that of another";
+
+const OTHER: &str = "Equipment table that takes its place (TOML)";
+
+const DIFF_END: &str = "\
+The line `same` means that nothing changes, and the status is 0; else it is 1.
+A line `station` means that OTHER cannot be published while TABLE runs.
+
+Example:
+  a429 diff examples/displays/table.toml examples/displays/faster.toml";
 
 const DRAW: &str = "Draw the slot tables of a plan as an image (SVG)";
 
@@ -234,6 +261,21 @@ fn margin_command<'a>(alloc: Global) -> Result<Command<'a>, AllocError>
     with_argument(margin, required_argument(alloc, "TABLE", TABLE))
 }
 
+fn lint_command<'a>(alloc: Global) -> Result<Command<'a>, AllocError>
+    ensures { IfOk result (λ c. app_of c ≡ lint_app) }
+{
+    let lint = named_command(alloc, "lint", LINT, LINT_END);
+    with_argument(lint, required_argument(alloc, "TABLE", TABLE))
+}
+
+fn diff_command<'a>(alloc: Global) -> Result<Command<'a>, AllocError>
+    ensures { IfOk result (λ c. app_of c ≡ diff_app) }
+{
+    let diff = named_command(alloc, "diff", DIFF, DIFF_END);
+    let diff = with_argument(diff, required_argument(alloc, "TABLE", TABLE));
+    with_argument(diff, required_argument(alloc, "OTHER", OTHER))
+}
+
 fn draw_command<'a>(alloc: Global) -> Result<Command<'a>, AllocError>
     ensures { IfOk result (λ c. app_of c ≡ draw_app) }
 {
@@ -301,7 +343,7 @@ fn with_reading<'a>(
     with_command(line, lines_command(alloc))
 }
 
-/// Behind the commands on words and lines those on plans, without the one that draws them.
+/// After the commands on words and lines those on tables and plans, without the one that draws them.
 fn with_planning<'a>(
     alloc: Global,
     line: Result<Command<'a>, AllocError>,
@@ -311,7 +353,9 @@ fn with_planning<'a>(
     let line = with_command(line, plan_command(alloc));
     let line = with_command(line, check_command(alloc));
     let line = with_command(line, icd_command(alloc));
-    with_command(line, margin_command(alloc))
+    let line = with_command(line, margin_command(alloc));
+    let line = with_command(line, lint_command(alloc));
+    with_command(line, diff_command(alloc))
 }
 
 /// The command line of the program.

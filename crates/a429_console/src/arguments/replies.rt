@@ -4,6 +4,7 @@ ghost use Rattle.clap.specs.Words.{kind_of};
 ghost use Rattle.a429_console.specs.Outputs.{CountsFault, HasFailed, IsPut, OrNoMemory};
 ghost use Rattle.a429_console.specs.Usage.{ExplainsKind, IsHelpReply, IsMistakeUntold, IsPassedOnUnless, IsWarned, TellsMistake};
 
+use crate::hints::Hints;
 use crate::output::endings::{finish, put_whole, refuse_memory};
 use crate::output::{Output, OutputFault};
 use clap::Error;
@@ -12,10 +13,13 @@ use std::alloc::Global;
 use std::io::Write;
 
 /// Answers words that are no request, by the error that their parser gave. Help that was asked for is put, with
-/// status 0; the text of a mistake is written to `err`, with status 2, or 1 where `err` fails.
-pub fn explain<O: Output, V: Output>(
+/// status 0; the text of a mistake, with what may have been meant, is written to `err`, with status 2, or 1 where `err`
+/// fails.
+pub fn explain<H: Hints, O: Output, V: Output>(
     alloc: Global,
     error: &Error,
+    words: &[&str],
+    hints: &H,
     out: &mut O,
     err: &mut V,
 ) -> Result<u8, OutputFault>
@@ -37,14 +41,16 @@ pub fn explain<O: Output, V: Output>(
     match error.kind() {
         ErrorKind::OutOfMemory => refuse_memory(out),
         ErrorKind::DisplayHelp | ErrorKind::DisplayVersion => put_help(alloc, error, out),
-        _ => tell_mistake(alloc, error, out, err),
+        _ => tell_mistake(alloc, error, words, hints, out, err),
     }
 }
 
 /// Writes the text of a mistake to `err`. The status is 2, or 1 where `err` fails or memory for the text is refused.
-fn tell_mistake<O: Output, V: Output>(
+fn tell_mistake<H: Hints, O: Output, V: Output>(
     alloc: Global,
     mistake: &Error,
+    words: &[&str],
+    hints: &H,
     out: &mut O,
     err: &mut V,
 ) -> Result<u8, OutputFault>
@@ -60,8 +66,20 @@ fn tell_mistake<O: Output, V: Output>(
 {
     let mut text = Vec::new(alloc);
     match write!(text, "{mistake}") {
-        Ok(()) => Ok(warn(&text, err)),
+        Ok(()) => {
+            add_suggestion(alloc, words, hints, &mut text);
+            Ok(warn(&text, err))
+        }
         Err(_) => refuse_memory(out),
+    }
+}
+
+/// Appends what may have been meant by words that are a mistake, if memory suffices.
+fn add_suggestion<H: Hints>(alloc: Global, words: &[&str], hints: &H, text: &mut Vec<u8>) {
+    let mut suggestion = Vec::new(alloc);
+    // a part of it would end in a broken line
+    if hints.tell_mistake(alloc, words, &mut suggestion).is_ok() {
+        let _ = text.extend_from_slice(&suggestion);
     }
 }
 

@@ -3,7 +3,7 @@ ghost use Rattle.std.specs.Prelude.{◌≡◌, ◌<◌, ◌^◌, ℕ, Option, If
 ghost use Rattle.clap.specs.Words.{HasKind, found_of, kind_of, one_of, rows_of, subcommand_rows_of};
 ghost use Rattle.a429_console.specs.Files.{texts_of};
 ghost use Rattle.a429_console.specs.Requests.{IsRead, IsReadOf, RequestBytes, command_of, live_of, request_of};
-ghost use Rattle.a429_console.specs.RequestRows.{AsksFor, check_request, command_by, draw_request, found_by, icd_request, lines_request, live_request, margin_request, number_of, plan_request, replay_request, request_by, values_of, word_request};
+ghost use Rattle.a429_console.specs.RequestRows.{AsksFor, check_request, command_by, diff_request, draw_request, found_by, icd_request, lines_request, lint_request, live_request, margin_request, number_of, plan_request, replay_request, request_by, values_of, word_request};
 ghost use Rattle.a429_console.specs.Usage.{ComesTo, elsewhere, is_live, is_run, kinds_of_words, live_kinds_of_words};
 
 use crate::arguments::command_line::build_command;
@@ -50,6 +50,15 @@ pub enum CommandRequest<'a> {
     /// To tell how far each group of the table of this name is from one bus fewer.
     Margin {
         table: &'a str,
+    },
+    /// To print what the table of this name does in silence.
+    Lint {
+        table: &'a str,
+    },
+    /// To print what changes from the plan of the table of this name to that of the other.
+    Diff {
+        table: &'a str,
+        other: &'a str,
     },
     /// To draw the plan of the table of this name as an image: each group, or the one of this name alone, and of each
     /// bus so many slots, from 1 to 8192, or where that is not said a frame, of which 256 slots at most.
@@ -140,6 +149,12 @@ fn read_command<'a>(alloc: Global, matches: &ArgMatches<'a>) -> Result<CommandRe
     }
     if let Some(found) = matches.subcommand_matches("margin") {
         return asked_margin(found);
+    }
+    if let Some(found) = matches.subcommand_matches("lint") {
+        return asked_lint(found);
+    }
+    if let Some(found) = matches.subcommand_matches("diff") {
+        return asked_diff(found);
     }
     if let Some(found) = matches.subcommand_matches("draw") {
         return asked_draw(found);
@@ -232,6 +247,26 @@ fn asked_margin<'a>(found: &ArgMatches<'a>) -> Result<CommandRequest<'a>, Error>
         Some(table) => Ok(CommandRequest::Margin { table }),
         None => Err(Error::from(AllocError)),
     }
+}
+
+/// What the words of `lint` ask for.
+fn asked_lint<'a>(found: &ArgMatches<'a>) -> Result<CommandRequest<'a>, Error>
+    ensures { IsReadOf command_of (lint_request (rows_of (found_of found.now))) result }
+{
+    match found.get_str("TABLE") {
+        Some(table) => Ok(CommandRequest::Lint { table }),
+        None => Err(Error::from(AllocError)),
+    }
+}
+
+/// What the words of `diff` ask for.
+fn asked_diff<'a>(found: &ArgMatches<'a>) -> Result<CommandRequest<'a>, Error>
+    ensures { IsReadOf command_of (diff_request (rows_of (found_of found.now))) result }
+{
+    let (Some(table), Some(other)) = (found.get_str("TABLE"), found.get_str("OTHER")) else {
+        return Err(Error::from(AllocError));
+    };
+    Ok(CommandRequest::Diff { table, other })
 }
 
 /// What the words of `draw` ask for.

@@ -7,7 +7,7 @@ ghost use Rattle.a429_console.specs.RefusalText.{OrMemory};
 ghost use Rattle.a429_console.specs.Tables.{IsGroupRefusal, IsProposedBy, IsTableFault, IsTableRefusal, IsPlanRefusal, IsUnfitNamed};
 
 use crate::files::reading::printable_name;
-use crate::hints::{Looks, Seen};
+use crate::hints::{Looks, SeenTable};
 use crate::refusals::CommandRefusal;
 use crate::refusals::names::{group_name, source_name};
 use a429_equipment::Equipment;
@@ -19,7 +19,7 @@ use std::alloc::Global;
 pub fn propose(
     alloc: Global,
     table: &[u8],
-    seen: &mut Seen,
+    seen: &mut SeenTable,
 ) -> Result<Proposal<OUTPUTS>, CommandRefusal>
     ensures { MatchResult result (IsProposedBy table.now) (OrMemory (IsTableRefusal table.now)) }
 {
@@ -35,7 +35,11 @@ pub fn propose(
 }
 
 /// The equipment of a table's bytes. The refusal is the table's fault.
-pub fn read_table(alloc: Global, table: &[u8], seen: &mut Seen) -> Result<Equipment, CommandRefusal>
+pub fn read_table(
+    alloc: Global,
+    table: &[u8],
+    seen: &mut SeenTable,
+) -> Result<Equipment, CommandRefusal>
     ensures { MatchResult result (λ t. reading table.now ≡ Ok t) (OrMemory (IsTableFault table.now)) }
 {
     seen.looks = Looks::of(table);

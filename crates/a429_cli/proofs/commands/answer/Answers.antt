@@ -1,9 +1,9 @@
 use Rattle.a429_console.proofs.ReadingParts.{read_weaker}
-use Rattle.std.proofs.Common.{inl}
+use Rattle.std.proofs.Common.{inl, refl}
 use Rattle.std.proofs.lemmas.Result.{IfOk-weaker}
 use Rattle.a429_console.specs.Files.{texts_of}
 use Rattle.a429_cli.specs.LineReplies.{IsLinesReply}
-use Rattle.a429_cli.specs.Replaying.{IsReplay}
+use Rattle.a429_cli.specs.Replaying.{IsReplay, TakesFurther}
 use Rattle.a429_cli.proofs.commands.answer.Goals as goal
 
 pub returns-in-Lines-clause-read : goal.returns-in-Lines-clause-read
@@ -38,6 +38,45 @@ pub returns-in-Margin-clause-read : goal.returns-in-Margin-clause-read
 returns-in-Margin-clause-read g c =
     rw c.in-Margin.is (read_weaker c.print_plan-in-Margin.ensures.planned (λ file is. IfOk-weaker c.print_plan-in-Margin.result _ _ (λ status told. (told.0, inl told.1, told.2)) is))
 
+pub returns-in-Lint-clause-read : goal.returns-in-Lint-clause-read
+returns-in-Lint-clause-read g c =
+    rw c.in-Lint.is (read_weaker c.print_lint.ensures.linted (λ file is. IfOk-weaker c.print_lint.result _ _ (λ status told. (told.0, inl told.1, told.2)) is))
+
+pub returns-in-Diff-clause-read : goal.returns-in-Diff-clause-read
+returns-in-Diff-clause-read g c =
+    rw c.in-Diff.is (read_weaker c.print_diff.ensures.diffed (λ file is. IfOk-weaker c.print_diff.result _ _ (λ status told. (told.0, inl told.1, told.2)) is))
+
 pub returns-in-Draw-clause-read : goal.returns-in-Draw-clause-read
 returns-in-Draw-clause-read g c =
     rw c.in-Draw.is (read_weaker c.print_drawing.ensures.drawn (λ file is. IfOk-weaker c.print_drawing.result _ _ (λ status told. (told.0, inl told.1, told.2)) is))
+
+pub returns-in-Lines-clause-taken : goal.returns-in-Lines-clause-taken
+returns-in-Lines-clause-taken g c = read_weaker c.tell_lines.ensures.told (λ file is takes. refl)
+
+pub returns-in-Check-clause-taken : goal.returns-in-Check-clause-taken
+returns-in-Check-clause-taken g c = read_weaker c.print_verdict.ensures.judged (λ file is takes. refl)
+
+pub returns-in-Plan-clause-taken : goal.returns-in-Plan-clause-taken
+returns-in-Plan-clause-taken g c = read_weaker c.print_plan.ensures.planned (λ file is takes. refl)
+
+pub returns-in-Icd-clause-taken : goal.returns-in-Icd-clause-taken
+returns-in-Icd-clause-taken g c = read_weaker c.print_plan-in-Icd.ensures.planned (λ file is takes. refl)
+
+pub returns-in-Margin-clause-taken : goal.returns-in-Margin-clause-taken
+returns-in-Margin-clause-taken g c = read_weaker c.print_plan-in-Margin.ensures.planned (λ file is takes. refl)
+
+pub returns-in-Lint-clause-taken : goal.returns-in-Lint-clause-taken
+returns-in-Lint-clause-taken g c = read_weaker c.print_lint.ensures.linted (λ file is takes. refl)
+
+pub returns-in-Diff-clause-taken : goal.returns-in-Diff-clause-taken
+returns-in-Diff-clause-taken g c = read_weaker c.print_diff.ensures.diffed (λ file is takes. refl)
+
+pub returns-in-Draw-clause-taken : goal.returns-in-Draw-clause-taken
+returns-in-Draw-clause-taken g c = read_weaker c.print_drawing.ensures.drawn (λ file is takes. refl)
+
+pub returns-in-Replay-clause-taken : goal.returns-in-Replay-clause-taken
+returns-in-Replay-clause-taken g c =
+    rw c.in-Replay.is
+    (read_weaker c.replay.ensures.taken (λ file is takes.
+    let takes_these : TakesFurther file c.in-Replay.table.now c.in-Replay.script.now (texts_of c.deref-in-Replay.result.now) = rw c.deref-in-Replay.ensures.value takes in
+    is takes_these))

@@ -4,5 +4,6 @@ pub returns : goal.returns
 returns g c = record {
   answered = λ r asks. (c.command.ensures.asked r asks, λ tells whole. c.command.ensures.replied r asks tells whole);
   read = c.command.ensures.read;
+  quiet = c.command.ensures.quiet;
   ends = c.command.ensures.ends;
 }

@@ -4,5 +4,6 @@ pub returns : goal.returns
 returns g c = record {
   answered = λ r asks. (c.command_live.ensures.asked r asks, λ tells whole. c.command_live.ensures.replied r asks tells whole);
   read = c.command_live.ensures.read;
+  quiet = c.command_live.ensures.quiet;
   ends = c.command_live.ensures.ends;
 }

@@ -1,5 +1,5 @@
 use Rattle.a429_console.proofs.ReadingParts.{read_weaker}
-use Rattle.std.proofs.Common.{◌⊎◌, ◌++◌, ◌∷◌, [], map, refl, inl, inr}
+use Rattle.std.proofs.Common.{rules, ◌∙◌, ◌⊎◌, ◌++◌, ◌∷◌, [], map, refl, inl, inr}
 use Rattle.std.proofs.lemmas.Result.{IfOk-weaker}
 use Rattle.a429_console.specs.FileReadings.{IsFirstUnread}
 use Rattle.a429_console.specs.RefusalText.{refusal_line}
@@ -19,11 +19,11 @@ returns-in-Err-clause-replayed g c = read_weaker c.in-Err.ensures (λ file bad.
 
 pub returns-in-Ok-prepare-clause-replayed : goal.returns-in-Ok-prepare-clause-replayed
 returns-in-Ok-prepare-clause-replayed g c =
-    let (q, events, start, opened) = c.in-Ok-prepare.ensures in
-    read_weaker c.in-Ok.ensures (λ file read. IfOk-weaker c.play_prepared.result _ _ (λ status played.
+    let (q, events, start, opened) = c.in-Ok-prepare.ensures.prepared in
+    read_weaker c.in-Ok.ensures (λ file read. IfOk-weaker c.play_prepared-status.result _ _ (λ status played.
     let was = played q events start opened in
     (was.0, inr (input_of c.in-Ok.input, q, events, read, start, was.1), was.2))
-    c.play_prepared.ensures.played)
+    c.play_prepared-status.ensures.played)
 
 pub returns-clause-replayed : goal.returns-clause-replayed
 returns-clause-replayed g c = read_weaker c.in-Ok.ensures (λ file read.
@@ -31,5 +31,15 @@ returns-clause-replayed g c = read_weaker c.in-Ok.ensures (λ file read.
     let i = input_of c.in-Ok.input in
     let begun = IsReplayRefusal file c.args.table.now c.args.script.now names in
     let why = or_memory_weaker (λ r. IsTableRefusal i.table r ⊎ IsScriptRefusal i r) begun c.in-Err-prepare.refusal
-    (λ cause. inr (i, read, cause)) c.in-Err-prepare.ensures in
+    (λ cause. inr (i, read, cause)) c.in-Err-prepare.ensures.prepared in
     both_ok c.refuse-in-Err-prepare.result _ _ (λ status is line. (refusal_line line.0 ++ 10 ∷ [], inl (line.0, told_or_memory begun c.in-Err-prepare.refusal line.0 line.1 why, is, refl), line.2)) c.refuse-in-Err-prepare.ensures.status c.refuse-in-Err-prepare.ensures.line)
+
+pub returns-in-Err-clause-taken : goal.returns-in-Err-clause-taken
+returns-in-Err-clause-taken g c = read_weaker c.in-Err.ensures (λ file bad takes. refl)
+
+pub returns-in-Ok-prepare-clause-taken : goal.returns-in-Ok-prepare-clause-taken
+returns-in-Ok-prepare-clause-taken g c =
+    read_weaker c.in-Ok.ensures (λ file read takes. c.hand_published.ensures (c.prepare.ensures.taken (takes (input_of c.in-Ok.input) read) ∙ search rules))
+
+pub returns-clause-taken : goal.returns-clause-taken
+returns-clause-taken g c = read_weaker c.in-Ok.ensures (λ file read takes. refl)

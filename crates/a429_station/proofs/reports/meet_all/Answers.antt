@@ -1,4 +1,4 @@
-use Rattle.std.proofs.Common.{rules, arith, ◌≡◌, ◌∙◌, ◌+◌, ◌++◌, ◌∷◌, [], List, ap, subst, sym, take, get_or}
+use Rattle.std.proofs.Common.{rules, arith, ◌≡◌, ◌∙◌, ◌+◌, ◌<◌, ◌++◌, ◌∷◌, [], List, length, ap, subst, sym, take, get_or}
 use Rattle.std.proofs.lemmas.Grind.{common_steps}
 use Rattle.std.proofs.lemmas.List.{take_more}
 use Rattle.a429_values.specs.Ends as ends
@@ -29,7 +29,7 @@ loop-place-preserved c =
     let d = c.index-receivers-place.result in
     let r = get_or c.loop-place.receivers place d in
     let same : get_or rs place d ≡ r = ap (λ (l : List ends.ReceiverEnd). get_or l place d) (sym i.0) in
-    let inside = c.loop-place-test.true in
+    let inside : place < length rs = omega (arith, c.loop-place-test.true, c.loop-place.auto.receivers) in
     let one = numbered_get (IsReceiverAt at) rs place d inside c.requires.receivers in
     let own = ap (λ (x : ends.ReceiverEnd). x.number) (sym same) ∙ one.1 in
     let low = numbers_below (λ (x : ends.ReceiverEnd). x.number) (λ k. k) rs place r.number (numbered_weaker (IsReceiverAt at) (λ k x. x.number ≡ k) (λ k x h. h.1) rs c.requires.receivers) (λ k lt. omega (arith, lt, own)) in

@@ -5,7 +5,7 @@ use Rattle.a429_console.specs.Outputs.{IsPut, OrNoMemory}
 use Rattle.a429_console.specs.Usage.{live_kinds_of_words}
 use Rattle.a429_console.proofs.CallEnds.{done_ends, failed_ends}
 use Rattle.a429_console.proofs.Endings.{failure_shows}
-use Rattle.a429_console.proofs.ReadingParts.{known_read}
+use Rattle.a429_console.proofs.ReadingParts.{known_read, read_weaker}
 use Rattle.a429_cli.specs.LiveReplies.{IsLiveReply}
 use Rattle.a429_cli.proofs.live.commands.command_live.Goals as goal
 
@@ -34,3 +34,11 @@ returns-in-Err-clause-ends g c =
     failed_ends (live_kinds_of_words (texts_of c.args.words.now)) (writing g.O.Output.contents g.O.Output.failures g.O.Output.is_flushed c.args.out.now c.run_words.new.out)
     (writing g.V.Output.contents g.V.Output.failures g.V.Output.is_flushed c.args.err.now c.tell_fault.new.err) c.run_words.new.err c.in-Err.fault c.in-Err.ensures.ends
     c.tell_fault.ensures.announced c.tell_fault.ensures.hushed c.tell_fault.ensures.once
+
+pub returns-in-Ok-clause-quiet : goal.returns-in-Ok-clause-quiet
+returns-in-Ok-clause-quiet g c = λ r asks. c.in-Ok.ensures.quiet r asks
+
+pub returns-in-Err-clause-quiet : goal.returns-in-Err-clause-quiet
+returns-in-Err-clause-quiet g c = λ r asks.
+    let h = c.in-Err.ensures.quiet r asks in
+    (h.0, read_weaker h.1 (λ file is takes zero. absurd (omega (arith, zero))))

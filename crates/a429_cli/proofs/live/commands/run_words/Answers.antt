@@ -35,3 +35,9 @@ returns-in-Err-clause-ends g c =
     (writing g.V.Output.contents g.V.Output.failures g.V.Output.is_flushed c.args.err.now c.explain.new.err) c.explain.result c.in-Err.ensures.live_kinds c.explain.ensures.replied
     c.explain.ensures.faults c.explain.ensures.status c.explain.ensures.flushed c.explain.ensures.told c.explain.ensures.warned c.explain.ensures.quiet c.explain.ensures.left
     c.explain.ensures.silent c.explain.ensures.failed c.explain.ensures.once
+
+pub returns-in-Ok-clause-quiet : goal.returns-in-Ok-clause-quiet
+returns-in-Ok-clause-quiet g c = λ r asks. c.run_here.ensures.quiet r (c.in-Ok.ensures.asked (Live r) asks)
+
+pub returns-in-Err-clause-quiet : goal.returns-in-Err-clause-quiet
+returns-in-Err-clause-quiet g c = λ r asks. (c.args.files.now, read_none refl (λ file takes. c.explain.ensures.quiet))

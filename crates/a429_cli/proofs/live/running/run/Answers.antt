@@ -15,13 +15,17 @@ use Rattle.a429_cli.specs.Resubmitted.{AreAnswers}
 use Rattle.a429_console.specs.RefusalText.{OrMemory}
 use Rattle.a429_console.specs.declared.refusals.CommandRefusal.{CommandRefusal}
 use Rattle.a429_cli.proofs.LiveRefusals.{lines_of, memory_lines, never_shut, refusal_told, sure_sinks}
+use Rattle.a429_cli.proofs.Taken.{none_refused}
+use Rattle.std.specs.List.{AllByRecursion}
+use Rattle.a429_equipment.specs.TableRecord.{TableRecord}
+use Rattle.a429_console.specs.Tables.{IsTakenBy}
 use Rattle.a429_cli.proofs.LiveRuns.{GivesFrom, as_many, heard_rows}
 use Rattle.a429_cli.proofs.WholeFrames.{all_sent_whole}
 use Rattle.a429_console.proofs.Refused.{matched_both, or_memory_weaker}
 use Rattle.a429_cli.proofs.live.running.run.Goals as goal
 
-pub returns-in-Ok : goal.returns-in-Ok
-returns-in-Ok g c =
+pub returns-in-Ok-clause-report : goal.returns-in-Ok-clause-report
+returns-in-Ok-clause-report g c =
     let t = c.args.equipment.now in
     let report = c.in-Ok.report in
     let told = c.in-Ok.ensures.told in
@@ -33,7 +37,7 @@ returns-in-Ok g c =
     let further = bytes_of c.args.further.now in
     let answers = c.deref.result.now in
     let answered : AreAnswers between.begin further answers between.end =
-    subst (λ (xs : List Answer). AreAnswers between.begin further xs between.end) (sym c.deref.ensures.value)
+    subst (λ (xs : List Answer). AreAnswers between.begin further xs between.end) (sym (c.deref.ensures.value ∙ c.hand_faults.ensures.answers))
     (subst (λ (tables : List (Vec ℕ Global)). AreAnswers between.begin (bytes_of tables) c.live_planned.new.control.answers.items between.end) c.new-control.ensures.tables (between.done c.new-control.ensures.none)) in
     let heard = heard_rows t ran.course words (length t.receivers) report.sources.items report.receivers.items
     (subst (λ l. AllOfThree (IsHeardIn GivesFrom all_given t ran.course) l report.sources.items report.receivers.items) (search rules) ran.heard) in
@@ -46,8 +50,17 @@ returns-in-Ok g c =
     (λ e why. or_memory_weaker (λ why. ⊥) (IsRunRefusal t words c.args.frames) e (λ none. absurd none) why)
     (c.report_text.ensures between.begin between.end between.station between.begun.planned.number answered)
 
-pub returns : goal.returns
-returns g c =
+pub returns-in-Ok-clause-taken : goal.returns-in-Ok-clause-taken
+returns-in-Ok-clause-taken g c = λ all.
+    let between = c.in-Ok.ensures.told.1 in
+    let further = bytes_of c.args.further.now in
+    let answered : AreAnswers between.begin further c.live_planned.new.control.answers.items between.end =
+    subst (λ (tables : List (Vec ℕ Global)). AreAnswers between.begin (bytes_of tables) c.live_planned.new.control.answers.items between.end) c.new-control.ensures.tables (between.done c.new-control.ensures.none) in
+    let taken = subst (λ (t : TableRecord). AllByRecursion (IsTakenBy t) further) (sym between.station) all in
+    c.hand_faults.ensures.taken (none_refused c.plans_are_unique.ensures.either between.begin between.end further c.live_planned.new.control.answers.items answered taken)
+
+pub returns-clause-report : goal.returns-clause-report
+returns-clause-report g c =
     let t = c.args.equipment.now in
     let words = c.args.arrivals.now in
     let sinks = c.in_ok-sinks.sinks.items in

@@ -8,7 +8,7 @@ use Rattle.a429_cli.proofs.live.running.run_station.Goals as goal
 
 pub returns-in-Ok-clause-replied : goal.returns-in-Ok-clause-replied
 returns-in-Ok-clause-replied g c =
-    read_weaker c.in-Ok.ensures (λ file report.
+    read_weaker c.in-Ok.ensures.report (λ file report.
     text_put c.finish.result (IsLiveReply file (live_of c.args.request.now)) (g.O.Output.contents c.args.out.now) (g.O.Output.contents c.finish.new.out) c.deref.result.now c.in-Ok.text.items
     c.deref.ensures.value (inr (report, refl)) c.finish.ensures.status c.finish.ensures.put)
 
@@ -18,9 +18,15 @@ returns-in-Ok-clause-status g c = done_is_few c.finish.result c.finish.ensures.s
 pub returns-in-Err-clause-replied : goal.returns-in-Err-clause-replied
 returns-in-Err-clause-replied g c =
     let r = live_of c.args.request.now in
-    read_weaker c.in-Err.ensures (λ file bad.
+    read_weaker c.in-Err.ensures.report (λ file bad.
     refusal_put c.refuse.result (IsLiveRefusal file r) (IsLiveReply file r) c.in-Err.refusal (g.O.Output.contents c.args.out.now) (g.O.Output.contents c.refuse.new.out)
     (λ told why. inl (told, why, refl, refl)) bad c.refuse.ensures.status c.refuse.ensures.line)
 
 pub returns-in-Err-clause-status : goal.returns-in-Err-clause-status
 returns-in-Err-clause-status g c = refused_is_few c.refuse.result c.refuse.ensures.status
+
+pub returns-in-Ok-clause-taken : goal.returns-in-Ok-clause-taken
+returns-in-Ok-clause-taken g c = c.in-Ok.ensures.taken
+
+pub returns-in-Err-clause-taken : goal.returns-in-Err-clause-taken
+returns-in-Err-clause-taken g c = c.in-Err.ensures.taken

@@ -30,8 +30,16 @@ returns-in-Some-subcommand_matches-5 c =
 
 pub returns-in-Some-subcommand_matches-6 : goal.returns-in-Some-subcommand_matches-6
 returns-in-Some-subcommand_matches-6 c =
-    read_by_name command_of command_by c.args.matches.now (codes "draw") _ c.asked_draw.result (c.in-Some-subcommand_matches-6.ensures.found.0 refl) c.in-Some-subcommand_matches-6.ensures.rows c.asked_draw.ensures
+    read_by_name command_of command_by c.args.matches.now (codes "lint") _ c.asked_lint.result (c.in-Some-subcommand_matches-6.ensures.found.0 refl) c.in-Some-subcommand_matches-6.ensures.rows c.asked_lint.ensures
 
 pub returns-in-Some-subcommand_matches-7 : goal.returns-in-Some-subcommand_matches-7
 returns-in-Some-subcommand_matches-7 c =
-    read_by_name command_of command_by c.args.matches.now (codes "replay") _ c.asked_replay.result (c.in-Some-subcommand_matches-7.ensures.found.0 refl) c.in-Some-subcommand_matches-7.ensures.rows c.asked_replay.ensures
+    read_by_name command_of command_by c.args.matches.now (codes "diff") _ c.asked_diff.result (c.in-Some-subcommand_matches-7.ensures.found.0 refl) c.in-Some-subcommand_matches-7.ensures.rows c.asked_diff.ensures
+
+pub returns-in-Some-subcommand_matches-8 : goal.returns-in-Some-subcommand_matches-8
+returns-in-Some-subcommand_matches-8 c =
+    read_by_name command_of command_by c.args.matches.now (codes "draw") _ c.asked_draw.result (c.in-Some-subcommand_matches-8.ensures.found.0 refl) c.in-Some-subcommand_matches-8.ensures.rows c.asked_draw.ensures
+
+pub returns-in-Some-subcommand_matches-9 : goal.returns-in-Some-subcommand_matches-9
+returns-in-Some-subcommand_matches-9 c =
+    read_by_name command_of command_by c.args.matches.now (codes "replay") _ c.asked_replay.result (c.in-Some-subcommand_matches-9.ensures.found.0 refl) c.in-Some-subcommand_matches-9.ensures.rows c.asked_replay.ensures

@@ -20,15 +20,15 @@ loop-table-preserved g c =
     let (on, same, answered) = c.loop-table.invariant in
     let table = c.table-item.result in
     let answer = c.in_ok-answer.answer in
-    let told : IsAnswer c.loop-table.station table.items answer c.answer_to.new.station =
-    subst (λ bytes. IsAnswer c.loop-table.station bytes answer c.answer_to.new.station) c.deref.ensures.value c.in_ok-answer.ensures.answer in
+    let told : IsAnswer c.loop-table.station table.items answer c.answer_and_note.new.station =
+    subst (λ bytes. IsAnswer c.loop-table.station bytes answer c.answer_and_note.new.station) c.deref.ensures.value c.in_ok-answer.ensures.answer in
     let at : drop i tables ≡ table ∷ drop (i + 1) tables = drop_more tables i table c.loop-table-test.true ∙ ap (λ x. x ∷ drop (i + 1) tables) (sym c.table-item.is) in (
-      goes_further c.args.station.now c.loop-table.station c.answer_to.new.station on c.answer_to.ensures.on,
+      goes_further c.args.station.now c.loop-table.station c.answer_and_note.new.station on c.answer_and_note.ensures.on,
       same,
       λ none rest w all.
           one_more_answer c.args.station.now w (bytes_of tables) c.loop-table.self.answers.items c.push.new.self.items rest answer c.in_ok-push.ensures.items
           (answered none (answer ∷ rest) w
-          (subst (λ (ts : List (Vec ℕ Global)). AreAnswers c.loop-table.station (bytes_of ts) (answer ∷ rest) w) (sym at) (c.answer_to.new.station, told, all))),
+          (subst (λ (ts : List (Vec ℕ Global)). AreAnswers c.loop-table.station (bytes_of ts) (answer ∷ rest) w) (sym at) (c.answer_and_note.new.station, told, all))),
     )
 
 pub returns-clause-did : goal.returns-clause-did

@@ -1,0 +1,60 @@
+//! Hints about what `lint` finds.
+
+use crate::about::About;
+use std::io;
+use std::io::Write;
+
+/// What a finding means, and what to do about it, by the first word of its line.
+fn advice(kind: &str) -> &'static str {
+    match kind {
+        "unfit" => {
+            "no period lies within the interval, so the table has no plan: `a429 plan` prints which intervals would do"
+        }
+        "too-many-buses" => {
+            "a group has 16 buses at most, so the table has no plan: give some of its outputs longer intervals, or a group of their own"
+        }
+        "unheard" => {
+            "no filter of the receiver passes the source's label, so none of its words is accepted: add a filter LLL/377, or drop the filters"
+        }
+        "unsent" => "no group has an output of the source: add one, or drop the source",
+        "idle" => {
+            "the receiver has no source, so no word that comes in there is accepted: give it a source, or drop it"
+        }
+        "blind" => {
+            "the filter passes no label of the receiver's sources, so it is of no use: mend it, or drop it"
+        }
+        "alike" => {
+            "two outputs send one label, and one of them any SDI, so their receivers cannot tell them apart: give both sources a certain SDI, or send them in two groups"
+        }
+        _ => {
+            "no cell of the group's buses is empty, so one more output takes one more bus: `a429 margin` prints what would make room"
+        }
+    }
+}
+
+/// Whether a line of a text begins with this word.
+fn has_line(text: &str, kind: &str) -> bool {
+    text.lines()
+        .any(|line| line.split(' ').next() == Some(kind))
+}
+
+/// Tells what to do about each kind of finding in the text of `lint`, in the order of the kinds there.
+pub fn tell_findings<V: Write>(about: About, text: &str, err: &mut V) -> io::Result<()> {
+    let kinds = [
+        "unfit",
+        "too-many-buses",
+        "unheard",
+        "unsent",
+        "idle",
+        "blind",
+        "alike",
+        "full",
+    ];
+    for kind in kinds {
+        if has_line(text, kind) {
+            let advice = advice(kind);
+            writeln!(err, "{about}: {kind}: {advice}")?;
+        }
+    }
+    Ok(())
+}
