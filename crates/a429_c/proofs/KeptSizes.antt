@@ -5,6 +5,7 @@ use Rattle.std.specs.Option.{option_map_or}
 use Rattle.std.proofs.lemmas.List.{length-map}
 use Rattle.std.proofs.lemmas.Option.{same_Some, none-some, slice_get_within}
 use Rattle.std.proofs.lemmas.Bool.{lt-ltb}
+use Rattle.a429_equipment.specs.Limits.{count_bits}
 use Rattle.a429_equipment.specs.declared.arrivals.ArrivalRefusal.{ArrivalRefusal}
 use Rattle.a429_equipment.specs.Arrivals.{sorted}
 use Rattle.a429_equipment.specs.SameStation.{same_station}
@@ -183,10 +184,10 @@ same_tables (s ∷ ss) (t ∷ ts) k e h =
     ap (λ (z : GroupSize). z ∷ map f ss) (ap f (same_Some s (k 0 t) (h 0)) ∙ ap size_of (e 0 t))
     ∙ ap (λ (zs : List GroupSize). size_of t ∷ zs) (same_tables ss ts (λ g. k (suc g)) (λ g. e (suc g)) (λ g. h (suc g)))
 
-pub opened_sizes : (o : Opening) (v : MachineState) → StandsForHistory 41 o [] v → map size_of (groups_of o.proposal.plan) ≡ sizes_in_force v
+pub opened_sizes : (o : Opening) (v : MachineState) → StandsForHistory count_bits o [] v → map size_of (groups_of o.proposal.plan) ≡ sizes_in_force v
 opened_sizes o v S = sym (same_tables v.groups (groups_of o.proposal.plan) (λ g p. frame_state_of g (current o g p [])) (λ g p. refl) S.groups)
 
-pub opened_newest : (o : Opening) (v : MachineState) → StandsForHistory 41 o [] v → map size_of (groups_of o.proposal.plan) ≡ newest_sizes v
+pub opened_newest : (o : Opening) (v : MachineState) → StandsForHistory count_bits o [] v → map size_of (groups_of o.proposal.plan) ≡ newest_sizes v
 opened_newest o v S =
     let none = sym (ap (λ (ps : List Proposed). groups_of (option_map_or (λ q. q.plan) (last_of ps) o.proposal.plan)) (none_cut (numbers_left o))) in
     ap (map size_of) (none ∙ sym S.newest)

@@ -11,6 +11,7 @@ use Rattle.std_alloc.proofs.SendSync.{quiet, lies}
 use Rattle.std.proofs.Crossing.{crosses, frees}
 use Rattle.std.specs.declared.option.Option.{Option}
 use Rattle.std.specs.declared.option.Option.TheVariants.{None, Some}
+use Rattle.a429_equipment.specs.Limits.{count_bits}
 use Rattle.a429_c.specs.Held.{heap, held_at}
 use denote.Param.{number}
 use Rattle.a429_equipment.specs.contracts.equipment.Equipment as equipment
@@ -25,7 +26,7 @@ equipment_send = search (sendable, crosses) depth 40 fits 20000
 plan_send : IsSend (plan.the_row (number 128))
 plan_send = search (sendable, crosses) depth 40 fits 20000
 
-state_send : IsSend (state.the_row (number 41))
+state_send : IsSend (state.the_row (number count_bits))
 state_send = search (equipment_send, sendable, crosses) depth 40 fits 20000
 
 machine_send : IsSend machine.the_row

@@ -1,10 +1,12 @@
 -- What a call from C is answered, and what it leaves. Each call has an outcome: what it gives, or the status by which it is refused.
 use Rattle.std.specs.Prelude.{◌++◌, ℕ, List, Option, Some, None, Result, Ok, Err, if◌then◌else◌, nat_le, length, take, drop, option_map, slice_get}
 use Rattle.std.specs.Option.{option_map_or}
+use Rattle.a429_equipment.specs.Limits.{count_bits}
 use Rattle.a429_slots.specs.Tables.{SlotTable}
 use Rattle.a429_slots.specs.declared.answers.Answer.{Answer}
 use Rattle.a429_slots.specs.declared.answers.Answer.TheVariants.{Accepted, Sent, Changed, Published, Refused}
 use Rattle.a429_core.specs.MachineStates.{MachineState}
+use Rattle.a429_core.specs.MachineSteps.{arrived}
 use Rattle.a429_console.specs.Names.{Naming, number_named}
 use Rattle.a429_c.specs.Stations.{Held}
 use Rattle.a429_c.specs.Statuses.{code_of, line_of, status_for}
@@ -67,6 +69,10 @@ plan_of (Changed plan) = Ok plan
 plan_of (Published plan) = Ok plan
 plan_of (Refused why) = Err (status_for why)
 plan_of _ = Err NoSuch
+
+-- a raw word comes in at a receiver of a station that counts words as the program does
+abbrev pub arrival_step : ℕ → ℕ → MachineState → Answer × MachineState
+arrival_step receiver raw s = arrived count_bits s receiver raw
 
 -- a step of the machine on the station that is held: what the call gives
 abbrev pub asked : {X : Type 0} → (Answer → Result X Status) → (MachineState → Answer × MachineState) → Option Held → Result X Status

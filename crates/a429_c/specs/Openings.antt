@@ -1,5 +1,6 @@
 -- Tables as calls from C read them, and the stations that are opened of them.
 use Rattle.std.specs.Prelude.{◌≡◌, ◌≤◌, ◌<◌, ◌⊎◌, [], ℕ, List, Option, Some, None, Result, true, false, length}
+use Rattle.a429_equipment.specs.Limits.{count_bits}
 use Rattle.a429_slots.specs.Tables.{groups_of}
 use Rattle.a429_slots.specs.FrameStates.{all_fit}
 use Rattle.a429_slots.specs.Proposed.{Proposed}
@@ -55,7 +56,7 @@ pub record IsOpenedFrom (table : List ℕ) (first : ℕ) (m : Held) : Type 0 whe
   pub small : length table ≤ table_limit
   pub fits : all_fit first (groups_of proposal.plan) ≡ true
   pub names : m.names ≡ naming_of proposal.station
-  pub stands : StandsForHistory 41 (record { proposal = proposal; first = first }) [] m.state
+  pub stands : StandsForHistory count_bits (record { proposal = proposal; first = first }) [] m.state
 
 abbrev pub IsOpenIn : List ℕ → ℕ → Option Held → Type 0
 IsOpenIn table first (Some m) = IsOpenedFrom table first m

@@ -1,7 +1,7 @@
 //! Calls that open and close a station, and those that are its events.
 ghost use Rattle.std.specs.Prelude.{◌≡◌, ◌≤◌, None, IfOk, IfErr, OnErr};
-ghost use Rattle.a429_core.specs.MachineSteps.{arrived, cell_asked, frame_asked};
-ghost use Rattle.a429_c.specs.Calls.{asked, cell_of, given_or, moved, plan_of, source_of, status_of, text_in};
+ghost use Rattle.a429_core.specs.MachineSteps.{cell_asked, frame_asked};
+ghost use Rattle.a429_c.specs.Calls.{arrival_step, asked, cell_of, given_or, moved, plan_of, source_of, status_of, text_in};
 ghost use Rattle.a429_c.specs.Openings.{IsNoPublication, IsOpenIn, IsPublication, IsPublishing, IsRefusedOpening};
 ghost use Rattle.a429_c.specs.Places.{KeepsText, found_in};
 
@@ -55,10 +55,10 @@ pub extern "C" fn a429_arrive(
     raw: u32,
     source: &mut usize,
 ) -> u32
-    ensures status { result ≡ status_of (asked source_of (λ s. arrived 41 s receiver raw) station.old.handle.held) }
-    ensures source { source.new ≡ given_or (asked source_of (λ s. arrived 41 s receiver raw) station.old.handle.held) source.old }
-    ensures after { station.new.handle.held ≡ moved (λ s. arrived 41 s receiver raw) station.old.handle.held }
-    ensures refusal_text { KeepsText (asked source_of (λ s. arrived 41 s receiver raw) station.old.handle.held) station.old station.new }
+    ensures status { result ≡ status_of (asked source_of (arrival_step receiver raw) station.old.handle.held) }
+    ensures source { source.new ≡ given_or (asked source_of (arrival_step receiver raw) station.old.handle.held) source.old }
+    ensures after { station.new.handle.held ≡ moved (arrival_step receiver raw) station.old.handle.held }
+    ensures refusal_text { KeepsText (asked source_of (arrival_step receiver raw) station.old.handle.held) station.old station.new }
 {
     let Some(mut machine) = station.handle.take(alloc) else {
         return station.refusal_text.refuse(Status::Closed);

@@ -2,9 +2,9 @@
 ghost use Rattle.std.specs.Prelude.{◌≡◌, MatchResult, map, option_map, slice_get};
 ghost use Rattle.a429_slots.specs.Tables.{buses_of, frame_of, groups_of};
 ghost use Rattle.a429_core.specs.MachineStates.{IsWhole};
-ghost use Rattle.a429_core.specs.MachineSteps.{arrived, cell_asked, frame_asked, publish_asked};
+ghost use Rattle.a429_core.specs.MachineSteps.{cell_asked, frame_asked, publish_asked};
 ghost use Rattle.a429_console.specs.Names.{number_named};
-ghost use Rattle.a429_c.specs.Calls.{with_state};
+ghost use Rattle.a429_c.specs.Calls.{arrival_step, with_state};
 ghost use Rattle.a429_c.specs.Openings.{IsNoOpening, IsOpenedFrom};
 ghost use Rattle.a429_c.specs.Sizes.{size_of};
 
@@ -43,8 +43,8 @@ impl Model for Machine {
 impl Machine {
     /// A raw word comes in at a receiver.
     pub(crate) fn arrive(&mut self, receiver: usize, raw: u32) -> Answer
-        ensures answer { result ≡ (arrived 41 self.old.state receiver raw).0 }
-        ensures after { self.new ≡ with_state self.old (arrived 41 self.old.state receiver raw).1 }
+        ensures answer { result ≡ (arrival_step receiver raw self.old.state).0 }
+        ensures after { self.new ≡ with_state self.old (arrival_step receiver raw self.old.state).1 }
     {
         self.state.arrive(receiver, raw)
     }

@@ -1,6 +1,7 @@
 use Rattle.std.proofs.Common.{◌∙◌, [], ap, sym, subst, inl, inr, map}
 use Rattle.std.specs.Prelude.{Result, Ok, Err}
 use Rattle.std.proofs.lemmas.Bool.{cases_Bool}
+use Rattle.a429_equipment.specs.Limits.{count_bits}
 use Rattle.a429_slots.specs.Tables.{PlanTable, groups_of}
 use Rattle.a429_slots.specs.FrameStates.{all_fit}
 use Rattle.a429_slots.specs.History.{Opening}
@@ -33,5 +34,5 @@ returns-in-Ok-new c =
         | inr unfit ↦ absurd (subst is_ok (c.in-Ok-open.ensures.spent.1 unfit) tt)
       ];
       names = ap (λ (m : Held). m.names) made ∙ ap naming_of (c.in-Ok-copied.ensures ∙ c.equipment.ensures.equipment);
-      stands = subst (λ (m : Held). StandsForHistory 41 (record { proposal = q; first = c.args.first }) [] m.state) (sym made) c.in-Ok-open.ensures.stands;
+      stands = subst (λ (m : Held). StandsForHistory count_bits (record { proposal = q; first = c.args.first }) [] m.state) (sym made) c.in-Ok-open.ensures.stands;
     }

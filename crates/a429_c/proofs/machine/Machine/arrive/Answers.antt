@@ -1,4 +1,5 @@
 use Rattle.std.proofs.Common.{◌∙◌, ap, sym, map}
+use Rattle.a429_equipment.specs.Limits.{count_bits}
 use Rattle.a429_slots.specs.Tables.{PlanTable, groups_of}
 use Rattle.a429_c.specs.Sizes.{newest_sizes, size_of, sizes_in_force}
 use Rattle.a429_c.proofs.KeptSizes.{arrive_same}
@@ -6,7 +7,7 @@ use Rattle.a429_c.proofs.machine.Machine.arrive.Goals as goal
 
 pub invariant_of-self : goal.invariant_of-self
 invariant_of-self c =
-    let S = arrive_same 41 c.self.inside.state c.args.receiver c.args.raw in (
+    let S = arrive_same count_bits c.self.inside.state c.args.receiver c.args.raw in (
       c.self.invariant.0 ∙ (sym S.groups ∙ ap sizes_in_force (sym c.arrive.ensures.after)),
       c.self.invariant.1 ∙ (ap (λ (p : PlanTable). map size_of (groups_of p)) (sym S.newest) ∙ ap newest_sizes (sym c.arrive.ensures.after)),
     )
