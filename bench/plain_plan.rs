@@ -342,26 +342,33 @@ fn draw_group(text: &mut String, table: &Table, number: usize, top: u64) -> Resu
     let left = |slot: u64| 100 + 16 * (slot % 64);
     writeln!(text, "<g transform='translate(0 {top})'>")?;
     let rate = table.rate;
-    writeln!(text, "<text x='8' y='18' font-size='14'>group {} rate {rate} frame {frame} buses {buses}</text>", group.name)?;
+    let ms = |slots: u64| {
+        let us = slots_us(rate, slots);
+        format!("{}.{:03} ms", us / 1000, us % 1000)
+    };
+    let (name, lasting, last) = (&group.name, ms(frame), slots - 1);
+    writeln!(text, "<text x='8' y='18' font-size='14'>group {name} rate {rate} buses {buses} frame {frame} ({lasting}) slots 0 to {last} of {frame}</text>")?;
     writeln!(text, "<defs>")?;
     for output in 0..group.outputs.len() {
         let source = source_of(output);
         writeln!(text, "<g id='o{number}-{output}'><title>{}</title>", source.name)?;
-        writeln!(text, "<rect width='15' height='17' fill='hsl({},65%,78%)'/>", output * 137 % 360)?;
+        let lightness = source.sdi.map_or(70, |sdi| 92 - 5 * sdi);
+        writeln!(text, "<rect width='15' height='17' fill='hsl({},65%,{lightness}%)'/>", source.label * 137 % 360)?;
         writeln!(text, "<text x='7' y='12' font-size='7' text-anchor='middle'>{:03o}</text></g>", source.label)?;
     }
     writeln!(text, "</defs>")?;
     for slot in (0..slots).step_by(8) {
         let (left, base) = (left(slot), fold_top(slot / 64) + 11);
-        writeln!(text, "<text x='{left}' y='{base}' font-size='8' fill='#666'>{slot}</text>")?;
+        writeln!(text, "<text x='{left}' y='{base}' font-size='8' fill='#666'>{slot} ({})</text>", ms(slot))?;
     }
     for bus in 0..buses {
         let row = &cells[(bus * frame) as usize..((bus + 1) * frame) as usize];
         let load = 100 * row.iter().flatten().count() as u64 / frame;
         let row_top = |fold: u64| fold_top(fold) + 14 + 18 * bus;
+        writeln!(text, "<text x='{}' y='{}'>{load} %</text>", 106 + 16 * slots.min(64), row_top(0) + 13)?;
         for fold in 0..slots.div_ceil(64) {
             let (top, width) = (row_top(fold), 16 * 64.min(slots - 64 * fold));
-            writeln!(text, "<text x='8' y='{}'>bus {bus} {load} %</text>", top + 13)?;
+            writeln!(text, "<text x='8' y='{}'>bus {bus}</text>", top + 13)?;
             writeln!(text, "<rect x='100' y='{top}' width='{width}' height='17' fill='#eee'/>")?;
         }
         for slot in 0..slots {
@@ -371,16 +378,24 @@ fn draw_group(text: &mut String, table: &Table, number: usize, top: u64) -> Resu
         }
     }
     let legend = fold_top(slots.div_ceil(64)) + 4;
+    let mut ranked: Vec<usize> = (0..group.outputs.len()).collect();
+    ranked.sort_by_key(|&output| (source_of(output).label, source_of(output).sdi.map_or(0, |sdi| sdi + 1)));
+    let mut ranks = vec![0; ranked.len()];
+    for (rank, &output) in ranked.iter().enumerate() {
+        ranks[output] = rank;
+    }
     for placed in &plan.placed {
         let (output, source) = (placed.output, source_of(placed.output));
-        let (left, line) = (8 + 280 * (output % 4), legend + 20 * (output as u64 / 4));
+        let (left, line) = (8 + 590 * (ranks[output] % 2), legend + 20 * (ranks[output] as u64 / 2));
         writeln!(text, "<use href='#o{number}-{output}' x='{left}' y='{line}'/>")?;
         let (left, base) = (left + 22, line + 13);
-        let (label, name, period) = (source.label, &source.name, placed.period);
-        writeln!(text, "<text x='{left}' y='{base}'>{label:03o} {name} every {period} slots</text>")?;
+        let sdi = source.sdi.map_or("any".into(), |sdi| sdi.to_string());
+        let (label, name, receiver) = (source.label, &source.name, &source.receiver);
+        let (bus, period, lasting) = (placed.bus, placed.period, ms(placed.period));
+        writeln!(text, "<text x='{left}' y='{base}' font-size='10'>{label:03o} {sdi} {name} receiver {receiver} bus {bus} every {period} slots ({lasting})</text>")?;
     }
     writeln!(text, "</g>")?;
-    Ok(legend + 20 * (group.outputs.len() as u64).div_ceil(4) + 24)
+    Ok(legend + 20 * (group.outputs.len() as u64).div_ceil(2) + 24)
 }
 
 fn drawing_text(table: &Table) -> Result<String, Fault> {
@@ -389,8 +404,8 @@ fn drawing_text(table: &Table) -> Result<String, Fault> {
         height += draw_group(&mut groups, table, number, height)?;
     }
     Ok(format!(
-        "<svg xmlns='http://www.w3.org/2000/svg' viewBox='0 0 1132 {height}' font-family='monospace' font-size='11'>\n\
-         <rect width='1132' height='{height}' fill='white'/>\n{groups}</svg>\n"
+        "<svg xmlns='http://www.w3.org/2000/svg' viewBox='0 0 1190 {height}' font-family='monospace' font-size='11'>\n\
+         <rect width='1190' height='{height}' fill='white'/>\n{groups}</svg>\n"
     ))
 }
 

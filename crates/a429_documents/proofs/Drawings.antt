@@ -11,7 +11,8 @@ use Rattle.a429_equipment.specs.declared.rows.GroupRow.{GroupRow}
 use Rattle.a429_equipment.specs.declared.rows.SourceRow.{SourceRow}
 use Rattle.a429_slots.specs.Tables.{Placed, SlotTable, PlanTable, buses_of, frame_of, groups_of, outputs_of, placed_at, source_of}
 use Rattle.a429_slots.proofs.Cells.{output_is}
-use Rattle.a429_documents.specs.Drawing.{drawn_group, group_drawing, group_height, height_at, height_of, output_legend, output_shape, legend_text, legend_top, shape_text, slots_drawn}
+use Rattle.a429_slots.specs.declared.group_plan.SlotPlace.{SlotPlace}
+use Rattle.a429_documents.specs.Drawing.{drawn_group, group_drawing, group_height, height_at, height_of, output_legend, output_shape, legend_text, legend_top, order_at, order_of, rank_of, shape_text, slots_drawn}
 
 -- ---- pieces of a text, one behind the other
 
@@ -24,26 +25,29 @@ four t0 t1 t2 t3 t4 a b c d h1 h2 h3 h4 =
     h4 ∙ ap (λ (x : List ℕ). x ++ d) (three t0 t1 t2 t3 a b c h1 h2 h3) ∙ append_assoc t0 (a ++ (b ++ c)) d
     ∙ ap (λ (x : List ℕ). t0 ++ x) (append_assoc a (b ++ c) d ∙ ap (λ (x : List ℕ). a ++ x) (append_assoc b c d))
 
-pub five : (t0 t1 t2 t3 t4 t5 a b c d e : List ℕ) → t1 ≡ t0 ++ a → t2 ≡ t1 ++ b → t3 ≡ t2 ++ c → t4 ≡ t3 ++ d → t5 ≡ t4 ++ e → t5 ≡ t0 ++ (a ++ (b ++ (c ++ (d ++ e))))
-five t0 t1 t2 t3 t4 t5 a b c d e h1 h2 h3 h4 h5 =
-    four t0 t1 t2 t3 t5 a b c (d ++ e) h1 h2 h3 (h5 ∙ ap (λ (x : List ℕ). x ++ e) h4 ∙ append_assoc t3 d e)
-
 -- ---- the shape and the legend of an output
 
-module _ (sources : List SourceRow) (g : ℕ) (t : SlotTable) (o n : ℕ) (row : SourceRow) (below : o < length (outputs_of t)) (from : source_of t o ≡ Some n) (there : slice_get sources n ≡ Some row) where
+-- the source of an output is that of its place in the slot table
+module _ (sources : List SourceRow) (t : SlotTable) (o n : ℕ) (row : SourceRow) (below : o < length (outputs_of t)) (from : source_of t o ≡ Some n) (there : slice_get sources n ≡ Some row) where
   named : slice_get sources (placed_at t o).source ≡ Some row
   named =
       let source : (placed_at t o).source ≡ n = same_Some _ _ (sym (ap (option_map (λ (p : Placed). p.source)) (output_is t o below)) ∙ from) in
       ap (slice_get sources) source ∙ there
 
-  pub shape_is : shape_text g o row ≡ output_shape sources g t o
-  shape_is = sym (ap (λ (r : Option SourceRow). option_map_or (shape_text g o) r []) named)
+  pub shape_is : (g : ℕ) → shape_text g o row ≡ output_shape sources g t o
+  shape_is g = sym (ap (λ (r : Option SourceRow). option_map_or (shape_text g o) r []) named)
 
-  pub legend_is : (slots period : ℕ) → (placed_at t o).place.period ≡ period
-      → legend_text g o (legend_top (buses_of t) slots) row (2 ^ period) ≡ output_legend sources slots g t o
-  legend_is slots period lasting =
-      ap (λ (k : ℕ). legend_text g o (legend_top (buses_of t) slots) row (2 ^ k)) (sym lasting)
-      ∙ sym (ap (λ (r : Option SourceRow). option_map_or (λ (source : SourceRow). legend_text g o (legend_top (buses_of t) slots) source (2 ^ (placed_at t o).place.period)) r []) named)
+  pub order_is : order_of row ≡ order_at sources t o
+  order_is = sym (ap (λ (r : Option SourceRow). option_map_or order_of r 0) named)
+
+module _ (e : TableRecord) (rate slots g : ℕ) (t : SlotTable) (o n : ℕ) (row : SourceRow) (below : o < length (outputs_of t)) (from : source_of t o ≡ Some n) (there : slice_get e.sources n ≡ Some row) where
+  -- the entry of an output in the legend, by the source that it sends and the place that it has
+  pub legend_is : (place : SlotPlace) → (placed_at t o).place ≡ place
+      → legend_text e.receivers rate g o (legend_top (buses_of t) slots) (rank_of e.sources t o) row place ≡ output_legend e rate slots g t o
+  legend_is place stands =
+      let entry : SourceRow → SlotPlace → List ℕ = legend_text e.receivers rate g o (legend_top (buses_of t) slots) (rank_of e.sources t o) in
+      ap (entry row) (sym stands)
+      ∙ sym (ap (λ (r : Option SourceRow). option_map_or (λ (source : SourceRow). entry source (placed_at t o).place) r []) (named e.sources t o n row below from there))
 
 -- ---- how many slots have an output
 
@@ -75,8 +79,8 @@ pub height_is : (slots : Option ℕ) (p : PlanTable) (g : ℕ) (t : SlotTable) �
 height_is slots p g t there = sym (ap (λ (t : Option SlotTable). option_map_or (λ (t : SlotTable). group_height (slots_drawn slots (frame_of t)) t) t 0) there)
 
 pub drawn_is : (e : TableRecord) (p : PlanTable) (slots : Option ℕ) (first k : ℕ) (row : GroupRow) (t : SlotTable) → slice_get e.groups (first + k) ≡ Some row → slice_get (groups_of p) (first + k) ≡ Some t
-    → group_drawing e.sources row t (first + k) (slots_drawn slots (frame_of t)) (height_of slots p first k) ≡ drawn_group e p slots first k
+    → group_drawing e row t (first + k) (slots_drawn slots (frame_of t)) (height_of slots p first k) ≡ drawn_group e p slots first k
 drawn_is e p slots first k row t here there =
-    let image : GroupRow → SlotTable → List ℕ = λ row t. group_drawing e.sources row t (first + k) (slots_drawn slots (frame_of t)) (height_of slots p first k) in
+    let image : GroupRow → SlotTable → List ℕ = λ row t. group_drawing e row t (first + k) (slots_drawn slots (frame_of t)) (height_of slots p first k) in
     sym (ap (λ (r : Option GroupRow). option_map_or (λ (row : GroupRow). option_map_or (image row) (slice_get (groups_of p) (first + k)) []) r []) here
     ∙ ap (λ (t : Option SlotTable). option_map_or (image row) t []) there)

@@ -1,5 +1,5 @@
 -- The slot tables of a plan as an image: the text of `draw` (SVG 1.1; profile: drawing). Lengths are in pixels.
-use Rattle.std.specs.Prelude.{ℕ, ◌+◌, ◌-◌, ◌*◌, ◌/◌, ◌%◌, ◌^◌, List, [], ◌++◌, Option, None, Some, codes, count_by, is_some, length, min, slice_get}
+use Rattle.std.specs.Prelude.{ℕ, ◌+◌, ◌-◌, ◌*◌, ◌/◌, ◌%◌, ◌^◌, List, [], ◌++◌, Option, None, Some, codes, count_by, is_some, length, min, nat_lt, slice_get}
 use Rattle.std.specs.Fmt.{decimal}
 use Rattle.std.specs.Int.{div_ceil}
 use Rattle.std.specs.List.{flat_map, range_with_len, sum_by}
@@ -7,8 +7,11 @@ use Rattle.std.specs.Option.{option_map_or}
 use Rattle.a429_word.specs.Texts.{octal}
 use Rattle.a429_equipment.specs.TableRecord.{TableRecord}
 use Rattle.a429_equipment.specs.declared.rows.GroupRow.{GroupRow}
+use Rattle.a429_equipment.specs.declared.rows.ReceiverRow.{ReceiverRow}
 use Rattle.a429_equipment.specs.declared.rows.SourceRow.{SourceRow}
+use Rattle.a429_slots.specs.declared.group_plan.SlotPlace.{SlotPlace}
 use Rattle.a429_slots.specs.Tables.{SlotTable, PlanTable, buses_of, cell_at, frame_of, groups_of, outputs_of, placed_at}
+use Rattle.a429_documents.specs.Document.{receiver_name, sdi_text, slots_us}
 
 -- ---- where things stand
 
@@ -37,9 +40,19 @@ slot_left slot = 100 + 16 * (slot % 64)
 abbrev pub legend_top : ℕ → ℕ → ℕ
 legend_top buses slots = fold_top buses (folds_of slots) + 4
 
--- the height of a group: with its legend, which has four outputs in a line
+-- the height of a group: with its legend, which has two outputs in a line
 abbrev pub group_height : ℕ → SlotTable → ℕ
-group_height slots t = legend_top (buses_of t) slots + 20 * div_ceil (length (outputs_of t)) 4 + 24
+group_height slots t = legend_top (buses_of t) slots + 20 * div_ceil (length (outputs_of t)) 2 + 24
+
+-- ---- times
+
+-- a time in milliseconds, of which there are three digits: they are whole microseconds
+abbrev pub ms_text : ℕ → List ℕ
+ms_text us = decimal (us / 1000) ++ (codes "." ++ (decimal (us / 100 % 10) ++ (decimal (us / 10 % 10) ++ (decimal (us % 10) ++ codes " ms"))))
+
+-- how long so many slots last at a rate in bit/s, rounded up to microseconds
+abbrev pub lasting_text : ℕ → ℕ → List ℕ
+lasting_text rate slots = ms_text (slots_us rate slots)
 
 -- ---- the outputs of a group, which are drawn once for all their cells
 
@@ -47,34 +60,31 @@ group_height slots t = legend_top (buses_of t) slots + 20 * div_ceil (length (ou
 abbrev pub shape_name_text : ℕ → ℕ → List ℕ → List ℕ
 shape_name_text g o name = codes "<g id='o" ++ (decimal g ++ (codes "-" ++ (decimal o ++ (codes "'><title>" ++ (name ++ codes "</title>\n")))))
 
--- its ground, in a colour of this hue
-abbrev pub ground_text : ℕ → List ℕ
-ground_text hue = codes "<rect width='15' height='17' fill='hsl(" ++ (decimal hue ++ codes ",65%,78%)'/>\n")
+-- its colour: the hue is by the label, so that a source has one colour in every group and every drawing; the lightness is by the SDI, and black text can
+-- be read on each
+abbrev pub hue_of : ℕ → ℕ
+hue_of label = label * 137 % 360
+
+abbrev pub lightness_of : Option ℕ → ℕ
+lightness_of None = 70
+lightness_of (Some sdi) = 92 - 5 * sdi
+
+-- its ground, in a colour of this hue and this lightness
+abbrev pub ground_text : ℕ → ℕ → List ℕ
+ground_text hue lightness = codes "<rect width='15' height='17' fill='hsl(" ++ (decimal hue ++ (codes ",65%," ++ (decimal lightness ++ codes "%)'/>\n")))
 
 -- its end: a label
 abbrev pub label_text : ℕ → List ℕ
 label_text label = codes "<text x='7' y='12' font-size='7' text-anchor='middle'>" ++ (octal label ++ codes "</text></g>\n")
 
--- the shape of an output that sends this source, coloured by the output's number
+-- the shape of an output that sends this source
 abbrev pub shape_text : ℕ → ℕ → SourceRow → List ℕ
-shape_text g o source = shape_name_text g o source.name ++ (ground_text (o * 137 % 360) ++ label_text source.label)
+shape_text g o source = shape_name_text g o source.name ++ (ground_text (hue_of source.label) (lightness_of source.sdi) ++ label_text source.label)
 
 -- the shape of an output at a place
 abbrev pub used_text : ℕ → ℕ → ℕ → ℕ → List ℕ
 used_text g o left top =
     codes "<use href='#o" ++ (decimal g ++ (codes "-" ++ (decimal o ++ (codes "' x='" ++ (decimal left ++ (codes "' y='" ++ (decimal top ++ codes "'/>\n")))))))
-
--- what the legend says of an output beside its shape: its label, its source, and its period in slots
-abbrev pub entry_text : ℕ → ℕ → SourceRow → ℕ → List ℕ
-entry_text left base source slots =
-    codes "<text x='" ++ (decimal left ++ (codes "' y='" ++ (decimal base ++ (codes "'>" ++ (octal source.label ++ (codes " " ++ (source.name
-    ++ (codes " every " ++ (decimal slots ++ codes " slots</text>\n")))))))))
-
-abbrev pub legend_text : ℕ → ℕ → ℕ → SourceRow → ℕ → List ℕ
-legend_text g o top source slots =
-    let left = 8 + 280 * (o % 4) in
-    let line = top + 20 * (o / 4) in
-    used_text g o left line ++ entry_text (left + 22) (line + 13) source slots
 
 -- the numbers of a group's outputs, in table order
 abbrev pub numbers_of : SlotTable → List ℕ
@@ -88,18 +98,65 @@ output_shape sources g t o = option_map_or (shape_text g o) (slice_get sources (
 abbrev pub shapes_text : List SourceRow → ℕ → SlotTable → List ℕ
 shapes_text sources g t = codes "<defs>\n" ++ (flat_map (output_shape sources g t) (numbers_of t) ++ codes "</defs>\n")
 
-abbrev pub output_legend : List SourceRow → ℕ → ℕ → SlotTable → ℕ → List ℕ
-output_legend sources slots g t o =
+-- ---- the legend, which is in the order of labels
+
+-- the order of sources: by label, then by SDI, of which any is the first
+abbrev pub order_of : SourceRow → ℕ
+order_of source = 5 * source.label + option_map_or (λ sdi. sdi + 1) source.sdi 0
+
+-- that of an output's source; behind the last source, the first
+abbrev pub order_at : List SourceRow → SlotTable → ℕ → ℕ
+order_at sources t o = option_map_or order_of (slice_get sources (placed_at t o).source) 0
+
+-- how many outputs of a group come before this one: no two of them have both label and SDI in common
+abbrev pub rank_of : List SourceRow → SlotTable → ℕ → ℕ
+rank_of sources t o = count_by (λ other. nat_lt (order_at sources t other) (order_at sources t o)) (numbers_of t)
+
+-- the left and the upper edge of an entry by that number, two in a line
+abbrev pub entry_left : ℕ → ℕ
+entry_left rank = 8 + 590 * (rank % 2)
+
+abbrev pub entry_top : ℕ → ℕ → ℕ
+entry_top top rank = top + 20 * (rank / 2)
+
+-- the place of an entry's text
+abbrev pub entry_place_text : ℕ → ℕ → List ℕ
+entry_place_text left base = codes "<text x='" ++ (decimal left ++ (codes "' y='" ++ (decimal base ++ codes "' font-size='10'>")))
+
+-- what an output sends: the label, the SDI and the name of its source, and its receiver
+abbrev pub sends_text : List ReceiverRow → SourceRow → List ℕ
+sends_text receivers source =
+    octal source.label ++ (codes " " ++ (sdi_text source.sdi ++ (codes " " ++ (source.name ++ (codes " receiver " ++ receiver_name receivers source.receiver)))))
+
+-- where and how often: its bus, and its period in slots and in time
+abbrev pub stands_text : ℕ → SlotPlace → List ℕ
+stands_text rate place =
+    codes " bus " ++ (decimal place.bus ++ (codes " every " ++ (decimal (2 ^ place.period) ++ (codes " slots (" ++ (lasting_text rate (2 ^ place.period) ++ codes ")</text>\n")))))
+
+-- the text of an entry
+abbrev pub entry_text : ℕ → ℕ → List ReceiverRow → ℕ → SourceRow → SlotPlace → List ℕ
+entry_text left base receivers rate source place = entry_place_text left base ++ (sends_text receivers source ++ stands_text rate place)
+
+-- an entry: the shape of the output, and beside it its text
+abbrev pub legend_text : List ReceiverRow → ℕ → ℕ → ℕ → ℕ → ℕ → SourceRow → SlotPlace → List ℕ
+legend_text receivers rate g o top rank source place =
+    used_text g o (entry_left rank) (entry_top top rank) ++ entry_text (entry_left rank + 22) (entry_top top rank + 13) receivers rate source place
+
+abbrev pub output_legend : TableRecord → ℕ → ℕ → ℕ → SlotTable → ℕ → List ℕ
+output_legend e rate slots g t o =
     let placed = placed_at t o in
-    option_map_or (λ source. legend_text g o (legend_top (buses_of t) slots) source (2 ^ placed.place.period)) (slice_get sources placed.source) []
+    option_map_or (λ source. legend_text e.receivers rate g o (legend_top (buses_of t) slots) (rank_of e.sources t o) source placed.place) (slice_get e.sources placed.source) []
 
 -- ---- the rows
 
--- the number of each eighth slot, above it
-abbrev pub mark_text : ℕ → ℕ → List ℕ
-mark_text buses mark =
+-- the number of each eighth slot, above it, and when it begins
+abbrev pub mark_place_text : ℕ → ℕ → List ℕ
+mark_place_text buses mark =
     codes "<text x='" ++ (decimal (slot_left (8 * mark)) ++ (codes "' y='" ++ (decimal (fold_top buses (8 * mark / 64) + 11)
-    ++ (codes "' font-size='8' fill='#666'>" ++ (decimal (8 * mark) ++ codes "</text>\n")))))
+    ++ (codes "' font-size='8' fill='#666'>" ++ (decimal (8 * mark) ++ codes " (")))))
+
+abbrev pub mark_text : ℕ → ℕ → ℕ → List ℕ
+mark_text rate buses mark = mark_place_text buses mark ++ (lasting_text rate (8 * mark) ++ codes ")</text>\n")
 
 -- how many slots of a frame have an output on this bus
 abbrev pub filled_on : SlotTable → ℕ → ℕ
@@ -109,29 +166,38 @@ filled_on t bus = count_by (λ slot. is_some (cell_at t bus slot)) (range_with_l
 abbrev pub load_of : SlotTable → ℕ → ℕ
 load_of t bus = 100 * filled_on t bus / frame_of t
 
--- a bus and its load
+-- a bus
+abbrev pub bus_name_text : ℕ → ℕ → List ℕ
+bus_name_text base bus = codes "<text x='8' y='" ++ (decimal base ++ (codes "'>bus " ++ (decimal bus ++ codes "</text>\n")))
+
+-- a load
 abbrev pub load_text : ℕ → ℕ → ℕ → List ℕ
-load_text base bus load =
-    codes "<text x='8' y='" ++ (decimal base ++ (codes "'>bus " ++ (decimal bus ++ (codes " " ++ (decimal load ++ codes " %</text>\n")))))
+load_text left base load =
+    codes "<text x='" ++ (decimal left ++ (codes "' y='" ++ (decimal base ++ (codes "'>" ++ (decimal load ++ codes " %</text>\n")))))
+
+-- the load of a bus, at the right end of its row in the first fold
+abbrev pub bus_load_text : ℕ → ℕ → ℕ → ℕ → List ℕ
+bus_load_text buses slots bus load = load_text (106 + 16 * min 64 slots) (row_top buses 0 bus + 13) load
 
 -- a stripe, on which cells stand
 abbrev pub stripe_text : ℕ → ℕ → List ℕ
 stripe_text top width = codes "<rect x='100' y='" ++ (decimal top ++ (codes "' width='" ++ (decimal width ++ codes "' height='17' fill='#eee'/>\n")))
 
 -- the row of a bus in a fold, without its cells: its stripe is as wide as there are slots in the fold
-abbrev pub row_text : ℕ → ℕ → ℕ → ℕ → ℕ → List ℕ
-row_text buses slots bus load fold =
-    load_text (row_top buses fold bus + 13) bus load ++ stripe_text (row_top buses fold bus) (16 * min 64 (slots - 64 * fold))
+abbrev pub row_text : ℕ → ℕ → ℕ → ℕ → List ℕ
+row_text buses slots bus fold =
+    bus_name_text (row_top buses fold bus + 13) bus ++ stripe_text (row_top buses fold bus) (16 * min 64 (slots - 64 * fold))
 
 -- a cell: the shape of the output that stands there; an empty cell, nothing
 abbrev pub cell_text : ℕ → SlotTable → ℕ → ℕ → List ℕ
 cell_text g t bus slot =
     option_map_or (λ o. used_text g o (slot_left slot) (row_top (buses_of t) (slot / 64) bus)) (cell_at t bus slot) []
 
--- the rows of a bus, and its cells in these slots
+-- the load of a bus, its rows, and its cells in these slots
 abbrev pub bus_text : ℕ → SlotTable → ℕ → ℕ → List ℕ
 bus_text g t slots bus =
-    flat_map (row_text (buses_of t) slots bus (load_of t bus)) (range_with_len 0 (folds_of slots)) ++ flat_map (cell_text g t bus) (range_with_len 0 slots)
+    bus_load_text (buses_of t) slots bus (load_of t bus)
+    ++ (flat_map (row_text (buses_of t) slots bus) (range_with_len 0 (folds_of slots)) ++ flat_map (cell_text g t bus) (range_with_len 0 slots))
 
 -- ---- the image
 
@@ -139,21 +205,32 @@ bus_text g t slots bus =
 abbrev pub place_text : ℕ → List ℕ
 place_text top = codes "<g transform='translate(0 " ++ (decimal top ++ codes ")'>\n")
 
-abbrev pub title_text : List ℕ → ℕ → ℕ → ℕ → List ℕ
-title_text name rate frame buses =
-    codes "<text x='8' y='18' font-size='14'>group " ++ (name ++ (codes " rate " ++ (decimal rate ++ (codes " frame " ++ (decimal frame
-    ++ (codes " buses " ++ (decimal buses ++ codes "</text>\n")))))))
+abbrev pub title_name_text : List ℕ → ℕ → ℕ → ℕ → List ℕ
+title_name_text name rate buses frame =
+    codes "<text x='8' y='18' font-size='14'>group " ++ (name ++ (codes " rate " ++ (decimal rate ++ (codes " buses " ++ (decimal buses
+    ++ (codes " frame " ++ (decimal frame ++ codes " (")))))))
+
+-- which slots of a frame are drawn
+abbrev pub title_slots_text : ℕ → ℕ → List ℕ
+title_slots_text slots frame = codes ") slots 0 to " ++ (decimal (slots - 1) ++ (codes " of " ++ (decimal frame ++ codes "</text>\n")))
+
+abbrev pub title_text : List ℕ → ℕ → ℕ → ℕ → ℕ → List ℕ
+title_text name rate buses frame slots = title_name_text name rate buses frame ++ (lasting_text rate frame ++ title_slots_text slots frame)
 
 -- the beginning of a group: its title, and the shapes of its outputs
-abbrev pub head_text : List SourceRow → GroupRow → SlotTable → ℕ → ℕ → List ℕ
-head_text sources row t g top =
-    place_text top ++ (title_text row.name row.rate (frame_of t) (buses_of t) ++ shapes_text sources g t)
+abbrev pub head_text : List SourceRow → GroupRow → SlotTable → ℕ → ℕ → ℕ → List ℕ
+head_text sources row t g slots top =
+    place_text top ++ (title_text row.name row.rate (buses_of t) (frame_of t) slots ++ shapes_text sources g t)
+
+-- the rest of it: the numbers of slots, the buses and the legend
+abbrev pub body_text : TableRecord → GroupRow → SlotTable → ℕ → ℕ → List ℕ
+body_text e row t g slots =
+    flat_map (mark_text row.rate (buses_of t)) (range_with_len 0 (div_ceil slots 8))
+    ++ (flat_map (bus_text g t slots) (range_with_len 0 (buses_of t)) ++ flat_map (output_legend e row.rate slots g t) (numbers_of t))
 
 -- a group of which so many slots are drawn, with its upper edge here
-abbrev pub group_drawing : List SourceRow → GroupRow → SlotTable → ℕ → ℕ → ℕ → List ℕ
-group_drawing sources row t g slots top =
-    head_text sources row t g top ++ (flat_map (mark_text (buses_of t)) (range_with_len 0 (div_ceil slots 8))
-    ++ (flat_map (bus_text g t slots) (range_with_len 0 (buses_of t)) ++ (flat_map (output_legend sources slots g t) (numbers_of t) ++ codes "</g>\n")))
+abbrev pub group_drawing : TableRecord → GroupRow → SlotTable → ℕ → ℕ → ℕ → List ℕ
+group_drawing e row t g slots top = head_text e.sources row t g slots top ++ (body_text e row t g slots ++ codes "</g>\n")
 
 -- the groups that are drawn: one, or all, from which number on and how many
 abbrev pub first_drawn : Option ℕ → ℕ
@@ -175,7 +252,7 @@ height_of slots p first count = sum_by (λ k. height_at slots p (first + k)) (ra
 -- a group by its place among those that are drawn, below those before it
 abbrev pub drawn_group : TableRecord → PlanTable → Option ℕ → ℕ → ℕ → List ℕ
 drawn_group e p slots first k =
-    option_map_or (λ row. option_map_or (λ t. group_drawing e.sources row t (first + k) (slots_drawn slots (frame_of t)) (height_of slots p first k)) (slice_get (groups_of p) (first + k)) [])
+    option_map_or (λ row. option_map_or (λ t. group_drawing e row t (first + k) (slots_drawn slots (frame_of t)) (height_of slots p first k)) (slice_get (groups_of p) (first + k)) [])
     (slice_get e.groups (first + k)) []
 
 -- as many groups as this, from the first that is drawn on
@@ -185,10 +262,10 @@ drawn_groups e p slots first count = flat_map (drawn_group e p slots first) (ran
 -- the beginning of an image of this height, and the white sheet that all stands on
 abbrev pub svg_text : ℕ → List ℕ
 svg_text height =
-    codes "<svg xmlns='http://www.w3.org/2000/svg' viewBox='0 0 1132 " ++ (decimal height ++ codes "' font-family='monospace' font-size='11'>\n")
+    codes "<svg xmlns='http://www.w3.org/2000/svg' viewBox='0 0 1190 " ++ (decimal height ++ codes "' font-family='monospace' font-size='11'>\n")
 
 abbrev pub sheet_text : ℕ → List ℕ
-sheet_text height = codes "<rect width='1132' height='" ++ (decimal height ++ codes "' fill='white'/>\n")
+sheet_text height = codes "<rect width='1190' height='" ++ (decimal height ++ codes "' fill='white'/>\n")
 
 -- the image of one group of a plan, or of all
 abbrev pub drawing_of : TableRecord → PlanTable → Option ℕ → Option ℕ → List ℕ

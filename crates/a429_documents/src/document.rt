@@ -87,7 +87,7 @@ pub fn latency_us(rate: u32, period: Period) -> u64
 
 /// The name of a receiver.
 #[tactic(auto, using(crate::proofs::DocumentRows::receiver_is))]
-fn receiver_name(receivers: &[ReceiverRow], number: usize) -> &str
+pub(crate) fn receiver_name(receivers: &[ReceiverRow], number: usize) -> &str
     requires { number < length receivers.now }
     ensures { result.now ≡ receiver_name receivers.now number }
 {

@@ -70,7 +70,7 @@ fn group_height(table: &GroupPlan<OUTPUTS>, slots: u32) -> u32
     ensures few { result ≤ 50000 }
 {
     let outputs = table.outputs() as u32;
-    legend_top(table.buses(), slots) + 20 * outputs.div_ceil(4) + 24
+    legend_top(table.buses(), slots) + 20 * outputs.div_ceil(2) + 24
 }
 
 /// The height of so many groups from a first one on, one below the other.

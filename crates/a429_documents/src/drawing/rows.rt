@@ -4,37 +4,56 @@ ghost use Rattle.std.specs.Int.{div_ceil};
 ghost use Rattle.std.specs.List.{flat_map, range_with_len};
 ghost use Rattle.a429_word.specs.Written.{Writes};
 ghost use Rattle.a429_slots.specs.Tables.{buses_of, frame_of};
-ghost use Rattle.a429_documents.specs.Drawing.{bus_text, cell_text, filled_on, folds_of, load_of, load_text, mark_text, row_text, stripe_text};
+ghost use Rattle.a429_documents.specs.Drawing.{bus_load_text, bus_name_text, bus_text, cell_text, filled_on, folds_of, load_of, load_text, mark_place_text, mark_text, row_text, stripe_text};
 
 use crate::drawing::places::{FOLD, fold_top, row_top, slot_left};
 use crate::drawing::shapes::write_used;
+use crate::drawing::times::write_lasting;
 use a429_slots::{GroupPlan, OUTPUTS};
 use std::alloc::AllocError;
 use std::fmt::Write;
 
 /// Writes the number of an eighth slot above it.
-fn write_mark(text: &mut String, buses: u32, mark: u32) -> Result<(), AllocError>
+fn write_mark_place(text: &mut String, buses: u32, mark: u32) -> Result<(), AllocError>
     requires buses { buses ≤ 16 }
     requires mark { mark < 1024 }
-    ensures { Writes result text.old text.new (mark_text buses mark) }
+    ensures { Writes result text.old text.new (mark_place_text buses mark) }
 {
     let slot = 8 * mark;
     let left = slot_left(slot);
     let base = fold_top(buses, slot / FOLD) + 11;
-    writeln!(
+    write!(
         text,
-        "<text x='{left}' y='{base}' font-size='8' fill='#666'>{slot}</text>"
+        "<text x='{left}' y='{base}' font-size='8' fill='#666'>{slot} ("
     )
 }
 
-/// Writes the number of each eighth slot.
-pub(crate) fn write_marks(text: &mut String, buses: u32, slots: u32) -> Result<(), AllocError>
+/// Writes the number of an eighth slot above it, and when it begins.
+fn write_mark(text: &mut String, rate: u32, buses: u32, mark: u32) -> Result<(), AllocError>
+    requires rate { 1 ≤ rate }
+    requires buses { buses ≤ 16 }
+    requires mark { mark < 1024 }
+    ensures { Writes result text.old text.new (mark_text rate buses mark) }
+{
+    write_mark_place(text, buses, mark)?;
+    write_lasting(text, rate, 8 * mark)?;
+    writeln!(text, ")</text>")
+}
+
+/// Writes the number of each eighth slot, and when it begins.
+pub(crate) fn write_marks(
+    text: &mut String,
+    rate: u32,
+    buses: u32,
+    slots: u32,
+) -> Result<(), AllocError>
+    requires rate { 1 ≤ rate }
     requires buses { buses ≤ 16 }
     requires slots { slots ≤ 8192 }
-    ensures { Writes result text.old text.new (flat_map (mark_text buses) (range_with_len 0 (div_ceil slots 8))) }
+    ensures { Writes result text.old text.new (flat_map (mark_text rate buses) (range_with_len 0 (div_ceil slots 8))) }
 {
     for mark in 0..slots.div_ceil(8) {
-        write_mark(text, buses, mark)?;
+        write_mark(text, rate, buses, mark)?;
     }
     Ok(())
 }
@@ -61,11 +80,34 @@ fn load_of(table: &GroupPlan<OUTPUTS>, bus: u32) -> u32
     100 * filled_on(table, bus) / frame
 }
 
-/// Writes a bus and its load in per cent.
-fn write_load(text: &mut String, base: u32, bus: u32, load: u32) -> Result<(), AllocError>
-    ensures { Writes result text.old text.new (load_text base bus load) }
+/// Writes a bus.
+fn write_bus_name(text: &mut String, base: u32, bus: u32) -> Result<(), AllocError>
+    ensures { Writes result text.old text.new (bus_name_text base bus) }
 {
-    writeln!(text, "<text x='8' y='{base}'>bus {bus} {load} %</text>")
+    writeln!(text, "<text x='8' y='{base}'>bus {bus}</text>")
+}
+
+/// Writes a load in per cent.
+fn write_load(text: &mut String, left: u32, base: u32, load: u32) -> Result<(), AllocError>
+    ensures { Writes result text.old text.new (load_text left base load) }
+{
+    writeln!(text, "<text x='{left}' y='{base}'>{load} %</text>")
+}
+
+/// Writes the load of a bus at the right end of its row in the first fold.
+fn write_bus_load(
+    text: &mut String,
+    buses: u32,
+    slots: u32,
+    bus: u32,
+    load: u32,
+) -> Result<(), AllocError>
+    requires buses { buses ≤ 16 }
+    requires bus { bus < buses }
+    ensures { Writes result text.old text.new (bus_load_text buses slots bus load) }
+{
+    let left = 106 + 16 * FOLD.min(slots);
+    write_load(text, left, row_top(buses, 0, bus) + 13, load)
 }
 
 /// Writes a stripe, on which cells stand.
@@ -84,35 +126,28 @@ fn write_row(
     buses: u32,
     slots: u32,
     bus: u32,
-    load: u32,
     fold: u32,
 ) -> Result<(), AllocError>
     requires buses { buses ≤ 16 }
     requires bus { bus < buses }
     requires fold { fold ≤ 128 }
-    ensures { Writes result text.old text.new (row_text buses slots bus load fold) }
+    ensures { Writes result text.old text.new (row_text buses slots bus fold) }
 {
     let top = row_top(buses, fold, bus);
     let width = 16 * FOLD.min(slots.saturating_sub(FOLD * fold));
-    write_load(text, top + 13, bus, load)?;
+    write_bus_name(text, top + 13, bus)?;
     write_stripe(text, top, width)
 }
 
 /// Writes the rows of a bus, without its cells.
-fn write_rows(
-    text: &mut String,
-    buses: u32,
-    slots: u32,
-    bus: u32,
-    load: u32,
-) -> Result<(), AllocError>
+fn write_rows(text: &mut String, buses: u32, slots: u32, bus: u32) -> Result<(), AllocError>
     requires buses { buses ≤ 16 }
     requires bus { bus < buses }
     requires slots { slots ≤ 8192 }
-    ensures { Writes result text.old text.new (flat_map (row_text buses slots bus load) (range_with_len 0 (folds_of slots))) }
+    ensures { Writes result text.old text.new (flat_map (row_text buses slots bus) (range_with_len 0 (folds_of slots))) }
 {
     for fold in 0..slots.div_ceil(FOLD) {
-        write_row(text, buses, slots, bus, load, fold)?;
+        write_row(text, buses, slots, bus, fold)?;
     }
     Ok(())
 }
@@ -154,7 +189,7 @@ fn write_cells(
     Ok(())
 }
 
-/// Writes the rows of a bus, and its cells in these slots.
+/// Writes the load of a bus, its rows, and its cells in these slots.
 fn write_bus(
     text: &mut String,
     group: usize,
@@ -166,7 +201,9 @@ fn write_bus(
     requires slots { slots ≤ 8192 }
     ensures { Writes result text.old text.new (bus_text group table.now slots bus) }
 {
-    write_rows(text, table.buses(), slots, bus, load_of(table, bus))?;
+    let buses = table.buses();
+    write_bus_load(text, buses, slots, bus, load_of(table, bus))?;
+    write_rows(text, buses, slots, bus)?;
     write_cells(text, group, table, slots, bus)
 }
 

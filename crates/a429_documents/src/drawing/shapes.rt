@@ -1,15 +1,14 @@
-//! The outputs of a group in an image: their shapes and the legend.
-ghost use Rattle.std.specs.Prelude.{◌≤◌, ◌<◌, ◌+◌, length, IfSome};
+//! The outputs of a group in an image: their shapes.
+ghost use Rattle.std.specs.Prelude.{◌≡◌, ◌<◌, length, IfSome};
 ghost use Rattle.std.specs.List.{flat_map};
 ghost use Rattle.a429_word.specs.Written.{Writes};
 ghost use Rattle.a429_slots.specs.Tables.{outputs_of, source_of};
-ghost use Rattle.a429_documents.specs.Drawing.{entry_text, ground_text, label_text, legend_text, numbers_of, output_legend, output_shape, shape_name_text, shape_text, shapes_text, used_text};
+ghost use Rattle.a429_documents.specs.Drawing.{ground_text, hue_of, label_text, lightness_of, numbers_of, output_shape, shape_name_text, shape_text, shapes_text, used_text};
 ghost use Rattle.a429_cert.specs.PlanText.{HasSources};
 
-use crate::drawing::places::legend_top;
 use a429_equipment::SourceRow;
 use a429_slots::{GroupPlan, OUTPUTS, OutputId};
-use a429_word::Label;
+use a429_word::{Label, Sdi};
 use std::alloc::AllocError;
 use std::fmt::Write;
 
@@ -25,13 +24,30 @@ fn write_shape_name(
     writeln!(text, "<g id='o{group}-{output}'><title>{name}</title>")
 }
 
-/// Writes the ground of a shape, in a colour of this hue.
-fn write_ground(text: &mut String, hue: usize) -> Result<(), AllocError>
-    ensures { Writes result text.old text.new (ground_text hue) }
+/// The hue of a label, in degrees.
+fn hue_of(label: Label) -> u32
+    ensures { result ≡ hue_of label }
+{
+    u32::from(label.value()) * 137 % 360
+}
+
+/// The lightness of an SDI in per cent.
+fn lightness_of(sdi: Option<Sdi>) -> u32
+    ensures { result ≡ lightness_of sdi }
+{
+    match sdi {
+        None => 70,
+        Some(sdi) => 92 - 5 * u32::from(sdi.value()),
+    }
+}
+
+/// Writes the ground of a shape, in a colour of this hue and this lightness.
+fn write_ground(text: &mut String, hue: u32, lightness: u32) -> Result<(), AllocError>
+    ensures { Writes result text.old text.new (ground_text hue lightness) }
 {
     writeln!(
         text,
-        "<rect width='15' height='17' fill='hsl({hue},65%,78%)'/>"
+        "<rect width='15' height='17' fill='hsl({hue},65%,{lightness}%)'/>"
     )
 }
 
@@ -52,11 +68,10 @@ fn write_shape(
     output: usize,
     source: &SourceRow,
 ) -> Result<(), AllocError>
-    requires { output < 128 }
     ensures { Writes result text.old text.new (shape_text group output source.now) }
 {
     write_shape_name(text, group, output, source.name.as_str())?;
-    write_ground(text, output * 137 % 360)?;
+    write_ground(text, hue_of(source.label), lightness_of(source.sdi))?;
     write_label(text, source.label)
 }
 
@@ -69,7 +84,6 @@ fn write_output_shape(
     output: OutputId,
 ) -> Result<(), AllocError>
     requires known { output < length (outputs_of table.now) }
-    requires few { output < 128 }
     requires source { IfSome (source_of table.now output) (λ source. source < length sources.now) }
     ensures { Writes result text.old text.new (output_shape sources.now group table.now output) }
 {
@@ -123,80 +137,4 @@ pub(crate) fn write_used(
         text,
         "<use href='#o{group}-{output}' x='{left}' y='{top}'/>"
     )
-}
-
-/// Writes what the legend says of an output that sends this source.
-fn write_entry(
-    text: &mut String,
-    left: u32,
-    base: u32,
-    source: &SourceRow,
-    slots: u32,
-) -> Result<(), AllocError>
-    ensures { Writes result text.old text.new (entry_text left base source.now slots) }
-{
-    let name = source.name.as_str();
-    let label = source.label;
-    write!(text, "<text x='{left}' y='{base}'>{label}")?;
-    writeln!(text, " {name} every {slots} slots</text>")
-}
-
-/// Writes the legend of an output that sends this source, where the legend begins here.
-fn write_legend(
-    text: &mut String,
-    group: usize,
-    output: usize,
-    top: u32,
-    source: &SourceRow,
-    slots: u32,
-) -> Result<(), AllocError>
-    requires output { output < 128 }
-    requires top { top ≤ 50000 }
-    ensures { Writes result text.old text.new (legend_text group output top source.now slots) }
-{
-    let number = output as u32;
-    let left = 8 + 280 * (number % 4);
-    let line = top + 20 * (number / 4);
-    write_used(text, group, output, left, line)?;
-    write_entry(text, left + 22, line + 13, source, slots)
-}
-
-/// Writes the legend of an output of a group of which so many slots are drawn.
-fn write_output_legend(
-    text: &mut String,
-    sources: &[SourceRow],
-    slots: u32,
-    group: usize,
-    table: &GroupPlan<OUTPUTS>,
-    output: OutputId,
-) -> Result<(), AllocError>
-    requires slots { slots ≤ 8192 }
-    requires known { output < length (outputs_of table.now) }
-    requires few { output < 128 }
-    requires source { IfSome (source_of table.now output) (λ source. source < length sources.now) }
-    ensures { Writes result text.old text.new (output_legend sources.now slots group table.now output) }
-{
-    let source = &sources[table.source(output)];
-    let period = table.place(output).period;
-    let top = legend_top(table.buses(), slots);
-    write_legend(text, group, output.number(), top, source, period.slots())
-}
-
-/// Writes the legend of a group of which so many slots are drawn, in table order.
-pub(crate) fn write_legends(
-    text: &mut String,
-    sources: &[SourceRow],
-    slots: u32,
-    group: usize,
-    table: &GroupPlan<OUTPUTS>,
-) -> Result<(), AllocError>
-    requires known { HasSources sources.now table.now }
-    requires slots { slots ≤ 8192 }
-    ensures { Writes result text.old text.new (flat_map (output_legend sources.now slots group table.now) (numbers_of table.now)) }
-{
-    for output in 0..table.outputs() {
-        let output = OutputId::new(output);
-        write_output_legend(text, sources, slots, group, table, output)?;
-    }
-    Ok(())
 }

@@ -5,7 +5,6 @@ use Rattle.a429_word.proofs.Lists.{read_is}
 use Rattle.a429_equipment.specs.TableRecord.{TableRecord}
 use Rattle.a429_equipment.specs.Sound.{IsSound}
 use Rattle.a429_equipment.specs.declared.rows.GroupRow.{GroupRow}
-use Rattle.a429_equipment.specs.declared.rows.SourceRow.{SourceRow}
 use Rattle.a429_slots.specs.Tables.{PlanTable, groups_of, frame_of, outputs_of}
 use Rattle.a429_documents.specs.Drawing.{drawn_group, group_drawing, height_of, slots_drawn}
 use Rattle.a429_documents.proofs.Drawings.{drawn_is}
@@ -19,10 +18,9 @@ write_group-requires-clause-known c =
     let p : PlanTable = c.args.proposal.now.plan in
     let t = c.group-table.result.now in
     let g = c.args.first + c.loop-place.place in
-    let sound : IsSound e = subst IsSound c.equipment-equipment.ensures.equipment c.sources-sources.ensures.sound in
+    let sound : IsSound e = subst IsSound c.equipment-equipment.ensures.equipment c.groups-groups.ensures.sound in
     let there : slice_get (groups_of p) g ≡ Some t = ap (λ (p : PlanTable). slice_get (groups_of p) g) (sym c.plan-plan.ensures.plan) ∙ c.group-table.ensures in
-    let sources : c.sources-sources.result.now ≡ e.sources = c.sources-sources.ensures.rows ∙ ap (λ (e : TableRecord). e.sources) c.equipment-equipment.ensures.equipment in
-    subst (λ (ss : List SourceRow). AllByRecursion (λ o. o.source < length ss) (outputs_of t)) (sym sources) (plan_known e p g t sound c.plan-plan.ensures.own there)
+    subst (λ (e : TableRecord). AllByRecursion (λ o. o.source < length e.sources) (outputs_of t)) (sym c.equipment-equipment.ensures.equipment) (plan_known e p g t sound c.plan-plan.ensures.own there)
 
 pub loop-place-preserved : goal.loop-place-preserved
 loop-place-preserved c =
@@ -34,7 +32,6 @@ loop-place-preserved c =
     let slots = c.args.slots in
     let row : GroupRow = c.index-groups-group.result in
     let lines : ℕ → List ℕ = drawn_group e p slots first in
-    let sources : c.sources-sources.result.now ≡ e.sources = c.sources-sources.ensures.rows ∙ ap (λ (e : TableRecord). e.sources) c.equipment-equipment.ensures.equipment in
     let groups : c.groups-groups.result.now ≡ e.groups = c.groups-groups.ensures.rows ∙ ap (λ (e : TableRecord). e.groups) c.equipment-equipment.ensures.equipment in
     let below : first + k < length c.groups-groups.result.now = omega (arith, c.loop-place-test.true, c.requires.known, c.plan-plan.ensures.own.count, ap (λ (e : TableRecord). length e.groups) c.equipment-equipment.ensures.equipment, ap length groups, ap (λ (p : PlanTable). length (groups_of p)) c.plan-plan.ensures.plan) in
     let here : slice_get e.groups (first + k) ≡ Some row = ap (λ (gs : List GroupRow). slice_get gs (first + k)) (sym groups) ∙ read_is c.groups-groups.result.now (first + k) row below c.index-groups-group.is in
@@ -43,7 +40,7 @@ loop-place-preserved c =
     let top : c.height_of-top.result ≡ height_of slots p first k = c.height_of-top.ensures.value ∙ ap (λ (p : PlanTable). height_of slots p first k) c.plan-plan.ensures.plan in
     let written : string_bytes c.write_group.new.text ≡ string_bytes c.loop-place.text ++ lines k =
     c.in_ok-write_group.ensures
-    ∙ ap (λ (ss : List SourceRow). string_bytes c.loop-place.text ++ group_drawing ss row t (first + k) c.slots_drawn-shown.result c.height_of-top.result) sources
-    ∙ ap₂ (λ (n y : ℕ). string_bytes c.loop-place.text ++ group_drawing e.sources row t (first + k) n y) shown top
+    ∙ ap (λ (e : TableRecord). string_bytes c.loop-place.text ++ group_drawing e row t (first + k) c.slots_drawn-shown.result c.height_of-top.result) c.equipment-equipment.ensures.equipment
+    ∙ ap₂ (λ (n y : ℕ). string_bytes c.loop-place.text ++ group_drawing e row t (first + k) n y) shown top
     ∙ ap (λ (x : List ℕ). string_bytes c.loop-place.text ++ x) (drawn_is e p slots first k row t here there) in
     lines_more lines (string_bytes c.loop-place.text) (string_bytes c.write_group.new.text) (string_bytes c.args.text.now) k c.loop-place.invariant written
