@@ -16,12 +16,12 @@ loop-other-preserved c =
     elim c.if-order_at-order.branch [
       | then-order_at-order w ↦ (
         let here : comes_before c.loop-other.other ≡ true = ap₂ nat_lt (sym other) (sym mine) ∙ lt-ltb _ _ w.if-order_at-order.true in
-        w.rank-is ∙ ap (λ n. n + 1) kept.0 ∙ sym (counted_yes comes_before c.loop-other.other here),
+            w.rank-is ∙ ap (λ n. n + 1) kept.0 ∙ sym (counted_yes comes_before c.loop-other.other here),
         omega (arith, w.rank-is, kept.1),
       )
       | else-order_at-order w ↦ (
         let here : comes_before c.loop-other.other ≡ false = ap₂ nat_lt (sym other) (sym mine) ∙ le-ltb _ _ w.if-order_at-order.false in
-        w.rank-is ∙ kept.0 ∙ sym (counted_no comes_before c.loop-other.other here),
+            w.rank-is ∙ kept.0 ∙ sym (counted_no comes_before c.loop-other.other here),
         omega (arith, w.rank-is, kept.1),
       )
     ]
