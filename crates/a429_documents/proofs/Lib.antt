@@ -16,3 +16,8 @@ pub mod SameTables
 pub mod SamePlans
 pub mod StatedTexts
 pub mod OnePlan
+pub mod ImportTrees
+pub mod ImportRanges
+pub mod ImportRecords
+pub mod Imports
+pub mod RowsInRecord

@@ -7,3 +7,11 @@ pub mod Lint
 pub mod Diff
 pub mod Losses
 pub mod Unchanged
+pub mod ImportFields
+pub mod ImportRows
+pub mod ImportTables
+pub mod ImportBuilding
+pub mod ImportFaults
+pub mod ImportTexts
+pub mod Imports
+pub mod ImportedRows

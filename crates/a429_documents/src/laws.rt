@@ -1,4 +1,5 @@
 //! What holds of the definitions that the contracts cite.
+ghost use Rattle.a429_documents.specs.ImportedRows.{RowsAreInRecord};
 ghost use Rattle.a429_documents.specs.Losses.{BusCountsAreFewest, NoLossIsAllServed};
 ghost use Rattle.a429_documents.specs.Margins.{WiderIntervalsAreNext};
 ghost use Rattle.a429_documents.specs.Unchanged.{NoStationLineIsOneStation, SameIsNoLine, SameIsOnePlan};
@@ -43,3 +44,9 @@ pub fn same_is_one_plan()
 {
     fewest_by_demand();
 }
+
+/// What each row states that is imported is in the record of the table: a group of its name and rate has an output of its
+/// interval and hold, whose source has its name, label and SDI, and whose receiver has its name and filters.
+pub fn imported_rows_are_in_record()
+    ensures { RowsAreInRecord }
+{}

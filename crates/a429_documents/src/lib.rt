@@ -1,11 +1,13 @@
 //! What a plan is shown as: its interface control document, how far it is from one bus fewer, an image of its slot
-//! tables, what its table does in silence, and what another plan changes.
+//! tables, what its table does in silence, and what another plan changes. And the table that rows of an interface control
+//! document state.
 //!
 //! `icd_text` and `icd_csv` have a row for each output: bus, offset, period, intervals and latency. `margin_text` says
 //! which intervals would have to be wider to save a bus. `draw_text` is an image (SVG) of one group or of all.
 //! `diff_text` takes two proposals, and says what changes from the one to the other. `lint_text` takes an equipment, and
-//! says which words never arrive and what has no use. The others take a proposal. Each answers bytes; the error is that
-//! memory is refused.
+//! says which words never arrive and what has no use. `import_table` takes rows of comma-separated values, and answers an
+//! equipment table. The others take a proposal. Each answers bytes; the error is that memory is refused, and of
+//! `import_table` also what is wrong with the rows.
 //!
 //! ```text
 //! let proposal: Proposal<OUTPUTS> = Proposal::of(alloc, equipment)?;
@@ -19,6 +21,7 @@ mod csv_text;
 mod diff;
 mod document;
 mod drawing;
+mod import;
 pub mod laws;
 mod lint;
 mod margin;
@@ -29,5 +32,6 @@ pub use csv_text::icd_csv;
 pub use diff::diff_text;
 pub use document::latency_us;
 pub use drawing::draw_text;
+pub use import::{CsvFaultKind, ImportColumn, ImportFault, import_table};
 pub use lint::lint_text;
 pub use margin::margin_text;

@@ -1,0 +1,7 @@
+use Rattle.std.proofs.Common.{◌≡◌, [], drop}
+use Rattle.csv.specs.Records.{fields_of}
+use Rattle.a429_documents.specs.ImportRows.{rows_after}
+use Rattle.a429_documents.proofs.import.reading.rows_below.Given as goal
+
+abbrev pub invariant-loop-line : goal.invariant-loop-line
+invariant-loop-line l = rows_after (fields_of l.heading.fields) l.rows.items (drop l.line-index l.lines) ≡ rows_after (fields_of l.heading.fields) [] l.lines

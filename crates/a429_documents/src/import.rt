@@ -1,0 +1,43 @@
+//! An equipment table from rows of comma-separated values.
+ghost use Rattle.a429_documents.specs.Imports.{IsImport, IsImportOf};
+
+mod building;
+mod columns;
+mod fault;
+mod fields;
+mod firsts;
+mod lines;
+mod reading;
+mod rows;
+mod tables;
+mod words;
+
+use crate::import::lines::{CsvLine, csv_lines};
+use crate::import::reading::import_rows;
+use crate::import::tables::table_text;
+use a429_table::read_equipment;
+pub use fault::{CsvFaultKind, ImportColumn, ImportFault};
+use std::alloc::Global;
+
+/// The table that lines state, of which the first is the heading.
+fn import_lines(alloc: Global, lines: &[CsvLine]) -> Result<Vec<u8>, ImportFault>
+    ensures { IsImportOf lines.now result }
+{
+    let rows = import_rows(alloc, lines)?;
+    let text = table_text(alloc, &rows)?;
+    match read_equipment(alloc, text.as_str().as_bytes()) {
+        Ok(_) => Ok(text.into_bytes()),
+        Err(fault) => Err(ImportFault::from(fault)),
+    }
+}
+
+/// The equipment table, as TOML of version 2, that rows of comma-separated values state (profile: import): a row of
+/// columns' names, and a row for each output. Columns may come in any order, and others than those of `ImportColumn` are
+/// passed over. Receivers, sources and groups come in the order of their first rows, outputs in the order of the rows of
+/// their group. `read_equipment` reads what is answered. The fault is the first of the rows, else that of the table.
+pub fn import_table(alloc: Global, bytes: &[u8]) -> Result<Vec<u8>, ImportFault>
+    ensures { IsImport bytes.now result }
+{
+    let lines = csv_lines(alloc, bytes)?;
+    import_lines(alloc, &lines)
+}
