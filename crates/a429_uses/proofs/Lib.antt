@@ -1,2 +1,4 @@
-pub mod AnyLength
+pub mod Listened
 pub mod Printing
+pub mod Opened
+pub mod Given

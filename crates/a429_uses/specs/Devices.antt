@@ -7,7 +7,7 @@ use Rattle.a429_word.specs.Hexadecimal.{hex, raw_word}
 use Rattle.a429_filter.specs.declared.sources.SourceFault.{SourceFault}
 use Rattle.a429_equipment.specs.TableRecord.{TableRecord}
 use Rattle.a429_workers.specs.declared.cells.Sent.{Sent}
-use Rattle.a429_callers.specs.Origins.{HasGivenWord}
+use Rattle.a429_uses.specs.Stations.{HasGivenWord}
 
 -- A word that is given is that of the next line of the text: eight hexadecimal digits and a line feed, which are read, and nothing else is. The end
 -- is that of the text. It says so of readers that tell what they have left.
@@ -41,9 +41,8 @@ abbrev pub sure_text : Option (List ℕ) → ℕ → Option (List ℕ)
 sure_text text zero = text
 sure_text text (suc failures) = None
 
--- As long as nothing failed, what was printed is the lines of cells, of which each word was given: a source of the table accepts it, and the line of
--- its receiver gave it.
-pub record PrintedGivenWords {L : Type 0} (t : TableRecord) (given : L → List ℕ) (lines : List L) (text : Option (List ℕ)) (failures : ℕ) : Type 0 where
+-- as long as nothing failed, what was printed is the lines of cells, and each word in them was given
+pub record PrintedGivenWords (t : TableRecord) (given : List ℕ) (text : Option (List ℕ)) (failures : ℕ) : Type 0 where
   pub cells : List Sent
   pub printed : failures ≡ 0 → text ≡ Some (sent_lines cells)
-  pub words : AllByRecursion (HasGivenWord t given lines) cells
+  pub words : AllByRecursion (HasGivenWord t given) cells

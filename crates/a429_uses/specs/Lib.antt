@@ -1,5 +1,5 @@
 pub mod Histories
+pub mod Stations
 pub mod Devices
 pub mod Listening
 pub mod Calls
-pub mod Publishing

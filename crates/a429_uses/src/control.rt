@@ -1,27 +1,65 @@
 //! What the calling thread does while a station runs.
+ghost use Rattle.std.specs.Prelude.{◌≡◌};
+ghost use Rattle.std.specs.List.{AllByRecursion};
+ghost use Rattle.a429_workers.specs.Transmitting.{IsKnownPlan};
 
 use crate::pacing::Marks;
-use a429_station::{Control, ReplanFault, Station};
-use std::alloc::AllocError;
+use a429_board::Planner;
+use a429_equipment::Equipment;
+use a429_equipment::laws::one_station_is_equality;
+use a429_slots::plan;
+use a429_table::read_equipment;
+use anyhow::bail;
+use std::alloc::Global;
 use std::sync::Wait;
 use std::sync::atomic::Ordering;
 
-/// Publishes the plan of another table of the station, and keeps the answer.
+/// Publishes the plan of a further table of the station, which the group takes at its next frame, and answers the plan's
+/// number. Refused if the table has a fault or no plan, is of another station, or memory is refused: then no plan is
+/// published. It may wait for groups that read the board.
+pub fn publish<R: Wait>(
+    rt: &R,
+    alloc: Global,
+    planner: &mut Planner,
+    station: &Equipment,
+    table: &[u8],
+) -> anyhow::Result<u64>
+    requires plans { AllByRecursion (IsKnownPlan station.now) planner.old.list }
+    ensures plans { AllByRecursion (IsKnownPlan station.now) planner.new.list }
+    ensures board { planner.new.book ≡ planner.old.book }
+{
+    one_station_is_equality();
+    let next = read_equipment(alloc, table)?;
+    if !station.same_station(&next) {
+        bail!("the table is of another station");
+    }
+    let _sound = next.rate();
+    let plan = plan(alloc, &next)?;
+    Ok(planner.publish(rt, plan)?)
+}
+
+/// A further table, and who is told that its plan was published.
 #[derive(Drop)]
-pub struct Publishes<'a> {
+pub struct Control<'a> {
     pub table: &'a [u8],
-    pub answer: Option<Result<u64, ReplanFault>>,
     pub marks: &'a Marks,
 }
 
-impl<'a, R: Wait> Control<R> for Publishes<'a> {
-    ghost use Rattle.a429_uses.specs.Publishing.{IsAnswered};
-
-    ghost did = { λ before old new after. IsAnswered old before.table.now after.answer new };
-
-    fn run(&mut self, station: &mut Station<'_, R>) -> Result<(), AllocError> {
-        self.answer = Some(station.resubmit(self.table));
+impl<'a> Control<'a> {
+    /// Publishes the plan of its table, as `publish` does.
+    pub fn run<R: Wait>(
+        &self,
+        rt: &R,
+        alloc: Global,
+        planner: &mut Planner,
+        station: &Equipment,
+    ) -> anyhow::Result<u64>
+        requires plans { AllByRecursion (IsKnownPlan station.now) planner.old.list }
+        ensures plans { AllByRecursion (IsKnownPlan station.now) planner.new.list }
+        ensures board { planner.new.book ≡ planner.old.book }
+    {
+        let answer = publish(rt, alloc, planner, station, self.table);
         self.marks.plans.fetch_add(1, Ordering::SeqCst);
-        Ok(())
+        answer
     }
 }

@@ -13,10 +13,10 @@
 //! |---|---|---|
 //! | `line.rt` | `HexLine`: a line whose words come as text | your receiver |
 //! | `bus.rt` | `PrintBus`: a bus that prints words | your transmitter |
-//! | `pacing.rt` | `LateStart`: when the group begins | `OpenGate` |
-//! | `control.rt` | `Publishes`: a further table | what publishes your tables, or `NoControl` |
+//! | `control.rt` | `Control`: what runs beside the station, here `publish` | what publishes your tables |
+//! | `pacing.rt` | `LateStart`: when the group begins | `OpenGate` of `a429_workers` |
 //! | `station.rt` | `run_station`, `run_printing`: threads, and what is proved of them | as it is |
-//! | `listening.rt` | `listen`: a line of any length, without `live` | as it is |
+//! | `listening.rt` | `listen`: a receiver and its line, of any length | as it is |
 //! | `calls.rt` | words, plans and the machine, without threads | as you need it |
 //! | `history.rt` | `History`: what a device did, for proofs | as it is |
 //! | `showing.rt` | what else this program prints | nothing |
@@ -33,10 +33,10 @@ mod showing;
 mod station;
 
 use crate::bus::PrintBus;
-use crate::control::Publishes;
+use crate::control::Control;
 use crate::line::HexLine;
 use crate::pacing::{LateStart, Marks};
-use crate::showing::{show_alone, show_answer, show_report};
+use crate::showing::{show_alone, show_done};
 use crate::station::run_printing;
 use a429_table::read_equipment;
 use anyhow::ensure;
@@ -95,25 +95,22 @@ fn main(rt: HostRuntime) -> anyhow::Result<ExitCode> {
         words: request.words,
         marks: &marks,
     };
-    let mut control = Publishes {
+    let control = Control {
         table: &request.next,
-        answer: None,
         marks: &marks,
     };
-    let reader = BufReader::new(rt.alloc(), rt.reader())?;
-    let lines = vec![in rt.alloc(); HexLine::new(reader)]?;
-    let buses = vec![in rt.alloc(); PrintBus::new(rt.stdout())]?;
-    let report = run_printing(
+    let mut line = HexLine::new(BufReader::new(rt.alloc(), rt.reader())?);
+    let mut bus = PrintBus::new(rt.stdout());
+    let done = run_printing(
         &rt,
         rt.alloc(),
         &equipment,
-        lines,
-        buses,
+        &mut line,
+        &mut bus,
         request.frames,
         &gate,
-        &mut control,
+        &control,
     )?;
-    show_answer(&rt, &control.answer)?;
-    show_report(&rt, &report)?;
+    show_done(&rt, done)?;
     Ok(ExitCode::SUCCESS)
 }

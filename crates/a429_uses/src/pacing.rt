@@ -5,7 +5,7 @@ use std::sync::atomic::{AtomicU64, Ordering};
 use std::thread;
 use std::time::{Clock, Duration};
 
-/// How many words were taken so far, and how many plans were published.
+/// How many words were taken so far, and how many further tables were answered.
 #[derive(Drop)]
 pub struct Marks {
     pub words: AtomicU64,
@@ -25,7 +25,7 @@ impl Marks {
 /// How many turns of a millisecond a group waits at most.
 const TURNS: u64 = 10000;
 
-/// Lets no group send before so many words were taken and a plan was published, so that the same words go out in each
+/// Lets no group send before so many words were taken and the further table was answered, so that the same words go out in each
 /// run. A station that runs beside real buses takes `OpenGate` in its place.
 #[derive(Drop)]
 pub struct LateStart<'a, R: Clock> {

@@ -1,79 +1,257 @@
-//! A station on threads.
-ghost use Rattle.std.specs.Prelude.{◌≡◌, length, vec_len, IfErr, IfOk, []};
+//! A station of one receiver and one group on threads.
+ghost use Rattle.std.specs.Prelude.{◌≡◌, ◌<◌, [], All, IfOk, IfSome, length};
 ghost use Rattle.std.specs.List.{AllByRecursion};
-ghost use Rattle.a429_station.specs.Course.{HasRun, asked};
-ghost use Rattle.a429_station.specs.Faults.{IsLiveFault};
-ghost use Rattle.a429_workers.specs.Gates.{points_of};
-ghost use Rattle.a429_callers.specs.Origins.{HaveTakenGivenWords};
+ghost use Rattle.a429_slots.specs.Planned.{IsPlanOf};
+ghost use Rattle.a429_board.specs.Lists.{beginner};
+ghost use Rattle.a429_workers.specs.Receives.{IsSameReceiver};
+ghost use Rattle.a429_workers.specs.Transmitting.{IsKnownPlan, IsSameGroup};
 ghost use Rattle.a429_uses.specs.Devices.{PrintedGivenWords, Tells};
 ghost use Rattle.a429_uses.specs.Histories.{items_of};
+ghost use Rattle.a429_uses.specs.Listening.{HasListened};
+ghost use Rattle.a429_uses.specs.Stations.{AreFresh, HasSentCells, IsBegun, IsReady, TookGivenWords};
 
 use crate::bus::PrintBus;
+use crate::control::Control;
 use crate::line::HexLine;
-use a429_equipment::Equipment;
+use crate::listening::{Heard, listen};
+use a429_board::{Board, Planner, Watcher};
+use a429_equipment::laws::numbers_in_range;
+use a429_equipment::{COUNT_BITS, Equipment, SOURCES};
 use a429_filter::LineSource;
-use a429_station::{Control, LiveFault, Report, live};
-use a429_workers::{BusSink, Gate};
+use a429_slots::plan;
+use a429_values::{Hub, Receiver, Transmitter};
+use a429_workers::{BusSink, Gate, SendFault, SendTotals, Transmit, send_frames};
+use anyhow::bail;
 use std::alloc::Global;
 use std::io::{BufRead, Write};
 use std::sync::Wait;
-use std::thread::Threads;
+use std::thread::{Threads, join_mut};
 
-/// Runs a station: a thread for each receiver takes the words of its line, one for each group sends so many frames, and
-/// the calling thread runs the control meanwhile. Each word that a bus took is one that the line of its source's receiver
-/// gave, and that the source accepts: its parity, its label and its SDI are right, and the filters let it pass.
+/// What the threads of a station answered.
+#[derive(Drop)]
+pub struct Done {
+    pub heard: anyhow::Result<Heard>,
+    pub sent: Result<SendTotals, SendFault>,
+    pub published: anyhow::Result<u64>,
+}
+
+/// Opens the current values of a station: the ends of its receiver and of its first group.
+fn open_values(alloc: Global, equipment: &Equipment) -> anyhow::Result<(Receiver, Transmitter)>
+    requires receiver { 0 < length equipment.now.receivers }
+    requires group { 0 < length equipment.now.groups }
+    ensures { IfOk result (λ ends. AreFresh equipment.now ends.0 ends.1) }
+{
+    numbers_in_range(equipment);
+    let (hub, mut desk) = Hub::<SOURCES, COUNT_BITS>::open(alloc, equipment)?;
+    let receiver = desk.receiver(alloc, &hub, 0)?;
+    let transmitter = desk.transmitter(&hub, 0)?;
+    Ok((receiver, transmitter))
+}
+
+/// One of these watchers, which are all at the beginning of a board.
+fn one_of(watchers: &mut Vec<Watcher>, planner: &Planner) -> Option<Watcher>
+    requires { All (λ w. w ≡ beginner planner.now) watchers.old.items }
+    ensures { IfSome result (λ w. w ≡ beginner planner.now) }
+{
+    watchers.pop()
+}
+
+/// The group's transmitter at slot 0, by one of these watchers.
+fn open_group(
+    alloc: Global,
+    transmitter: Transmitter,
+    watchers: &mut Vec<Watcher>,
+    planner: &Planner,
+) -> anyhow::Result<Transmit>
+    requires number { (transmitter.number ≡ 0) × (transmitter.loads ≡ []) }
+    requires group { 0 < length planner.now.last.groups }
+    requires watchers { All (λ w. w ≡ beginner planner.now) watchers.old.items }
+    ensures { IfOk result (IsBegun transmitter planner.now) }
+{
+    let Some(watcher) = one_of(watchers, planner) else {
+        bail!("a watcher is wanted");
+    };
+    Ok(Transmit::open(alloc, transmitter, watcher, 0, 0)?)
+}
+
+/// The ends of a station of one receiver and one group.
+struct Ends {
+    receiver: Receiver,
+    transmit: Transmit,
+    planner: Planner,
+}
+
+/// Opens a station: its current values, and a board that begins with its plan.
+fn open_station<R: Wait>(rt: &R, alloc: Global, equipment: &Equipment) -> anyhow::Result<Ends>
+    requires receiver { 0 < length equipment.now.receivers }
+    requires group { 0 < length equipment.now.groups }
+    ensures { IfOk result (λ ends. IsReady equipment.now ends.receiver ends.transmit ends.planner) }
+{
+    let _sound = equipment.rate();
+    let plan = plan(alloc, equipment)?;
+    let (receiver, transmitter) = open_values(alloc, equipment)?;
+    let (planner, mut watchers) = Board::open(rt, alloc, plan, 1)?;
+    match open_group(alloc, transmitter, &mut watchers, &planner) {
+        Ok(transmit) => Ok(Ends {
+            receiver,
+            transmit,
+            planner,
+        }),
+        Err(fault) => {
+            planner.close(rt);
+            Err(fault)
+        }
+    }
+}
+
+/// Sends so many frames of a group.
+fn send<B: BusSink, G: Gate>(
+    transmit: &mut Transmit,
+    bus: &mut B,
+    frames: u32,
+    gate: &G,
+) -> Result<SendTotals, SendFault>
+    requires { transmit.old.frame.sent ≡ 0 }
+    ensures sent { HasSentCells transmit.old transmit.new (B.taken bus.old) (B.taken bus.new) }
+    ensures same { IsSameGroup transmit.old transmit.new }
+{
+    send_frames(transmit, bus, 0, frames, gate)
+}
+
+/// The receiver takes the words of its line on a thread of its own, and the calling one runs the control meanwhile.
+fn listen_and_publish<R: Threads + Wait + Sync, L: LineSource + Send, G: Gate + Sync>(
+    rt: &R,
+    alloc: Global,
+    station: &Equipment,
+    line: &mut L,
+    receiver: &mut Receiver,
+    gate: &G,
+    planner: &mut Planner,
+    control: &Control<'_>,
+) -> (anyhow::Result<Heard>, anyhow::Result<u64>)
+    requires plans { AllByRecursion (IsKnownPlan station.now) planner.old.list }
+    ensures listened { HasListened L.given line.old receiver.old line.new receiver.new }
+    ensures same { IsSameReceiver receiver.old receiver.new }
+    ensures plans { AllByRecursion (IsKnownPlan station.now) planner.new.list }
+    ensures board { planner.new.book ≡ planner.old.book }
+{
+    join_mut(
+        rt,
+        &mut || listen(line, receiver, gate),
+        &mut ||
+            requires { AllByRecursion (IsKnownPlan station.now) planner.now.list }
+        { control.run(rt, alloc, planner, station) },
+    )
+}
+
+/// Runs the threads of a station: one sends so many frames of the group, one takes the words of the line, and the
+/// calling one runs the control. It returns when all have ended.
+fn run_threads<R: Threads + Wait + Sync, L: LineSource + Send, B: BusSink + Send, G: Gate + Sync>(
+    rt: &R,
+    alloc: Global,
+    station: &Equipment,
+    line: &mut L,
+    bus: &mut B,
+    frames: u32,
+    gate: &G,
+    control: &Control<'_>,
+    ends: &mut Ends,
+) -> Done
+    requires begins { ends.old.transmit.frame.sent ≡ 0 }
+    requires plans { AllByRecursion (IsKnownPlan station.now) ends.old.planner.list }
+    ensures listened { HasListened L.given line.old ends.old.receiver line.new ends.new.receiver }
+    ensures receiver { IsSameReceiver ends.old.receiver ends.new.receiver }
+    ensures sent { HasSentCells ends.old.transmit ends.new.transmit (B.taken bus.old) (B.taken bus.new) }
+    ensures group { IsSameGroup ends.old.transmit ends.new.transmit }
+    ensures plans { AllByRecursion (IsKnownPlan station.now) ends.new.planner.list }
+    ensures board { ends.new.planner.book ≡ ends.old.planner.book }
+{
+    let Ends {
+        receiver,
+        transmit,
+        planner,
+    } = ends;
+    let (sent, (heard, published)) = join_mut(
+        rt,
+        &mut ||
+            requires { transmit.now.frame.sent ≡ 0 }
+        { send(transmit, bus, frames, gate) },
+        &mut ||
+            requires { AllByRecursion (IsKnownPlan station.now) planner.now.list }
+        { listen_and_publish(rt, alloc, station, line, receiver, gate, planner, control) },
+    );
+    Done {
+        heard,
+        sent,
+        published,
+    }
+}
+
+/// Runs a station of one receiver and one group: the receiver takes the words of the line to its end, the group sends so
+/// many frames, and the control runs, all at once. Each word that the bus took is one that a source of the table accepts,
+/// and that the line gave. So it is whatever the threads answered. The error is that the station was not opened, since
+/// the equipment has no plan or memory is refused.
 pub fn run_station<
-    R: Threads + Wait,
-    L: LineSource + Send + Drop,
-    B: BusSink + Send + Drop,
+    R: Threads + Wait + Sync,
+    L: LineSource + Send,
+    B: BusSink + Send,
     G: Gate + Sync,
-    K: Control<R>,
 >(
     rt: &R,
     alloc: Global,
     equipment: &Equipment,
-    lines: Vec<L>,
-    buses: Vec<B>,
+    line: &mut L,
+    bus: &mut B,
     frames: u32,
     gate: &G,
-    control: &mut K,
-) -> Result<Report<L, B>, LiveFault>
-    requires lines { vec_len lines ≡ length equipment.now.receivers }
-    requires buses { vec_len buses ≡ length equipment.now.groups }
-    ensures ran { IfOk result (HasRun L.LineSource B.BusSink (asked equipment.now frames lines.items buses.items)) }
-    ensures given { IfOk result (HaveTakenGivenWords L.LineSource B.BusSink (asked equipment.now frames lines.items buses.items)) }
-    ensures fault { IfErr result (IsLiveFault (control.new ≡ control.old) L.LineSource B.BusSink (points_of G.Gate gate.now)
-        (asked equipment.now frames lines.items buses.items)) }
+    control: &Control<'_>,
+) -> anyhow::Result<Done>
+    requires receiver { length equipment.now.receivers ≡ 1 }
+    requires group { 0 < length equipment.now.groups }
+    ensures given { TookGivenWords equipment.now (L.given line.new) (B.taken bus.old) (B.taken bus.new) }
 {
-    live(rt, alloc, equipment, lines, buses, frames, gate, control)
+    numbers_in_range(equipment);
+    let mut ends = open_station(rt, alloc, equipment)?;
+    let done = run_threads(
+        rt, alloc, equipment, line, bus, frames, gate, control, &mut ends,
+    );
+    let Ends {
+        mut receiver,
+        mut transmit,
+        mut planner,
+    } = ends;
+    // Once they have met, all that the group loaded agrees with what the receiver accepted.
+    let _valid = receiver.number();
+    transmit.told(&mut planner);
+    transmit.meet(&mut receiver);
+    planner.close(rt);
+    Ok(done)
 }
 
 /// Runs a station as `run_station` does, whose words come in as text and go out as text. As long as its writer did not
-/// fail, what a bus printed is the lines of cells, and each word in them is one that a source of the table accepts, and
-/// that the line of its receiver gave. It says so of writers that tell what they took, such as a `Vec<u8>`; what becomes
-/// of a text on standard output, no clause can say.
+/// fail, what the bus printed is the lines of cells, and each word in them is one that a source of the table accepts, and
+/// that the line gave. It says so of writers that tell what they took, such as a `Vec<u8>`; what becomes of a text on
+/// standard output, no clause can say.
 pub fn run_printing<
-    R: Threads + Wait,
+    R: Threads + Wait + Sync,
     I: BufRead + Send + Drop,
     W: Write + Send + Drop,
     G: Gate + Sync,
-    K: Control<R>,
 >(
     rt: &R,
     alloc: Global,
     equipment: &Equipment,
-    lines: Vec<HexLine<I>>,
-    buses: Vec<PrintBus<W>>,
+    line: &mut HexLine<I>,
+    bus: &mut PrintBus<W>,
     frames: u32,
     gate: &G,
-    control: &mut K,
-) -> Result<Report<HexLine<I>, PrintBus<W>>, LiveFault>
-    requires lines { vec_len lines ≡ length equipment.now.receivers }
-    requires buses { vec_len buses ≡ length equipment.now.groups }
-    requires begin { AllByRecursion (λ bus. items_of bus.taken ≡ []) buses.items }
-    ensures printed { Tells W.contents → IfOk result (λ report. AllByRecursion
-        (λ bus. PrintedGivenWords equipment.now (λ line. items_of line.given) report.sources.items (W.contents bus.out) bus.failures)
-        report.sinks.items) }
+    control: &Control<'_>,
+) -> anyhow::Result<Done>
+    requires receiver { length equipment.now.receivers ≡ 1 }
+    requires group { 0 < length equipment.now.groups }
+    requires begin { items_of bus.old.taken ≡ [] }
+    ensures printed { Tells W.contents
+        → PrintedGivenWords equipment.now (items_of line.new.given) (W.contents bus.new.out) bus.new.failures }
 {
-    run_station(rt, alloc, equipment, lines, buses, frames, gate, control)
+    run_station(rt, alloc, equipment, line, bus, frames, gate, control)
 }

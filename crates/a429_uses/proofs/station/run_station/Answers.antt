@@ -1,12 +1,11 @@
-use Rattle.std.proofs.Common.{◌≡◌, length, rules}
-use Rattle.std.proofs.lemmas.Result.{IfOk-weaker}
-use Rattle.a429_station.specs.Course.{HasRun, asked}
-use Rattle.a429_callers.specs.Origins.{HaveTakenGivenWords}
-use Rattle.a429_callers.proofs.Origins.{all_given}
+use Rattle.a429_uses.proofs.Given.{took_given}
 use Rattle.a429_uses.proofs.station.run_station.Goals as goal
 
-pub returns-clause-given : goal.returns-clause-given
-returns-clause-given g c =
-    let few : length c.args.lines.items ≡ length c.args.equipment.now.receivers = search rules in
-    let ask = asked c.args.equipment.now c.args.frames c.args.lines.items c.args.buses.items in
-    IfOk-weaker c.live.result (HasRun g.L.LineSource g.B.BusSink ask) (HaveTakenGivenWords g.L.LineSource g.B.BusSink ask) (λ report ran. all_given g.L.LineSource g.B.BusSink ask report few ran) c.live.ensures.ran
+pub returns : goal.returns
+returns g c = record {
+  given = took_given c.args.equipment.now c.requires.receiver (λ i s there. (c.numbers_in_range.ensures.sources i s there).1) g.L.LineSource.given c.args.line.now c.run_threads-done.new.line
+      (g.B.BusSink.taken c.args.bus.now) (g.B.BusSink.taken c.run_threads-done.new.bus) c.in_ok-ends.ends.receiver c.run_threads-done.new.ends.receiver
+      c.in_ok-ends.ends.transmit c.run_threads-done.new.ends.transmit c.told.new.self c.meet.new.self c.in_ok-ends.ends.planner c.run_threads-done.new.ends.planner.list _
+      c.in_ok-ends.ensures c.run_threads-done.ensures.listened c.run_threads-done.ensures.sent c.run_threads-done.ensures.group c.run_threads-done.ensures.plans
+      c.told.ensures.list c.told.ensures.stands c.meet.ensures.loads c.meet.ensures.stands c.meet.ensures.agrees c.number-valid.ensures.valid;
+}
