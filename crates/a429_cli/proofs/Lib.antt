@@ -14,3 +14,11 @@ pub mod Left
 pub mod Ran
 pub mod Taken
 pub mod Found
+pub mod LogTimes
+pub mod LogLines
+pub mod Timelines
+pub mod SimulatedSteps
+pub mod SimulatedLines
+pub mod TrackOrder
+pub mod SimulationEnds
+pub mod SimulationPrinted

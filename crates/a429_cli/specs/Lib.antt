@@ -15,3 +15,9 @@ pub mod LiveReplies
 pub mod Resubmitted
 pub mod ProgressLines
 pub mod ProgramRuns
+pub mod SimulationLog
+pub mod Timeline
+pub mod Tracks
+pub mod Simulating
+pub mod SimulationRuns
+pub mod SimulationReplies

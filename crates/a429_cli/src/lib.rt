@@ -22,6 +22,7 @@ mod pending;
 mod plan_texts;
 mod program;
 mod replay;
+mod simulate;
 mod word;
 
 pub use a429_console::arguments::given::{Arguments, given_words};

@@ -2,7 +2,7 @@
 ghost use Rattle.std.specs.Prelude.{◌≡◌, ◌≤◌, IfOk, length, map, string_bytes};
 ghost use Rattle.a429_slots.specs.declared.answers.Answer.TheVariants.{Accepted};
 ghost use Rattle.a429_cli.specs.AnswerLines.{answer_line};
-ghost use Rattle.a429_console.specs.Names.{naming_of, number_named};
+ghost use Rattle.a429_console.specs.Names.{name_at, naming_of, number_named};
 
 use a429_console::hints::SeenLine;
 use a429_equipment::{Equipment, GroupRow, ReceiverRow, SourceRow};
@@ -35,6 +35,23 @@ impl SourceName {
         accepted.extend_from_slice(name.as_bytes())?;
         accepted.push(b'\n')?;
         Ok(SourceName { name, accepted })
+    }
+
+    /// Its bytes.
+    fn bytes(&self) -> &[u8]
+        ensures { result.now ≡ self.now }
+    {
+        self.name.as_bytes()
+    }
+}
+
+/// The name of a number among these; nothing where there is none.
+fn name_in(names: &[String], number: usize) -> &[u8]
+    ensures { result.now ≡ name_at (map string_bytes names.entry.now) number }
+{
+    match names.get(number) {
+        Some(own) => own.as_bytes(),
+        None => b"",
     }
 }
 
@@ -112,6 +129,30 @@ impl Names {
         ensures { result ≡ number_named self.now.groups name.now }
     {
         number_of(&self.groups, name)
+    }
+
+    /// The name of the receiver of this number; nothing where there is none.
+    pub fn receiver_name(&self, number: usize) -> &[u8]
+        ensures { result.now ≡ name_at self.now.receivers number }
+    {
+        name_in(&self.receivers, number)
+    }
+
+    /// The name of the group of this number; nothing where there is none.
+    pub fn group_name(&self, number: usize) -> &[u8]
+        ensures { result.now ≡ name_at self.now.groups number }
+    {
+        name_in(&self.groups, number)
+    }
+
+    /// The name of the source of this number; nothing where there is none.
+    pub fn source_name(&self, number: usize) -> &[u8]
+        ensures { result.now ≡ name_at self.now.sources number }
+    {
+        match self.sources.get(number) {
+            Some(own) => own.bytes(),
+            None => b"",
+        }
     }
 
     /// The line of an accepted word of the source of this number, whose name is nothing where there is none.

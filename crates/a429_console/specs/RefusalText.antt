@@ -18,6 +18,7 @@ refusal_line (refused.Unfit group source) = codes "refused unfit " ++ string_byt
 refusal_line (refused.TooManyBuses group needed) = codes "refused too-many-buses " ++ string_bytes group ++ codes " " ++ decimal needed
 refusal_line (refused.Group name) = codes "refused group " ++ string_bytes name
 refusal_line (refused.Script line) = codes "refused script line " ++ decimal line
+refusal_line (refused.LogLine line) = codes "refused log line " ++ decimal line
 refusal_line refused.Join = codes "refused join"
 refusal_line refused.Gate = codes "refused gate"
 refusal_line refused.Source = codes "refused source"

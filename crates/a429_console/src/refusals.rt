@@ -39,6 +39,9 @@ pub enum CommandRefusal {
     /// The line of this number, from 1, is the first of the script that is no event of the station, or of the
     /// file of words that is no word for it.
     Script(usize),
+    /// The line of this number, from 1, is the first of the log that is no word for the station, or whose time is below the
+    /// one before.
+    LogLine { line: usize },
     /// A thread could not be started or taken in.
     Join,
     /// The gate ended a worker.
@@ -47,7 +50,8 @@ pub enum CommandRefusal {
     Source,
     /// The sink of a group failed.
     Sink,
-    /// A receiver was given a word after a million, or more than a million frames were asked for.
+    /// A receiver was given a word after a million, or more than a million frames were asked for, or a group would send more
+    /// than a million in a simulation.
     TooMuch,
     /// Memory was refused.
     Memory,
@@ -75,6 +79,7 @@ impl fmt::Display for CommandRefusal {
             }
             CommandRefusal::Group(name) => write!(f, "refused group {name}"),
             CommandRefusal::Script(line) => write!(f, "refused script line {line}"),
+            CommandRefusal::LogLine { line } => write!(f, "refused log line {line}"),
             CommandRefusal::Join => f.write_str("refused join"),
             CommandRefusal::Gate => f.write_str("refused gate"),
             CommandRefusal::Source => f.write_str("refused source"),

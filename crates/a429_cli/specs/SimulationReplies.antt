@@ -1,0 +1,132 @@
+-- The command `simulate`: what it writes, and its status.
+use Rattle.std.specs.Prelude.{◌≡◌, ◌∷◌, [], ◌++◌, ◌⊎◌, ℕ, List, Bool, true, false, Option, Ok, Result, MatchResult, IfOk, codes, take}
+use Rattle.a429_equipment.specs.Sound.{OfEach}
+use Rattle.a429_slots.specs.Proposed.{Proposed}
+use Rattle.a429_console.specs.FileReadings.{AreRead, IsFirstUnread}
+use Rattle.a429_console.specs.Names.{naming_of}
+use Rattle.a429_console.specs.Outputs.{IsPut, OrNoMemory, memory_refused}
+use Rattle.a429_console.specs.RefusalText.{OrMemory, refusal_line}
+use Rattle.a429_console.specs.Tables.{IsProposedBy, IsTableRefusal}
+use Rattle.a429_console.specs.declared.refusals.CommandRefusal.{CommandRefusal}
+use Rattle.a429_console.specs.declared.refusals.CommandRefusal.TheVariants as refused
+use Rattle.a429_cli.specs.SimulationLog.{AreInTime, IsLogFault, log_words}
+use Rattle.a429_cli.specs.Timeline.{IsBegun, IsTimeline, SendsTooMuch, end_of}
+use Rattle.a429_cli.specs.Simulating.{steps_of, text_of}
+use Rattle.a429_cli.specs.SimulationRuns.{HasNames, StandsAfter}
+use Rattle.a429_cli.specs.Tracks.{HasTracks, IsTimelineAt, IsTrack}
+use Rattle.a429_cli.specs.declared.simulate.Beginning.{Beginning}
+use Rattle.a429_cli.specs.declared.simulate.Simulation.{Simulation}
+use Rattle.a429_cli.specs.declared.simulate.SimulationForm.{SimulationForm}
+use Rattle.a429_cli.specs.declared.simulate.SimulationInput.{SimulationInput}
+use Rattle.a429_cli.specs.declared.simulate.Station.{Station}
+use Rattle.a429_cli.specs.declared.simulate.log.LogWord.{LogWord}
+use Rattle.a429_cli.specs.declared.simulate.moments.Moment.{Moment}
+
+-- the bytes of the files that a simulation reads
+pub record SimulationFiles : Type 0 where
+  pub table : List ℕ
+  pub log : List ℕ
+
+-- they are those of the files of these names, which are both read before any is looked at
+abbrev pub AreSimulationFiles : (List ℕ → Option (List ℕ)) → List ℕ → List ℕ → SimulationFiles → Type 0
+AreSimulationFiles file table log i = AreRead file (table ∷ log ∷ []) (i.table ∷ i.log ∷ [])
+
+-- the table has a plan, at whose slot 0 the station opens, and the log these words
+pub record IsSimulated (i : SimulationFiles) (q : Proposed) (words : List LogWord) : Type 0 where
+  pub proposed : IsProposedBy i.table q
+  pub words_are : log_words (naming_of q.station) i.log ≡ Ok words
+
+-- of a table with a plan, the log has a fault
+abbrev pub IsLogRefusal : SimulationFiles → CommandRefusal → Type 0
+IsLogRefusal i refusal = (q : Proposed) × IsProposedBy i.table q × IsLogFault (naming_of q.station) i.log refusal
+
+-- why there is no simulation of these bytes: the table or its plan, or the log
+abbrev pub IsNoSimulation : SimulationFiles → CommandRefusal → Type 0
+IsNoSimulation i refusal = IsTableRefusal i.table refusal ⊎ IsLogRefusal i refusal
+
+-- a group would send too much up to the last time
+abbrev pub IsLongRefusal : SimulationFiles → Option ℕ → CommandRefusal → Type 0
+IsLongRefusal i until refusal =
+    (q : Proposed) × (words : List LogWord) × IsSimulated i q words × (refusal ≡ refused.TooMuch) × SendsTooMuch q (end_of q words until)
+
+-- why nothing is simulated: the bytes, or that it would be too long
+abbrev pub IsUnsimulated : SimulationFiles → Option ℕ → CommandRefusal → Type 0
+IsUnsimulated i until refusal = IsNoSimulation i refusal ⊎ IsLongRefusal i until refusal
+
+-- why there is no simulation: a file, the bytes, or that it would be too long
+abbrev pub IsSimulationRefusal : (List ℕ → Option (List ℕ)) → List ℕ → List ℕ → Option ℕ → CommandRefusal → Type 0
+IsSimulationRefusal file table log until refusal =
+    IsFirstUnread file (table ∷ log ∷ []) refusal
+    ⊎ ((i : SimulationFiles) × AreSimulationFiles file table log i × IsUnsimulated i until refusal)
+
+-- what comes before the lines: with commas the names of the fields
+abbrev pub heading : Bool → List ℕ
+heading true = codes "time,group,bus,word,source,age_us" ++ 10 ∷ []
+heading false = []
+
+-- the lines of the whole timeline were printed
+abbrev pub IsPrinted : Proposed → List LogWord → ℕ → Bool → List ℕ → Type 0
+IsPrinted q words last csv bytes = (moments : List Moment) × IsTimeline q words last moments × (bytes ≡ heading csv ++ text_of q csv (steps_of q moments))
+
+-- the lines of the first steps of a timeline were printed
+abbrev pub IsPrintedInPart : Proposed → List LogWord → ℕ → Bool → List ℕ → Type 0
+IsPrintedInPart q words last csv bytes =
+    (moments : List Moment) × (n : ℕ) × IsBegun q words last moments × (bytes ≡ heading csv ++ text_of q csv (take n (steps_of q moments)))
+
+-- what a simulation that began writes, and its status: all lines, or the first ones and then that memory was refused
+abbrev pub IsPrinting : Proposed → List LogWord → ℕ → Bool → ℕ → List ℕ → Type 0
+IsPrinting q words last csv status bytes =
+    (IsPrinted q words last csv bytes × (status ≡ 0))
+    ⊎ ((lines : List ℕ) × IsPrintedInPart q words last csv lines × (status ≡ 1) × (bytes ≡ lines ++ memory_refused ++ 10 ∷ []))
+
+-- what `simulate` writes, and its status: the line of a refusal, or what the simulation prints
+abbrev pub IsSimulation : (List ℕ → Option (List ℕ)) → List ℕ → List ℕ → SimulationForm → ℕ → List ℕ → Type 0
+IsSimulation file table log form status bytes =
+    ((refusal : CommandRefusal) × OrMemory (IsSimulationRefusal file table log form.until) refusal × (status ≡ 1) × (bytes ≡ refusal_line refusal ++ 10 ∷ []))
+    ⊎ ((i : SimulationFiles) × (q : Proposed) × (words : List LogWord) × AreSimulationFiles file table log i × IsSimulated i q words
+    × IsPrinting q words (end_of q words form.until) form.csv status bytes)
+
+-- ---- by the values of the program
+
+abbrev pub files_of : SimulationInput → SimulationFiles
+files_of i = record { table = i.table.items; log = i.log.items }
+
+-- what reading the files gives: their bytes, or the first that cannot be read
+abbrev pub IsSimulationReading : (List ℕ → Option (List ℕ)) → List ℕ → List ℕ → Result SimulationInput CommandRefusal → Type 0
+IsSimulationReading file table log result =
+    MatchResult result (λ i. AreSimulationFiles file table log (files_of i)) (OrMemory (IsFirstUnread file (table ∷ log ∷ [])))
+
+-- a station of a table's bytes, with its names
+abbrev pub IsStationOf : List ℕ → Station → Type 0
+IsStationOf table s = IsProposedBy table s.proposal × HasNames s.names s.proposal
+
+-- a timeline where nothing has happened, with a machine to which nothing has happened
+pub record IsBegin (q : Proposed) (words : List LogWord) (last : ℕ) (b : Beginning) : Type 0 where
+  pub timeline : IsTimelineAt q words last [] b.timeline
+  pub run : StandsAfter q [] b.run
+  pub tracks : HasTracks q b.timeline.tracks.items
+  pub sound : OfEach IsTrack b.timeline.tracks.items
+
+-- a beginning, or that a group would send too much
+abbrev pub IsBeginningOf : Proposed → List LogWord → ℕ → Result Beginning CommandRefusal → Type 0
+IsBeginningOf q words last result = MatchResult result (IsBegin q words last) (OrMemory (λ refusal. (refusal ≡ refused.TooMuch) × SendsTooMuch q last))
+
+-- what these bytes simulate, at its begin
+pub record IsPreparedFor (i : SimulationFiles) (until : Option ℕ) (s : Simulation) : Type 0 where
+  pub words : List LogWord
+  pub simulated : IsSimulated i s.station.proposal words
+  pub names : HasNames s.station.names s.station.proposal
+  pub begin : IsBegin s.station.proposal words (end_of s.station.proposal words until) s.beginning
+
+-- it has the names of its station, its groups and its words in time
+pub record IsReady (s : Simulation) : Type 0 where
+  pub names : HasNames s.station.names s.station.proposal
+  pub tracks : HasTracks s.station.proposal s.beginning.timeline.tracks.items
+  pub sound : OfEach IsTrack s.beginning.timeline.tracks.items
+  pub in_time : AreInTime s.beginning.timeline.words.items
+
+-- what a simulation that begins so prints was put, or that memory was refused before that
+abbrev pub HasPrinted : {E : Type 0} → Proposed → Bool → Beginning → Option (List ℕ) → Option (List ℕ) → Result ℕ E → Type 0
+HasPrinted q csv b old new result =
+    (words : List LogWord) (last : ℕ) → IsBegin q words last b
+    → IfOk result (λ status. IsPut (OrNoMemory (IsPrinting q words last csv)) old new status)

@@ -1,0 +1,223 @@
+//! The command `simulate`.
+ghost use Rattle.std.specs.Prelude.{◌≡◌, ◌≤◌, IfOk, IsTrue, MatchResult, OnOk};
+ghost use Rattle.a429_equipment.specs.Sound.{OfEach};
+ghost use Rattle.a429_console.specs.Readings.{HasRead};
+ghost use Rattle.a429_console.specs.Outputs.{CountsFault};
+ghost use Rattle.a429_console.specs.RefusalText.{OrMemory};
+ghost use Rattle.a429_console.specs.Replying.{HasReplied};
+ghost use Rattle.a429_console.specs.Tables.{IsTableRefusal};
+ghost use Rattle.a429_cli.specs.SimulationLog.{AreInTime};
+ghost use Rattle.a429_cli.specs.SimulationReplies.{HasPrinted, IsBeginningOf, IsPreparedFor, IsReady, IsSimulation, IsSimulationReading, IsStationOf, IsUnsimulated, files_of, heading};
+ghost use Rattle.a429_cli.specs.SimulationRuns.{HasNames};
+ghost use Rattle.a429_cli.specs.Timeline.{end_of};
+ghost use Rattle.a429_cli.specs.Tracks.{HasTracks, IsTrack};
+
+pub mod lines;
+pub mod log;
+pub mod machine;
+pub mod moments;
+pub mod playing;
+pub mod tracks;
+
+use crate::names::Names;
+use crate::simulate::lines::LineSetting;
+use crate::simulate::log::{LogWord, read_log};
+use crate::simulate::machine::Run;
+use crate::simulate::moments::Timeline;
+use crate::simulate::playing::{PendingLines, play_all};
+use crate::simulate::tracks::{end_of, tracks_of};
+use a429_console::files::FileReader;
+use a429_console::files::reading::read_file;
+use a429_console::hints::Seen;
+use a429_console::output::endings::{finish, refuse_memory};
+use a429_console::output::{Output, OutputFault};
+use a429_console::refusals::tables::propose;
+use a429_console::refusals::{CommandRefusal, refuse};
+use a429_slots::{OUTPUTS, Proposal};
+use std::alloc::{AllocError, Global};
+
+/// What a simulation prints, and until when in microseconds it asks for cells.
+#[derive(Clone, Copy)]
+pub struct SimulationForm {
+    pub until: Option<u64>,
+    pub csv: bool,
+}
+
+/// The bytes of the files that a simulation reads.
+#[derive(Drop)]
+struct SimulationInput {
+    table: Vec<u8>,
+    log: Vec<u8>,
+}
+
+/// A station with its names.
+#[derive(Drop)]
+struct Station {
+    proposal: Proposal<OUTPUTS>,
+    names: Names,
+}
+
+/// What a simulation begins with: a timeline and a machine to which nothing has happened.
+#[derive(Drop)]
+struct Beginning {
+    timeline: Timeline,
+    run: Run,
+}
+
+/// What is simulated.
+#[derive(Drop)]
+struct Simulation {
+    station: Station,
+    beginning: Beginning,
+}
+
+/// Reads the files of these names.
+fn read_input<F: FileReader>(
+    alloc: Global,
+    files: &mut F,
+    table: &str,
+    log: &str,
+    seen: &mut Seen,
+) -> Result<SimulationInput, CommandRefusal>
+    ensures { HasRead F.answers (λ file. IsSimulationReading file table.now log.now result) files.old files.new }
+{
+    let table = read_file(alloc, files, table, seen)?;
+    let log = read_file(alloc, files, log, seen)?;
+    Ok(SimulationInput { table, log })
+}
+
+/// The station of a table's bytes. Refused is the table, or its plan.
+fn read_station(alloc: Global, table: &[u8], seen: &mut Seen) -> Result<Station, CommandRefusal>
+    ensures { MatchResult result (IsStationOf table.now) (OrMemory (IsTableRefusal table.now)) }
+{
+    let proposal = propose(alloc, table, &mut seen.table)?;
+    let names = Names::of(alloc, proposal.equipment())?;
+    Ok(Station { proposal, names })
+}
+
+/// The begin of a simulation with slots up to this time, or to that which the words ask for. Refused is a group that would
+/// send too much.
+fn begin(
+    alloc: Global,
+    proposal: &Proposal<OUTPUTS>,
+    words: Vec<LogWord>,
+    until: Option<u64>,
+) -> Result<Beginning, CommandRefusal>
+    requires { AreInTime words.items }
+    ensures { IsBeginningOf proposal.now words.items (end_of proposal.now words.items until) result }
+{
+    let tracks = tracks_of(alloc, proposal, end_of(proposal, &words, until))?;
+    let run = Run::open(alloc, proposal)?;
+    let timeline = Timeline {
+        words,
+        at: 0,
+        tracks,
+    };
+    Ok(Beginning { timeline, run })
+}
+
+/// What is simulated. Refused is the table, its plan, the log, or a group that would send too much.
+fn prepare(
+    alloc: Global,
+    input: &SimulationInput,
+    until: Option<u64>,
+    seen: &mut Seen,
+) -> Result<Simulation, CommandRefusal>
+    ensures { MatchResult result (IsPreparedFor (files_of input.now) until) (OrMemory (IsUnsimulated (files_of input.now) until)) }
+{
+    let station = read_station(alloc, &input.table, seen)?;
+    let words = read_log(alloc, &station.names, &input.log, seen)?;
+    let beginning = begin(alloc, &station.proposal, words, until)?;
+    Ok(Simulation { station, beginning })
+}
+
+/// The lines before those of the steps: with commas between fields the names of these.
+fn heading(alloc: Global, csv: bool) -> Result<PendingLines, AllocError>
+    ensures { IfOk result (λ lines. lines.text.items ≡ heading csv) }
+{
+    let mut lines = PendingLines::new(alloc);
+    if csv {
+        lines
+            .text
+            .extend_from_slice(b"time,group,bus,word,source,age_us\n")?;
+    }
+    Ok(lines)
+}
+
+/// Plays a timeline on the station, and puts the lines of that. If memory is refused in the midst, these lines end with the
+/// one that says so.
+fn play_words<O: Output>(
+    alloc: Global,
+    setting: &LineSetting<'_>,
+    beginning: Beginning,
+    out: &mut O,
+) -> Result<u8, OutputFault>
+    requires names { HasNames setting.now.names.now setting.now.proposal.now }
+    requires tracks { HasTracks setting.now.proposal.now beginning.timeline.tracks.items }
+    requires sound { OfEach IsTrack beginning.timeline.tracks.items }
+    requires in_time { AreInTime beginning.timeline.words.items }
+    ensures printed { HasPrinted setting.now.proposal.now setting.now.csv beginning (O.contents out.old) (O.contents out.new) result }
+    ensures status { IfOk result (λ status. status ≤ 1) }
+    ensures flushed { OnOk result (IsTrue (O.is_flushed out.new)) }
+    ensures faults { CountsFault result (O.failures out.old) (O.failures out.new) }
+{
+    let Ok(mut lines) = heading(alloc, setting.csv) else {
+        return refuse_memory(out);
+    };
+    let Beginning {
+        mut timeline,
+        mut run,
+    } = beginning;
+    let sufficed = play_all(setting, &mut run, &mut timeline, &mut lines, out)?;
+    finish(&lines.text, sufficed, out)
+}
+
+/// Plays what is simulated, and puts the lines of that.
+fn print_simulation<O: Output>(
+    alloc: Global,
+    simulation: Simulation,
+    csv: bool,
+    out: &mut O,
+) -> Result<u8, OutputFault>
+    requires { IsReady simulation }
+    ensures printed { HasPrinted simulation.station.proposal csv simulation.beginning (O.contents out.old) (O.contents out.new) result }
+    ensures status { IfOk result (λ status. status ≤ 1) }
+    ensures flushed { OnOk result (IsTrue (O.is_flushed out.new)) }
+    ensures faults { CountsFault result (O.failures out.old) (O.failures out.new) }
+{
+    let Simulation { station, beginning } = simulation;
+    let setting = LineSetting {
+        proposal: &station.proposal,
+        names: &station.names,
+        csv,
+    };
+    play_words(alloc, &setting, beginning, out)
+}
+
+/// Plays the words of a log on the station of a table, at their times, and puts a line for each word that is sent, and for each
+/// that is refused; or in their place the one line of a refusal. The status is 0, or 1 where it was refused, by want of
+/// memory also in the midst.
+pub fn simulate<F: FileReader, O: Output>(
+    alloc: Global,
+    files: &mut F,
+    table: &str,
+    log: &str,
+    form: SimulationForm,
+    seen: &mut Seen,
+    out: &mut O,
+) -> Result<u8, OutputFault>
+    ensures simulated { HasReplied F.answers O.contents (λ file. IsSimulation file table.now log.now form)
+        files.old files.new out.old out.new result }
+    ensures status { IfOk result (λ status. status ≤ 1) }
+    ensures flushed { OnOk result (IsTrue (O.is_flushed out.new)) }
+    ensures faults { CountsFault result (O.failures out.old) (O.failures out.new) }
+{
+    let input = match read_input(alloc, files, table, log, seen) {
+        Ok(input) => input,
+        Err(refusal) => return refuse(alloc, refusal, seen, out),
+    };
+    match prepare(alloc, &input, form.until, seen) {
+        Ok(simulation) => print_simulation(alloc, simulation, form.csv, out),
+        Err(refusal) => refuse(alloc, refusal, seen, out),
+    }
+}

@@ -1,0 +1,212 @@
+//! A timeline played on a station.
+ghost use Rattle.std.specs.Prelude.{◌≡◌, ◌<◌, ◌++◌, ◌∷◌, [], OnOk, OnErr, length, replicate};
+ghost use Rattle.a429_equipment.specs.Sound.{OfEach};
+ghost use Rattle.a429_slots.specs.Tables.{buses_of};
+ghost use Rattle.a429_console.specs.Outputs.{CountsFault};
+ghost use Rattle.a429_cli.specs.AnswerLines.{refusal_text};
+ghost use Rattle.a429_cli.specs.Simulating.{Asks, Comes, refused_line, sent_line, steps_in, turn_after};
+ghost use Rattle.a429_cli.specs.SimulationLog.{AreInTime};
+ghost use Rattle.a429_cli.specs.SimulationRuns.{GoesOn, HasGroup, HasNames, IsWithin, Plays, PlaysTimeline};
+ghost use Rattle.a429_cli.specs.Timeline.{table_of};
+ghost use Rattle.a429_cli.specs.Tracks.{HasTracks, IsTrack};
+
+use crate::pending::put_if_full;
+use crate::simulate::lines::{LineSetting, SentWord};
+use crate::simulate::log::LogWord;
+use crate::simulate::machine::Run;
+use crate::simulate::moments::{Moment, Timeline};
+use a429_console::output::{Output, OutputFault};
+use a429_core::{Answer, Refusal};
+use std::alloc::{AllocError, Global};
+
+/// Lines that are not yet put out, and room for one more: a line is appended whole, or not at all.
+#[derive(Drop)]
+pub struct PendingLines {
+    pub text: Vec<u8>,
+    line: Vec<u8>,
+}
+
+impl PendingLines {
+    /// No lines.
+    pub fn new(alloc: Global) -> PendingLines
+        ensures { result.text.items ≡ [] }
+    {
+        PendingLines {
+            text: Vec::new(alloc),
+            line: Vec::new(alloc),
+        }
+    }
+
+    /// Appends the line of a word that a group sent in a slot. If memory is refused, nothing is appended.
+    fn push_sent(
+        &mut self,
+        setting: &LineSetting<'_>,
+        group: usize,
+        slot: u64,
+        sent: SentWord,
+    ) -> Result<(), AllocError>
+        requires names { HasNames setting.now.names.now setting.now.proposal.now }
+        requires known { HasGroup setting.now.proposal.now group }
+        requires few { slot < 8192000000 }
+        ensures line { OnOk result (self.new.text.items ≡ self.old.text.items
+            ++ sent_line setting.now.proposal.now setting.now.csv group slot sent.bus sent.raw sent.source sent.heard) }
+        ensures kept { OnErr result (self.new.text.items ≡ self.old.text.items) }
+    {
+        self.line.clear();
+        setting.write_sent(&mut self.line, group, slot, sent)?;
+        self.text.extend_from_slice(&self.line)
+    }
+
+    /// Appends the line of a word that is refused. If memory is refused, nothing is appended.
+    fn push_refused(
+        &mut self,
+        setting: &LineSetting<'_>,
+        word: LogWord,
+        refusal: Refusal,
+    ) -> Result<(), AllocError>
+        requires names { HasNames setting.now.names.now setting.now.proposal.now }
+        ensures line { OnOk result (self.new.text.items ≡ self.old.text.items
+            ++ refused_line setting.now.proposal.now word (refusal_text refusal)) }
+        ensures kept { OnErr result (self.new.text.items ≡ self.old.text.items) }
+    {
+        self.line.clear();
+        setting.write_refused(&mut self.line, word, refusal)?;
+        self.text.extend_from_slice(&self.line)
+    }
+}
+
+/// A word comes in: appends its line if it is refused. If memory is refused, nothing is appended.
+fn play_word(
+    setting: &LineSetting<'_>,
+    run: &mut Run,
+    word: LogWord,
+    lines: &mut PendingLines,
+) -> Result<(), AllocError>
+    requires names { HasNames setting.now.names.now setting.now.proposal.now }
+    ensures { Plays setting.now.proposal.now setting.now.csv (Comes word ∷ []) run.old run.new
+        lines.old.text.items lines.new.text.items result }
+{
+    let Answer::Refused(refusal) = run.arrive(word) else {
+        return Ok(());
+    };
+    if setting.csv {
+        return Ok(());
+    }
+    lines.push_refused(setting, word, refusal)
+}
+
+/// A group sends its next cell, in this slot: appends its line if it has a word. If memory is refused, nothing is appended.
+fn play_cell(
+    setting: &LineSetting<'_>,
+    run: &mut Run,
+    group: usize,
+    slot: u64,
+    lines: &mut PendingLines,
+) -> Result<(), AllocError>
+    requires names { HasNames setting.now.names.now setting.now.proposal.now }
+    requires known { HasGroup setting.now.proposal.now group }
+    requires few { slot < 8192000000 }
+    ensures { Plays setting.now.proposal.now setting.now.csv (Asks group slot ∷ []) run.old run.new
+        lines.old.text.items lines.new.text.items result }
+{
+    let Answer::Sent {
+        bus,
+        slot: at,
+        word,
+    } = run.cell(group)
+    else {
+        return Ok(());
+    };
+    let Some(word) = word else {
+        return Ok(());
+    };
+    let source = setting.source_in(group, bus, at);
+    let sent = SentWord {
+        bus,
+        raw: word.raw(),
+        source,
+        heard: run.time_of(source),
+    };
+    lines.push_sent(setting, group, slot, sent)
+}
+
+/// A group sends the cells of its next slot, bus by bus: appends the lines of those that have a word.
+fn play_cells(
+    setting: &LineSetting<'_>,
+    run: &mut Run,
+    group: usize,
+    slot: u64,
+    lines: &mut PendingLines,
+) -> Result<(), AllocError>
+    requires names { HasNames setting.now.names.now setting.now.proposal.now }
+    requires known { HasGroup setting.now.proposal.now group }
+    requires few { slot < 8192000000 }
+    ensures { Plays setting.now.proposal.now setting.now.csv (replicate (buses_of (table_of setting.now.proposal.now group)) (Asks group slot)) run.old run.new
+        lines.old.text.items lines.new.text.items result }
+{
+    let buses = setting.proposal.plan().group(group).buses();
+    for _ in 0..buses {
+        play_cell(setting, run, group, slot, lines)?;
+    }
+    Ok(())
+}
+
+/// A group goes on to its next frame, if this slot is the last of one.
+fn turn_after(setting: &LineSetting<'_>, run: &mut Run, group: usize, slot: u64)
+    requires known { HasGroup setting.now.proposal.now group }
+    requires few { slot < 8192000000 }
+    ensures { GoesOn run.old (turn_after setting.now.proposal.now group slot) run.new }
+{
+    let frame = setting.proposal.plan().group(group).frame();
+    if (slot + 1) % u64::from(frame) == 0 {
+        run.frame(group);
+    }
+}
+
+/// Plays a moment: appends the lines of its steps. If memory is refused, those of the first of them.
+fn play(
+    setting: &LineSetting<'_>,
+    run: &mut Run,
+    moment: Moment,
+    lines: &mut PendingLines,
+) -> Result<(), AllocError>
+    requires names { HasNames setting.now.names.now setting.now.proposal.now }
+    requires known { IsWithin setting.now.proposal.now moment }
+    ensures { Plays setting.now.proposal.now setting.now.csv (steps_in setting.now.proposal.now moment) run.old run.new
+        lines.old.text.items lines.new.text.items result }
+{
+    match moment {
+        Moment::Word(word) => play_word(setting, run, word, lines),
+        Moment::Slot(group, slot) => {
+            play_cells(setting, run, group, slot, lines)?;
+            turn_after(setting, run, group, slot);
+            Ok(())
+        }
+    }
+}
+
+/// Plays a timeline to its end. Lines are put out when they have become many, and those that are left are in `lines`.
+/// Whether memory sufficed for all.
+pub fn play_all<O: Output>(
+    setting: &LineSetting<'_>,
+    run: &mut Run,
+    timeline: &mut Timeline,
+    lines: &mut PendingLines,
+    out: &mut O,
+) -> Result<bool, OutputFault>
+    requires names { HasNames setting.now.names.now setting.now.proposal.now }
+    requires tracks { HasTracks setting.now.proposal.now timeline.old.tracks.items }
+    requires sound { OfEach IsTrack timeline.old.tracks.items }
+    requires in_time { AreInTime timeline.old.words.items }
+    ensures played { PlaysTimeline O.contents setting.now.proposal.now setting.now.csv timeline.old run.old
+        out.old out.new lines.old.text.items lines.new.text.items result }
+    ensures faults { CountsFault result (O.failures out.old) (O.failures out.new) }
+{
+    while let Some(moment) = timeline.next() {
+        let Ok(()) = play(setting, run, moment, lines) else {
+            return Ok(false);
+        };
+        put_if_full(&mut lines.text, out)?;
+    }
+    Ok(true)
+}
