@@ -2,7 +2,7 @@
 use Rattle.std.specs.Prelude.{⊤, ℕ, List, Bool, Option, Result, if◌then◌else◌}
 use Rattle.a429_console.specs.Outputs.{FailedCalls, OrNoMemory}
 use Rattle.a429_console.specs.Replying.{RepliesByReader, RepliesToWords}
-use Rattle.a429_console.specs.Requests.{Command, CommandAsk, Word, Lines, Plan, Check, Replay, Icd, Margin, Lint, Diff, Draw}
+use Rattle.a429_console.specs.Requests.{Command, CommandAsk, Word, Lines, Plan, Check, Replay, Simulate, Icd, Margin, Lint, Diff, Draw}
 use Rattle.a429_console.specs.declared.files.FileFault.{FileFault}
 use Rattle.a429_cli.specs.WordLines.{IsWordReply}
 use Rattle.a429_cli.specs.LineReplies.{IsLinesReply}
@@ -10,6 +10,7 @@ use Rattle.a429_cli.specs.PlanReplies.{IsPlanReply, IsCheckReply}
 use Rattle.a429_cli.specs.Drawings.{IsDrawReply}
 use Rattle.a429_cli.specs.Findings.{IsDiffReply, IsLintReply}
 use Rattle.a429_cli.specs.Replaying.{IsReplay, TakesFurther}
+use Rattle.a429_cli.specs.SimulationReplies.{IsSimulation}
 use Rattle.a429_cli.specs.declared.plan_texts.PlanText.TheVariants as told
 
 -- the status and the bytes that answer what `command` is asked for, by these files
@@ -24,6 +25,7 @@ IsReply file (Diff table other) = IsDiffReply file table other
 IsReply file (Draw table group slots) = IsDrawReply file table group slots
 IsReply file (Check table text) = IsCheckReply file table text
 IsReply file (Replay table script further) = IsReplay file table script further
+IsReply file (Simulate table log until csv) = IsSimulation file table log (record { until = until; csv = csv })
 
 -- the station takes the plans of all further tables of the request
 abbrev pub TakesEach : (List ℕ → Option (List ℕ)) → CommandAsk → Type 0

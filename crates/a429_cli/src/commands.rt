@@ -14,6 +14,7 @@ use crate::findings::{print_diff, print_lint};
 use crate::lines::tell_lines;
 use crate::plan_texts::{PlanText, document_kind, print_plan, print_verdict};
 use crate::replay::replay;
+use crate::simulate::{SimulationForm, simulate};
 use crate::word::tell_word;
 use a429_console::arguments::replies::explain;
 use a429_console::arguments::requests::{CommandRequest, Request, other_call_error, parse};
@@ -181,5 +182,17 @@ fn answer<F: FileReader, O: Output>(
             script,
             further,
         } => replay(alloc, files, table, script, further, seen, faults, out),
+        CommandRequest::Simulate {
+            table,
+            log,
+            until,
+            csv,
+        } => {
+            let form = SimulationForm {
+                until: *until,
+                csv: *csv,
+            };
+            simulate(alloc, files, table, log, form, seen, out)
+        }
     }
 }

@@ -76,7 +76,7 @@ fn a_reader_may_refuse_any_file(rt: HostRuntime) {
 
 #[test]
 fn each_file_is_read_once(rt: HostRuntime) {
-    let commands: [(&[&str], usize); 10] = [
+    let commands: [(&[&str], usize); 11] = [
         (&["word", "600000c1"], 0),
         (&["lines", "t"], 1),
         (&["plan", "t"], 1),
@@ -87,6 +87,7 @@ fn each_file_is_read_once(rt: HostRuntime) {
         (&["lint", "t"], 1),
         (&["diff", "t", "u"], 2),
         (&["replay", "t", "s", "u", "u"], 4),
+        (&["simulate", "t", "s"], 2),
     ];
     for (words, reads) in commands {
         let mut files = Refusing {
@@ -212,6 +213,13 @@ const WRITTEN: &[(&[&str], &str, usize, &str)] = &[
         "sent 0 0 none\nchanged 0\n",
     ),
     (&["replay", "t", "s"], "x\n", 1, "refused script line 1\n"),
+    (
+        &["simulate", "t", "s"],
+        "0 r 600000c1\n360 r 800000c1\n",
+        1,
+        "0 g 0 600000c1 s 360\n360 r 800000c1 refused parity\n360 g 0 600000c1 s 720\n720 g 0 600000c1 s 1080\n",
+    ),
+    (&["simulate", "t", "s"], "x\n", 1, "refused log line 1\n"),
     (&["word", "12"], "", 1, "refused word-text\n"),
     (
         &["word", "600000c1"],
@@ -338,6 +346,25 @@ fn many_answers_are_written_in_pieces(rt: HostRuntime) {
     assert!(rt; lines.ends_with(b"\nsent 0 19999 none\nchanged 0\n"));
     for good_calls in 0..whole.out.calls {
         let cut = run_cut_short(&rt, rt.alloc(), &words, &script, usize::MAX, good_calls);
+        assert!(rt;
+            cut.status == 1 && cut.out.calls == good_calls + 1,
+            "{good_calls}"
+        );
+        assert!(rt; lines.starts_with(&cut.out.taken), "{good_calls}");
+    }
+}
+
+#[test]
+fn many_sent_words_are_written_in_pieces(rt: HostRuntime) {
+    let words = ["simulate", "t", "s", "--until", "3600000"];
+    let log = "0 r 600000c1\n";
+    let whole = run_cut_short(&rt, rt.alloc(), &words, log, usize::MAX, usize::MAX);
+    let lines = whole.out.taken.as_slice();
+    assert!(rt; whole.status == 0 && whole.out.calls > 3);
+    assert!(rt; lines.starts_with(b"0 g 0 600000c1 s 360\n360 g 0 600000c1 s 720\n"));
+    assert!(rt; lines.ends_with(b"\n3600000 g 0 600000c1 s 3600360\n"));
+    for good_calls in 0..whole.out.calls {
+        let cut = run_cut_short(&rt, rt.alloc(), &words, log, usize::MAX, good_calls);
         assert!(rt;
             cut.status == 1 && cut.out.calls == good_calls + 1,
             "{good_calls}"

@@ -6,8 +6,8 @@ use Rattle.std.specs.Str.Parse.{digits_value, without_leading_plus}
 use Rattle.clap.specs.ValueTests.{is_unsigned_in}
 use Rattle.clap.specs.Words.{Text, subcommand_of, takes}
 use Rattle.a429_equipment.specs.Limits.{most_frames}
-use Rattle.a429_console.specs.CommandLine.{command_line, most_slots, IsName, IsPlainSlots}
-use Rattle.a429_console.specs.Requests.{RequestBytes, Command, Word, Lines, Plan, Check, Icd, Margin, Lint, Diff, Draw, Replay, Live, LiveAsk, request_words, HasNames}
+use Rattle.a429_console.specs.CommandLine.{command_line, last_time, most_slots, IsName, IsPlainSlots, IsPlainTime}
+use Rattle.a429_console.specs.Requests.{RequestBytes, Command, Word, Lines, Plan, Check, Icd, Margin, Lint, Diff, Draw, Replay, Simulate, Live, LiveAsk, request_words, HasNames}
 use Rattle.a429_console.specs.RequestRows.{found_by, frames_of, number_of, request_by}
 use Rattle.a429_console.proofs.PlainWords.{IsPlainWord, name_is_plain}
 use Rattle.a429_console.proofs.RequestWords.{check_asked, check_level, check_takes, lines_asked, lines_takes, plan_asked, plan_level, plan_takes, replay_asked, replay_takes, word_asked, word_level, word_takes}
@@ -16,6 +16,7 @@ use Rattle.a429_console.proofs.MarginWords.{margin_asked, margin_takes}
 use Rattle.a429_console.proofs.LintWords.{lint_asked, lint_takes}
 use Rattle.a429_console.proofs.DiffWords.{diff_asked, diff_takes}
 use Rattle.a429_console.proofs.DrawWords.{Passes, draw_asked, draw_takes}
+use Rattle.a429_console.proofs.SimulateWords.{PassesTime, simulate_asked, simulate_takes}
 use Rattle.a429_console.proofs.Decimals.{decimal_is_name, decimal_passes, number_of_decimal}
 use Rattle.a429_console.proofs.LiveWords.{live_asked, live_takes}
 
@@ -30,6 +31,16 @@ options_pass None None a b = (tt, tt)
 options_pass (Some g) None a b = (name_is_plain g a, tt)
 options_pass None (Some n) a b = (tt, slots_pass n b)
 options_pass (Some g) (Some n) a b = (name_is_plain g a, slots_pass n b)
+
+time_passes : (until : Option ℕ) → IfSome until IsPlainTime → PassesTime (option_map decimal until)
+time_passes None few = tt
+time_passes (Some n) few =
+    let small : n < 2 ^ 64 = omega (arith, few) in
+    (name_is_plain (decimal n) (decimal_is_name n small), decimal_passes 0 last_time n (omega arith) few small)
+
+from_zero : (until : Option ℕ) → IfSome until IsPlainTime → IfSome until (λ n. (0 ≤ n) × (n ≤ last_time))
+from_zero None few = tt
+from_zero (Some n) few = (omega arith, few)
 
 passes_by : (b : Bool) (v n : ℕ) → option_and_then (λ (number : Option ℕ). number) (if b then Some (Some v) else None) ≡ Some n → b ≡ true
 passes_by true v n is = refl
@@ -70,6 +81,9 @@ asked_words (Command (Draw t group slots)) (a, b, c) =
     draw_asked t group (option_map decimal slots) (name_is_plain t a) (options_pass group slots b c)
     ∙ ap (λ n. option_map Command (option_map (Draw t group) n)) (number_of_decimal 1 most_slots slots (omega arith) c)
 asked_words (Command (Replay t s further)) (a, b, names) = replay_asked t s further a b names
+asked_words (Command (Simulate t l until csv)) (a, b, c) =
+    simulate_asked t l (option_map decimal until) csv (name_is_plain t a) (name_is_plain l b) (time_passes until c)
+    ∙ ap (λ n. option_map Command (option_map (λ (u : Option ℕ). Simulate t l u csv) n)) (number_of_decimal 0 last_time until (omega arith) (from_zero until c))
 asked_words (Live r) (a, b, few, names) = live_asked_by r (decimal r.frames) (a, b, few, names) (decimal_is_name r.frames (few_is_small r.frames few)) (frames_of_decimal r.frames few)
 
 pub takes_words : (r : RequestBytes) → HasNames r → takes command_line (request_words r) ≡ true
@@ -84,4 +98,6 @@ takes_words (Command (Lint t)) a = lint_takes t a
 takes_words (Command (Diff t s)) (a, b) = diff_takes t s a b
 takes_words (Command (Draw t group slots)) (a, b, c) = draw_takes t group (option_map decimal slots) (name_is_plain t a) (options_pass group slots b c)
 takes_words (Command (Replay t s further)) (a, b, names) = replay_takes t s further (name_is_plain t a) (name_is_plain s b) names
+takes_words (Command (Simulate t l until csv)) (a, b, c) =
+    simulate_takes t l (option_map decimal until) csv (name_is_plain t a) (name_is_plain l b) (time_passes until c)
 takes_words (Live r) (a, b, few, names) = live_takes_by r (decimal r.frames) (a, b, few, names) (decimal_is_name r.frames (few_is_small r.frames few)) (frames_of_decimal r.frames few)

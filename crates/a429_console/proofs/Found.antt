@@ -19,10 +19,10 @@ use Rattle.clap.specs.declared.parser.matches.ArgMatches.{ArgMatches}
 use Rattle.clap.specs.declared.parser.matches.ArgMatches.TheViews.{out-ArgMatches, out-SubCommand}
 use Rattle.clap.proofs.ValueTestLemmas.{accepts-Accepts}
 use Rattle.a429_equipment.specs.Limits.{most_frames}
-use Rattle.a429_console.specs.CommandLine.{most_slots}
-use Rattle.a429_console.specs.Requests.{CommandAsk, Word, Lines, Plan, Check, Icd, Margin, Lint, Diff, Draw, Replay, LiveAsk, IsReadOf}
+use Rattle.a429_console.specs.CommandLine.{last_time, most_slots}
+use Rattle.a429_console.specs.Requests.{CommandAsk, Word, Lines, Plan, Check, Icd, Margin, Lint, Diff, Draw, Replay, Simulate, LiveAsk, IsReadOf}
 use Rattle.a429_console.specs.RequestRows.{flag_given, found_by, frames_of, number_of, values_of}
-use Rattle.a429_console.specs.RequestRows.{word_request, lines_request, plan_request, check_request, icd_request, margin_request, lint_request, diff_request, draw_request, replay_request, live_request}
+use Rattle.a429_console.specs.RequestRows.{word_request, lines_request, plan_request, check_request, icd_request, margin_request, lint_request, diff_request, draw_request, replay_request, simulate_request, live_request}
 
 was_not : (b : Bool) → not b ≡ true → b ≡ false
 was_not true e = cc
@@ -105,15 +105,15 @@ lint_is rows t r at asked = same_Some (Lint t) r (ap (option_map Lint) at ∙ as
 pub diff_is : (rows : List Row) (t s : Text) (r : CommandAsk) → Some t ≡ first_of (codes "TABLE") rows → Some s ≡ first_of (codes "OTHER") rows → diff_request rows ≡ Some r → Diff t s ≡ r
 diff_is rows t s r table other asked = same_Some (Diff t s) r (rw (← table, ← other) at asked)
 
--- a text is read as a number of 32 bits
-module _ {E : Type 0} (gives : Text → Result ℕ E → Type 0) (parses : (t : Text) (r : Result ℕ E) → gives t r → ParsesUnsigned 32 10 t r) (least most : ℕ) (small : most < 2 ^ 32) where
+-- a text is read as a number of so many bits
+module _ {E : Type 0} (bits : ℕ) (gives : Text → Result ℕ E → Type 0) (parses : (t : Text) (r : Result ℕ E) → gives t r → ParsesUnsigned bits 10 t r) (least most : ℕ) (small : most < 2 ^ bits) where
   one_read : (t : Text) (b : Bool) (read number : Option ℕ) → is_unsigned_in least most t ≡ b → ReadsOne gives t read
       → (if b then Some (Some (digits_value 10 (without_leading_plus t))) else None) ≡ Some number → read ≡ number
   one_read t false read number is said asked = absurd (cc asked)
   one_read t true (Some n) number is said asked = ap Some (parses t _ said).1 ∙ same_Some (Some (digits_value 10 (without_leading_plus t))) number asked
   one_read t true None number is said asked =
       let (numeral, counted, above, below) = accepts-Accepts true (reads.Unsigned least most) t is in
-      let fits : digits_value 10 (without_leading_plus t) < 2 ^ 32 = omega (arith, below, small) in
+      let fits : digits_value 10 (without_leading_plus t) < 2 ^ bits = omega (arith, below, small) in
       absurd (parses t _ said.1 (numeral, fits))
 
   -- what `get_one` says of the text of a number
@@ -131,6 +131,25 @@ pub replay_is : (rows : List Row) (t s : Text) (further : List Text) (r : Comman
     → further ≡ values_of (codes "FURTHER") rows → replay_request rows ≡ Some r → Replay t s further ≡ r
 replay_is rows t s further r table script all asked =
     ap (Replay t s) all ∙ same_Some (Replay t s (values_of (codes "FURTHER") rows)) r (rw (← table, ← script) at asked)
+
+-- a part that comes before others was read
+and_then_part : {A B : Type 0} (others : A → Option B) (found : Option A) (part : A) (r : B) → ((a : A) → found ≡ Some a → part ≡ a) → option_and_then others found ≡ Some r → others part ≡ Some r
+and_then_part others None part r same is = absurd (cc is)
+and_then_part others (Some a) part r same is = ap others (same a refl) ∙ is
+
+-- what is asked for by the parts of `simulate` that are no names
+options_are : (t l : Text) (found : Option (Option ℕ)) (csv_text : Option Text) (until : Option ℕ) (csv : Bool) (r : CommandAsk)
+    → ((n : Option ℕ) → found ≡ Some n → until ≡ n) → IsFlag csv_text csv
+    → option_and_then (λ (c : Bool). option_map (λ (u : Option ℕ). Simulate t l u c) found) (flag_given csv_text) ≡ Some r → Simulate t l until csv ≡ r
+options_are t l found csv_text until csv r same sheet asked =
+    let read = and_then_part (λ (c : Bool). option_map (λ (u : Option ℕ). Simulate t l u c) found) (flag_given csv_text) csv r (λ b is. flag_is csv_text csv b sheet is) asked in
+    by_part (λ (u : Option ℕ). Simulate t l u csv) found until r same read
+
+pub simulate_is : (rows : List Row) (t l : Text) (until : Option ℕ) (csv : Bool) (r : CommandAsk) → Some t ≡ first_of (codes "TABLE") rows → Some l ≡ first_of (codes "LOG") rows
+    → ((n : Option ℕ) → number_of 0 last_time (one_of (codes "until") rows) ≡ Some n → until ≡ n) → IsFlag (one_of (codes "csv") rows) csv
+    → simulate_request rows ≡ Some r → Simulate t l until csv ≡ r
+simulate_is rows t l until csv r table log same sheet asked =
+    options_are t l (number_of 0 last_time (one_of (codes "until") rows)) (one_of (codes "csv") rows) until csv r same sheet (rw (← table, ← log) at asked)
 
 given_number : (found : Option (Option ℕ)) (frames n : ℕ) → ((m : Option ℕ) → found ≡ Some m → Some frames ≡ m) → option_and_then (λ (number : Option ℕ). number) found ≡ Some n → frames ≡ n
 given_number None frames n same is = absurd (cc is)

@@ -7,6 +7,7 @@ pub mod LintWords
 pub mod DiffWords
 pub mod IcdWords
 pub mod DrawWords
+pub mod SimulateWords
 pub mod Decimals
 pub mod LiveWords
 pub mod AskedWords

@@ -69,6 +69,15 @@ draw_app =
 abbrev pub replay_app : App
 replay_app = with_rule (with_rule (with_rule (new_app (codes "replay")) (required_rule (codes "TABLE"))) (required_rule (codes "SCRIPT"))) (many_rule (codes "FURTHER"))
 
+-- the last microsecond until which cells can be asked for: fourteen digits
+abbrev pub last_time : ℕ
+last_time = 99999999999999
+
+abbrev pub simulate_app : App
+simulate_app =
+    with_rule (with_rule (with_rule (with_rule (new_app (codes "simulate")) (required_rule (codes "TABLE"))) (required_rule (codes "LOG")))
+    (number_option_rule (codes "until") 0 last_time)) (flag_rule (codes "csv"))
+
 abbrev pub live_app : App
 live_app =
     with_rule (with_rule (with_rule (with_rule (new_app (codes "live")) (required_rule (codes "TABLE"))) (required_rule (codes "WORDS"))) (number_rule (codes "FRAMES") most_frames))
@@ -92,7 +101,7 @@ planning_line =
     lint_app.top) diff_app.top
 
 unfoldable pub command_line : App
-command_line = with_subcommand (with_subcommand (with_subcommand planning_line draw_app.top) replay_app.top) live_app.top
+command_line = with_subcommand (with_subcommand (with_subcommand (with_subcommand planning_line draw_app.top) replay_app.top) simulate_app.top) live_app.top
 
 -- a name of a file, which no option can be
 abbrev pub IsName : Text → Type 0
@@ -102,3 +111,7 @@ IsName (x ∷ xs) = x ≢ 45
 -- a number of slots that can be asked for
 abbrev pub IsPlainSlots : ℕ → Type 0
 IsPlainSlots n = (1 ≤ n) × (n ≤ most_slots)
+
+-- a time until which cells can be asked for, in microseconds
+abbrev pub IsPlainTime : ℕ → Type 0
+IsPlainTime n = n ≤ last_time

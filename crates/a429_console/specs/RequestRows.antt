@@ -5,8 +5,8 @@ use Rattle.std.specs.Str.Parse.{digits_value, without_leading_plus}
 use Rattle.clap.specs.ValueTests.{is_unsigned_in}
 use Rattle.clap.specs.Words.{Row, Text, first_of, one_of, all_of, subcommand_of, takes}
 use Rattle.a429_equipment.specs.Limits.{most_frames}
-use Rattle.a429_console.specs.CommandLine.{IsName, command_line, most_slots}
-use Rattle.a429_console.specs.Requests.{CommandAsk, HasNames, Word, Lines, Plan, Check, Icd, Margin, Lint, Diff, Draw, Replay, LiveAsk, RequestBytes, Command, Live, request_words}
+use Rattle.a429_console.specs.CommandLine.{IsName, command_line, last_time, most_slots}
+use Rattle.a429_console.specs.Requests.{CommandAsk, HasNames, Word, Lines, Plan, Check, Icd, Margin, Lint, Diff, Draw, Replay, Simulate, LiveAsk, RequestBytes, Command, Live, request_words}
 
 -- the values of an argument that is given as often as one likes
 abbrev pub values_of : Text → List Row → List Text
@@ -54,6 +54,11 @@ replay_request rows =
     option_and_then (λ table. option_map (λ script. Replay table script (values_of (codes "FURTHER") rows)) (first_of (codes "SCRIPT") rows))
     (first_of (codes "TABLE") rows)
 
+abbrev pub simulate_request : List Row → Option CommandAsk
+simulate_request rows =
+    option_and_then (λ table. option_and_then (λ log. option_and_then (λ csv. option_map (λ until. Simulate table log until csv)
+    (number_of 0 last_time (one_of (codes "until") rows))) (flag_given (one_of (codes "csv") rows))) (first_of (codes "LOG") rows)) (first_of (codes "TABLE") rows)
+
 -- how many frames are asked for
 abbrev pub frames_of : Option Text → Option ℕ
 frames_of text = option_and_then (λ number. number) (number_of 0 most_frames text)
@@ -75,7 +80,8 @@ command_by name rows =
     else (if bytes_eq name (codes "lint") then lint_request rows
     else (if bytes_eq name (codes "diff") then diff_request rows
     else (if bytes_eq name (codes "draw") then draw_request rows
-    else (if bytes_eq name (codes "replay") then replay_request rows else None)))))))))
+    else (if bytes_eq name (codes "replay") then replay_request rows
+    else (if bytes_eq name (codes "simulate") then simulate_request rows else None))))))))))
 
 -- of either call
 abbrev pub request_by : Text → List Row → Option RequestBytes

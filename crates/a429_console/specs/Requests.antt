@@ -6,7 +6,7 @@ use Rattle.clap.specs.Words.{kind_of}
 use Rattle.clap.specs.declared.error.Error.{Error}
 use Rattle.clap.specs.declared.error.kind.ErrorKind.TheVariants.{OutOfMemory}
 use Rattle.a429_equipment.specs.Limits.{most_frames}
-use Rattle.a429_console.specs.CommandLine.{IsName, IsPlainSlots}
+use Rattle.a429_console.specs.CommandLine.{IsName, IsPlainSlots, IsPlainTime}
 use Rattle.a429_console.specs.Files.{texts_of}
 use Rattle.a429_console.specs.declared.arguments.requests.CommandRequest.{CommandRequest}
 use Rattle.a429_console.specs.declared.arguments.requests.CommandRequest.TheVariants as asked
@@ -36,6 +36,8 @@ pub data CommandAsk : Type 0 where
   Draw : List ℕ → Option (List ℕ) → Option ℕ → CommandAsk
   -- a table, a script and further tables
   Replay : List ℕ → List ℕ → List (List ℕ) → CommandAsk
+  -- a table and a log; until when cells are asked for where that is said, and whether lines are comma-separated values
+  Simulate : List ℕ → List ℕ → Option ℕ → Bool → CommandAsk
 
 -- what `command_live` is asked for: a table, a file of words, how many frames, and further tables
 pub record LiveAsk : Type 0 where
@@ -54,6 +56,11 @@ abbrev pub option_words : List ℕ → Option (List ℕ) → List (List ℕ)
 option_words name None = []
 option_words name (Some value) = name ∷ value ∷ []
 
+-- the word of an option without a value, where it is given
+abbrev pub flag_words : List ℕ → Bool → List (List ℕ)
+flag_words name false = []
+flag_words name true = name ∷ []
+
 -- its words in their plain form: what it names, and then its options
 abbrev pub request_words : RequestBytes → List (List ℕ)
 request_words (Command (Word text)) = codes "word" ∷ text ∷ []
@@ -68,6 +75,8 @@ request_words (Command (Diff table other)) = codes "diff" ∷ table ∷ other �
 request_words (Command (Draw table group slots)) =
     codes "draw" ∷ table ∷ (option_words (codes "--group") group ++ option_words (codes "--slots") (option_map decimal slots))
 request_words (Command (Replay table script further)) = codes "replay" ∷ table ∷ script ∷ further
+request_words (Command (Simulate table log until csv)) =
+    codes "simulate" ∷ table ∷ log ∷ (option_words (codes "--until") (option_map decimal until) ++ flag_words (codes "--csv") csv)
 request_words (Live r) = codes "live" ∷ r.table ∷ r.words ∷ decimal r.frames ∷ r.further
 
 -- each text of it is a name, and its number can be asked for
@@ -82,6 +91,7 @@ HasNames (Command (Lint table)) = IsName table
 HasNames (Command (Diff table other)) = IsName table × IsName other
 HasNames (Command (Draw table group slots)) = IsName table × IfSome group IsName × IfSome slots IsPlainSlots
 HasNames (Command (Replay table script further)) = IsName table × IsName script × AllByRecursion IsName further
+HasNames (Command (Simulate table log until csv)) = IsName table × IsName log × IfSome until IsPlainTime
 HasNames (Live r) = IsName r.table × IsName r.words × (r.frames ≤ most_frames) × AllByRecursion IsName r.further
 
 -- ---- the bytes of what was read of the words
@@ -97,6 +107,7 @@ command_of (asked.Lint table) = Lint table.now
 command_of (asked.Diff table other) = Diff table.now other.now
 command_of (asked.Draw table group slots) = Draw table.now (option_map (λ g. g.now) group) slots
 command_of (asked.Replay table script further) = Replay table.now script.now (texts_of further.items)
+command_of (asked.Simulate table log until csv) = Simulate table.now log.now until csv
 
 abbrev pub live_of : LiveRequest → LiveAsk
 live_of q = record { table = q.table.now; words = q.words.now; frames = q.frames; further = texts_of q.further.items }

@@ -2,5 +2,6 @@
 
 pub mod command_line;
 pub mod given;
+mod help;
 pub mod replies;
 pub mod requests;

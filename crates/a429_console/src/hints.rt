@@ -23,7 +23,8 @@ pub struct Objection {
     pub reason: &'static str,
 }
 
-/// A line that is refused, of a script or of a file of words; of a line file, its part before the refused byte.
+/// A line that is refused, of a script, of a file of words or of a log; of a line file, its part before the refused
+/// byte.
 #[derive(Drop)]
 pub struct SeenLine {
     /// Its number, from 1.
@@ -32,11 +33,24 @@ pub struct SeenLine {
     pub bytes: Vec<u8>,
     /// Whether it has a line feed.
     pub is_ended: bool,
+    /// The last line before it that states something: empty ones and comments do not.
+    pub before: Vec<u8>,
     /// The names that it can have.
     pub receivers: Vec<String>,
     pub groups: Vec<String>,
     /// How many further tables it can publish.
     pub further: usize,
+}
+
+/// The last line of a text that states something; empty lines and comments do not.
+fn last_stated(text: &[u8]) -> &[u8] {
+    let mut last: &[u8] = &[];
+    for line in text.split(|byte| *byte == b'\n') {
+        if !line.is_empty() && !line.starts_with(b"#") {
+            last = line;
+        }
+    }
+    last
 }
 
 impl SeenLine {
@@ -50,10 +64,13 @@ impl SeenLine {
             };
         }
         let end = rest.iter().position(|byte| *byte == b'\n');
+        let above = text.len().saturating_sub(rest.len());
+        let before = last_stated(text.get(..above).unwrap_or(&[]));
         Ok(SeenLine {
             number,
             bytes: Vec::from_slice(alloc, &rest[..end.unwrap_or(rest.len())])?,
             is_ended: end.is_some(),
+            before: Vec::from_slice(alloc, before)?,
             receivers: Vec::new(alloc),
             groups: Vec::new(alloc),
             further: 0,
@@ -66,17 +83,23 @@ impl SeenLine {
 pub enum Looks {
     PlanText,
     Script,
+    Log,
     Other,
 }
 
 impl Looks {
-    /// By the first word of the text.
+    /// By the first word of the text, or its last line.
     pub fn of(text: &[u8]) -> Looks {
         let first_words: [&[u8]; 4] = [b"arrive ", b"cell ", b"frame ", b"publish "];
         if text.starts_with(b"plan ") {
             Looks::PlanText
         } else if first_words.iter().any(|word| text.starts_with(word)) {
             Looks::Script
+        } else if last_stated(text)
+            .first()
+            .is_some_and(|byte| byte.is_ascii_digit())
+        {
+            Looks::Log
         } else {
             Looks::Other
         }

@@ -16,6 +16,7 @@ mod files;
 mod findings;
 mod keys;
 mod lists;
+mod logs;
 mod mistakes;
 mod nearest;
 mod periods;

@@ -36,6 +36,7 @@ fn tell_command<V: Write>(alloc: Global, word: &str, err: &mut V) -> io::Result<
         .or(alloc, "diff")
         .or(alloc, "draw")
         .or(alloc, "replay")
+        .or(alloc, "simulate")
         .or(alloc, "live")
         .or(alloc, "word")
         .or(alloc, "lines")
@@ -51,6 +52,7 @@ fn tell_option<V: Write>(alloc: Global, word: &str, err: &mut V) -> io::Result<(
         .or(alloc, "--csv")
         .or(alloc, "--group")
         .or(alloc, "--slots")
+        .or(alloc, "--until")
         .or(alloc, "--help")
         .or(alloc, "--version");
     tell_nearest(shown, "option", nearest, err)

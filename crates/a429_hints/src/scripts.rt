@@ -56,17 +56,17 @@ pub fn tell_words_line<V: Write>(
     tell_arrival(alloc, about, line, text, err)
 }
 
-fn tell_no_text<V: Write>(about: About, err: &mut V) -> io::Result<()> {
+pub fn tell_no_text<V: Write>(about: About, err: &mut V) -> io::Result<()> {
     writeln!(err, "{about}: the line is not UTF-8")
 }
 
 /// The text before the first space, and the text after it.
-fn cut(text: &str) -> (&str, &str) {
+pub fn cut(text: &str) -> (&str, &str) {
     text.split_once(' ').unwrap_or((text, ""))
 }
 
 /// Tells what is wrong with the form of a line, whatever it says. Whether something is.
-fn tell_form<V: Write>(
+pub fn tell_form<V: Write>(
     about: About,
     line: &SeenLine,
     text: &str,
@@ -131,7 +131,7 @@ fn tell_verb<V: Write>(alloc: Global, about: About, verb: &str, err: &mut V) -> 
 }
 
 /// Tells what is wrong with a receiver and a word.
-fn tell_arrival<V: Write>(
+pub fn tell_arrival<V: Write>(
     alloc: Global,
     about: About,
     line: &SeenLine,

@@ -6,6 +6,7 @@ use crate::differences::tell_difference;
 use crate::faults::tell_table_fault;
 use crate::files::tell_trouble;
 use crate::findings::tell_findings;
+use crate::logs::{tell_log_line, tell_too_long};
 use crate::mistakes::tell_nearest_word;
 use crate::plans::{tell_all_unfit, tell_fewer_buses, tell_groups};
 use crate::scripts::{tell_script_line, tell_words_line};
@@ -107,9 +108,9 @@ fn tell_refusal<V: Write>(
         CommandRefusal::WordText | CommandRefusal::Parity | CommandRefusal::Filter(_) => {
             tell_of_words(request, refusal, err)
         }
-        CommandRefusal::LineByte(_) | CommandRefusal::Script(_) => {
-            tell_of_line(alloc, request, seen, err)
-        }
+        CommandRefusal::LineByte(_) | CommandRefusal::Script(_) | CommandRefusal::LogLine { .. } =>
+            { tell_of_line(alloc, request, seen, err) }
+        CommandRefusal::TooMuch => tell_of_length(alloc, request, err),
         _ => tell_of_table(alloc, request, refusal, seen, err),
     }
 }
@@ -136,7 +137,7 @@ fn tell_of_words<V: Write>(
     }
 }
 
-/// Tells of a line of a script, of a file of words, or of a line file.
+/// Tells of a line of a script, of a file of words, of a log, or of a line file.
 fn tell_of_line<V: Write>(
     alloc: Global,
     request: &Request,
@@ -151,7 +152,21 @@ fn tell_of_line<V: Write>(
     match (request, seen.byte) {
         (_, Some(byte)) => tell_line_byte(file.as_str(), line, byte, err),
         (Request::Live(_), None) => tell_words_line(alloc, about, line, err),
+        (Request::Command(CommandRequest::Simulate { .. }), None) => {
+            tell_log_line(alloc, about, line, err)
+        }
         (Request::Command(_), None) => tell_script_line(alloc, about, line, err),
+    }
+}
+
+/// Tells of a log that is too long.
+fn tell_of_length<V: Write>(alloc: Global, request: &Request, err: &mut V) -> io::Result<()> {
+    match request {
+        Request::Command(CommandRequest::Simulate { log, until, .. }) => {
+            let file = printable_name(alloc, log)?;
+            tell_too_long(About::file(file.as_str()), *until, err)
+        }
+        _ => Ok(()),
     }
 }
 
@@ -226,6 +241,7 @@ fn tell_order<V: Write>(
     let looks = match table.looks {
         Looks::PlanText => "the text of a plan",
         Looks::Script => "a script",
+        Looks::Log => "a log",
         Looks::Other => return Ok(()),
     };
     writeln!(
@@ -242,6 +258,7 @@ fn order_of(request: &Request) -> &'static str {
         Request::Command(CommandRequest::Check { .. }) => "check TABLE PLAN",
         Request::Command(CommandRequest::Diff { .. }) => "diff TABLE OTHER",
         Request::Command(CommandRequest::Replay { .. }) => "replay TABLE SCRIPT [FURTHER..]",
+        Request::Command(CommandRequest::Simulate { .. }) => "simulate TABLE LOG",
         Request::Command(_) => "a table alone",
     }
 }
@@ -258,7 +275,8 @@ fn table_name<'a>(request: &'a Request) -> &'a str {
             | CommandRequest::Diff { table, .. }
             | CommandRequest::Draw { table, .. }
             | CommandRequest::Check { table, .. }
-            | CommandRequest::Replay { table, .. },
+            | CommandRequest::Replay { table, .. }
+            | CommandRequest::Simulate { table, .. },
         ) => table,
         Request::Command(CommandRequest::Word { .. } | CommandRequest::Lines { .. }) => "",
     }
@@ -278,6 +296,7 @@ fn text_name<'a>(request: &'a Request) -> &'a str {
         Request::Live(run) => run.words,
         Request::Command(CommandRequest::Check { plan, .. }) => plan,
         Request::Command(CommandRequest::Replay { script, .. }) => script,
+        Request::Command(CommandRequest::Simulate { log, .. }) => log,
         Request::Command(CommandRequest::Lines { file, .. }) => file,
         Request::Command(_) => "",
     }

@@ -1,148 +1,24 @@
-//! The command line: its commands, and the texts of their help.
+//! The command line: its commands.
 ghost use Rattle.std.specs.Prelude.{◌≡◌, IfOk, IsTrue, codes};
 ghost use Rattle.clap.specs.Words.{App, Rule, app_of, new_app, with_rule, with_subcommand};
-ghost use Rattle.a429_console.specs.CommandLine.{HasRule, bare_line, check_app, command_line, diff_app, draw_app, flag_rule, icd_app, lines_app, lint_app, live_app, many_rule, margin_app, most_slots, number_option_rule, number_rule, option_rule, plan_app, planning_line, reading_line, replay_app, required_rule, word_app};
+ghost use Rattle.a429_console.specs.CommandLine.{HasRule, bare_line, check_app, command_line, diff_app, draw_app, flag_rule, icd_app, last_time, lines_app, lint_app, live_app, many_rule, margin_app, most_slots, number_option_rule, number_rule, option_rule, plan_app, planning_line, reading_line, replay_app, required_rule, simulate_app, word_app};
 
+use crate::arguments::help::{
+    CHECK, CHECK_END, CSV, DIFF, DIFF_END, DRAW, DRAW_END, FILE, FILTER, FRAMES, FURTHER, GROUP,
+    HEX, ICD, ICD_END, LINES, LINES_END, LINT, LINT_END, LIVE, LIVE_END, LOG, MARGIN, MARGIN_END,
+    OTHER, PLAN, PLAN_END, PROGRAM, PROGRAM_END, REPLAY, REPLAY_END, RESUBMITTED, SCRIPT, SIMULATE,
+    SIMULATE_END, SLOTS, TABLE, TEXT, UNTIL, VERSION, WORD, WORD_END, WORDS,
+};
 use a429_equipment::FRAMES as MOST_FRAMES;
 use clap::builder::ValueParser;
 use clap::{Arg, ArgAction, Command};
 use std::alloc::{AllocError, Global};
 
-const PROGRAM: &str =
-    "ARINC 429 data concentrator: takes in words, and sends them on by planned slots";
-
-const PROGRAM_END: &str = "\
-A table (TOML, version 2) has, each as often as it needs:
-  [[receiver]]      name, filters (may be left out)
-  [[source]]        name, receiver, label, sdi
-  [[group]]         name, rate (bit/s)
-  [[group.output]]  source, min_us, max_us, hold (may be left out)
-
-Examples:
-  a429 plan examples/first/table.toml
-  a429 help replay";
-
-const VERSION: &str = "0.2.0";
-
-const WORD: &str = "Print the fields of a 32-bit word, and its data as BNR and as BCD";
-
-const HEX: &str = "The word, as eight hexadecimal digits";
-
-const WORD_END: &str = "\
-Example:
-  a429 word 600000c1";
-
-const LINES: &str = "Print what a reader of a line reports: words, faults, and the rest";
-
-const FILE: &str = "File of a line, a byte a symbol";
-
-const FILTER: &str = "Label filters, LLL/MMM in octal, at most 32";
-
-const LINES_END: &str = "\
-A line file has `1` for Hi, `0` for Lo and `.` for Null; spaces and line feeds
-are skipped. With filters, only the words that one of them passes are printed.
-
-Example:
-  a429 lines examples/displays/line 203/377";
-
-const PLAN: &str = "Plan a station on the fewest buses, with the bound that shows it";
-
-const PLAN_END: &str = "\
-Example:
-  a429 plan examples/first/table.toml";
-
-const CHECK: &str = "Check whether a plan's text shows the fewest buses for a station";
-
-const TEXT: &str = "Text of a plan, as `plan` prints it, whoever wrote it";
-
-const CHECK_END: &str = "\
-Example:
-  a429 check examples/displays/table.toml examples/displays/table.plan";
-
-const ICD: &str = "Print what an interface control document says of each output";
-
-const CSV: &str = "As comma-separated values, for spreadsheets";
-
-const ICD_END: &str = "\
-Example:
-  a429 icd --csv examples/displays/table.toml";
-
-const MARGIN: &str = "Print how far each group is from one bus fewer, and what would help";
-
-const MARGIN_END: &str = "\
-Example:
-  a429 margin examples/air_data_and_inertial/station.toml";
-
-const LINT: &str = "Print what a table does in silence, such as words that never arrive";
-
-const LINT_END: &str = "\
-There is a line for each finding, and the status is 1 if there is one:
-  unfit GROUP SOURCE        its interval has no period
-  too-many-buses GROUP N    it needs N buses, and 16 are the most
-  unheard SOURCE            no filter of its receiver passes it
-  unsent SOURCE             no group has an output of it
-  idle RECEIVER             it has no source
-  blind RECEIVER N          its filter N passes none of its sources
-  alike GROUP SOURCE OTHER  they have one label, and one of them any SDI
-  full GROUP                it has no empty cell
-
-Example:
-  a429 lint examples/air_data_and_inertial/station.toml";
-
-const DIFF: &str = "Print what changes from the plan of a table to that of another";
-
-const OTHER: &str = "Equipment table that takes its place (TOML)";
-
-const DIFF_END: &str = "\
-The line `same` means that nothing changes, and the status is 0; else it is 1.
-A line `station` means that OTHER cannot be published while TABLE runs.
-
-Example:
-  a429 diff examples/displays/table.toml examples/displays/faster.toml";
-
-const DRAW: &str = "Draw the slot tables of a plan as an image (SVG)";
-
-const GROUP: &str = "Only the group of this name";
-
-const SLOTS: &str = "Slots of each bus, 1 to 8192; else a frame, at most 256";
-
-const DRAW_END: &str = "\
-Example:
-  a429 draw --group displays examples/displays/table.toml > displays.svg";
-
-const REPLAY: &str = "Play the events of a script on a station, and print the answers";
-
-const TABLE: &str = "Equipment table of the station (TOML)";
-
-const SCRIPT: &str = "Script of events, one on each line";
-
-const FURTHER: &str = "Further tables that the script can publish, from number 1";
-
-const REPLAY_END: &str = "\
-A script has an event on each line:
-  arrive RECEIVER HEX  a word comes in
-  cell GROUP           a group sends its next cell
-  frame GROUP          a group goes on to its next frame
-  publish N            the plan of further table N is published
-
-Example:
-  a429 replay examples/first/table.toml examples/first/script";
-
-const LIVE: &str = "Run a station on threads, and print how many words and cells passed";
-
-const WORDS: &str = "Words that come in, `RECEIVER HEX` on each line";
-
-const RESUBMITTED: &str = "Further tables, published one after another while it runs";
-
-const FRAMES: &str = "How many frames each group sends, at most 1000000";
-
-const LIVE_END: &str = "\
-Example:
-  a429 live examples/air_data_and_inertial/station.toml \\
-      examples/air_data_and_inertial/words 100";
-
 /// How many slots of a bus may be asked for (profile).
 const MOST_SLOTS: u64 = 8192;
+
+/// The last microsecond until which cells may be asked for: fourteen digits (profile).
+const LAST_TIME: u64 = 99_999_999_999_999;
 
 /// An argument that must be given.
 fn required_argument<'a>(alloc: Global, id: &'a str, help: &'a str) -> Arg<'a>
@@ -190,6 +66,13 @@ fn slots_option<'a>(alloc: Global) -> Arg<'a>
     ensures { HasRule result (number_option_rule (codes "slots") 1 most_slots) }
 {
     value_option(alloc, "slots", "N", SLOTS).value_parser(ValueParser::unsigned(1, MOST_SLOTS))
+}
+
+/// The option that says until which microsecond cells are asked for.
+fn until_option<'a>(alloc: Global) -> Arg<'a>
+    ensures { HasRule result (number_option_rule (codes "until") 0 last_time) }
+{
+    value_option(alloc, "until", "US", UNTIL).value_parser(ValueParser::unsigned(0, LAST_TIME))
 }
 
 /// A command with one more argument, if the command was made.
@@ -294,6 +177,16 @@ fn replay_command<'a>(alloc: Global) -> Result<Command<'a>, AllocError>
     with_argument(replay, repeated_argument(alloc, "FURTHER", FURTHER))
 }
 
+fn simulate_command<'a>(alloc: Global) -> Result<Command<'a>, AllocError>
+    ensures { IfOk result (λ c. app_of c ≡ simulate_app) }
+{
+    let simulate = named_command(alloc, "simulate", SIMULATE, SIMULATE_END);
+    let simulate = with_argument(simulate, required_argument(alloc, "TABLE", TABLE));
+    let simulate = with_argument(simulate, required_argument(alloc, "LOG", LOG));
+    let simulate = with_argument(simulate, until_option(alloc));
+    with_argument(simulate, flag_option(alloc, "csv", CSV))
+}
+
 fn live_command<'a>(alloc: Global) -> Result<Command<'a>, AllocError>
     ensures { IfOk result (λ c. app_of c ≡ live_app) }
 {
@@ -367,5 +260,6 @@ pub fn build_command<'a>(alloc: Global) -> Result<Command<'a>, AllocError>
     let line = with_planning(alloc, line);
     let line = with_command(line, draw_command(alloc));
     let line = with_command(line, replay_command(alloc));
+    let line = with_command(line, simulate_command(alloc));
     with_command(line, live_command(alloc))
 }

@@ -3,7 +3,7 @@ ghost use Rattle.std.specs.Prelude.{◌≡◌, ◌<◌, ◌^◌, ℕ, Option, If
 ghost use Rattle.clap.specs.Words.{HasKind, found_of, kind_of, one_of, rows_of, subcommand_rows_of};
 ghost use Rattle.a429_console.specs.Files.{texts_of};
 ghost use Rattle.a429_console.specs.Requests.{IsRead, IsReadOf, RequestBytes, command_of, live_of, request_of};
-ghost use Rattle.a429_console.specs.RequestRows.{AsksFor, check_request, command_by, diff_request, draw_request, found_by, icd_request, lines_request, lint_request, live_request, margin_request, number_of, plan_request, replay_request, request_by, values_of, word_request};
+ghost use Rattle.a429_console.specs.RequestRows.{AsksFor, check_request, command_by, diff_request, draw_request, found_by, icd_request, lines_request, lint_request, live_request, margin_request, number_of, plan_request, replay_request, request_by, simulate_request, values_of, word_request};
 ghost use Rattle.a429_console.specs.Usage.{ComesTo, elsewhere, is_live, is_run, kinds_of_words, live_kinds_of_words};
 
 use crate::arguments::command_line::build_command;
@@ -72,6 +72,14 @@ pub enum CommandRequest<'a> {
         table: &'a str,
         script: &'a str,
         further: Vec<&'a str>,
+    },
+    /// To print which words the station of the table of this name sends by the log of this name: until this
+    /// microsecond, or where that is not said until all words can be out. Or the same as comma-separated values.
+    Simulate {
+        table: &'a str,
+        log: &'a str,
+        until: Option<u64>,
+        csv: bool,
     },
 }
 
@@ -162,6 +170,9 @@ fn read_command<'a>(alloc: Global, matches: &ArgMatches<'a>) -> Result<CommandRe
     if let Some(found) = matches.subcommand_matches("replay") {
         return asked_replay(alloc, found);
     }
+    if let Some(found) = matches.subcommand_matches("simulate") {
+        return asked_simulate(found);
+    }
     Err(Error::from(AllocError))
 }
 
@@ -169,6 +180,14 @@ fn read_command<'a>(alloc: Global, matches: &ArgMatches<'a>) -> Result<CommandRe
 fn asked_number(found: &ArgMatches<'_>, id: &str) -> Option<u32>
     ensures { (least most : ℕ) (number : Option ℕ) → most < 2 ^ 32
         → number_of least most (one_of id.now (rows_of (found_of found.now))) ≡ Some number → result ≡ number }
+{
+    found.get_one(id)
+}
+
+/// The time of an argument, where one is given: that of its text, which the rules of the command line let through.
+fn asked_time(found: &ArgMatches<'_>, id: &str) -> Option<u64>
+    ensures { (least most : ℕ) (time : Option ℕ) → most < 2 ^ 64
+        → number_of least most (one_of id.now (rows_of (found_of found.now))) ≡ Some time → result ≡ time }
 {
     found.get_one(id)
 }
@@ -297,6 +316,23 @@ fn asked_replay<'a>(alloc: Global, found: &ArgMatches<'a>) -> Result<CommandRequ
         table,
         script,
         further,
+    })
+}
+
+/// What the words of `simulate` ask for.
+fn asked_simulate<'a>(found: &ArgMatches<'a>) -> Result<CommandRequest<'a>, Error>
+    ensures { IsReadOf command_of (simulate_request (rows_of (found_of found.now))) result }
+{
+    let (Some(table), Some(log)) = (found.get_str("TABLE"), found.get_str("LOG")) else {
+        return Err(Error::from(AllocError));
+    };
+    let until = asked_time(found, "until");
+    let csv = found.get_flag("csv");
+    Ok(CommandRequest::Simulate {
+        table,
+        log,
+        until,
+        csv,
     })
 }
 

@@ -9,4 +9,5 @@ returns c =
     let planning = c.with_planning-line.ensures reading in
     let draw = c.with_command-line.ensures _ _ planning c.draw_command.ensures refl in
     let replay = c.with_command-line-2.ensures _ _ draw c.replay_command.ensures refl in
-    c.with_command.ensures _ _ replay c.live_command.ensures refl
+    let simulate = c.with_command-line-3.ensures _ _ replay c.simulate_command.ensures refl in
+    c.with_command.ensures _ _ simulate c.live_command.ensures refl

@@ -43,3 +43,7 @@ returns-in-Some-subcommand_matches-8 c =
 pub returns-in-Some-subcommand_matches-9 : goal.returns-in-Some-subcommand_matches-9
 returns-in-Some-subcommand_matches-9 c =
     read_by_name command_of command_by c.args.matches.now (codes "replay") _ c.asked_replay.result (c.in-Some-subcommand_matches-9.ensures.found.0 refl) c.in-Some-subcommand_matches-9.ensures.rows c.asked_replay.ensures
+
+pub returns-in-Some-subcommand_matches-10 : goal.returns-in-Some-subcommand_matches-10
+returns-in-Some-subcommand_matches-10 c =
+    read_by_name command_of command_by c.args.matches.now (codes "simulate") _ c.asked_simulate.result (c.in-Some-subcommand_matches-10.ensures.found.0 refl) c.in-Some-subcommand_matches-10.ensures.rows c.asked_simulate.ensures

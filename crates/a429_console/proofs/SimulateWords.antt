@@ -1,0 +1,200 @@
+-- What the words of `simulate` come to, with each of its options and without.
+use Rattle.std.proofs.Common.{◌≡◌, ◌∙◌, ap, ap₂, refl, codes, true, false, List, [], ◌∷◌, ◌++◌, fold}
+use Rattle.std.specs.Prelude.{Option, Some, None, IfSome, Bool, ◌&&◌, option_map}
+use Rattle.std.specs.List.{list_all}
+use Rattle.clap.specs.Words.{Row, Shape, Text, subcommand_of, takes}
+use Rattle.clap.specs.Walk.{Walk, idle, option, walk, walked, walk_from, nothing_held, finished, stop_after}
+use Rattle.clap.specs.Simple.{built, built_leaf, entered, inherited}
+use Rattle.clap.specs.Takes.{default_passes, is_valid, level_passes, settle_passes, turn_passes, walk_passes}
+use Rattle.clap.specs.ValueTests.{is_unsigned_in}
+use Rattle.clap.proofs.OnLiterals.{clap_on_literals}
+use Rattle.a429_console.specs.CommandLine.{command_line, top_shape, simulate_app, last_time}
+use Rattle.a429_console.specs.Requests.{Command, Simulate, flag_words, option_words}
+use Rattle.a429_console.specs.RequestRows.{found_by, number_of, request_by, simulate_request}
+use Rattle.a429_console.proofs.PlainWords.{IsPlainWord, at_word, for_none, turn_of_value, turn_of_word, walked_value, walked_word}
+use Rattle.a429_console.proofs.StoppedWords.{stopped_more, stopped_passes}
+use Rattle.a429_console.proofs.ManyWords.{row_of_words}
+use Rattle.a429_console.proofs.RequestWords.{at_command, commands, held_last, passes_with, top}
+
+abbrev simulate_leaf : Shape
+simulate_leaf = built_leaf (inherited top_shape simulate_app.top)
+
+-- the words after the command's, by the text of the time
+abbrev pub simulate_words : Text → Text → Option Text → Bool → List Text
+simulate_words t l until csv = t ∷ l ∷ (option_words (codes "--until") until ++ flag_words (codes "--csv") csv)
+
+abbrev table_row : Text → List Row
+table_row t = row_of_words (codes "TABLE") (t ∷ []) ∷ []
+
+abbrev name_rows : Text → Text → List Row
+name_rows t l = row_of_words (codes "TABLE") (t ∷ []) ∷ row_of_words (codes "LOG") (l ∷ []) ∷ []
+
+-- the rows of the names and of the time
+abbrev value_rows : Text → Text → Option Text → List Row
+value_rows t l None = name_rows t l
+value_rows t l (Some n) = row_of_words (codes "TABLE") (t ∷ []) ∷ row_of_words (codes "LOG") (l ∷ []) ∷ row_of_words (codes "until") (n ∷ []) ∷ []
+
+abbrev flag_row : Text → Row
+flag_row id = row_of_words id (codes "true" ∷ [])
+
+-- after the last value
+abbrev after_values : Text → Text → Option Text → Walk
+after_values t l None = at_word (held_last (table_row t) (codes "LOG") l) idle 3
+after_values t l (Some n) = at_word (held_last (name_rows t l) (codes "until") n) idle 3
+
+-- after an option without a value
+abbrev after_flag : List Row → Walk
+after_flag rows = at_word (record { rows = rows; pending = None; skip = 0 }) idle 3
+
+-- after all of the words
+abbrev at_end : Text → Text → Option Text → Bool → Walk
+at_end t l until false = after_values t l until
+at_end t l until true = after_flag (value_rows t l until ++ flag_row (codes "csv") ∷ [])
+
+-- an option waits for its value
+abbrev waiting_for : List Row → Text → Walk
+waiting_for rows id = at_word (record { rows = rows; pending = Some (id, []); skip = 0 }) (option id) 3
+
+-- the word of a time is a value, and one that the rule lets through
+abbrev pub PassesTime : Option Text → Type 0
+PassesTime until = IfSome until (λ n. IsPlainWord n × (is_unsigned_in 0 last_time n ≡ true))
+
+-- ---- word by word
+
+abbrev after_table : Text → Walk
+after_table t = at_word (held_last [] (codes "TABLE") t) idle 2
+
+table_read : (t : Text) → IsPlainWord t → walked simulate_leaf.rules [] (walk_from nothing_held) t ≡ after_table t
+unfolding clap_on_literals
+table_read t p = walked_word simulate_leaf.rules idle nothing_held 1 t for_none p
+
+log_read : (t l : Text) → IsPlainWord l → walked simulate_leaf.rules [] (after_table t) l ≡ after_values t l None
+unfolding clap_on_literals
+log_read t l p = walked_word simulate_leaf.rules idle (held_last [] (codes "TABLE") t) 2 l for_none p
+
+until_named : (t l : Text) → walked simulate_leaf.rules [] (after_values t l None) (codes "--until") ≡ waiting_for (name_rows t l) (codes "until")
+unfolding clap_on_literals
+until_named t l = refl
+
+until_read : (t l n : Text) → IsPlainWord n → walked simulate_leaf.rules [] (waiting_for (name_rows t l) (codes "until")) n ≡ after_values t l (Some n)
+unfolding clap_on_literals
+until_read t l n p = walked_value simulate_leaf.rules (codes "until") (record { rows = name_rows t l; pending = Some (codes "until", []); skip = 0 }) 3 n p
+
+csv_read : (t l : Text) (until : Option Text) → walked simulate_leaf.rules [] (after_values t l until) (codes "--csv") ≡ at_end t l until true
+unfolding clap_on_literals
+csv_read t l None = refl
+csv_read t l (Some n) = refl
+
+-- the turns of the words
+table_turn : (t : Text) → IsPlainWord t → turn_passes simulate_leaf [] (walk_from nothing_held) t ≡ true
+table_turn t p = turn_of_word simulate_leaf idle nothing_held 1 t for_none p ∙ refl
+
+log_turn : (t l : Text) → IsPlainWord l → turn_passes simulate_leaf [] (after_table t) l ≡ true
+log_turn t l p = turn_of_word simulate_leaf idle (held_last [] (codes "TABLE") t) 2 l for_none p ∙ refl
+
+until_turn : (t l : Text) → turn_passes simulate_leaf [] (after_values t l None) (codes "--until") ≡ true
+unfolding clap_on_literals
+until_turn t l = refl
+
+value_turn : (t l n : Text) → IsPlainWord n → turn_passes simulate_leaf [] (waiting_for (name_rows t l) (codes "until")) n ≡ true
+value_turn t l n p = turn_of_value simulate_leaf (codes "until") (record { rows = name_rows t l; pending = Some (codes "until", []); skip = 0 }) 3 n p
+
+csv_turn : (t l : Text) (until : Option Text) → PassesTime until → turn_passes simulate_leaf [] (after_values t l until) (codes "--csv") ≡ true
+unfolding clap_on_literals
+csv_turn t l None q = refl
+csv_turn t l (Some n) q = ap (λ (b : Bool). ((b && true) && true) && true) q.1
+
+-- ---- the walk over all of them
+
+-- each of the words passes, and they come to this
+record Walks (from : Walk) (words : List Text) (to : Walk) : Type 0 where
+  pub passes : walk_passes simulate_leaf [] from words ≡ true
+  pub comes : fold (walked simulate_leaf.rules []) from words ≡ to
+
+stays : (w : Walk) → Walks w [] w
+unfolding walk_passes
+stays w = record { passes = refl; comes = refl }
+
+goes_on : (from next to : Walk) (word : Text) (words : List Text) → turn_passes simulate_leaf [] from word ≡ true → walked simulate_leaf.rules [] from word ≡ next → Walks next words to → Walks from (word ∷ words) to
+unfolding walk_passes
+goes_on from next to word words turn step rest = record {
+  passes = rw (turn, step) rest.passes;
+  comes = ap (λ (w : Walk). fold (walked simulate_leaf.rules []) w words) step ∙ rest.comes;
+}
+
+csv_walks : (t l : Text) (until : Option Text) (csv : Bool) → PassesTime until → Walks (after_values t l until) (flag_words (codes "--csv") csv) (at_end t l until csv)
+csv_walks t l until false q = stays (at_end t l until false)
+csv_walks t l until true q =
+    goes_on (after_values t l until) (at_end t l until true) (at_end t l until true) (codes "--csv") [] (csv_turn t l until q) (csv_read t l until) (stays (at_end t l until true))
+
+options_walk : (t l : Text) (until : Option Text) (csv : Bool) → PassesTime until
+    → Walks (after_values t l None) (option_words (codes "--until") until ++ flag_words (codes "--csv") csv) (at_end t l until csv)
+options_walk t l None csv q = csv_walks t l None csv q
+options_walk t l (Some n) csv q =
+    goes_on (after_values t l None) (waiting_for (name_rows t l) (codes "until")) (at_end t l (Some n) csv) (codes "--until") (n ∷ flag_words (codes "--csv") csv) (until_turn t l) (until_named t l)
+    (goes_on (waiting_for (name_rows t l) (codes "until")) (after_values t l (Some n)) (at_end t l (Some n) csv) n (flag_words (codes "--csv") csv) (value_turn t l n q.0) (until_read t l n q.0)
+    (csv_walks t l (Some n) csv q))
+
+simulate_walks : (t l : Text) (until : Option Text) (csv : Bool) → IsPlainWord t → IsPlainWord l → PassesTime until
+    → Walks (walk_from nothing_held) (simulate_words t l until csv) (at_end t l until csv)
+simulate_walks t l until csv p r q =
+    let options = option_words (codes "--until") until ++ flag_words (codes "--csv") csv in
+    goes_on (walk_from nothing_held) (after_table t) (at_end t l until csv) t (l ∷ options) (table_turn t p) (table_read t p)
+    (goes_on (after_table t) (after_values t l None) (at_end t l until csv) l options (log_turn t l r) (log_read t l r) (options_walk t l until csv q))
+
+-- ---- what stands at the end
+
+-- what is asked for by what was read
+simulate_read : (t l : Text) (until : Option Text) (csv : Bool)
+    → simulate_request (finished simulate_leaf.rules (at_end t l until csv).held) ≡ option_map (λ n. Simulate t l n csv) (number_of 0 last_time until)
+unfolding clap_on_literals
+simulate_read t l None false = refl
+simulate_read t l None true = refl
+simulate_read t l (Some n) false = refl
+simulate_read t l (Some n) true = refl
+
+-- it passes
+ends_well : Walk → Bool
+ends_well w = settle_passes simulate_leaf.rules false w.held && (list_all default_passes simulate_leaf.rules && is_valid simulate_leaf (finished simulate_leaf.rules w.held) false)
+
+simulate_ends : (t l : Text) (until : Option Text) (csv : Bool) → PassesTime until → ends_well (at_end t l until csv) ≡ true
+unfolding ends_well clap_on_literals
+simulate_ends t l None false q = refl
+simulate_ends t l None true q = refl
+simulate_ends t l (Some n) false q = ap (λ (b : Bool). (b && true) && true) q.1
+simulate_ends t l (Some n) true q = refl
+
+simulate_level : (t l : Text) (until : Option Text) (csv : Bool) → IsPlainWord t → IsPlainWord l → PassesTime until
+    → level_passes simulate_leaf [] nothing_held (simulate_words t l until csv) false ≡ true
+unfolding ends_well
+simulate_level t l until csv p r q =
+    let walks = simulate_walks t l until csv p r q in
+    ap₂ (λ (a b : Bool). a && b) walks.passes (ap ends_well walks.comes ∙ simulate_ends t l until csv q)
+
+-- ---- the words of the command line
+
+simulate_stop : (words : List Text) → stop_after top.rules commands (codes "simulate" ∷ words) ≡ Some (codes "simulate", words)
+unfolding command_line clap_on_literals
+simulate_stop words = ap (λ (w : Walk). w.stopped) (stopped_more top.rules commands (at_command (codes "simulate")) (codes "simulate") [] words refl)
+
+simulate_enters : (words : List Text) → entered (built command_line) (Some (codes "simulate", words)) ≡ Some (codes "simulate", finished simulate_leaf.rules (walk simulate_leaf.rules [] nothing_held words).held)
+unfolding command_line clap_on_literals
+simulate_enters words = refl
+
+simulate_entered : (words : List Text) → subcommand_of command_line (codes "simulate" ∷ words) ≡ Some (codes "simulate", finished simulate_leaf.rules (walk simulate_leaf.rules [] nothing_held words).held)
+unfolding command_line
+simulate_entered words = ap (entered (built command_line)) (simulate_stop words) ∙ simulate_enters words
+
+pub simulate_asked : (t l : Text) (until : Option Text) (csv : Bool) → IsPlainWord t → IsPlainWord l → PassesTime until
+    → found_by request_by (subcommand_of command_line (codes "simulate" ∷ simulate_words t l until csv)) ≡ option_map Command (option_map (λ n. Simulate t l n csv) (number_of 0 last_time until))
+simulate_asked t l until csv p r q =
+    ap (found_by request_by) (simulate_entered (simulate_words t l until csv))
+    ∙ ap (option_map Command) (ap (λ (w : Walk). simulate_request (finished simulate_leaf.rules w.held)) (simulate_walks t l until csv p r q).comes ∙ simulate_read t l until csv)
+
+pub simulate_takes : (t l : Text) (until : Option Text) (csv : Bool) → IsPlainWord t → IsPlainWord l → PassesTime until
+    → takes command_line (codes "simulate" ∷ simulate_words t l until csv) ≡ true
+unfolding command_line clap_on_literals passes_with
+simulate_takes t l until csv p r q =
+    ap₂ passes_with (stopped_more top.rules commands (at_command (codes "simulate")) (codes "simulate") [] (simulate_words t l until csv) refl)
+    (stopped_passes top commands (at_command (codes "simulate")) (codes "simulate") [] (simulate_words t l until csv) refl)
+    ∙ rw (simulate_level t l until csv p r q) refl

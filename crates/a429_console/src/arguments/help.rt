@@ -1,0 +1,149 @@
+//! The texts of help: what each command and each of its words does, and an example.
+
+pub const PROGRAM: &str =
+    "ARINC 429 data concentrator: takes in words, and sends them on by planned slots";
+
+pub const PROGRAM_END: &str = "\
+A table (TOML, version 2) has, each as often as it needs:
+  [[receiver]]      name, filters (may be left out)
+  [[source]]        name, receiver, label, sdi
+  [[group]]         name, rate (bit/s)
+  [[group.output]]  source, min_us, max_us, hold (may be left out)
+
+Examples:
+  a429 plan examples/first/table.toml
+  a429 help replay";
+
+pub const VERSION: &str = "0.2.0";
+
+pub const WORD: &str = "Print the fields of a 32-bit word, and its data as BNR and as BCD";
+
+pub const HEX: &str = "The word, as eight hexadecimal digits";
+
+pub const WORD_END: &str = "\
+Example:
+  a429 word 600000c1";
+
+pub const LINES: &str = "Print what a reader of a line reports: words, faults, and the rest";
+
+pub const FILE: &str = "File of a line, a byte a symbol";
+
+pub const FILTER: &str = "Label filters, LLL/MMM in octal, at most 32";
+
+pub const LINES_END: &str = "\
+A line file has `1` for Hi, `0` for Lo and `.` for Null; spaces and line feeds
+are skipped. With filters, only the words that one of them passes are printed.
+
+Example:
+  a429 lines examples/displays/line 203/377";
+
+pub const PLAN: &str = "Plan a station on the fewest buses, with the bound that shows it";
+
+pub const PLAN_END: &str = "\
+Example:
+  a429 plan examples/first/table.toml";
+
+pub const CHECK: &str = "Check whether a plan's text shows the fewest buses for a station";
+
+pub const TEXT: &str = "Text of a plan, as `plan` prints it, whoever wrote it";
+
+pub const CHECK_END: &str = "\
+Example:
+  a429 check examples/displays/table.toml examples/displays/table.plan";
+
+pub const ICD: &str = "Print what an interface control document says of each output";
+
+pub const CSV: &str = "As comma-separated values, for spreadsheets";
+
+pub const ICD_END: &str = "\
+Example:
+  a429 icd --csv examples/displays/table.toml";
+
+pub const MARGIN: &str = "Print how far each group is from one bus fewer, and what would help";
+
+pub const MARGIN_END: &str = "\
+Example:
+  a429 margin examples/air_data_and_inertial/station.toml";
+
+pub const LINT: &str = "Print what a table does in silence, such as words that never arrive";
+
+pub const LINT_END: &str = "\
+There is a line for each finding, and the status is 1 if there is one:
+  unfit GROUP SOURCE        its interval has no period
+  too-many-buses GROUP N    it needs N buses, and 16 are the most
+  unheard SOURCE            no filter of its receiver passes it
+  unsent SOURCE             no group has an output of it
+  idle RECEIVER             it has no source
+  blind RECEIVER N          its filter N passes none of its sources
+  alike GROUP SOURCE OTHER  they have one label, and one of them any SDI
+  full GROUP                it has no empty cell
+
+Example:
+  a429 lint examples/air_data_and_inertial/station.toml";
+
+pub const DIFF: &str = "Print what changes from the plan of a table to that of another";
+
+pub const OTHER: &str = "Equipment table that takes its place (TOML)";
+
+pub const DIFF_END: &str = "\
+The line `same` means that nothing changes, and the status is 0; else it is 1.
+A line `station` means that OTHER cannot be published while TABLE runs.
+
+Example:
+  a429 diff examples/displays/table.toml examples/displays/faster.toml";
+
+pub const DRAW: &str = "Draw the slot tables of a plan as an image (SVG)";
+
+pub const GROUP: &str = "Only the group of this name";
+
+pub const SLOTS: &str = "Slots of each bus, 1 to 8192; else a frame, at most 256";
+
+pub const DRAW_END: &str = "\
+Example:
+  a429 draw --group displays examples/displays/table.toml > displays.svg";
+
+pub const REPLAY: &str = "Play the events of a script on a station, and print the answers";
+
+pub const TABLE: &str = "Equipment table of the station (TOML)";
+
+pub const SCRIPT: &str = "Script of events, one on each line";
+
+pub const FURTHER: &str = "Further tables that the script can publish, from number 1";
+
+pub const REPLAY_END: &str = "\
+A script has an event on each line:
+  arrive RECEIVER HEX  a word comes in
+  cell GROUP           a group sends its next cell
+  frame GROUP          a group goes on to its next frame
+  publish N            the plan of further table N is published
+
+Example:
+  a429 replay examples/first/table.toml examples/first/script";
+
+pub const SIMULATE: &str = "Print which words a station would have sent, by a log with times";
+
+pub const LOG: &str = "Words that come in, `TIME RECEIVER HEX` on each line";
+
+pub const UNTIL: &str = "Ask for cells until then; else a frame after the last word";
+
+pub const SIMULATE_END: &str = "\
+A log has a word on each line. TIME is in whole microseconds, and does not
+fall; empty lines and lines that begin with # are passed over. What is printed:
+  TIME GROUP BUS HEX SOURCE AGE      a word goes out, AGE microseconds old
+  TIME RECEIVER HEX refused REASON   a word that came in is not taken
+
+Example:
+  a429 simulate examples/displays/table.toml examples/displays/log";
+
+pub const LIVE: &str = "Run a station on threads, and print how many words and cells passed";
+
+pub const WORDS: &str = "Words that come in, `RECEIVER HEX` on each line";
+
+pub const RESUBMITTED: &str = "Further tables, published one after another while it runs";
+
+pub const FRAMES: &str = "How many frames each group sends, at most 1000000";
+
+pub const LIVE_END: &str = "\
+Example:
+  a429 live examples/air_data_and_inertial/station.toml \\
+      examples/air_data_and_inertial/words 100";
