@@ -40,9 +40,13 @@ abbrev pub turn_after : Proposed → ℕ → ℕ → List Step
 turn_after q g t = if (t + 1) % frame_of (table_of q g) == 0 then Turns g ∷ [] else []
 
 -- in a slot a group is asked for a cell of each of its buses
+abbrev pub cells_in : Proposed → ℕ → ℕ → List Step
+cells_in q g t = replicate (buses_of (table_of q g)) (Asks g t)
+
+-- a word comes in; a slot has its cells, and after the last one of a frame its group goes on
 unfoldable pub steps_in : Proposed → Moment → List Step
 steps_in q (Word w) = Comes w ∷ []
-steps_in q (Slot g t) = replicate (buses_of (table_of q g)) (Asks g t) ++ turn_after q g t
+steps_in q (Slot g t) = cells_in q g t ++ turn_after q g t
 
 -- the steps of a timeline
 abbrev pub steps_of : Proposed → List Moment → List Step

@@ -1,13 +1,11 @@
 //! A timeline played on a station.
-ghost use Rattle.std.specs.Prelude.{◌≡◌, ◌<◌, ◌++◌, ◌∷◌, [], OnOk, OnErr, length, replicate};
+ghost use Rattle.std.specs.Prelude.{◌≡◌, ◌<◌, ◌++◌, ◌∷◌, [], OnOk, OnErr, length};
 ghost use Rattle.a429_equipment.specs.Sound.{OfEach};
-ghost use Rattle.a429_slots.specs.Tables.{buses_of};
 ghost use Rattle.a429_console.specs.Outputs.{CountsFault};
 ghost use Rattle.a429_cli.specs.AnswerLines.{refusal_text};
-ghost use Rattle.a429_cli.specs.Simulating.{Asks, Comes, refused_line, sent_line, steps_in, turn_after};
+ghost use Rattle.a429_cli.specs.Simulating.{Asks, Comes, cells_in, refused_line, sent_line, steps_in, turn_after};
 ghost use Rattle.a429_cli.specs.SimulationLog.{AreInTime};
 ghost use Rattle.a429_cli.specs.SimulationRuns.{GoesOn, HasGroup, HasNames, IsWithin, Plays, PlaysTimeline};
-ghost use Rattle.a429_cli.specs.Timeline.{table_of};
 ghost use Rattle.a429_cli.specs.Tracks.{HasTracks, IsTrack};
 
 use crate::pending::put_if_full;
@@ -141,7 +139,7 @@ fn play_cells(
     requires names { HasNames setting.now.names.now setting.now.proposal.now }
     requires known { HasGroup setting.now.proposal.now group }
     requires few { slot < 8192000000 }
-    ensures { Plays setting.now.proposal.now setting.now.csv (replicate (buses_of (table_of setting.now.proposal.now group)) (Asks group slot)) run.old run.new
+    ensures { Plays setting.now.proposal.now setting.now.csv (cells_in setting.now.proposal.now group slot) run.old run.new
         lines.old.text.items lines.new.text.items result }
 {
     let buses = setting.proposal.plan().group(group).buses();
