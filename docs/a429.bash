@@ -1,7 +1,7 @@
 # Completion of the words of a429 for bash. To use it:  source docs/a429.bash
 _a429() {
     local word=${COMP_WORDS[COMP_CWORD]} command=${COMP_WORDS[1]} options=--help
-    local commands="word lines plan check icd margin lint diff draw replay simulate live help"
+    local commands="word lines import plan check icd margin lint diff draw replay simulate live help"
     if [ "$COMP_CWORD" -eq 1 ]; then
         COMPREPLY=($(compgen -W "$commands --help --version" -- "$word"))
         return

@@ -14,6 +14,7 @@ pub mod Left
 pub mod Ran
 pub mod Taken
 pub mod Found
+pub mod Imported
 pub mod LogTimes
 pub mod LogLines
 pub mod Timelines

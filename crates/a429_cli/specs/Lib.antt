@@ -8,6 +8,7 @@ pub mod LineReplies
 pub mod PlanReplies
 pub mod Drawings
 pub mod Findings
+pub mod Importing
 pub mod Replies
 pub mod AnswerLines
 pub mod WordsFile

@@ -2,13 +2,14 @@
 use Rattle.std.specs.Prelude.{⊤, ℕ, List, Bool, Option, Result, if◌then◌else◌}
 use Rattle.a429_console.specs.Outputs.{FailedCalls, OrNoMemory}
 use Rattle.a429_console.specs.Replying.{RepliesByReader, RepliesToWords}
-use Rattle.a429_console.specs.Requests.{Command, CommandAsk, Word, Lines, Plan, Check, Replay, Simulate, Icd, Margin, Lint, Diff, Draw}
+use Rattle.a429_console.specs.Requests.{Command, CommandAsk, Word, Lines, Import, Plan, Check, Replay, Simulate, Icd, Margin, Lint, Diff, Draw}
 use Rattle.a429_console.specs.declared.files.FileFault.{FileFault}
 use Rattle.a429_cli.specs.WordLines.{IsWordReply}
 use Rattle.a429_cli.specs.LineReplies.{IsLinesReply}
 use Rattle.a429_cli.specs.PlanReplies.{IsPlanReply, IsCheckReply}
 use Rattle.a429_cli.specs.Drawings.{IsDrawReply}
 use Rattle.a429_cli.specs.Findings.{IsDiffReply, IsLintReply}
+use Rattle.a429_cli.specs.Importing.{IsImportReply}
 use Rattle.a429_cli.specs.Replaying.{IsReplay, TakesFurther}
 use Rattle.a429_cli.specs.SimulationReplies.{IsSimulation}
 use Rattle.a429_cli.specs.declared.plan_texts.PlanText.TheVariants as told
@@ -17,15 +18,16 @@ use Rattle.a429_cli.specs.declared.plan_texts.PlanText.TheVariants as told
 abbrev pub IsReply : (List ℕ → Option (List ℕ)) → CommandAsk → ℕ → List ℕ → Type 0
 IsReply file (Word text) = IsWordReply text
 IsReply file (Lines name filters) = IsLinesReply file name filters
+IsReply file (Import name) = IsImportReply file name
 IsReply file (Plan table) = IsPlanReply file told.Plan table
 IsReply file (Icd table csv) = IsPlanReply file (if csv then told.Sheet else told.Document) table
 IsReply file (Margin table) = IsPlanReply file told.Margin table
 IsReply file (Lint table) = IsLintReply file table
 IsReply file (Diff table other) = IsDiffReply file table other
-IsReply file (Draw table group slots) = IsDrawReply file table group slots
+IsReply file (Draw table group slots width) = IsDrawReply file table group slots
 IsReply file (Check table text) = IsCheckReply file table text
 IsReply file (Replay table script further) = IsReplay file table script further
-IsReply file (Simulate table log until csv) = IsSimulation file table log (record { until = until; csv = csv })
+IsReply file (Simulate table log until summary csv) = IsSimulation file table log (record { until = until; csv = csv })
 
 -- the station takes the plans of all further tables of the request
 abbrev pub TakesEach : (List ℕ → Option (List ℕ)) → CommandAsk → Type 0

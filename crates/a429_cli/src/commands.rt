@@ -11,6 +11,7 @@ ghost use Rattle.a429_console.specs.Usage.{elsewhere, is_run, kinds_of_words};
 
 use crate::drawings::print_drawing;
 use crate::findings::{print_diff, print_lint};
+use crate::import::print_import;
 use crate::lines::tell_lines;
 use crate::plan_texts::{PlanText, document_kind, print_plan, print_verdict};
 use crate::replay::replay;
@@ -158,6 +159,7 @@ fn answer<F: FileReader, O: Output>(
         CommandRequest::Lines { file, filters } => tell_lines(
             alloc, files, file, filters, seen, out,
         ),
+        CommandRequest::Import { file } => print_import(alloc, files, file, seen, out),
         CommandRequest::Plan { table } => {
             print_plan(alloc, files, table, PlanText::Plan, seen, out)
         }
@@ -173,6 +175,7 @@ fn answer<F: FileReader, O: Output>(
             table,
             group,
             slots,
+            width: _,
         } => print_drawing(alloc, files, table, *group, *slots, seen, out),
         CommandRequest::Check { table, plan } => print_verdict(
             alloc, files, table, plan, seen, out,
@@ -187,6 +190,7 @@ fn answer<F: FileReader, O: Output>(
             log,
             until,
             csv,
+            ..
         } => {
             let form = SimulationForm {
                 until: *until,

@@ -15,6 +15,7 @@
 mod commands;
 mod drawings;
 mod findings;
+mod import;
 mod lines;
 mod live;
 mod names;

@@ -76,9 +76,10 @@ fn a_reader_may_refuse_any_file(rt: HostRuntime) {
 
 #[test]
 fn each_file_is_read_once(rt: HostRuntime) {
-    let commands: [(&[&str], usize); 11] = [
+    let commands: [(&[&str], usize); 12] = [
         (&["word", "600000c1"], 0),
         (&["lines", "t"], 1),
+        (&["import", "t"], 1),
         (&["plan", "t"], 1),
         (&["check", "t", "u"], 2),
         (&["icd", "t"], 1),

@@ -1,6 +1,6 @@
 -- What the words of `draw` come to, with each of its options and without.
 use Rattle.std.proofs.Common.{◌≡◌, ◌∙◌, ap, ap₂, refl, codes, true, false, List, [], ◌∷◌, ◌++◌, fold}
-use Rattle.std.specs.Prelude.{Option, Some, None, IfSome, Bool, ◌&&◌, option_map}
+use Rattle.std.specs.Prelude.{ℕ, Option, Some, None, IfSome, Bool, ◌&&◌, option_and_then, option_map}
 use Rattle.std.specs.List.{list_all}
 use Rattle.clap.specs.Words.{Row, Shape, Text, subcommand_of, takes}
 use Rattle.clap.specs.Walk.{Walk, idle, option, walk, walked, walk_from, nothing_held, finished, stop_after}
@@ -9,8 +9,8 @@ use Rattle.clap.specs.Takes.{default_passes, is_valid, level_passes, settle_pass
 use Rattle.clap.specs.ValueTests.{is_unsigned_in}
 use Rattle.clap.proofs.OnLiterals.{clap_on_literals}
 use Rattle.a429_console.specs.CommandLine.{command_line, top_shape, draw_app, most_slots}
-use Rattle.a429_console.specs.Requests.{Command, Draw, option_words}
-use Rattle.a429_console.specs.RequestRows.{draw_request, found_by, number_of, request_by}
+use Rattle.a429_console.specs.Requests.{Command, CommandAsk, Draw, option_words}
+use Rattle.a429_console.specs.RequestRows.{draw_request, found_by, number_of, request_by, width_given}
 use Rattle.a429_console.proofs.PlainWords.{IsPlainWord, at_word, for_none, turn_of_value, turn_of_word, walked_value, walked_word}
 use Rattle.a429_console.proofs.StoppedWords.{stopped_more, stopped_passes}
 use Rattle.a429_console.proofs.ManyWords.{row_of_words}
@@ -20,14 +20,22 @@ abbrev draw_leaf : Shape
 draw_leaf = built_leaf (inherited top_shape draw_app.top)
 
 -- the words after the command's, by the texts of the options
-abbrev pub draw_words : Text → Option Text → Option Text → List Text
-draw_words t group slots = t ∷ (option_words (codes "--group") group ++ option_words (codes "--slots") slots)
+abbrev pub draw_words : Text → Option Text → Option Text → Option Text → List Text
+draw_words t group slots width = t ∷ (option_words (codes "--group") group ++ (option_words (codes "--slots") slots ++ option_words (codes "--width") width))
 
-abbrev one_row : Text → List Row
-one_row t = row_of_words (codes "TABLE") (t ∷ []) ∷ []
+abbrev row : Text → Text → Row
+row id word = row_of_words id (word ∷ [])
 
-abbrev two_rows : Text → Text → List Row
-two_rows t g = row_of_words (codes "TABLE") (t ∷ []) ∷ row_of_words (codes "group") (g ∷ []) ∷ []
+-- the rows of the table and of the group
+abbrev group_rows : Text → Option Text → List Row
+group_rows t None = row (codes "TABLE") t ∷ []
+group_rows t (Some g) = row (codes "TABLE") t ∷ row (codes "group") g ∷ []
+
+-- and of the number of slots
+abbrev slots_rows : Text → Option Text → Option Text → List Row
+slots_rows t group None = group_rows t group
+slots_rows t None (Some n) = row (codes "TABLE") t ∷ row (codes "slots") n ∷ []
+slots_rows t (Some g) (Some n) = row (codes "TABLE") t ∷ row (codes "group") g ∷ row (codes "slots") n ∷ []
 
 -- before the next word, after a value
 abbrev after : List Row → Text → Text → Walk
@@ -37,16 +45,28 @@ after rows id word = at_word (held_last rows id word) idle 2
 abbrev waiting_for : List Row → Text → Walk
 waiting_for rows id = at_word (record { rows = rows; pending = Some (id, []); skip = 0 }) (option id) 2
 
--- after all of the words
-abbrev at_end : Text → Option Text → Option Text → Walk
-at_end t None None = after [] (codes "TABLE") t
-at_end t (Some g) None = after (one_row t) (codes "group") g
-at_end t None (Some n) = after (one_row t) (codes "slots") n
-at_end t (Some g) (Some n) = after (two_rows t g) (codes "slots") n
+-- after the words of the table and of the group
+abbrev after_group : Text → Option Text → Walk
+after_group t None = after [] (codes "TABLE") t
+after_group t (Some g) = after (group_rows t None) (codes "group") g
 
--- the words of options are values, and the number of slots is one that the rule lets through
-abbrev pub Passes : Option Text → Option Text → Type 0
-Passes group slots = IfSome group IsPlainWord × IfSome slots (λ n. IsPlainWord n × (is_unsigned_in 1 most_slots n ≡ true))
+-- and after those of the number of slots
+abbrev after_slots : Text → Option Text → Option Text → Walk
+after_slots t group None = after_group t group
+after_slots t group (Some n) = after (group_rows t group) (codes "slots") n
+
+-- after all of the words
+abbrev at_end : Text → Option Text → Option Text → Option Text → Walk
+at_end t group slots None = after_slots t group slots
+at_end t group slots (Some w) = after (slots_rows t group slots) (codes "width") w
+
+-- the number of slots is one that the rule lets through
+abbrev pub PassesSlots : Option Text → Type 0
+PassesSlots slots = IfSome slots (λ n. IsPlainWord n × (is_unsigned_in 1 most_slots n ≡ true))
+
+-- the words of options are values
+abbrev pub Passes : Option Text → Option Text → Option Text → Type 0
+Passes group slots width = IfSome group IsPlainWord × (PassesSlots slots × IfSome width IsPlainWord)
 
 -- ---- word by word
 
@@ -54,25 +74,33 @@ table_read : (t : Text) → IsPlainWord t → walked draw_leaf.rules [] (walk_fr
 unfolding clap_on_literals
 table_read t p = walked_word draw_leaf.rules idle nothing_held 1 t for_none p
 
-group_named : (t : Text) → walked draw_leaf.rules [] (after [] (codes "TABLE") t) (codes "--group") ≡ waiting_for (one_row t) (codes "group")
+group_named : (t : Text) → walked draw_leaf.rules [] (after [] (codes "TABLE") t) (codes "--group") ≡ waiting_for (group_rows t None) (codes "group")
 unfolding clap_on_literals
 group_named t = refl
+
+slots_named : (t : Text) (group : Option Text) → walked draw_leaf.rules [] (after_group t group) (codes "--slots") ≡ waiting_for (group_rows t group) (codes "slots")
+unfolding clap_on_literals
+slots_named t None = refl
+slots_named t (Some g) = refl
+
+width_named : (t : Text) (group slots : Option Text) → walked draw_leaf.rules [] (after_slots t group slots) (codes "--width") ≡ waiting_for (slots_rows t group slots) (codes "width")
+unfolding clap_on_literals
+width_named t None None = refl
+width_named t (Some g) None = refl
+width_named t None (Some n) = refl
+width_named t (Some g) (Some n) = refl
 
 group_read : (rows : List Row) (g : Text) → IsPlainWord g → walked draw_leaf.rules [] (waiting_for rows (codes "group")) g ≡ after rows (codes "group") g
 unfolding clap_on_literals
 group_read rows g p = walked_value draw_leaf.rules (codes "group") (record { rows = rows; pending = Some (codes "group", []); skip = 0 }) 2 g p
 
-slots_named : (t : Text) → walked draw_leaf.rules [] (after [] (codes "TABLE") t) (codes "--slots") ≡ waiting_for (one_row t) (codes "slots")
-unfolding clap_on_literals
-slots_named t = refl
-
-slots_named_last : (t g : Text) → walked draw_leaf.rules [] (after (one_row t) (codes "group") g) (codes "--slots") ≡ waiting_for (two_rows t g) (codes "slots")
-unfolding clap_on_literals
-slots_named_last t g = refl
-
 slots_read : (rows : List Row) (n : Text) → IsPlainWord n → walked draw_leaf.rules [] (waiting_for rows (codes "slots")) n ≡ after rows (codes "slots") n
 unfolding clap_on_literals
 slots_read rows n p = walked_value draw_leaf.rules (codes "slots") (record { rows = rows; pending = Some (codes "slots", []); skip = 0 }) 2 n p
+
+width_read : (rows : List Row) (w : Text) → IsPlainWord w → walked draw_leaf.rules [] (waiting_for rows (codes "width")) w ≡ after rows (codes "width") w
+unfolding clap_on_literals
+width_read rows w p = walked_value draw_leaf.rules (codes "width") (record { rows = rows; pending = Some (codes "width", []); skip = 0 }) 2 w p
 
 -- the turns of the words
 table_turn : (t : Text) → IsPlainWord t → turn_passes draw_leaf [] (walk_from nothing_held) t ≡ true
@@ -82,13 +110,17 @@ group_turn : (t : Text) → turn_passes draw_leaf [] (after [] (codes "TABLE") t
 unfolding clap_on_literals
 group_turn t = refl
 
-slots_turn : (t : Text) → turn_passes draw_leaf [] (after [] (codes "TABLE") t) (codes "--slots") ≡ true
+slots_turn : (t : Text) (group : Option Text) → turn_passes draw_leaf [] (after_group t group) (codes "--slots") ≡ true
 unfolding clap_on_literals
-slots_turn t = refl
+slots_turn t None = refl
+slots_turn t (Some g) = refl
 
-slots_turn_last : (t g : Text) → turn_passes draw_leaf [] (after (one_row t) (codes "group") g) (codes "--slots") ≡ true
+width_turn : (t : Text) (group slots : Option Text) → PassesSlots slots → turn_passes draw_leaf [] (after_slots t group slots) (codes "--width") ≡ true
 unfolding clap_on_literals
-slots_turn_last t g = refl
+width_turn t None None q = refl
+width_turn t (Some g) None q = refl
+width_turn t None (Some n) q = ap (λ (b : Bool). (b && true) && true) q.1
+width_turn t (Some g) (Some n) q = ap (λ (b : Bool). (b && true) && true) q.1
 
 value_turn : (rows : List Row) (id word : Text) → IsPlainWord word → turn_passes draw_leaf [] (waiting_for rows id) word ≡ true
 value_turn rows id word p = turn_of_value draw_leaf id (record { rows = rows; pending = Some (id, []); skip = 0 }) 2 word p
@@ -111,57 +143,77 @@ goes_on from next to word words turn step rest = record {
   comes = ap (λ (w : Walk). fold (walked draw_leaf.rules []) w words) step ∙ rest.comes;
 }
 
--- the table's name, and then the options
-starts : (t : Text) (words : List Text) (to : Walk) → IsPlainWord t → Walks (after [] (codes "TABLE") t) words to → Walks (walk_from nothing_held) (t ∷ words) to
-starts t words to p rest = goes_on (walk_from nothing_held) (after [] (codes "TABLE") t) to t words (table_turn t p) (table_read t p) rest
+width_walks : (t : Text) (group slots width : Option Text) → Passes group slots width → Walks (after_slots t group slots) (option_words (codes "--width") width) (at_end t group slots width)
+width_walks t group slots None q = stays (after_slots t group slots)
+width_walks t group slots (Some w) q =
+    let rows = slots_rows t group slots in
+    let last = after rows (codes "width") w in
+    goes_on (after_slots t group slots) (waiting_for rows (codes "width")) last (codes "--width") (w ∷ []) (width_turn t group slots q.1.0) (width_named t group slots)
+    (goes_on (waiting_for rows (codes "width")) last last w [] (value_turn rows (codes "width") w q.1.1) (width_read rows w q.1.1) (stays last))
 
-group_walks : (t g : Text) (words : List Text) (to : Walk) → IsPlainWord g → Walks (after (one_row t) (codes "group") g) words to → Walks (after [] (codes "TABLE") t) (codes "--group" ∷ g ∷ words) to
-group_walks t g words to p rest =
-    goes_on (after [] (codes "TABLE") t) (waiting_for (one_row t) (codes "group")) to (codes "--group") (g ∷ words) (group_turn t) (group_named t)
-    (goes_on (waiting_for (one_row t) (codes "group")) (after (one_row t) (codes "group") g) to g words (value_turn (one_row t) (codes "group") g p) (group_read (one_row t) g p) rest)
+slots_walk : (t : Text) (group slots width : Option Text) → Passes group slots width
+    → Walks (after_group t group) (option_words (codes "--slots") slots ++ option_words (codes "--width") width) (at_end t group slots width)
+slots_walk t group None width q = width_walks t group None width q
+slots_walk t group (Some n) width q =
+    let rows = group_rows t group in
+    let rest = option_words (codes "--width") width in
+    goes_on (after_group t group) (waiting_for rows (codes "slots")) (at_end t group (Some n) width) (codes "--slots") (n ∷ rest) (slots_turn t group) (slots_named t group)
+    (goes_on (waiting_for rows (codes "slots")) (after rows (codes "slots") n) (at_end t group (Some n) width) n rest (value_turn rows (codes "slots") n q.1.0.0) (slots_read rows n q.1.0.0)
+    (width_walks t group (Some n) width q))
 
-number_walks : (rows : List Row) (n : Text) → IsPlainWord n → Walks (waiting_for rows (codes "slots")) (n ∷ []) (after rows (codes "slots") n)
-number_walks rows n p =
-    let last = after rows (codes "slots") n in
-    goes_on (waiting_for rows (codes "slots")) last last n [] (value_turn rows (codes "slots") n p) (slots_read rows n p) (stays last)
+options_walk : (t : Text) (group slots width : Option Text) → Passes group slots width
+    → Walks (after [] (codes "TABLE") t) (option_words (codes "--group") group ++ (option_words (codes "--slots") slots ++ option_words (codes "--width") width)) (at_end t group slots width)
+options_walk t None slots width q = slots_walk t None slots width q
+options_walk t (Some g) slots width q =
+    let rows = group_rows t None in
+    let rest = option_words (codes "--slots") slots ++ option_words (codes "--width") width in
+    goes_on (after [] (codes "TABLE") t) (waiting_for rows (codes "group")) (at_end t (Some g) slots width) (codes "--group") (g ∷ rest) (group_turn t) (group_named t)
+    (goes_on (waiting_for rows (codes "group")) (after rows (codes "group") g) (at_end t (Some g) slots width) g rest (value_turn rows (codes "group") g q.0) (group_read rows g q.0)
+    (slots_walk t (Some g) slots width q))
 
-draw_walks : (t : Text) (group slots : Option Text) → IsPlainWord t → Passes group slots → Walks (walk_from nothing_held) (draw_words t group slots) (at_end t group slots)
-draw_walks t None None p q = starts t [] _ p (stays _)
-draw_walks t (Some g) None p q = starts t (codes "--group" ∷ g ∷ []) _ p (group_walks t g [] _ q.0 (stays _))
-draw_walks t None (Some n) p q =
-    starts t (codes "--slots" ∷ n ∷ []) _ p
-    (goes_on (after [] (codes "TABLE") t) (waiting_for (one_row t) (codes "slots")) _ (codes "--slots") (n ∷ []) (slots_turn t) (slots_named t) (number_walks (one_row t) n q.1.0))
-draw_walks t (Some g) (Some n) p q =
-    starts t (codes "--group" ∷ g ∷ codes "--slots" ∷ n ∷ []) _ p
-    (group_walks t g (codes "--slots" ∷ n ∷ []) _ q.0
-    (goes_on (after (one_row t) (codes "group") g) (waiting_for (two_rows t g) (codes "slots")) _ (codes "--slots") (n ∷ []) (slots_turn_last t g) (slots_named_last t g) (number_walks (two_rows t g) n q.1.0)))
+draw_walks : (t : Text) (group slots width : Option Text) → IsPlainWord t → Passes group slots width → Walks (walk_from nothing_held) (draw_words t group slots width) (at_end t group slots width)
+draw_walks t group slots width p q =
+    let rest = option_words (codes "--group") group ++ (option_words (codes "--slots") slots ++ option_words (codes "--width") width) in
+    goes_on (walk_from nothing_held) (after [] (codes "TABLE") t) (at_end t group slots width) t rest (table_turn t p) (table_read t p) (options_walk t group slots width q)
 
 -- ---- what stands at the end
 
 -- what is asked for by what was read
-draw_read : (t : Text) (group slots : Option Text) → draw_request (finished draw_leaf.rules (at_end t group slots).held) ≡ option_map (Draw t group) (number_of 1 most_slots slots)
+abbrev pub asked_by : Text → Option Text → Option (Option ℕ) → Option (Option ℕ) → Option CommandAsk
+asked_by t group slots width = option_and_then (λ (w : Option ℕ). option_map (λ (s : Option ℕ). Draw t group s w) slots) width
+
+draw_read : (t : Text) (group slots width : Option Text)
+    → draw_request (finished draw_leaf.rules (at_end t group slots width).held) ≡ asked_by t group (number_of 1 most_slots slots) (width_given width)
 unfolding clap_on_literals
-draw_read t None None = refl
-draw_read t (Some g) None = refl
-draw_read t None (Some n) = refl
-draw_read t (Some g) (Some n) = refl
+draw_read t None None None = refl
+draw_read t (Some g) None None = refl
+draw_read t None (Some n) None = refl
+draw_read t (Some g) (Some n) None = refl
+draw_read t None None (Some w) = refl
+draw_read t (Some g) None (Some w) = refl
+draw_read t None (Some n) (Some w) = refl
+draw_read t (Some g) (Some n) (Some w) = refl
 
 -- it passes
 ends_well : Walk → Bool
 ends_well w = settle_passes draw_leaf.rules false w.held && (list_all default_passes draw_leaf.rules && is_valid draw_leaf (finished draw_leaf.rules w.held) false)
 
-draw_ends : (t : Text) (group slots : Option Text) → Passes group slots → ends_well (at_end t group slots) ≡ true
+draw_ends : (t : Text) (group slots width : Option Text) → Passes group slots width → ends_well (at_end t group slots width) ≡ true
 unfolding ends_well clap_on_literals
-draw_ends t None None q = refl
-draw_ends t (Some g) None q = refl
-draw_ends t None (Some n) q = ap (λ (b : Bool). (b && true) && true) q.1.1
-draw_ends t (Some g) (Some n) q = ap (λ (b : Bool). (b && true) && true) q.1.1
+draw_ends t None None None q = refl
+draw_ends t (Some g) None None q = refl
+draw_ends t None (Some n) None q = ap (λ (b : Bool). (b && true) && true) q.1.0.1
+draw_ends t (Some g) (Some n) None q = ap (λ (b : Bool). (b && true) && true) q.1.0.1
+draw_ends t None None (Some w) q = refl
+draw_ends t (Some g) None (Some w) q = refl
+draw_ends t None (Some n) (Some w) q = refl
+draw_ends t (Some g) (Some n) (Some w) q = refl
 
-draw_level : (t : Text) (group slots : Option Text) → IsPlainWord t → Passes group slots → level_passes draw_leaf [] nothing_held (draw_words t group slots) false ≡ true
+draw_level : (t : Text) (group slots width : Option Text) → IsPlainWord t → Passes group slots width → level_passes draw_leaf [] nothing_held (draw_words t group slots width) false ≡ true
 unfolding ends_well
-draw_level t group slots p q =
-    let walks = draw_walks t group slots p q in
-    ap₂ (λ (a b : Bool). a && b) walks.passes (ap ends_well walks.comes ∙ draw_ends t group slots q)
+draw_level t group slots width p q =
+    let walks = draw_walks t group slots width p q in
+    ap₂ (λ (a b : Bool). a && b) walks.passes (ap ends_well walks.comes ∙ draw_ends t group slots width q)
 
 -- ---- the words of the command line
 
@@ -177,15 +229,17 @@ draw_entered : (words : List Text) → subcommand_of command_line (codes "draw" 
 unfolding command_line
 draw_entered words = ap (entered (built command_line)) (draw_stop words) ∙ draw_enters words
 
-pub draw_asked : (t : Text) (group slots : Option Text) → IsPlainWord t → Passes group slots
-    → found_by request_by (subcommand_of command_line (codes "draw" ∷ draw_words t group slots)) ≡ option_map Command (option_map (Draw t group) (number_of 1 most_slots slots))
-draw_asked t group slots p q =
-    ap (found_by request_by) (draw_entered (draw_words t group slots))
-    ∙ ap (option_map Command) (ap (λ (w : Walk). draw_request (finished draw_leaf.rules w.held)) (draw_walks t group slots p q).comes ∙ draw_read t group slots)
+pub draw_asked : (t : Text) (group slots width : Option Text) → IsPlainWord t → Passes group slots width
+    → found_by request_by (subcommand_of command_line (codes "draw" ∷ draw_words t group slots width))
+    ≡ option_map Command (asked_by t group (number_of 1 most_slots slots) (width_given width))
+draw_asked t group slots width p q =
+    ap (found_by request_by) (draw_entered (draw_words t group slots width))
+    ∙ ap (option_map Command)
+    (ap (λ (w : Walk). draw_request (finished draw_leaf.rules w.held)) (draw_walks t group slots width p q).comes ∙ draw_read t group slots width)
 
-pub draw_takes : (t : Text) (group slots : Option Text) → IsPlainWord t → Passes group slots → takes command_line (codes "draw" ∷ draw_words t group slots) ≡ true
+pub draw_takes : (t : Text) (group slots width : Option Text) → IsPlainWord t → Passes group slots width → takes command_line (codes "draw" ∷ draw_words t group slots width) ≡ true
 unfolding command_line clap_on_literals passes_with
-draw_takes t group slots p q =
-    ap₂ passes_with (stopped_more top.rules commands (at_command (codes "draw")) (codes "draw") [] (draw_words t group slots) refl)
-    (stopped_passes top commands (at_command (codes "draw")) (codes "draw") [] (draw_words t group slots) refl)
-    ∙ rw (draw_level t group slots p q) refl
+draw_takes t group slots width p q =
+    ap₂ passes_with (stopped_more top.rules commands (at_command (codes "draw")) (codes "draw") [] (draw_words t group slots width) refl)
+    (stopped_passes top commands (at_command (codes "draw")) (codes "draw") [] (draw_words t group slots width) refl)
+    ∙ rw (draw_level t group slots width p q) refl

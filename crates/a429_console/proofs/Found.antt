@@ -1,6 +1,6 @@
 -- What was found of the words that name a command.
 use Rattle.std.proofs.Common.{◌≡◌, ◌∙◌, ◌<◌, ◌^◌, ap, sym, refl, true, false, codes, ℕ, Bool, List, arith}
-use Rattle.std.specs.Prelude.{Option, Some, None, Result, Ok, Err, not, if◌then◌else◌, option_and_then, option_map, Box}
+use Rattle.std.specs.Prelude.{Option, Some, None, Result, Ok, Err, not, if◌then◌else◌, is_some, option_and_then, option_map, Box}
 use Rattle.std.proofs.lemmas.Bool.{and_parts}
 use Rattle.std.proofs.lemmas.Option.{same_Some}
 use Rattle.std.proofs.lemmas.Slice.Eq.{bytes_eq-Decides}
@@ -20,9 +20,9 @@ use Rattle.clap.specs.declared.parser.matches.ArgMatches.TheViews.{out-ArgMatche
 use Rattle.clap.proofs.ValueTestLemmas.{accepts-Accepts}
 use Rattle.a429_equipment.specs.Limits.{most_frames}
 use Rattle.a429_console.specs.CommandLine.{last_time, most_slots}
-use Rattle.a429_console.specs.Requests.{CommandAsk, Word, Lines, Plan, Check, Icd, Margin, Lint, Diff, Draw, Replay, Simulate, LiveAsk, IsReadOf}
-use Rattle.a429_console.specs.RequestRows.{flag_given, found_by, frames_of, number_of, values_of}
-use Rattle.a429_console.specs.RequestRows.{word_request, lines_request, plan_request, check_request, icd_request, margin_request, lint_request, diff_request, draw_request, replay_request, simulate_request, live_request}
+use Rattle.a429_console.specs.Requests.{CommandAsk, Word, Lines, Import, Plan, Check, Icd, Margin, Lint, Diff, Draw, Replay, Simulate, LiveAsk, IsReadOf}
+use Rattle.a429_console.specs.RequestRows.{flag_given, found_by, frames_of, number_of, values_of, width_given, width_in}
+use Rattle.a429_console.specs.RequestRows.{word_request, lines_request, import_request, plan_request, check_request, icd_request, margin_request, lint_request, diff_request, draw_request, replay_request, simulate_request, live_request}
 
 was_not : (b : Bool) → not b ≡ true → b ≡ false
 was_not true e = cc
@@ -68,6 +68,9 @@ word_is rows t r at asked = same_Some (Word t) r (ap (option_map Word) at ∙ as
 pub lines_is : (rows : List Row) (file : Text) (filters : List Text) (r : CommandAsk) → Some file ≡ first_of (codes "FILE") rows → filters ≡ values_of (codes "FILTER") rows
     → lines_request rows ≡ Some r → Lines file filters ≡ r
 lines_is rows file filters r at all asked = ap (Lines file) all ∙ same_Some (Lines file (values_of (codes "FILTER") rows)) r (rw (← at) at asked)
+
+pub import_is : (rows : List Row) (t : Text) (r : CommandAsk) → Some t ≡ first_of (codes "FILE") rows → import_request rows ≡ Some r → Import t ≡ r
+import_is rows t r at asked = same_Some (Import t) r (ap (option_map Import) at ∙ asked)
 
 pub plan_is : (rows : List Row) (t : Text) (r : CommandAsk) → Some t ≡ first_of (codes "TABLE") rows → plan_request rows ≡ Some r → Plan t ≡ r
 plan_is rows t r at asked = same_Some (Plan t) r (ap (option_map Plan) at ∙ asked)
@@ -123,33 +126,69 @@ module _ {E : Type 0} (bits : ℕ) (gives : Text → Result ℕ E → Type 0) (p
   number_read None read number none value asked = none refl ∙ same_Some None number asked
   number_read (Some t) read number none value asked = one_read t (is_unsigned_in least most t) read number refl (value t refl) asked
 
-pub draw_is : (rows : List Row) (t : Text) (group : Option Text) (slots : Option ℕ) (r : CommandAsk) → Some t ≡ first_of (codes "TABLE") rows → group ≡ first_of (codes "group") rows
-    → ((n : Option ℕ) → number_of 1 most_slots (one_of (codes "slots") rows) ≡ Some n → slots ≡ n) → draw_request rows ≡ Some r → Draw t group slots ≡ r
-draw_is rows t group slots r table at same asked = by_part (Draw t group) (number_of 1 most_slots (one_of (codes "slots") rows)) slots r same (rw (← table, ← at) at asked)
+-- a part that comes before others was read
+and_then_part : {A B : Type 0} (others : A → Option B) (found : Option A) (part : A) (r : B) → ((a : A) → found ≡ Some a → part ≡ a) → option_and_then others found ≡ Some r → others part ≡ Some r
+and_then_part others None part r same is = absurd (cc is)
+and_then_part others (Some a) part r same is = ap others (same a refl) ∙ is
+
+is_some_of_some : (x : Option ℕ) → is_some x ≡ is_some (option_map (λ (n : ℕ). Some n) x)
+is_some_of_some None = refl
+is_some_of_some (Some n) = refl
+
+width_by : (x width : Option ℕ) → option_map (λ (n : ℕ). Some n) x ≡ Some width → x ≡ width
+width_by None width is = absurd (cc is)
+width_by (Some n) width is = same_Some (Some n) width is
+
+-- a text states a width that there is just where it is read as one
+pub width_is_known : (found : Option Text) (t : Text) (read : Option ℕ) → Some t ≡ found → read ≡ width_in t → is_some read ≡ is_some (width_given found)
+width_is_known found t read at is = rw (← at, is) (is_some_of_some (width_in t))
+
+pub no_width_is_known : (found : Option Text) → None ≡ found → true ≡ is_some (width_given found)
+no_width_is_known found at = rw (← at) refl
+
+-- and then that width is given
+pub width_read : (found : Option Text) (t : Text) (read width : Option ℕ) → Some t ≡ found → read ≡ width_in t → width_given found ≡ Some width → read ≡ width
+width_read found t read width at is asked = is ∙ width_by (width_in t) width (rw (← at) at asked)
+
+pub no_width_read : (found : Option Text) (width : Option ℕ) → None ≡ found → width_given found ≡ Some width → None ≡ width
+no_width_read found width at asked = same_Some None width (rw (← at) at asked)
+
+-- what is asked for by the numbers of `draw`
+numbers_are : (t : Text) (group : Option Text) (slots_found width_found : Option (Option ℕ)) (slots width : Option ℕ) (r : CommandAsk)
+    → ((n : Option ℕ) → slots_found ≡ Some n → slots ≡ n) → ((w : Option ℕ) → width_found ≡ Some w → width ≡ w)
+    → option_and_then (λ (w : Option ℕ). option_map (λ (s : Option ℕ). Draw t group s w) slots_found) width_found ≡ Some r → Draw t group slots width ≡ r
+numbers_are t group slots_found width_found slots width r same wide asked =
+    let read = and_then_part (λ (w : Option ℕ). option_map (λ (s : Option ℕ). Draw t group s w) slots_found) width_found width r wide asked in
+    by_part (λ (s : Option ℕ). Draw t group s width) slots_found slots r same read
+
+pub draw_is : (rows : List Row) (t : Text) (group : Option Text) (slots width : Option ℕ) (r : CommandAsk) → Some t ≡ first_of (codes "TABLE") rows → group ≡ first_of (codes "group") rows
+    → ((n : Option ℕ) → number_of 1 most_slots (one_of (codes "slots") rows) ≡ Some n → slots ≡ n)
+    → ((w : Option ℕ) → width_given (first_of (codes "width") rows) ≡ Some w → width ≡ w) → draw_request rows ≡ Some r → Draw t group slots width ≡ r
+draw_is rows t group slots width r table at same wide asked =
+    numbers_are t group (number_of 1 most_slots (one_of (codes "slots") rows)) (width_given (first_of (codes "width") rows)) slots width r same wide (rw (← table, ← at) at asked)
 
 pub replay_is : (rows : List Row) (t s : Text) (further : List Text) (r : CommandAsk) → Some t ≡ first_of (codes "TABLE") rows → Some s ≡ first_of (codes "SCRIPT") rows
     → further ≡ values_of (codes "FURTHER") rows → replay_request rows ≡ Some r → Replay t s further ≡ r
 replay_is rows t s further r table script all asked =
     ap (Replay t s) all ∙ same_Some (Replay t s (values_of (codes "FURTHER") rows)) r (rw (← table, ← script) at asked)
 
--- a part that comes before others was read
-and_then_part : {A B : Type 0} (others : A → Option B) (found : Option A) (part : A) (r : B) → ((a : A) → found ≡ Some a → part ≡ a) → option_and_then others found ≡ Some r → others part ≡ Some r
-and_then_part others None part r same is = absurd (cc is)
-and_then_part others (Some a) part r same is = ap others (same a refl) ∙ is
-
 -- what is asked for by the parts of `simulate` that are no names
-options_are : (t l : Text) (found : Option (Option ℕ)) (csv_text : Option Text) (until : Option ℕ) (csv : Bool) (r : CommandAsk)
-    → ((n : Option ℕ) → found ≡ Some n → until ≡ n) → IsFlag csv_text csv
-    → option_and_then (λ (c : Bool). option_map (λ (u : Option ℕ). Simulate t l u c) found) (flag_given csv_text) ≡ Some r → Simulate t l until csv ≡ r
-options_are t l found csv_text until csv r same sheet asked =
-    let read = and_then_part (λ (c : Bool). option_map (λ (u : Option ℕ). Simulate t l u c) found) (flag_given csv_text) csv r (λ b is. flag_is csv_text csv b sheet is) asked in
-    by_part (λ (u : Option ℕ). Simulate t l u csv) found until r same read
+options_are : (t l : Text) (found : Option (Option ℕ)) (summary_text csv_text : Option Text) (until : Option ℕ) (summary csv : Bool) (r : CommandAsk)
+    → ((n : Option ℕ) → found ≡ Some n → until ≡ n) → IsFlag summary_text summary → IsFlag csv_text csv
+    → option_and_then (λ (s : Bool). option_and_then (λ (c : Bool). option_map (λ (u : Option ℕ). Simulate t l u s c) found) (flag_given csv_text)) (flag_given summary_text) ≡ Some r
+    → Simulate t l until summary csv ≡ r
+options_are t l found summary_text csv_text until summary csv r same short sheet asked =
+    let rest : Bool → Option CommandAsk = λ s. option_and_then (λ (c : Bool). option_map (λ (u : Option ℕ). Simulate t l u s c) found) (flag_given csv_text) in
+    let first = and_then_part rest (flag_given summary_text) summary r (λ b is. flag_is summary_text summary b short is) asked in
+    let second = and_then_part (λ (c : Bool). option_map (λ (u : Option ℕ). Simulate t l u summary c) found) (flag_given csv_text) csv r (λ b is. flag_is csv_text csv b sheet is) first in
+    by_part (λ (u : Option ℕ). Simulate t l u summary csv) found until r same second
 
-pub simulate_is : (rows : List Row) (t l : Text) (until : Option ℕ) (csv : Bool) (r : CommandAsk) → Some t ≡ first_of (codes "TABLE") rows → Some l ≡ first_of (codes "LOG") rows
-    → ((n : Option ℕ) → number_of 0 last_time (one_of (codes "until") rows) ≡ Some n → until ≡ n) → IsFlag (one_of (codes "csv") rows) csv
-    → simulate_request rows ≡ Some r → Simulate t l until csv ≡ r
-simulate_is rows t l until csv r table log same sheet asked =
-    options_are t l (number_of 0 last_time (one_of (codes "until") rows)) (one_of (codes "csv") rows) until csv r same sheet (rw (← table, ← log) at asked)
+pub simulate_is : (rows : List Row) (t l : Text) (until : Option ℕ) (summary csv : Bool) (r : CommandAsk) → Some t ≡ first_of (codes "TABLE") rows → Some l ≡ first_of (codes "LOG") rows
+    → ((n : Option ℕ) → number_of 0 last_time (one_of (codes "until") rows) ≡ Some n → until ≡ n) → IsFlag (one_of (codes "summary") rows) summary → IsFlag (one_of (codes "csv") rows) csv
+    → simulate_request rows ≡ Some r → Simulate t l until summary csv ≡ r
+simulate_is rows t l until summary csv r table log same short sheet asked =
+    options_are t l (number_of 0 last_time (one_of (codes "until") rows)) (one_of (codes "summary") rows) (one_of (codes "csv") rows) until summary csv r same short sheet
+    (rw (← table, ← log) at asked)
 
 given_number : (found : Option (Option ℕ)) (frames n : ℕ) → ((m : Option ℕ) → found ≡ Some m → Some frames ≡ m) → option_and_then (λ (number : Option ℕ). number) found ≡ Some n → frames ≡ n
 given_number None frames n same is = absurd (cc is)

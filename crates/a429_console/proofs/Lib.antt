@@ -2,6 +2,7 @@ pub mod PlainWords
 pub mod StoppedWords
 pub mod ManyWords
 pub mod RequestWords
+pub mod ImportWords
 pub mod MarginWords
 pub mod LintWords
 pub mod DiffWords

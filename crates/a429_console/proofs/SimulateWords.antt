@@ -20,8 +20,8 @@ abbrev simulate_leaf : Shape
 simulate_leaf = built_leaf (inherited top_shape simulate_app.top)
 
 -- the words after the command's, by the text of the time
-abbrev pub simulate_words : Text → Text → Option Text → Bool → List Text
-simulate_words t l until csv = t ∷ l ∷ (option_words (codes "--until") until ++ flag_words (codes "--csv") csv)
+abbrev pub simulate_words : Text → Text → Option Text → Bool → Bool → List Text
+simulate_words t l until summary csv = t ∷ l ∷ (option_words (codes "--until") until ++ (flag_words (codes "--summary") summary ++ flag_words (codes "--csv") csv))
 
 abbrev table_row : Text → List Row
 table_row t = row_of_words (codes "TABLE") (t ∷ []) ∷ []
@@ -46,10 +46,20 @@ after_values t l (Some n) = at_word (held_last (name_rows t l) (codes "until") n
 abbrev after_flag : List Row → Walk
 after_flag rows = at_word (record { rows = rows; pending = None; skip = 0 }) idle 3
 
+-- the rows of the values and of the first option without one
+abbrev summary_rows : Text → Text → Option Text → Bool → List Row
+summary_rows t l until false = value_rows t l until
+summary_rows t l until true = value_rows t l until ++ flag_row (codes "summary") ∷ []
+
+-- after that option
+abbrev after_summary : Text → Text → Option Text → Bool → Walk
+after_summary t l until false = after_values t l until
+after_summary t l until true = after_flag (summary_rows t l until true)
+
 -- after all of the words
-abbrev at_end : Text → Text → Option Text → Bool → Walk
-at_end t l until false = after_values t l until
-at_end t l until true = after_flag (value_rows t l until ++ flag_row (codes "csv") ∷ [])
+abbrev at_end : Text → Text → Option Text → Bool → Bool → Walk
+at_end t l until summary false = after_summary t l until summary
+at_end t l until summary true = after_flag (summary_rows t l until summary ++ flag_row (codes "csv") ∷ [])
 
 -- an option waits for its value
 abbrev waiting_for : List Row → Text → Walk
@@ -80,10 +90,17 @@ until_read : (t l n : Text) → IsPlainWord n → walked simulate_leaf.rules [] 
 unfolding clap_on_literals
 until_read t l n p = walked_value simulate_leaf.rules (codes "until") (record { rows = name_rows t l; pending = Some (codes "until", []); skip = 0 }) 3 n p
 
-csv_read : (t l : Text) (until : Option Text) → walked simulate_leaf.rules [] (after_values t l until) (codes "--csv") ≡ at_end t l until true
+summary_read : (t l : Text) (until : Option Text) → walked simulate_leaf.rules [] (after_values t l until) (codes "--summary") ≡ after_summary t l until true
 unfolding clap_on_literals
-csv_read t l None = refl
-csv_read t l (Some n) = refl
+summary_read t l None = refl
+summary_read t l (Some n) = refl
+
+csv_read : (t l : Text) (until : Option Text) (summary : Bool) → walked simulate_leaf.rules [] (after_summary t l until summary) (codes "--csv") ≡ at_end t l until summary true
+unfolding clap_on_literals
+csv_read t l None false = refl
+csv_read t l None true = refl
+csv_read t l (Some n) false = refl
+csv_read t l (Some n) true = refl
 
 -- the turns of the words
 table_turn : (t : Text) → IsPlainWord t → turn_passes simulate_leaf [] (walk_from nothing_held) t ≡ true
@@ -99,10 +116,17 @@ until_turn t l = refl
 value_turn : (t l n : Text) → IsPlainWord n → turn_passes simulate_leaf [] (waiting_for (name_rows t l) (codes "until")) n ≡ true
 value_turn t l n p = turn_of_value simulate_leaf (codes "until") (record { rows = name_rows t l; pending = Some (codes "until", []); skip = 0 }) 3 n p
 
-csv_turn : (t l : Text) (until : Option Text) → PassesTime until → turn_passes simulate_leaf [] (after_values t l until) (codes "--csv") ≡ true
+summary_turn : (t l : Text) (until : Option Text) → PassesTime until → turn_passes simulate_leaf [] (after_values t l until) (codes "--summary") ≡ true
 unfolding clap_on_literals
-csv_turn t l None q = refl
-csv_turn t l (Some n) q = ap (λ (b : Bool). ((b && true) && true) && true) q.1
+summary_turn t l None q = refl
+summary_turn t l (Some n) q = ap (λ (b : Bool). ((b && true) && true) && true) q.1
+
+csv_turn : (t l : Text) (until : Option Text) (summary : Bool) → PassesTime until → turn_passes simulate_leaf [] (after_summary t l until summary) (codes "--csv") ≡ true
+unfolding clap_on_literals
+csv_turn t l None false q = refl
+csv_turn t l None true q = refl
+csv_turn t l (Some n) false q = ap (λ (b : Bool). ((b && true) && true) && true) q.1
+csv_turn t l (Some n) true q = refl
 
 -- ---- the walk over all of them
 
@@ -122,54 +146,74 @@ goes_on from next to word words turn step rest = record {
   comes = ap (λ (w : Walk). fold (walked simulate_leaf.rules []) w words) step ∙ rest.comes;
 }
 
-csv_walks : (t l : Text) (until : Option Text) (csv : Bool) → PassesTime until → Walks (after_values t l until) (flag_words (codes "--csv") csv) (at_end t l until csv)
-csv_walks t l until false q = stays (at_end t l until false)
-csv_walks t l until true q =
-    goes_on (after_values t l until) (at_end t l until true) (at_end t l until true) (codes "--csv") [] (csv_turn t l until q) (csv_read t l until) (stays (at_end t l until true))
+csv_walks : (t l : Text) (until : Option Text) (summary csv : Bool) → PassesTime until
+    → Walks (after_summary t l until summary) (flag_words (codes "--csv") csv) (at_end t l until summary csv)
+csv_walks t l until summary false q = stays (at_end t l until summary false)
+csv_walks t l until summary true q =
+    let last = at_end t l until summary true in
+    goes_on (after_summary t l until summary) last last (codes "--csv") [] (csv_turn t l until summary q) (csv_read t l until summary) (stays last)
 
-options_walk : (t l : Text) (until : Option Text) (csv : Bool) → PassesTime until
-    → Walks (after_values t l None) (option_words (codes "--until") until ++ flag_words (codes "--csv") csv) (at_end t l until csv)
-options_walk t l None csv q = csv_walks t l None csv q
-options_walk t l (Some n) csv q =
-    goes_on (after_values t l None) (waiting_for (name_rows t l) (codes "until")) (at_end t l (Some n) csv) (codes "--until") (n ∷ flag_words (codes "--csv") csv) (until_turn t l) (until_named t l)
-    (goes_on (waiting_for (name_rows t l) (codes "until")) (after_values t l (Some n)) (at_end t l (Some n) csv) n (flag_words (codes "--csv") csv) (value_turn t l n q.0) (until_read t l n q.0)
-    (csv_walks t l (Some n) csv q))
+flags_walk : (t l : Text) (until : Option Text) (summary csv : Bool) → PassesTime until
+    → Walks (after_values t l until) (flag_words (codes "--summary") summary ++ flag_words (codes "--csv") csv) (at_end t l until summary csv)
+flags_walk t l until false csv q = csv_walks t l until false csv q
+flags_walk t l until true csv q =
+    goes_on (after_values t l until) (after_summary t l until true) (at_end t l until true csv) (codes "--summary") (flag_words (codes "--csv") csv) (summary_turn t l until q) (summary_read t l until)
+    (csv_walks t l until true csv q)
 
-simulate_walks : (t l : Text) (until : Option Text) (csv : Bool) → IsPlainWord t → IsPlainWord l → PassesTime until
-    → Walks (walk_from nothing_held) (simulate_words t l until csv) (at_end t l until csv)
-simulate_walks t l until csv p r q =
-    let options = option_words (codes "--until") until ++ flag_words (codes "--csv") csv in
-    goes_on (walk_from nothing_held) (after_table t) (at_end t l until csv) t (l ∷ options) (table_turn t p) (table_read t p)
-    (goes_on (after_table t) (after_values t l None) (at_end t l until csv) l options (log_turn t l r) (log_read t l r) (options_walk t l until csv q))
+options_walk : (t l : Text) (until : Option Text) (summary csv : Bool) → PassesTime until
+    → Walks (after_values t l None) (option_words (codes "--until") until ++ (flag_words (codes "--summary") summary ++ flag_words (codes "--csv") csv)) (at_end t l until summary csv)
+options_walk t l None summary csv q = flags_walk t l None summary csv q
+options_walk t l (Some n) summary csv q =
+    let rest = flag_words (codes "--summary") summary ++ flag_words (codes "--csv") csv in
+    let last = at_end t l (Some n) summary csv in
+    goes_on (after_values t l None) (waiting_for (name_rows t l) (codes "until")) last (codes "--until") (n ∷ rest) (until_turn t l) (until_named t l)
+    (goes_on (waiting_for (name_rows t l) (codes "until")) (after_values t l (Some n)) last n rest (value_turn t l n q.0) (until_read t l n q.0)
+    (flags_walk t l (Some n) summary csv q))
+
+simulate_walks : (t l : Text) (until : Option Text) (summary csv : Bool) → IsPlainWord t → IsPlainWord l → PassesTime until
+    → Walks (walk_from nothing_held) (simulate_words t l until summary csv) (at_end t l until summary csv)
+simulate_walks t l until summary csv p r q =
+    let options = option_words (codes "--until") until ++ (flag_words (codes "--summary") summary ++ flag_words (codes "--csv") csv) in
+    let last = at_end t l until summary csv in
+    goes_on (walk_from nothing_held) (after_table t) last t (l ∷ options) (table_turn t p) (table_read t p)
+    (goes_on (after_table t) (after_values t l None) last l options (log_turn t l r) (log_read t l r) (options_walk t l until summary csv q))
 
 -- ---- what stands at the end
 
 -- what is asked for by what was read
-simulate_read : (t l : Text) (until : Option Text) (csv : Bool)
-    → simulate_request (finished simulate_leaf.rules (at_end t l until csv).held) ≡ option_map (λ n. Simulate t l n csv) (number_of 0 last_time until)
+simulate_read : (t l : Text) (until : Option Text) (summary csv : Bool)
+    → simulate_request (finished simulate_leaf.rules (at_end t l until summary csv).held) ≡ option_map (λ n. Simulate t l n summary csv) (number_of 0 last_time until)
 unfolding clap_on_literals
-simulate_read t l None false = refl
-simulate_read t l None true = refl
-simulate_read t l (Some n) false = refl
-simulate_read t l (Some n) true = refl
+simulate_read t l None false false = refl
+simulate_read t l None false true = refl
+simulate_read t l None true false = refl
+simulate_read t l None true true = refl
+simulate_read t l (Some n) false false = refl
+simulate_read t l (Some n) false true = refl
+simulate_read t l (Some n) true false = refl
+simulate_read t l (Some n) true true = refl
 
 -- it passes
 ends_well : Walk → Bool
 ends_well w = settle_passes simulate_leaf.rules false w.held && (list_all default_passes simulate_leaf.rules && is_valid simulate_leaf (finished simulate_leaf.rules w.held) false)
 
-simulate_ends : (t l : Text) (until : Option Text) (csv : Bool) → PassesTime until → ends_well (at_end t l until csv) ≡ true
+simulate_ends : (t l : Text) (until : Option Text) (summary csv : Bool) → PassesTime until → ends_well (at_end t l until summary csv) ≡ true
 unfolding ends_well clap_on_literals
-simulate_ends t l None false q = refl
-simulate_ends t l None true q = refl
-simulate_ends t l (Some n) false q = ap (λ (b : Bool). (b && true) && true) q.1
-simulate_ends t l (Some n) true q = refl
+simulate_ends t l None false false q = refl
+simulate_ends t l None false true q = refl
+simulate_ends t l None true false q = refl
+simulate_ends t l None true true q = refl
+simulate_ends t l (Some n) false false q = ap (λ (b : Bool). (b && true) && true) q.1
+simulate_ends t l (Some n) false true q = refl
+simulate_ends t l (Some n) true false q = refl
+simulate_ends t l (Some n) true true q = refl
 
-simulate_level : (t l : Text) (until : Option Text) (csv : Bool) → IsPlainWord t → IsPlainWord l → PassesTime until
-    → level_passes simulate_leaf [] nothing_held (simulate_words t l until csv) false ≡ true
+simulate_level : (t l : Text) (until : Option Text) (summary csv : Bool) → IsPlainWord t → IsPlainWord l → PassesTime until
+    → level_passes simulate_leaf [] nothing_held (simulate_words t l until summary csv) false ≡ true
 unfolding ends_well
-simulate_level t l until csv p r q =
-    let walks = simulate_walks t l until csv p r q in
-    ap₂ (λ (a b : Bool). a && b) walks.passes (ap ends_well walks.comes ∙ simulate_ends t l until csv q)
+simulate_level t l until summary csv p r q =
+    let walks = simulate_walks t l until summary csv p r q in
+    ap₂ (λ (a b : Bool). a && b) walks.passes (ap ends_well walks.comes ∙ simulate_ends t l until summary csv q)
 
 -- ---- the words of the command line
 
@@ -185,16 +229,18 @@ simulate_entered : (words : List Text) → subcommand_of command_line (codes "si
 unfolding command_line
 simulate_entered words = ap (entered (built command_line)) (simulate_stop words) ∙ simulate_enters words
 
-pub simulate_asked : (t l : Text) (until : Option Text) (csv : Bool) → IsPlainWord t → IsPlainWord l → PassesTime until
-    → found_by request_by (subcommand_of command_line (codes "simulate" ∷ simulate_words t l until csv)) ≡ option_map Command (option_map (λ n. Simulate t l n csv) (number_of 0 last_time until))
-simulate_asked t l until csv p r q =
-    ap (found_by request_by) (simulate_entered (simulate_words t l until csv))
-    ∙ ap (option_map Command) (ap (λ (w : Walk). simulate_request (finished simulate_leaf.rules w.held)) (simulate_walks t l until csv p r q).comes ∙ simulate_read t l until csv)
+pub simulate_asked : (t l : Text) (until : Option Text) (summary csv : Bool) → IsPlainWord t → IsPlainWord l → PassesTime until
+    → found_by request_by (subcommand_of command_line (codes "simulate" ∷ simulate_words t l until summary csv))
+    ≡ option_map Command (option_map (λ n. Simulate t l n summary csv) (number_of 0 last_time until))
+simulate_asked t l until summary csv p r q =
+    ap (found_by request_by) (simulate_entered (simulate_words t l until summary csv))
+    ∙ ap (option_map Command)
+    (ap (λ (w : Walk). simulate_request (finished simulate_leaf.rules w.held)) (simulate_walks t l until summary csv p r q).comes ∙ simulate_read t l until summary csv)
 
-pub simulate_takes : (t l : Text) (until : Option Text) (csv : Bool) → IsPlainWord t → IsPlainWord l → PassesTime until
-    → takes command_line (codes "simulate" ∷ simulate_words t l until csv) ≡ true
+pub simulate_takes : (t l : Text) (until : Option Text) (summary csv : Bool) → IsPlainWord t → IsPlainWord l → PassesTime until
+    → takes command_line (codes "simulate" ∷ simulate_words t l until summary csv) ≡ true
 unfolding command_line clap_on_literals passes_with
-simulate_takes t l until csv p r q =
-    ap₂ passes_with (stopped_more top.rules commands (at_command (codes "simulate")) (codes "simulate") [] (simulate_words t l until csv) refl)
-    (stopped_passes top commands (at_command (codes "simulate")) (codes "simulate") [] (simulate_words t l until csv) refl)
-    ∙ rw (simulate_level t l until csv p r q) refl
+simulate_takes t l until summary csv p r q =
+    ap₂ passes_with (stopped_more top.rules commands (at_command (codes "simulate")) (codes "simulate") [] (simulate_words t l until summary csv) refl)
+    (stopped_passes top commands (at_command (codes "simulate")) (codes "simulate") [] (simulate_words t l until summary csv) refl)
+    ∙ rw (simulate_level t l until summary csv p r q) refl

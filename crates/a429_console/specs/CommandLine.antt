@@ -1,5 +1,5 @@
 -- The command line of the program.
-use Rattle.std.specs.Prelude.{◌≡◌, ◌≢◌, ◌≤◌, ◌∷◌, [], ℕ, true, false, Some, codes, ⊤}
+use Rattle.std.specs.Prelude.{◌≡◌, ◌≢◌, ◌≤◌, ◌∷◌, ◌⊎◌, [], ℕ, true, false, Some, codes, ⊤}
 use Rattle.clap.specs.Words.{App, Rule, Shape, Text, new_app, new_rule, rule_of, with_rule, with_subcommand}
 use Rattle.clap.specs.declared.builder.arg.Arg.{Arg}
 use Rattle.clap.specs.declared.builder.action.ArgAction.TheVariants.{Append, SetTrue}
@@ -39,6 +39,9 @@ word_app = with_rule (new_app (codes "word")) (required_rule (codes "HEX"))
 abbrev pub lines_app : App
 lines_app = with_rule (with_rule (new_app (codes "lines")) (required_rule (codes "FILE"))) (many_rule (codes "FILTER"))
 
+abbrev pub import_app : App
+import_app = with_rule (new_app (codes "import")) (required_rule (codes "FILE"))
+
 abbrev pub plan_app : App
 plan_app = with_rule (new_app (codes "plan")) (required_rule (codes "TABLE"))
 
@@ -63,8 +66,8 @@ most_slots = 8192
 
 abbrev pub draw_app : App
 draw_app =
-    with_rule (with_rule (with_rule (new_app (codes "draw")) (required_rule (codes "TABLE"))) (option_rule (codes "group")))
-    (number_option_rule (codes "slots") 1 most_slots)
+    with_rule (with_rule (with_rule (with_rule (new_app (codes "draw")) (required_rule (codes "TABLE"))) (option_rule (codes "group")))
+    (number_option_rule (codes "slots") 1 most_slots)) (option_rule (codes "width"))
 
 abbrev pub replay_app : App
 replay_app = with_rule (with_rule (with_rule (new_app (codes "replay")) (required_rule (codes "TABLE"))) (required_rule (codes "SCRIPT"))) (many_rule (codes "FURTHER"))
@@ -75,8 +78,8 @@ last_time = 99999999999999
 
 abbrev pub simulate_app : App
 simulate_app =
-    with_rule (with_rule (with_rule (with_rule (new_app (codes "simulate")) (required_rule (codes "TABLE"))) (required_rule (codes "LOG")))
-    (number_option_rule (codes "until") 0 last_time)) (flag_rule (codes "csv"))
+    with_rule (with_rule (with_rule (with_rule (with_rule (new_app (codes "simulate")) (required_rule (codes "TABLE"))) (required_rule (codes "LOG")))
+    (number_option_rule (codes "until") 0 last_time)) (flag_rule (codes "summary"))) (flag_rule (codes "csv"))
 
 abbrev pub live_app : App
 live_app =
@@ -90,9 +93,9 @@ top_shape = record ((new_app (codes "a429")).top) { has_version = true; no_binar
 abbrev pub bare_line : App
 bare_line = record { top = top_shape; subs = [] }
 
--- with the commands on words and lines
+-- with the commands on words and lines, and the one on rows of comma-separated values
 abbrev pub reading_line : App
-reading_line = with_subcommand (with_subcommand bare_line word_app.top) lines_app.top
+reading_line = with_subcommand (with_subcommand (with_subcommand bare_line word_app.top) lines_app.top) import_app.top
 
 -- and those on plans, but for their image
 abbrev pub planning_line : App
@@ -111,6 +114,10 @@ IsName (x ∷ xs) = x ≢ 45
 -- a number of slots that can be asked for
 abbrev pub IsPlainSlots : ℕ → Type 0
 IsPlainSlots n = (1 ≤ n) × (n ≤ most_slots)
+
+-- how many slots wide the folds of a drawing can be
+abbrev pub IsWidth : ℕ → Type 0
+IsWidth n = (n ≡ 64) ⊎ ((n ≡ 128) ⊎ (n ≡ 256))
 
 -- a time until which cells can be asked for, in microseconds
 abbrev pub IsPlainTime : ℕ → Type 0

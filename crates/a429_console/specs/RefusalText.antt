@@ -6,6 +6,14 @@ use Rattle.a429_console.specs.Outputs.{memory_refused}
 use Rattle.a429_table.specs.Printed.{kind_text, place_text}
 use Rattle.a429_console.specs.declared.refusals.CommandRefusal.{CommandRefusal}
 use Rattle.a429_console.specs.declared.refusals.CommandRefusal.TheVariants as refused
+use Rattle.a429_console.specs.declared.refusals.CsvKind.{CsvKind}
+use Rattle.a429_console.specs.declared.refusals.CsvKind.TheVariants as csv
+
+-- what is wrong with a row of comma-separated values, by its name in refusals
+abbrev pub csv_kind_text : CsvKind → List ℕ
+csv_kind_text csv.Form = codes "form"
+csv_kind_text csv.Column = codes "column"
+csv_kind_text csv.Differs = codes "differs"
 
 abbrev pub refusal_line : CommandRefusal → List ℕ
 refusal_line (refused.File name) = codes "refused file " ++ string_bytes name
@@ -19,6 +27,7 @@ refusal_line (refused.TooManyBuses group needed) = codes "refused too-many-buses
 refusal_line (refused.Group name) = codes "refused group " ++ string_bytes name
 refusal_line (refused.Script line) = codes "refused script line " ++ decimal line
 refusal_line (refused.LogLine line) = codes "refused log line " ++ decimal line
+refusal_line (refused.Csv line kind) = codes "refused csv line " ++ decimal line ++ codes " " ++ csv_kind_text kind
 refusal_line refused.Join = codes "refused join"
 refusal_line refused.Gate = codes "refused gate"
 refusal_line refused.Source = codes "refused source"

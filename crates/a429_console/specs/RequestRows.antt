@@ -6,7 +6,7 @@ use Rattle.clap.specs.ValueTests.{is_unsigned_in}
 use Rattle.clap.specs.Words.{Row, Text, first_of, one_of, all_of, subcommand_of, takes}
 use Rattle.a429_equipment.specs.Limits.{most_frames}
 use Rattle.a429_console.specs.CommandLine.{IsName, command_line, last_time, most_slots}
-use Rattle.a429_console.specs.Requests.{CommandAsk, HasNames, Word, Lines, Plan, Check, Icd, Margin, Lint, Diff, Draw, Replay, Simulate, LiveAsk, RequestBytes, Command, Live, request_words}
+use Rattle.a429_console.specs.Requests.{CommandAsk, HasNames, Word, Lines, Import, Plan, Check, Icd, Margin, Lint, Diff, Draw, Replay, Simulate, LiveAsk, RequestBytes, Command, Live, request_words}
 
 -- the values of an argument that is given as often as one likes
 abbrev pub values_of : Text → List Row → List Text
@@ -22,6 +22,9 @@ word_request rows = option_map Word (first_of (codes "HEX") rows)
 
 abbrev pub lines_request : List Row → Option CommandAsk
 lines_request rows = option_map (λ file. Lines file (values_of (codes "FILTER") rows)) (first_of (codes "FILE") rows)
+
+abbrev pub import_request : List Row → Option CommandAsk
+import_request rows = option_map Import (first_of (codes "FILE") rows)
 
 abbrev pub plan_request : List Row → Option CommandAsk
 plan_request rows = option_map Plan (first_of (codes "TABLE") rows)
@@ -46,8 +49,21 @@ lint_request rows = option_map Lint (first_of (codes "TABLE") rows)
 abbrev pub diff_request : List Row → Option CommandAsk
 diff_request rows = option_and_then (λ table. option_map (Diff table) (first_of (codes "OTHER") rows)) (first_of (codes "TABLE") rows)
 
+-- how many slots wide folds are by a text: the three that there are
+abbrev pub width_in : Text → Option ℕ
+width_in text =
+    if bytes_eq text (codes "64") then Some 64
+    else (if bytes_eq text (codes "128") then Some 128 else (if bytes_eq text (codes "256") then Some 256 else None))
+
+-- the same where a text is given, and nothing where that states no width
+abbrev pub width_given : Option Text → Option (Option ℕ)
+width_given None = Some None
+width_given (Some text) = option_map Some (width_in text)
+
 abbrev pub draw_request : List Row → Option CommandAsk
-draw_request rows = option_and_then (λ table. option_map (Draw table (first_of (codes "group") rows)) (number_of 1 most_slots (one_of (codes "slots") rows))) (first_of (codes "TABLE") rows)
+draw_request rows =
+    option_and_then (λ table. option_and_then (λ width. option_map (λ slots. Draw table (first_of (codes "group") rows) slots width)
+    (number_of 1 most_slots (one_of (codes "slots") rows))) (width_given (first_of (codes "width") rows))) (first_of (codes "TABLE") rows)
 
 abbrev pub replay_request : List Row → Option CommandAsk
 replay_request rows =
@@ -56,8 +72,9 @@ replay_request rows =
 
 abbrev pub simulate_request : List Row → Option CommandAsk
 simulate_request rows =
-    option_and_then (λ table. option_and_then (λ log. option_and_then (λ csv. option_map (λ until. Simulate table log until csv)
-    (number_of 0 last_time (one_of (codes "until") rows))) (flag_given (one_of (codes "csv") rows))) (first_of (codes "LOG") rows)) (first_of (codes "TABLE") rows)
+    option_and_then (λ table. option_and_then (λ log. option_and_then (λ summary. option_and_then (λ csv. option_map (λ until. Simulate table log until summary csv)
+    (number_of 0 last_time (one_of (codes "until") rows))) (flag_given (one_of (codes "csv") rows))) (flag_given (one_of (codes "summary") rows)))
+    (first_of (codes "LOG") rows)) (first_of (codes "TABLE") rows)
 
 -- how many frames are asked for
 abbrev pub frames_of : Option Text → Option ℕ
@@ -81,7 +98,8 @@ command_by name rows =
     else (if bytes_eq name (codes "diff") then diff_request rows
     else (if bytes_eq name (codes "draw") then draw_request rows
     else (if bytes_eq name (codes "replay") then replay_request rows
-    else (if bytes_eq name (codes "simulate") then simulate_request rows else None))))))))))
+    else (if bytes_eq name (codes "simulate") then simulate_request rows
+    else (if bytes_eq name (codes "import") then import_request rows else None)))))))))))
 
 -- of either call
 abbrev pub request_by : Text → List Row → Option RequestBytes

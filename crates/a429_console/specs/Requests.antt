@@ -6,7 +6,7 @@ use Rattle.clap.specs.Words.{kind_of}
 use Rattle.clap.specs.declared.error.Error.{Error}
 use Rattle.clap.specs.declared.error.kind.ErrorKind.TheVariants.{OutOfMemory}
 use Rattle.a429_equipment.specs.Limits.{most_frames}
-use Rattle.a429_console.specs.CommandLine.{IsName, IsPlainSlots, IsPlainTime}
+use Rattle.a429_console.specs.CommandLine.{IsName, IsPlainSlots, IsPlainTime, IsWidth}
 use Rattle.a429_console.specs.Files.{texts_of}
 use Rattle.a429_console.specs.declared.arguments.requests.CommandRequest.{CommandRequest}
 use Rattle.a429_console.specs.declared.arguments.requests.CommandRequest.TheVariants as asked
@@ -20,6 +20,8 @@ pub data CommandAsk : Type 0 where
   Word : List ℕ → CommandAsk
   -- a line file and filters
   Lines : List ℕ → List (List ℕ) → CommandAsk
+  -- a file of comma-separated values
+  Import : List ℕ → CommandAsk
   -- a table
   Plan : List ℕ → CommandAsk
   -- a table and the text of a plan
@@ -32,12 +34,12 @@ pub data CommandAsk : Type 0 where
   Lint : List ℕ → CommandAsk
   -- a table, and the one that it becomes
   Diff : List ℕ → List ℕ → CommandAsk
-  -- a table, the group that is drawn where one alone is, and how many slots of each bus where that is said
-  Draw : List ℕ → Option (List ℕ) → Option ℕ → CommandAsk
+  -- a table, the group that is drawn where one alone is, how many slots of each bus where that is said, and how many side by side where that is said
+  Draw : List ℕ → Option (List ℕ) → Option ℕ → Option ℕ → CommandAsk
   -- a table, a script and further tables
   Replay : List ℕ → List ℕ → List (List ℕ) → CommandAsk
-  -- a table and a log; until when cells are asked for where that is said, and whether lines are comma-separated values
-  Simulate : List ℕ → List ℕ → Option ℕ → Bool → CommandAsk
+  -- a table and a log; until when cells are asked for where that is said, whether each output has one line, and whether lines are comma-separated values
+  Simulate : List ℕ → List ℕ → Option ℕ → Bool → Bool → CommandAsk
 
 -- what `command_live` is asked for: a table, a file of words, how many frames, and further tables
 pub record LiveAsk : Type 0 where
@@ -65,6 +67,7 @@ flag_words name true = name ∷ []
 abbrev pub request_words : RequestBytes → List (List ℕ)
 request_words (Command (Word text)) = codes "word" ∷ text ∷ []
 request_words (Command (Lines file filters)) = codes "lines" ∷ file ∷ filters
+request_words (Command (Import file)) = codes "import" ∷ file ∷ []
 request_words (Command (Plan table)) = codes "plan" ∷ table ∷ []
 request_words (Command (Check table text)) = codes "check" ∷ table ∷ text ∷ []
 request_words (Command (Icd table false)) = codes "icd" ∷ table ∷ []
@@ -72,26 +75,29 @@ request_words (Command (Icd table true)) = codes "icd" ∷ table ∷ codes "--cs
 request_words (Command (Margin table)) = codes "margin" ∷ table ∷ []
 request_words (Command (Lint table)) = codes "lint" ∷ table ∷ []
 request_words (Command (Diff table other)) = codes "diff" ∷ table ∷ other ∷ []
-request_words (Command (Draw table group slots)) =
-    codes "draw" ∷ table ∷ (option_words (codes "--group") group ++ option_words (codes "--slots") (option_map decimal slots))
+request_words (Command (Draw table group slots width)) =
+    codes "draw" ∷ table
+    ∷ (option_words (codes "--group") group ++ (option_words (codes "--slots") (option_map decimal slots) ++ option_words (codes "--width") (option_map decimal width)))
 request_words (Command (Replay table script further)) = codes "replay" ∷ table ∷ script ∷ further
-request_words (Command (Simulate table log until csv)) =
-    codes "simulate" ∷ table ∷ log ∷ (option_words (codes "--until") (option_map decimal until) ++ flag_words (codes "--csv") csv)
+request_words (Command (Simulate table log until summary csv)) =
+    codes "simulate" ∷ table ∷ log
+    ∷ (option_words (codes "--until") (option_map decimal until) ++ (flag_words (codes "--summary") summary ++ flag_words (codes "--csv") csv))
 request_words (Live r) = codes "live" ∷ r.table ∷ r.words ∷ decimal r.frames ∷ r.further
 
 -- each text of it is a name, and its number can be asked for
 abbrev pub HasNames : RequestBytes → Type 0
 HasNames (Command (Word text)) = IsName text
 HasNames (Command (Lines file filters)) = IsName file × AllByRecursion IsName filters
+HasNames (Command (Import file)) = IsName file
 HasNames (Command (Plan table)) = IsName table
 HasNames (Command (Check table text)) = IsName table × IsName text
 HasNames (Command (Icd table csv)) = IsName table
 HasNames (Command (Margin table)) = IsName table
 HasNames (Command (Lint table)) = IsName table
 HasNames (Command (Diff table other)) = IsName table × IsName other
-HasNames (Command (Draw table group slots)) = IsName table × IfSome group IsName × IfSome slots IsPlainSlots
+HasNames (Command (Draw table group slots width)) = IsName table × IfSome group IsName × IfSome slots IsPlainSlots × IfSome width IsWidth
 HasNames (Command (Replay table script further)) = IsName table × IsName script × AllByRecursion IsName further
-HasNames (Command (Simulate table log until csv)) = IsName table × IsName log × IfSome until IsPlainTime
+HasNames (Command (Simulate table log until summary csv)) = IsName table × IsName log × IfSome until IsPlainTime
 HasNames (Live r) = IsName r.table × IsName r.words × (r.frames ≤ most_frames) × AllByRecursion IsName r.further
 
 -- ---- the bytes of what was read of the words
@@ -99,15 +105,16 @@ HasNames (Live r) = IsName r.table × IsName r.words × (r.frames ≤ most_frame
 abbrev pub command_of : CommandRequest → CommandAsk
 command_of (asked.Word text) = Word text.now
 command_of (asked.Lines file filters) = Lines file.now (texts_of filters.items)
+command_of (asked.Import file) = Import file.now
 command_of (asked.Plan table) = Plan table.now
 command_of (asked.Check table text) = Check table.now text.now
 command_of (asked.Icd table csv) = Icd table.now csv
 command_of (asked.Margin table) = Margin table.now
 command_of (asked.Lint table) = Lint table.now
 command_of (asked.Diff table other) = Diff table.now other.now
-command_of (asked.Draw table group slots) = Draw table.now (option_map (λ g. g.now) group) slots
+command_of (asked.Draw table group slots width) = Draw table.now (option_map (λ g. g.now) group) slots width
 command_of (asked.Replay table script further) = Replay table.now script.now (texts_of further.items)
-command_of (asked.Simulate table log until csv) = Simulate table.now log.now until csv
+command_of (asked.Simulate table log until summary csv) = Simulate table.now log.now until summary csv
 
 abbrev pub live_of : LiveRequest → LiveAsk
 live_of q = record { table = q.table.now; words = q.words.now; frames = q.frames; further = texts_of q.further.items }

@@ -1,13 +1,14 @@
 -- Words that ask for no command: calls for help or for the version, and mistakes (profile: status 0, 1 and 2).
-use Rattle.std.specs.Prelude.{◌≡◌, ◌≢◌, ◌∷◌, [], ◌⊎◌, ℕ, Bool, true, false, not, List, Option, Some, None, Result, IfOk, IsTrue, MatchResult, codes}
+use Rattle.std.specs.Prelude.{◌≡◌, ◌≢◌, ◌∷◌, ◌&&◌, [], ◌⊎◌, ℕ, Bool, true, false, not, List, Option, Some, None, Result, IfOk, IsTrue, MatchResult, codes, if◌then◌else◌, is_some}
 use Rattle.std.specs.List.{list_all, list_any}
 use Rattle.std.specs.Str.{bytes_eq}
 use Rattle.clap.specs.Kinds.{or_else}
-use Rattle.clap.specs.Words.{HasKind, Kinds, Row, Text, fault_of, subcommand_of}
+use Rattle.clap.specs.Words.{HasKind, Kinds, Row, Text, fault_of, first_of, subcommand_of}
 use Rattle.clap.specs.declared.error.Error.{Error}
 use Rattle.clap.specs.declared.error.kind.ErrorKind.{ErrorKind}
-use Rattle.clap.specs.declared.error.kind.ErrorKind.TheVariants.{DisplayHelp, DisplayVersion, InvalidSubcommand, OutOfMemory}
+use Rattle.clap.specs.declared.error.kind.ErrorKind.TheVariants.{DisplayHelp, DisplayVersion, InvalidSubcommand, InvalidValue, OutOfMemory}
 use Rattle.a429_console.specs.CommandLine.{command_line}
+use Rattle.a429_console.specs.RequestRows.{width_given}
 use Rattle.a429_console.specs.Outputs.{FailedCalls, HasFailed, IsMemoryReply, IsPut, OrNoMemory}
 use Rattle.a429_console.specs.declared.output.OutputFault.{OutputFault}
 use Rattle.a429_console.specs.declared.arguments.requests.Request.{Request}
@@ -23,14 +24,25 @@ abbrev pub elsewhere : Bool → Kinds
 elsewhere true = InvalidSubcommand ∷ []
 elsewhere false = []
 
+-- a drawing was asked for with a width that there is not
+abbrev pub has_wrong_width : Option (Text × List Row) → Bool
+has_wrong_width None = false
+has_wrong_width (Some p) = bytes_eq p.0 (codes "draw") && not (is_some (width_given (first_of (codes "width") p.1)))
+
+-- what may be answered in place of a request to words that the rules of the command line take, by what was found of them and by whether another
+-- call does the command
+abbrev pub found_kinds : Option (Text × List Row) → Bool → Kinds
+found_kinds found is_elsewhere = if has_wrong_width found then InvalidValue ∷ [] else elsewhere is_elsewhere
+
 -- what `command` may answer to words in place of a request, by the rules of the command line and in that `live` is none of its commands; nothing
 -- where they ask for something
 abbrev pub kinds_of_words : List (List ℕ) → Kinds
-kinds_of_words words = or_else (fault_of command_line words) (elsewhere (is_live (subcommand_of command_line words)))
+kinds_of_words words = or_else (fault_of command_line words) (found_kinds (subcommand_of command_line words) (is_live (subcommand_of command_line words)))
 
 -- the same of `command_live`, of which `live` is the one command
 abbrev pub live_kinds_of_words : List (List ℕ) → Kinds
-live_kinds_of_words words = or_else (fault_of command_line words) (elsewhere (not (is_live (subcommand_of command_line words))))
+live_kinds_of_words words =
+    or_else (fault_of command_line words) (found_kinds (subcommand_of command_line words) (not (is_live (subcommand_of command_line words))))
 
 -- the request is one of `command_live`
 abbrev pub is_run : Request → Bool

@@ -5,3 +5,4 @@ pub mod given;
 mod help;
 pub mod replies;
 pub mod requests;
+mod widths;

@@ -133,6 +133,15 @@ impl SeenTable {
     }
 }
 
+/// Rows of comma-separated values that are refused.
+#[derive(Drop)]
+pub struct SeenRows {
+    /// The bytes of their file.
+    pub bytes: Vec<u8>,
+    /// The name of the column that is at fault, if one is.
+    pub column: Option<&'static str>,
+}
+
 /// Why the plan of a further table cannot be published.
 #[derive(Drop)]
 pub enum FurtherCause {
@@ -230,6 +239,8 @@ pub struct Seen {
     pub byte: Option<u8>,
     /// The plan's text that is refused.
     pub text: Option<Vec<u8>>,
+    /// The rows of comma-separated values that are refused.
+    pub rows: Option<SeenRows>,
     /// What `lint` found of a table.
     pub findings: Option<Vec<u8>>,
     /// Whether the table is the second of two.
@@ -251,6 +262,7 @@ impl Seen {
             line: None,
             byte: None,
             text: None,
+            rows: None,
             findings: None,
             is_second: false,
             threads: 0,

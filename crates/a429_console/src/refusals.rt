@@ -15,6 +15,33 @@ use std::error::Error;
 use std::fmt;
 use std::io::Write;
 
+/// What is wrong with a row of comma-separated values.
+#[derive(Clone, Copy, Debug, PartialEq, Eq)]
+pub enum CsvKind {
+    /// It has more or fewer fields than the heading, or a field is not of its column's form.
+    Form,
+    /// The heading lacks a column, or has it twice.
+    Column,
+    /// An earlier row states otherwise of the same source, receiver or group.
+    Differs,
+}
+
+impl fmt::Display for CsvKind {
+    ghost use Rattle.std.specs.Prelude.{Some};
+    ghost use Rattle.a429_console.specs.RefusalText.{csv_kind_text};
+
+    ghost output = { λ kind. Some (csv_kind_text kind) };
+
+    /// Its name in refusals.
+    fn fmt<W: fmt::Write>(&self, f: &mut fmt::Formatter<W>) -> fmt::Result {
+        match self {
+            CsvKind::Form => f.write_str("form"),
+            CsvKind::Column => f.write_str("column"),
+            CsvKind::Differs => f.write_str("differs"),
+        }
+    }
+}
+
 /// Why a command ends before or instead of its answer. Its text is the line that the program prints.
 #[derive(Debug, Drop)]
 pub enum CommandRefusal {
@@ -42,6 +69,9 @@ pub enum CommandRefusal {
     /// The line of this number, from 1, is the first of the log that is no word for the station, or whose time is below the
     /// one before.
     LogLine { line: usize },
+    /// The row at the line of this number, from 1, of a file of comma-separated values is the first with a fault, and this is
+    /// wrong with it.
+    Csv { line: u64, kind: CsvKind },
     /// A thread could not be started or taken in.
     Join,
     /// The gate ended a worker.
@@ -80,6 +110,7 @@ impl fmt::Display for CommandRefusal {
             CommandRefusal::Group(name) => write!(f, "refused group {name}"),
             CommandRefusal::Script(line) => write!(f, "refused script line {line}"),
             CommandRefusal::LogLine { line } => write!(f, "refused log line {line}"),
+            CommandRefusal::Csv { line, kind } => write!(f, "refused csv line {line} {kind}"),
             CommandRefusal::Join => f.write_str("refused join"),
             CommandRefusal::Gate => f.write_str("refused gate"),
             CommandRefusal::Source => f.write_str("refused source"),

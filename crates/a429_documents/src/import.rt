@@ -12,11 +12,12 @@ mod rows;
 mod tables;
 mod words;
 
-use crate::import::lines::{CsvLine, csv_lines};
 use crate::import::reading::import_rows;
 use crate::import::tables::table_text;
 use a429_table::read_equipment;
+pub use columns::COLUMNS as IMPORT_COLUMNS;
 pub use fault::{CsvFaultKind, ImportColumn, ImportFault};
+pub use lines::{CsvLine, csv_lines};
 use std::alloc::Global;
 
 /// The table that lines state, of which the first is the heading.

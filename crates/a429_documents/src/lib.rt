@@ -32,6 +32,8 @@ pub use csv_text::icd_csv;
 pub use diff::diff_text;
 pub use document::latency_us;
 pub use drawing::draw_text;
-pub use import::{CsvFaultKind, ImportColumn, ImportFault, import_table};
+pub use import::{
+    CsvFaultKind, CsvLine, IMPORT_COLUMNS, ImportColumn, ImportFault, csv_lines, import_table,
+};
 pub use lint::lint_text;
 pub use margin::margin_text;

@@ -1,6 +1,6 @@
 //! What a person can do about a refusal: lines on the error output that begin with `a429: `.
 //!
-//! A hint is made of what the command read and refused: nothing is read or planned again. No contract rests on it.
+//! A hint is made of what the command read and refused: no file is read and nothing is planned again. No contract rests on it.
 //! `HintLines` gives them to `run_program` of `a429_cli`.
 //!
 //! ```text
@@ -14,6 +14,8 @@ mod differences;
 mod faults;
 mod files;
 mod findings;
+mod imported;
+mod imports;
 mod keys;
 mod lists;
 mod logs;
@@ -24,6 +26,7 @@ mod plans;
 mod reasons;
 mod rows;
 mod scripts;
+mod sheets;
 mod telling;
 mod twins;
 mod words;

@@ -28,6 +28,7 @@ fn tell_command<V: Write>(alloc: Global, word: &str, err: &mut V) -> io::Result<
     let shown = short_text(word);
     let shown = shown.as_str();
     let nearest = Nearest::to(shown)
+        .or(alloc, "import")
         .or(alloc, "plan")
         .or(alloc, "check")
         .or(alloc, "icd")
@@ -52,7 +53,9 @@ fn tell_option<V: Write>(alloc: Global, word: &str, err: &mut V) -> io::Result<(
         .or(alloc, "--csv")
         .or(alloc, "--group")
         .or(alloc, "--slots")
+        .or(alloc, "--width")
         .or(alloc, "--until")
+        .or(alloc, "--summary")
         .or(alloc, "--help")
         .or(alloc, "--version");
     tell_nearest(shown, "option", nearest, err)

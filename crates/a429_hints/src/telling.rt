@@ -6,6 +6,7 @@ use crate::differences::tell_difference;
 use crate::faults::tell_table_fault;
 use crate::files::tell_trouble;
 use crate::findings::tell_findings;
+use crate::imports::tell_rows;
 use crate::logs::{tell_log_line, tell_too_long};
 use crate::mistakes::tell_nearest_word;
 use crate::plans::{tell_all_unfit, tell_fewer_buses, tell_groups};
@@ -103,6 +104,10 @@ fn tell_refusal<V: Write>(
     seen: &Seen,
     err: &mut V,
 ) -> io::Result<()> {
+    if let Some(rows) = &seen.rows {
+        let file = printable_name(alloc, text_name(request))?;
+        return tell_rows(alloc, file.as_str(), refusal, rows, err);
+    }
     match refusal {
         CommandRefusal::File(name) => tell_trouble(seen.trouble, name.as_str(), err),
         CommandRefusal::WordText | CommandRefusal::Parity | CommandRefusal::Filter(_) => {
@@ -278,7 +283,11 @@ fn table_name<'a>(request: &'a Request) -> &'a str {
             | CommandRequest::Replay { table, .. }
             | CommandRequest::Simulate { table, .. },
         ) => table,
-        Request::Command(CommandRequest::Word { .. } | CommandRequest::Lines { .. }) => "",
+        Request::Command(
+            CommandRequest::Word { .. }
+            | CommandRequest::Lines { .. }
+            | CommandRequest::Import { .. },
+        ) => "",
     }
 }
 
@@ -290,14 +299,15 @@ fn refused_table<'a>(request: &'a Request, seen: &Seen) -> &'a str {
     }
 }
 
-/// The name of the text that is read beside a table, or of a line file; empty if the command has none.
+/// The name of the text that is read beside a table, of a line file, or of rows to import; empty if the command has none.
 fn text_name<'a>(request: &'a Request) -> &'a str {
     match request {
         Request::Live(run) => run.words,
         Request::Command(CommandRequest::Check { plan, .. }) => plan,
         Request::Command(CommandRequest::Replay { script, .. }) => script,
         Request::Command(CommandRequest::Simulate { log, .. }) => log,
-        Request::Command(CommandRequest::Lines { file, .. }) => file,
+        Request::Command(CommandRequest::Lines { file, .. } | CommandRequest::Import { file }) =>
+            file,
         Request::Command(_) => "",
     }
 }

@@ -1,17 +1,19 @@
 //! The command line: its commands.
-ghost use Rattle.std.specs.Prelude.{◌≡◌, IfOk, IsTrue, codes};
-ghost use Rattle.clap.specs.Words.{App, Rule, app_of, new_app, with_rule, with_subcommand};
-ghost use Rattle.a429_console.specs.CommandLine.{HasRule, bare_line, check_app, command_line, diff_app, draw_app, flag_rule, icd_app, last_time, lines_app, lint_app, live_app, many_rule, margin_app, most_slots, number_option_rule, number_rule, option_rule, plan_app, planning_line, reading_line, replay_app, required_rule, simulate_app, word_app};
+ghost use Rattle.std.specs.Prelude.{◌≡◌, ◌∷◌, [], IfOk, IsTrue, codes};
+ghost use Rattle.clap.specs.Words.{App, HasKind, Rule, app_of, kind_of, new_app, with_rule, with_subcommand};
+ghost use Rattle.a429_console.specs.CommandLine.{HasRule, bare_line, check_app, command_line, diff_app, draw_app, flag_rule, icd_app, import_app, last_time, lines_app, lint_app, live_app, many_rule, margin_app, most_slots, number_option_rule, number_rule, option_rule, plan_app, planning_line, reading_line, replay_app, required_rule, simulate_app, word_app};
 
 use crate::arguments::help::{
     CHECK, CHECK_END, CSV, DIFF, DIFF_END, DRAW, DRAW_END, FILE, FILTER, FRAMES, FURTHER, GROUP,
-    HEX, ICD, ICD_END, LINES, LINES_END, LINT, LINT_END, LIVE, LIVE_END, LOG, MARGIN, MARGIN_END,
-    OTHER, PLAN, PLAN_END, PROGRAM, PROGRAM_END, REPLAY, REPLAY_END, RESUBMITTED, SCRIPT, SIMULATE,
-    SIMULATE_END, SLOTS, TABLE, TEXT, UNTIL, VERSION, WORD, WORD_END, WORDS,
+    HEX, ICD, ICD_END, IMPORT, IMPORT_END, LINES, LINES_END, LINT, LINT_END, LIVE, LIVE_END, LOG,
+    MARGIN, MARGIN_END, OTHER, PLAN, PLAN_END, PROGRAM, PROGRAM_END, REPLAY, REPLAY_END,
+    RESUBMITTED, ROWS, SCRIPT, SIMULATE, SIMULATE_END, SLOTS, SUMMARY, TABLE, TEXT, UNTIL, VERSION,
+    WIDTH, WORD, WORD_END, WORDS,
 };
 use a429_equipment::FRAMES as MOST_FRAMES;
 use clap::builder::ValueParser;
-use clap::{Arg, ArgAction, Command};
+use clap::error::ErrorKind;
+use clap::{Arg, ArgAction, Command, Error};
 use std::alloc::{AllocError, Global};
 
 /// How many slots of a bus may be asked for (profile).
@@ -114,6 +116,13 @@ fn lines_command<'a>(alloc: Global) -> Result<Command<'a>, AllocError>
     with_argument(lines, repeated_argument(alloc, "FILTER", FILTER))
 }
 
+fn import_command<'a>(alloc: Global) -> Result<Command<'a>, AllocError>
+    ensures { IfOk result (λ c. app_of c ≡ import_app) }
+{
+    let import = named_command(alloc, "import", IMPORT, IMPORT_END);
+    with_argument(import, required_argument(alloc, "FILE", ROWS))
+}
+
 fn plan_command<'a>(alloc: Global) -> Result<Command<'a>, AllocError>
     ensures { IfOk result (λ c. app_of c ≡ plan_app) }
 {
@@ -165,7 +174,8 @@ fn draw_command<'a>(alloc: Global) -> Result<Command<'a>, AllocError>
     let draw = named_command(alloc, "draw", DRAW, DRAW_END);
     let draw = with_argument(draw, required_argument(alloc, "TABLE", TABLE));
     let draw = with_argument(draw, value_option(alloc, "group", "NAME", GROUP));
-    with_argument(draw, slots_option(alloc))
+    let draw = with_argument(draw, slots_option(alloc));
+    with_argument(draw, value_option(alloc, "width", "N", WIDTH))
 }
 
 fn replay_command<'a>(alloc: Global) -> Result<Command<'a>, AllocError>
@@ -184,6 +194,7 @@ fn simulate_command<'a>(alloc: Global) -> Result<Command<'a>, AllocError>
     let simulate = with_argument(simulate, required_argument(alloc, "TABLE", TABLE));
     let simulate = with_argument(simulate, required_argument(alloc, "LOG", LOG));
     let simulate = with_argument(simulate, until_option(alloc));
+    let simulate = with_argument(simulate, flag_option(alloc, "summary", SUMMARY));
     with_argument(simulate, flag_option(alloc, "csv", CSV))
 }
 
@@ -225,7 +236,7 @@ fn with_command<'a>(
     line.subcommand(command)
 }
 
-/// The commands on words and lines.
+/// The commands on words and lines, and the one on rows of comma-separated values.
 fn with_reading<'a>(
     alloc: Global,
     line: Result<Command<'a>, AllocError>,
@@ -233,10 +244,11 @@ fn with_reading<'a>(
     ensures { IfOk line.entry (λ c. app_of c ≡ bare_line) → IfOk result (λ c. app_of c ≡ reading_line) }
 {
     let line = with_command(line, word_command(alloc));
-    with_command(line, lines_command(alloc))
+    let line = with_command(line, lines_command(alloc));
+    with_command(line, import_command(alloc))
 }
 
-/// After the commands on words and lines those on tables and plans, without the one that draws them.
+/// After those commands those on tables and plans, without the one that draws them.
 fn with_planning<'a>(
     alloc: Global,
     line: Result<Command<'a>, AllocError>,
@@ -262,4 +274,20 @@ pub fn build_command<'a>(alloc: Global) -> Result<Command<'a>, AllocError>
     let line = with_command(line, replay_command(alloc));
     let line = with_command(line, simulate_command(alloc));
     with_command(line, live_command(alloc))
+}
+
+fn usage_error(alloc: Global, kind: ErrorKind, message: &str) -> Result<Error, AllocError>
+    ensures { IfOk result (λ e. kind_of e ≡ kind) }
+{
+    build_command(alloc)?.error(kind, message)
+}
+
+/// The error of words that the command line takes, but no call does.
+pub fn words_error(alloc: Global, kind: ErrorKind, message: &str) -> Error
+    ensures { HasKind (kind ∷ []) result }
+{
+    match usage_error(alloc, kind, message) {
+        Ok(error) => error,
+        Err(error) => Error::from(error),
+    }
 }

@@ -37,6 +37,22 @@ are skipped. With filters, only the words that one of them passes are printed.
 Example:
   a429 lines examples/displays/line 203/377";
 
+pub const IMPORT: &str = "Print an equipment table, made from a spreadsheet's rows";
+
+pub const ROWS: &str = "Comma-separated values, a row for each output";
+
+pub const IMPORT_END: &str = "\
+The first row names the columns, in any order; others are passed over:
+  group, rate        the group that sends the output, and its rate in bit/s
+  source, receiver   the source of its words, and the receiver of that
+  label, sdi         the label in octal, and the SDI, 0 to 3 or `any`
+  min_us, max_us     the interval of transmission in microseconds
+  hold               may be left out; a number, or empty
+  filters            may be left out; filters of the receiver, with spaces
+
+Example:
+  a429 import examples/displays/labels.csv > table.toml";
+
 pub const PLAN: &str = "Plan a station on the fewest buses, with the bound that shows it";
 
 pub const PLAN_END: &str = "\
@@ -98,6 +114,8 @@ pub const GROUP: &str = "Only the group of this name";
 
 pub const SLOTS: &str = "Slots of each bus, 1 to 8192; else a frame, at most 256";
 
+pub const WIDTH: &str = "Slots side by side, 64, 128 or 256; else 64";
+
 pub const DRAW_END: &str = "\
 Example:
   a429 draw --group displays examples/displays/table.toml > displays.svg";
@@ -125,6 +143,8 @@ pub const SIMULATE: &str = "Print which words a station would have sent, by a lo
 pub const LOG: &str = "Words that come in, `TIME RECEIVER HEX` on each line";
 
 pub const UNTIL: &str = "Ask for cells until then; else a frame after the last word";
+
+pub const SUMMARY: &str = "One line for each output, in place of one for each word";
 
 pub const SIMULATE_END: &str = "\
 A log has a word on each line. TIME is in whole microseconds, and does not

@@ -1,12 +1,13 @@
 //! What the words of the command line ask for.
 ghost use Rattle.std.specs.Prelude.{◌≡◌, ◌<◌, ◌^◌, ℕ, Option, IfOk, Some, not, true};
-ghost use Rattle.clap.specs.Words.{HasKind, found_of, kind_of, one_of, rows_of, subcommand_rows_of};
+ghost use Rattle.clap.specs.Words.{HasKind, found_of, one_of, rows_of, subcommand_rows_of};
 ghost use Rattle.a429_console.specs.Files.{texts_of};
 ghost use Rattle.a429_console.specs.Requests.{IsRead, IsReadOf, RequestBytes, command_of, live_of, request_of};
-ghost use Rattle.a429_console.specs.RequestRows.{AsksFor, check_request, command_by, diff_request, draw_request, found_by, icd_request, lines_request, lint_request, live_request, margin_request, number_of, plan_request, replay_request, request_by, simulate_request, values_of, word_request};
-ghost use Rattle.a429_console.specs.Usage.{ComesTo, elsewhere, is_live, is_run, kinds_of_words, live_kinds_of_words};
+ghost use Rattle.a429_console.specs.RequestRows.{AsksFor, check_request, command_by, diff_request, draw_request, found_by, icd_request, import_request, lines_request, lint_request, live_request, margin_request, number_of, plan_request, replay_request, request_by, simulate_request, values_of, word_request};
+ghost use Rattle.a429_console.specs.Usage.{ComesTo, elsewhere, found_kinds, is_live, is_run, kinds_of_words, live_kinds_of_words};
 
-use crate::arguments::command_line::build_command;
+use crate::arguments::command_line::{build_command, words_error};
+use crate::arguments::widths::{asked_width, check_width};
 use clap::error::ErrorKind;
 use clap::{ArgMatches, Error};
 use std::alloc::{AllocError, Global};
@@ -31,6 +32,10 @@ pub enum CommandRequest<'a> {
     Lines {
         file: &'a str,
         filters: Vec<&'a str>,
+    },
+    /// To print the table that the comma-separated values in the file of this name state.
+    Import {
+        file: &'a str,
     },
     /// To print the plan of the table of this name.
     Plan {
@@ -61,11 +66,13 @@ pub enum CommandRequest<'a> {
         other: &'a str,
     },
     /// To draw the plan of the table of this name as an image: each group, or the one of this name alone, and of each
-    /// bus so many slots, from 1 to 8192, or where that is not said a frame, of which 256 slots at most.
+    /// bus so many slots, from 1 to 8192, or where that is not said a frame, of which 256 slots at most; in folds of 64, 128 or
+    /// 256 slots, or where that is not said of 64.
     Draw {
         table: &'a str,
         group: Option<&'a str>,
         slots: Option<u32>,
+        width: Option<u32>,
     },
     /// To play the script of this name on the station of the table of this name, beside further tables.
     Replay {
@@ -74,11 +81,13 @@ pub enum CommandRequest<'a> {
         further: Vec<&'a str>,
     },
     /// To print which words the station of the table of this name sends by the log of this name: until this
-    /// microsecond, or where that is not said until all words can be out. Or the same as comma-separated values.
+    /// microsecond, or where that is not said until all words can be out. With a summary, one line for each output in place
+    /// of one for each word. Or the same as comma-separated values.
     Simulate {
         table: &'a str,
         log: &'a str,
         until: Option<u64>,
+        summary: bool,
         csv: bool,
     },
 }
@@ -106,23 +115,25 @@ pub fn parse<'a>(alloc: Global, words: &'a [&'a str]) -> Result<Request<'a>, Err
     let command = build_command(alloc)?;
     let matches = command.try_get_matches_from(words)?;
     // behind a reference, so that its returns do not drop them: each would cost the check
-    read_request(alloc, &matches)
+    read_matches(alloc, &matches)
 }
 
 /// The error of words that ask for a command which another call does.
 pub fn other_call_error(alloc: Global, message: &str) -> Error
     ensures { HasKind (elsewhere true) result }
 {
-    match usage_error(alloc, message) {
-        Ok(error) => error,
-        Err(error) => Error::from(error),
-    }
+    words_error(alloc, ErrorKind::InvalidSubcommand, message)
 }
 
-fn usage_error(alloc: Global, message: &str) -> Result<Error, AllocError>
-    ensures { IfOk result (λ e. kind_of e ≡ ErrorKind.InvalidSubcommand) }
+/// What the words ask for, by what was found of them. The error is that a drawing has no such width.
+fn read_matches<'a>(alloc: Global, matches: &ArgMatches<'a>) -> Result<Request<'a>, Error>
+    ensures asked { (r : RequestBytes) → found_by request_by (subcommand_rows_of matches.now) ≡ Some r → IsRead request_of r result }
+    ensures kinds { ComesTo (found_kinds (subcommand_rows_of matches.now) (is_live (subcommand_rows_of matches.now))) is_run result }
+    ensures live_kinds { ComesTo (found_kinds (subcommand_rows_of matches.now) (not (is_live (subcommand_rows_of matches.now))))
+        (λ request. not (is_run request)) result }
 {
-    build_command(alloc)?.error(ErrorKind::InvalidSubcommand, message)
+    check_width(alloc, matches)?;
+    read_request(alloc, matches)
 }
 
 /// What the words ask for, by what was found of them.
@@ -172,6 +183,9 @@ fn read_command<'a>(alloc: Global, matches: &ArgMatches<'a>) -> Result<CommandRe
     }
     if let Some(found) = matches.subcommand_matches("simulate") {
         return asked_simulate(found);
+    }
+    if let Some(found) = matches.subcommand_matches("import") {
+        return asked_import(found);
     }
     Err(Error::from(AllocError))
 }
@@ -225,6 +239,16 @@ fn asked_lines<'a>(alloc: Global, found: &ArgMatches<'a>) -> Result<CommandReque
     };
     let filters = asked_values(alloc, found, "FILTER")?;
     Ok(CommandRequest::Lines { file, filters })
+}
+
+/// What the words of `import` ask for.
+fn asked_import<'a>(found: &ArgMatches<'a>) -> Result<CommandRequest<'a>, Error>
+    ensures { IsReadOf command_of (import_request (rows_of (found_of found.now))) result }
+{
+    match found.get_str("FILE") {
+        Some(file) => Ok(CommandRequest::Import { file }),
+        None => Err(Error::from(AllocError)),
+    }
 }
 
 /// What the words of `plan` ask for.
@@ -297,10 +321,12 @@ fn asked_draw<'a>(found: &ArgMatches<'a>) -> Result<CommandRequest<'a>, Error>
     };
     let group = found.get_str("group");
     let slots = asked_number(found, "slots");
+    let width = asked_width(found);
     Ok(CommandRequest::Draw {
         table,
         group,
         slots,
+        width,
     })
 }
 
@@ -327,11 +353,13 @@ fn asked_simulate<'a>(found: &ArgMatches<'a>) -> Result<CommandRequest<'a>, Erro
         return Err(Error::from(AllocError));
     };
     let until = asked_time(found, "until");
+    let summary = found.get_flag("summary");
     let csv = found.get_flag("csv");
     Ok(CommandRequest::Simulate {
         table,
         log,
         until,
+        summary,
         csv,
     })
 }

@@ -9,7 +9,7 @@ use crate::import::fault::ImportColumn;
 use crate::import::lines::CsvLine;
 
 /// All columns, in the order in which they are sought.
-const COLUMNS: [ImportColumn; 10] = [
+pub const COLUMNS: [ImportColumn; 10] = [
     ImportColumn::Group,
     ImportColumn::Rate,
     ImportColumn::Source,

@@ -26,6 +26,10 @@ returns-in-Replay-clause-read g c =
     (told.0, inl reply, told.2))
     is))
 
+pub returns-in-Import-clause-read : goal.returns-in-Import-clause-read
+returns-in-Import-clause-read g c =
+    rw c.in-Import.is (read_weaker c.print_import.ensures.imported (λ file is. IfOk-weaker c.print_import.result _ _ (λ status told. (told.0, inl told.1, told.2)) is))
+
 pub returns-in-Plan-clause-read : goal.returns-in-Plan-clause-read
 returns-in-Plan-clause-read g c =
     rw c.in-Plan.is (read_weaker c.print_plan.ensures.planned (λ file is. IfOk-weaker c.print_plan.result _ _ (λ status told. (told.0, inl told.1, told.2)) is))
@@ -59,6 +63,9 @@ returns-in-Lines-clause-taken g c = read_weaker c.tell_lines.ensures.told (λ fi
 
 pub returns-in-Check-clause-taken : goal.returns-in-Check-clause-taken
 returns-in-Check-clause-taken g c = read_weaker c.print_verdict.ensures.judged (λ file is takes. refl)
+
+pub returns-in-Import-clause-taken : goal.returns-in-Import-clause-taken
+returns-in-Import-clause-taken g c = read_weaker c.print_import.ensures.imported (λ file is takes. refl)
 
 pub returns-in-Plan-clause-taken : goal.returns-in-Plan-clause-taken
 returns-in-Plan-clause-taken g c = read_weaker c.print_plan.ensures.planned (λ file is takes. refl)

@@ -11,5 +11,5 @@ returns c = λ r asked.
     let found = found_of c.args.found.now in
     let table = c.in-Some.ensures ∙ first_value-rows found (codes "TABLE") in
     let group = c.get_str-group.ensures ∙ first_value-rows found (codes "group") in
-    draw_is (rows_of found) c.in-Some.table.now (option_map (λ g. g.now) c.get_str-group.result) c.asked_number-slots.result r table group
-    (λ n is. c.asked_number-slots.ensures 1 most_slots n (omega arith) is) asked
+    draw_is (rows_of found) c.in-Some.table.now (option_map (λ g. g.now) c.get_str-group.result) c.asked_number-slots.result
+    c.asked_width-width.result r table group (λ n is. c.asked_number-slots.ensures 1 most_slots n (omega arith) is) c.asked_width-width.ensures asked

@@ -47,3 +47,7 @@ returns-in-Some-subcommand_matches-9 c =
 pub returns-in-Some-subcommand_matches-10 : goal.returns-in-Some-subcommand_matches-10
 returns-in-Some-subcommand_matches-10 c =
     read_by_name command_of command_by c.args.matches.now (codes "simulate") _ c.asked_simulate.result (c.in-Some-subcommand_matches-10.ensures.found.0 refl) c.in-Some-subcommand_matches-10.ensures.rows c.asked_simulate.ensures
+
+pub returns-in-Some-subcommand_matches-11 : goal.returns-in-Some-subcommand_matches-11
+returns-in-Some-subcommand_matches-11 c =
+    read_by_name command_of command_by c.args.matches.now (codes "import") _ c.asked_import.result (c.in-Some-subcommand_matches-11.ensures.found.0 refl) c.in-Some-subcommand_matches-11.ensures.rows c.asked_import.ensures

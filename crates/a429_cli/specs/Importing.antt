@@ -1,0 +1,73 @@
+-- The command `import`: what it writes, and its status (profile: import).
+use Rattle.std.specs.Prelude.{◌≡◌, ◌∷◌, [], ◌++◌, ◌⊎◌, ℕ, List, Option, Result, MatchResult, Ok, Err, Some}
+use Rattle.std.specs.declared.vec.Vec.{Vec}
+use Rattle.std.specs.declared.alloc.Global.{Global}
+use Rattle.a429_table.specs.Reading.{reading}
+use Rattle.a429_table.specs.declared.fault.TableFault.TheVariants as fault
+use Rattle.a429_documents.specs.ImportRows.{rows_stated}
+use Rattle.a429_documents.specs.ImportTables.{record_stated}
+use Rattle.a429_documents.specs.Imports.{AreLines, IsImport}
+use Rattle.a429_documents.specs.declared.import.fault.CsvFaultKind.{CsvFaultKind}
+use Rattle.a429_documents.specs.declared.import.fault.CsvFaultKind.TheVariants as rows
+use Rattle.a429_documents.specs.declared.import.fault.ImportColumn.{ImportColumn}
+use Rattle.a429_documents.specs.declared.import.fault.ImportFault.{ImportFault}
+use Rattle.a429_documents.specs.declared.import.fault.ImportFault.TheVariants as wrong
+use Rattle.a429_documents.specs.declared.import.lines.CsvLine.{CsvLine}
+use Rattle.a429_documents.specs.declared.import.rows.ImportRow.{ImportRow}
+use Rattle.a429_console.specs.FileReadings.{IsFileRefusal, readable}
+use Rattle.a429_console.specs.Replying.{HasReplied}
+use Rattle.a429_console.specs.RefusalText.{OrMemory, refusal_line}
+use Rattle.a429_console.specs.declared.files.FileFault.{FileFault}
+use Rattle.a429_console.specs.declared.output.OutputFault.{OutputFault}
+use Rattle.a429_console.specs.declared.refusals.CommandRefusal.{CommandRefusal}
+use Rattle.a429_console.specs.declared.refusals.CommandRefusal.TheVariants as refused
+use Rattle.a429_console.specs.declared.refusals.CsvKind.{CsvKind}
+use Rattle.a429_console.specs.declared.refusals.CsvKind.TheVariants as csv
+
+-- what is wrong with a row, as a refusal has it
+abbrev pub csv_kind : CsvFaultKind → CsvKind
+csv_kind rows.Form = csv.Form
+csv_kind rows.Column = csv.Column
+csv_kind rows.Differs = csv.Differs
+
+-- the refusal for a fault
+abbrev pub import_refusal : ImportFault → CommandRefusal
+import_refusal wrong.NoMemory = refused.Memory
+import_refusal (wrong.Csv line kind column) = refused.Csv line (csv_kind kind)
+import_refusal (wrong.Table fault.NoMemory) = refused.Memory
+import_refusal (wrong.Table (fault.At kind place)) = refused.Table kind place
+
+-- a text is read as the record that the rows of a file's bytes state
+abbrev pub IsImportText : List ℕ → List ℕ → Type 0
+IsImportText bytes text =
+    (lines : List CsvLine) × AreLines bytes lines × ((rows : List ImportRow) × (rows_stated lines ≡ Ok rows) × (reading text ≡ Ok (record_stated rows)))
+
+-- the bytes state no table for this fault
+abbrev pub IsImportFault : List ℕ → ImportFault → Type 0
+IsImportFault bytes fault = IsImport bytes (Err fault)
+
+-- why the bytes are refused: the first fault of their rows, else that of the table which these state
+abbrev pub IsImportRefusal : List ℕ → CommandRefusal → Type 0
+IsImportRefusal bytes refusal = (fault : ImportFault) × IsImportFault bytes fault × (refusal ≡ import_refusal fault)
+
+-- a text is read as the record that the rows in a file state
+abbrev pub IsImported : (List ℕ → Option (List ℕ)) → List ℕ → List ℕ → Type 0
+IsImported file name text = (bytes : List ℕ) × (readable (file name) ≡ Some bytes) × IsImportText bytes text
+
+-- why there is none: the file, or what is in it
+abbrev pub IsNoImport : (List ℕ → Option (List ℕ)) → List ℕ → CommandRefusal → Type 0
+IsNoImport file name refusal = IsFileRefusal file name refusal ⊎ ((bytes : List ℕ) × (readable (file name) ≡ Some bytes) × IsImportRefusal bytes refusal)
+
+-- what importing a file gives: the text, or why there is none
+abbrev pub IsImporting : (List ℕ → Option (List ℕ)) → List ℕ → Result (Vec ℕ Global) CommandRefusal → Type 0
+IsImporting file name result = MatchResult result (λ text. IsImported file name text.items) (OrMemory (IsNoImport file name))
+
+-- what is written of the rows in a file, and the status: the line of a refusal, or the text of the table
+abbrev pub IsImportReply : (List ℕ → Option (List ℕ)) → List ℕ → ℕ → List ℕ → Type 0
+IsImportReply file name status bytes =
+    ((refusal : CommandRefusal) × OrMemory (IsNoImport file name) refusal × (status ≡ 1) × (bytes ≡ refusal_line refusal ++ 10 ∷ []))
+    ⊎ (IsImported file name bytes × (status ≡ 0))
+
+-- what `import` answers of the files of a reader: the files are those that give what the reader answered in the call
+abbrev pub HasImported : {S X : Type 0} → (S → List ℕ → Result (List ℕ) FileFault → S → Type 0) → (X → Option (List ℕ)) → List ℕ → S → S → X → X → Result ℕ OutputFault → Type 0
+HasImported Answers contents name = HasReplied Answers contents (λ file. IsImportReply file name)

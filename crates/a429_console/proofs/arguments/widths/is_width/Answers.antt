@@ -1,0 +1,15 @@
+use Rattle.std.proofs.Common.{◌∙◌, codes}
+use Rattle.clap.specs.Words.{found_of, first_of, rows_of}
+use Rattle.clap.proofs.WalkLemmas.{first_value-rows}
+use Rattle.a429_console.proofs.Found.{no_width_is_known, width_is_known}
+use Rattle.a429_console.proofs.arguments.widths.is_width.Goals as goal
+
+pub returns-in-Some : goal.returns-in-Some
+returns-in-Some c =
+    let found = found_of c.args.found.now in
+    c.is_some.ensures ∙ width_is_known (first_of (codes "width") (rows_of found)) c.in-Some.text.now c.width_in.result (c.in-Some.ensures ∙ first_value-rows found (codes "width")) c.width_in.ensures
+
+pub returns-in-None : goal.returns-in-None
+returns-in-None c =
+    let found = found_of c.args.found.now in
+    no_width_is_known (first_of (codes "width") (rows_of found)) (c.in-None.ensures ∙ first_value-rows found (codes "width"))
