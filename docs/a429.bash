@@ -10,10 +10,11 @@ _a429() {
         help) COMPREPLY=($(compgen -W "$commands" -- "$word")); return ;;
         word) COMPREPLY=($(compgen -W "$options" -- "$word")); return ;;
         icd) options="--csv $options" ;;
-        draw) options="--group --slots $options" ;;
-        simulate) options="--until --csv $options" ;;
+        draw) options="--group --slots --width --html $options" ;;
+        simulate) options="--until --summary --csv $options" ;;
     esac
     case ${COMP_WORDS[COMP_CWORD - 1]} in
+        --width) COMPREPLY=($(compgen -W "64 128 256" -- "$word")); return ;;
         --group | --slots | --until) COMPREPLY=(); return ;;
     esac
     case $word in

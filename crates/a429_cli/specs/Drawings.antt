@@ -1,11 +1,15 @@
 -- The command `draw`: what it writes, and its status (profile: output).
-use Rattle.std.specs.Prelude.{◌≡◌, ◌∷◌, [], ◌++◌, ◌⊎◌, ℕ, List, Option, Result, MatchResult, Some, None, option_map, position}
+use Rattle.std.specs.Prelude.{◌≡◌, ◌∷◌, [], ◌++◌, ◌⊎◌, ℕ, List, Bool, true, false, Option, Result, MatchResult, Some, None, option_map, position}
 use Rattle.std.specs.Str.{bytes_eq}
 use Rattle.std.specs.declared.vec.Vec.{Vec}
 use Rattle.std.specs.declared.alloc.Global.{Global}
 use Rattle.a429_equipment.specs.declared.rows.GroupRow.{GroupRow}
 use Rattle.a429_slots.specs.Proposed.{Proposed}
-use Rattle.a429_documents.specs.Drawing.{drawing_of}
+use Rattle.a429_documents.specs.Drawing.{IsDrawingFault, IsImageText}
+use Rattle.a429_documents.specs.Page.{IsPageText}
+use Rattle.a429_documents.specs.declared.drawing.DrawingFault.{DrawingFault}
+use Rattle.a429_documents.specs.declared.drawing.DrawingFault.TheVariants as drawing
+use Rattle.a429_documents.specs.declared.drawing.DrawingForm.{DrawingForm}
 use Rattle.a429_console.specs.FileReadings.{readable}
 use Rattle.a429_console.specs.Replying.{HasReplied}
 use Rattle.a429_console.specs.declared.files.FileFault.{FileFault}
@@ -13,6 +17,8 @@ use Rattle.a429_console.specs.declared.output.OutputFault.{OutputFault}
 use Rattle.a429_console.specs.Tables.{IsGroupRefusal, IsProposedBy}
 use Rattle.a429_console.specs.RefusalText.{OrMemory, refusal_line}
 use Rattle.a429_console.specs.declared.refusals.CommandRefusal.{CommandRefusal}
+use Rattle.a429_console.specs.declared.refusals.CommandRefusal.TheVariants as refused
+use Rattle.a429_cli.specs.declared.drawings.Picture.{Picture}
 use Rattle.a429_cli.specs.PlanReplies.{IsNoPlan}
 
 -- the number of the first group of this name
@@ -24,41 +30,73 @@ abbrev pub group_asked : List GroupRow → Option (List ℕ) → Option (Option 
 group_asked groups None = Some None
 group_asked groups (Some name) = option_map Some (group_numbered groups name)
 
+-- so many slots of each bus in rows of so many, and whether it is a page
+abbrev pub picture_of : Option ℕ → Option ℕ → Bool → Picture
+picture_of slots width is_page = record { form = record { slots = slots; width = width }; is_page = is_page }
+
+-- a page, or the image alone
+abbrev pub IsPicture : Bool → Proposed → Option ℕ → DrawingForm → List ℕ → Type 0
+IsPicture true q number form text = IsPageText q.station q.plan number form text
+IsPicture false q number form text = IsImageText q.station q.plan number form text
+
 -- the image of the plan of a proposal, of the group that was asked for
-abbrev pub IsImage : Proposed → Option (List ℕ) → Option ℕ → List ℕ → Type 0
-IsImage q group slots text = (number : Option ℕ) × (group_asked q.station.groups group ≡ Some number) × (text ≡ drawing_of q.station q.plan number slots)
+abbrev pub IsImage : Proposed → Option (List ℕ) → Picture → List ℕ → Type 0
+IsImage q group picture text = (number : Option ℕ) × (group_asked q.station.groups group ≡ Some number) × IsPicture picture.is_page q number picture.form text
 
 -- no group has the name that was asked for
 abbrev pub IsNoGroup : List GroupRow → Option (List ℕ) → CommandRefusal → Type 0
 IsNoGroup groups group refusal = (name : List ℕ) × (group ≡ Some name) × (group_numbered groups name ≡ None) × IsGroupRefusal name refusal
 
--- the image of the plan of the table in a file
-abbrev pub IsImageOf : (List ℕ → Option (List ℕ)) → List ℕ → Option (List ℕ) → Option ℕ → List ℕ → Type 0
-IsImageOf file name group slots text = (table : List ℕ) × (q : Proposed) × (readable (file name) ≡ Some table) × IsProposedBy table q × IsImage q group slots text
+-- or the image would be too high
+abbrev pub IsTooHigh : Proposed → Option ℕ → Picture → CommandRefusal → Type 0
+IsTooHigh q number picture refusal = IsDrawingFault q.plan number picture.form drawing.TooHigh × (refusal ≡ refused.TooMuch)
 
--- why there is none: the file, or its table, or the plan of that, or its groups
-abbrev pub IsNoImage : (List ℕ → Option (List ℕ)) → List ℕ → Option (List ℕ) → CommandRefusal → Type 0
-IsNoImage file name group refusal =
-    IsNoPlan file name refusal ⊎ ((table : List ℕ) × (q : Proposed) × (readable (file name) ≡ Some table) × IsProposedBy table q × IsNoGroup q.station.groups group refusal)
+abbrev pub IsUndrawn : Proposed → Option (List ℕ) → Picture → CommandRefusal → Type 0
+IsUndrawn q group picture refusal =
+    IsNoGroup q.station.groups group refusal
+    ⊎ ((number : Option ℕ) × (group_asked q.station.groups group ≡ Some number) × IsTooHigh q number picture refusal)
+
+-- the image of the plan of the table in a file
+abbrev pub IsImageOf : (List ℕ → Option (List ℕ)) → List ℕ → Option (List ℕ) → Picture → List ℕ → Type 0
+IsImageOf file name group picture text = (table : List ℕ) × (q : Proposed) × (readable (file name) ≡ Some table) × IsProposedBy table q × IsImage q group picture text
+
+-- why there is none: the file, or its table, or the plan of that, or its groups, or the image
+abbrev pub IsNoImage : (List ℕ → Option (List ℕ)) → List ℕ → Option (List ℕ) → Picture → CommandRefusal → Type 0
+IsNoImage file name group picture refusal =
+    IsNoPlan file name refusal ⊎ ((table : List ℕ) × (q : Proposed) × (readable (file name) ≡ Some table) × IsProposedBy table q × IsUndrawn q group picture refusal)
 
 -- what drawing the plan of the table in a file gives: an image, or why there is none
-abbrev pub IsDrawing : (List ℕ → Option (List ℕ)) → List ℕ → Option (List ℕ) → Option ℕ → Result (Vec ℕ Global) CommandRefusal → Type 0
-IsDrawing file name group slots result = MatchResult result (λ text. IsImageOf file name group slots text.items) (OrMemory (IsNoImage file name group))
+abbrev pub IsDrawing : (List ℕ → Option (List ℕ)) → List ℕ → Option (List ℕ) → Picture → Result (Vec ℕ Global) CommandRefusal → Type 0
+IsDrawing file name group picture result = MatchResult result (λ text. IsImageOf file name group picture text.items) (OrMemory (IsNoImage file name group picture))
 
 -- what is written of the table in a file, and the status: the line of a refusal, or the image
-abbrev pub IsDrawReply : (List ℕ → Option (List ℕ)) → List ℕ → Option (List ℕ) → Option ℕ → ℕ → List ℕ → Type 0
-IsDrawReply file name group slots status bytes =
-    ((refusal : CommandRefusal) × OrMemory (IsNoImage file name group) refusal × (status ≡ 1) × (bytes ≡ refusal_line refusal ++ 10 ∷ []))
-    ⊎ (IsImageOf file name group slots bytes × (status ≡ 0))
+abbrev pub IsDrawReply : (List ℕ → Option (List ℕ)) → List ℕ → Option (List ℕ) → Picture → ℕ → List ℕ → Type 0
+IsDrawReply file name group picture status bytes =
+    ((refusal : CommandRefusal) × OrMemory (IsNoImage file name group picture) refusal × (status ≡ 1) × (bytes ≡ refusal_line refusal ++ 10 ∷ []))
+    ⊎ (IsImageOf file name group picture bytes × (status ≡ 0))
 
 -- what `draw` answers of the files of a reader: the files are those that give what the reader answered in the call
-abbrev pub HasDrawn : {S X : Type 0} → (S → List ℕ → Result (List ℕ) FileFault → S → Type 0) → (X → Option (List ℕ)) → List ℕ → Option (List ℕ) → Option ℕ → S → S → X → X → Result ℕ OutputFault → Type 0
-HasDrawn Answers contents name group slots = HasReplied Answers contents (λ file. IsDrawReply file name group slots)
+abbrev pub HasDrawn : {S X : Type 0} → (S → List ℕ → Result (List ℕ) FileFault → S → Type 0) → (X → Option (List ℕ)) → List ℕ → Option (List ℕ) → Picture → S → S → X → X → Result ℕ OutputFault → Type 0
+HasDrawn Answers contents name group picture = HasReplied Answers contents (λ file. IsDrawReply file name group picture)
 
 -- the group that is drawn, or that no group has the name that was asked for
 abbrev pub GivesGroup : List GroupRow → Option (List ℕ) → Result (Option ℕ) CommandRefusal → Type 0
 GivesGroup groups group result = MatchResult result (λ number. group_asked groups group ≡ Some number) (OrMemory (IsNoGroup groups group))
 
--- the image of the plan of a proposal, or that no group has the name that was asked for
-abbrev pub GivesImage : Proposed → Option (List ℕ) → Option ℕ → Result (Vec ℕ Global) CommandRefusal → Type 0
-GivesImage q group slots result = MatchResult result (λ text. IsImage q group slots text.items) (OrMemory (IsNoGroup q.station.groups group))
+-- the image of the plan of a proposal, of the group of this number or of all, or that it is too high
+abbrev pub GivesNumbered : Proposed → Option ℕ → Picture → Result (Vec ℕ Global) CommandRefusal → Type 0
+GivesNumbered q number picture result = MatchResult result (λ text. IsPicture picture.is_page q number picture.form text.items) (OrMemory (IsTooHigh q number picture))
+
+-- the image of the plan of a proposal, or why there is none
+abbrev pub GivesImage : Proposed → Option (List ℕ) → Picture → Result (Vec ℕ Global) CommandRefusal → Type 0
+GivesImage q group picture result = MatchResult result (λ text. IsImage q group picture text.items) (OrMemory (IsUndrawn q group picture))
+
+-- the same, or that it is too high, or that memory was refused
+abbrev pub GivesPicture : Proposed → Option ℕ → Picture → Result (Vec ℕ Global) DrawingFault → Type 0
+GivesPicture q number picture result =
+    MatchResult result (λ text. IsPicture picture.is_page q number picture.form text.items) (IsDrawingFault q.plan number picture.form)
+
+-- the refusal of an image
+abbrev pub refusal_of : DrawingFault → CommandRefusal
+refusal_of drawing.TooHigh = refused.TooMuch
+refusal_of drawing.NoMemory = refused.Memory

@@ -7,7 +7,7 @@ use Rattle.a429_console.specs.declared.files.FileFault.{FileFault}
 use Rattle.a429_cli.specs.WordLines.{IsWordReply}
 use Rattle.a429_cli.specs.LineReplies.{IsLinesReply}
 use Rattle.a429_cli.specs.PlanReplies.{IsPlanReply, IsCheckReply}
-use Rattle.a429_cli.specs.Drawings.{IsDrawReply}
+use Rattle.a429_cli.specs.Drawings.{IsDrawReply, picture_of}
 use Rattle.a429_cli.specs.Findings.{IsDiffReply, IsLintReply}
 use Rattle.a429_cli.specs.Importing.{IsImportReply}
 use Rattle.a429_cli.specs.Replaying.{IsReplay, TakesFurther}
@@ -24,7 +24,7 @@ IsReply file (Icd table csv) = IsPlanReply file (if csv then told.Sheet else tol
 IsReply file (Margin table) = IsPlanReply file told.Margin table
 IsReply file (Lint table) = IsLintReply file table
 IsReply file (Diff table other) = IsDiffReply file table other
-IsReply file (Draw table group slots width) = IsDrawReply file table group slots
+IsReply file (Draw table group slots width html) = IsDrawReply file table group (picture_of slots width html)
 IsReply file (Check table text) = IsCheckReply file table text
 IsReply file (Replay table script further) = IsReplay file table script further
 IsReply file (Simulate table log until summary csv) = IsSimulation file table log (record { until = until; csv = csv })

@@ -9,7 +9,7 @@ ghost use Rattle.a429_console.specs.Requests.{Command, CommandAsk, command_of, r
 ghost use Rattle.a429_cli.specs.Replies.{IsReplyOrMemory, RepliesToCommand, RepliesToCommandByReader, TakesEach};
 ghost use Rattle.a429_console.specs.Usage.{elsewhere, is_run, kinds_of_words};
 
-use crate::drawings::print_drawing;
+use crate::drawings::{Picture, print_drawing};
 use crate::findings::{print_diff, print_lint};
 use crate::import::print_import;
 use crate::lines::tell_lines;
@@ -171,12 +171,10 @@ fn answer<F: FileReader, O: Output>(
         }
         CommandRequest::Lint { table } => print_lint(alloc, files, table, seen, out),
         CommandRequest::Diff { table, other } => print_diff(alloc, files, table, other, seen, out),
-        CommandRequest::Draw {
-            table,
-            group,
-            slots,
-            width: _,
-        } => print_drawing(alloc, files, table, *group, *slots, seen, out),
+        CommandRequest::Draw(asked) => {
+            let picture = Picture::of(asked);
+            print_drawing(alloc, files, asked.table, asked.group, picture, seen, out)
+        }
         CommandRequest::Check { table, plan } => print_verdict(
             alloc, files, table, plan, seen, out,
         ),
@@ -185,18 +183,9 @@ fn answer<F: FileReader, O: Output>(
             script,
             further,
         } => replay(alloc, files, table, script, further, seen, faults, out),
-        CommandRequest::Simulate {
-            table,
-            log,
-            until,
-            csv,
-            ..
-        } => {
-            let form = SimulationForm {
-                until: *until,
-                csv: *csv,
-            };
-            simulate(alloc, files, table, log, form, seen, out)
+        CommandRequest::Simulate(asked) => {
+            let form = SimulationForm::of(asked);
+            simulate(alloc, files, asked.table, asked.log, form, seen, out)
         }
     }
 }

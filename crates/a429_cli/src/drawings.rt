@@ -3,8 +3,10 @@ ghost use Rattle.std.specs.Prelude.{◌≡◌, ◌≤◌, ◌<◌, IfOk, IfSome,
 ghost use Rattle.std.specs.Option.{option_copied};
 ghost use Rattle.a429_console.specs.Readings.{HasRead};
 ghost use Rattle.a429_console.specs.Outputs.{CountsFault};
-ghost use Rattle.a429_cli.specs.Drawings.{GivesGroup, GivesImage, HasDrawn, IsDrawing, group_numbered};
+ghost use Rattle.a429_cli.specs.Drawings.{GivesGroup, GivesImage, GivesNumbered, GivesPicture, HasDrawn, IsDrawing, group_numbered, refusal_of};
+ghost use Rattle.a429_slots.specs.Tables.{groups_of};
 
+use a429_console::arguments::requests::DrawRequest;
 use a429_console::files::FileReader;
 use a429_console::files::reading::read_file;
 use a429_console::hints::Seen;
@@ -12,10 +14,36 @@ use a429_console::output::endings::finish;
 use a429_console::output::{Output, OutputFault};
 use a429_console::refusals::tables::{no_group, propose};
 use a429_console::refusals::{CommandRefusal, refuse};
-use a429_documents::draw_text;
+use a429_documents::{DrawingFault, DrawingForm, draw_text, page_text};
 use a429_equipment::GroupRow;
 use a429_slots::{OUTPUTS, Proposal};
 use std::alloc::Global;
+
+/// What is drawn of a plan: an image, or a page with it and the documents.
+#[derive(Clone, Copy)]
+pub struct Picture {
+    pub form: DrawingForm,
+    pub is_page: bool,
+}
+
+impl Picture {
+    ghost use Rattle.std.specs.Prelude.{◌≡◌};
+    ghost use Rattle.a429_cli.specs.Drawings.{picture_of};
+
+    /// What is asked for.
+    pub fn of(asked: &DrawRequest) -> Picture
+        ensures { result ≡ picture_of asked.now.slots asked.now.width asked.now.html }
+    {
+        let form = DrawingForm {
+            slots: asked.slots,
+            width: asked.width,
+        };
+        Picture {
+            form,
+            is_page: asked.html,
+        }
+    }
+}
 
 /// The number of the first group of this name.
 #[tactic(auto, unfolding(crate::specs::Drawings::group_numbered))]
@@ -45,59 +73,101 @@ fn group_asked(
     }
 }
 
-/// The image of a proposal's plan, of the group of this name or of all. Refused is a name that no group has.
+/// The refusal of an image.
+fn refusal_of(fault: DrawingFault) -> CommandRefusal
+    ensures { result ≡ refusal_of fault }
+{
+    match fault {
+        DrawingFault::TooHigh => CommandRefusal::TooMuch,
+        DrawingFault::NoMemory => CommandRefusal::Memory,
+    }
+}
+
+/// The picture of a proposal's plan, of the group of this number or of all.
+fn picture_of(
+    alloc: Global,
+    proposal: &Proposal<OUTPUTS>,
+    number: Option<usize>,
+    picture: Picture,
+) -> Result<Vec<u8>, DrawingFault>
+    requires { IfSome number (λ number. number < length (groups_of proposal.now.plan)) }
+    ensures { GivesPicture proposal.now number picture result }
+{
+    if picture.is_page {
+        page_text(alloc, proposal, number, picture.form)
+    } else {
+        draw_text(alloc, proposal, number, picture.form)
+    }
+}
+
+/// The picture of a proposal's plan, of the group of this number or of all. Refused is one that is too high.
+fn image_numbered(
+    alloc: Global,
+    proposal: &Proposal<OUTPUTS>,
+    number: Option<usize>,
+    picture: Picture,
+) -> Result<Vec<u8>, CommandRefusal>
+    requires { IfSome number (λ number. number < length (groups_of proposal.now.plan)) }
+    ensures { GivesNumbered proposal.now number picture result }
+{
+    match picture_of(alloc, proposal, number, picture) {
+        Ok(text) => Ok(text),
+        Err(fault) => Err(refusal_of(fault)),
+    }
+}
+
+/// The picture of a proposal's plan, of the group of this name or of all. Refused is a name that no group has, then an image
+/// that is too high.
 fn image_of(
     alloc: Global,
     proposal: &Proposal<OUTPUTS>,
     group: Option<&str>,
-    slots: Option<u32>,
+    picture: Picture,
 ) -> Result<Vec<u8>, CommandRefusal>
-    ensures { GivesImage proposal.now (option_copied group.entry) slots result }
+    ensures { GivesImage proposal.now (option_copied group.entry) picture result }
 {
     let _plan = proposal.plan();
     let number = group_asked(alloc, proposal.equipment().groups(), group)?;
-    Ok(draw_text(alloc, proposal, number, slots)?)
+    image_numbered(alloc, proposal, number, picture)
 }
 
-/// The image of the plan of the table in a file, of the group of this name or of all. Refused is the file, then the table,
-/// then its plan, then the name.
+/// The picture of the plan of the table in a file, of the group of this name or of all. Refused is the file, then the table,
+/// then its plan, then the name, then an image that is too high.
 fn image_of_file<F: FileReader>(
     alloc: Global,
     files: &mut F,
     name: &str,
     group: Option<&str>,
-    slots: Option<u32>,
+    picture: Picture,
     seen: &mut Seen,
 ) -> Result<Vec<u8>, CommandRefusal>
-    ensures { HasRead F.answers (λ file. IsDrawing file name.now (option_copied group.entry) slots result) files.old files.new }
+    ensures { HasRead F.answers (λ file. IsDrawing file name.now (option_copied group.entry) picture result) files.old files.new }
 {
     let table = read_file(alloc, files, name, seen)?;
     let proposal = propose(alloc, &table, &mut seen.table)?;
-    let image = image_of(alloc, &proposal, group, slots);
+    let image = image_of(alloc, &proposal, group, picture);
     if image.is_err() {
         seen.proposal = Some(proposal);
     }
     image
 }
 
-/// Puts the image of the plan of the table in a file, of the group of this name or of all and of each bus so many slots
-/// (a frame, of which 256 at most, where it is not said), or the one line of a refusal. The status is 0, or 1 where it
-/// was refused.
+/// Puts the picture of the plan of the table in a file, of the group of this name or of all, or the one line of a refusal. The status is 0, or 1 where it was refused.
 pub fn print_drawing<F: FileReader, O: Output>(
     alloc: Global,
     files: &mut F,
     name: &str,
     group: Option<&str>,
-    slots: Option<u32>,
+    picture: Picture,
     seen: &mut Seen,
     out: &mut O,
 ) -> Result<u8, OutputFault>
-    ensures drawn { HasDrawn F.answers O.contents name.now (option_copied group.entry) slots files.old files.new out.old out.new result }
+    ensures drawn { HasDrawn F.answers O.contents name.now (option_copied group.entry) picture files.old files.new out.old out.new result }
     ensures status { IfOk result (λ status. status ≤ 1) }
     ensures flushed { OnOk result (IsTrue (O.is_flushed out.new)) }
     ensures faults { CountsFault result (O.failures out.old) (O.failures out.new) }
 {
-    match image_of_file(alloc, files, name, group, slots, seen) {
+    match image_of_file(alloc, files, name, group, picture, seen) {
         Ok(text) => finish(&text, true, out),
         Err(refusal) => refuse(alloc, refusal, seen, out),
     }

@@ -26,6 +26,7 @@ use crate::simulate::machine::Run;
 use crate::simulate::moments::Timeline;
 use crate::simulate::playing::{PendingLines, play_all};
 use crate::simulate::tracks::{end_of, tracks_of};
+use a429_console::arguments::requests::SimulateRequest;
 use a429_console::files::FileReader;
 use a429_console::files::reading::read_file;
 use a429_console::hints::Seen;
@@ -41,6 +42,20 @@ use std::alloc::{AllocError, Global};
 pub struct SimulationForm {
     pub until: Option<u64>,
     pub csv: bool,
+}
+
+impl SimulationForm {
+    ghost use Rattle.std.specs.Prelude.{◌≡◌};
+
+    /// What is asked for.
+    pub fn of(asked: &SimulateRequest) -> SimulationForm
+        ensures { result ≡ record { until = asked.now.until; csv = asked.now.csv } }
+    {
+        SimulationForm {
+            until: asked.until,
+            csv: asked.csv,
+        }
+    }
 }
 
 /// The bytes of the files that a simulation reads.

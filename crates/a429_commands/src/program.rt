@@ -2,10 +2,16 @@
 ghost use Rattle.std.specs.Io.{WritesAtMost};
 
 use a429_cli::{Arguments, CountedWriter, MemoryFiles, NoProgress, run_program};
+use a429_console::arguments::requests::{LiveRequest, Request};
+use a429_console::hints::{Seen, tell_hints};
+use a429_console::refusals::CommandRefusal;
 use a429_hints::HintLines;
 use std::env::FillError;
 use std::sync::Wait;
 use std::thread::Threads;
+
+/// What is told of a station with two receivers and one group whose threads are refused.
+const NO_THREADS: &[u8] = b"a429: t: threads could not be started: this station needs 3, one for each receiver and each group\n";
 
 /// Words as the system has them, which need not be text. The first is the path of the program.
 #[derive(Clone, Copy)]
@@ -66,4 +72,21 @@ fn a_word_of_any_length_is_read(rt: HostRuntime) {
     let (status, out, err) = run_on(&rt, &words);
     assert!(rt; status == 1 && out.as_slice() == b"refused word-text\n".as_slice());
     assert!(rt; err.as_slice().starts_with(b"a429: \"000000000000"));
+}
+
+#[test]
+fn a_run_without_threads_tells_how_many_it_needs(rt: HostRuntime) {
+    let alloc = rt.alloc();
+    let request = Request::Live(LiveRequest {
+        table: "t",
+        words: "w",
+        frames: 1,
+        further: Vec::new(alloc),
+    });
+    let mut seen = Seen::nothing(alloc);
+    seen.refusal = Some(CommandRefusal::Join);
+    seen.threads = 3;
+    let mut err = CountedWriter::new(Vec::new(alloc));
+    tell_hints(alloc, &request, 1, &seen, &[], &HintLines, &mut err);
+    assert!(rt; err.writer.as_slice() == NO_THREADS);
 }

@@ -102,9 +102,9 @@ asked_words (Command (Icd t true)) a = icd_csv_asked t a
 asked_words (Command (Margin t)) a = margin_asked t a
 asked_words (Command (Lint t)) a = lint_asked t a
 asked_words (Command (Diff t s)) (a, b) = diff_asked t s a b
-asked_words (Command (Draw t group slots width)) (a, b, c, d) =
-    draw_asked t group (option_map decimal slots) (option_map decimal width) (name_is_plain t a) (options_pass group slots width b c d)
-    ∙ ap₂ (λ n w. option_map Command (asked_by t group n w)) (number_of_decimal 1 most_slots slots (omega arith) c) (width_of_decimal width d)
+asked_words (Command (Draw t group slots width html)) (a, b, c, d) =
+    draw_asked t group (option_map decimal slots) (option_map decimal width) html (name_is_plain t a) (options_pass group slots width b c d)
+    ∙ ap₂ (λ n w. option_map Command (asked_by t group n w html)) (number_of_decimal 1 most_slots slots (omega arith) c) (width_of_decimal width d)
 asked_words (Command (Replay t s further)) (a, b, names) = replay_asked t s further a b names
 asked_words (Command (Simulate t l until summary csv)) (a, b, c) =
     simulate_asked t l (option_map decimal until) summary csv (name_is_plain t a) (name_is_plain l b) (time_passes until c)
@@ -122,8 +122,8 @@ takes_words (Command (Icd t true)) a = icd_csv_takes t a
 takes_words (Command (Margin t)) a = margin_takes t a
 takes_words (Command (Lint t)) a = lint_takes t a
 takes_words (Command (Diff t s)) (a, b) = diff_takes t s a b
-takes_words (Command (Draw t group slots width)) (a, b, c, d) =
-    draw_takes t group (option_map decimal slots) (option_map decimal width) (name_is_plain t a) (options_pass group slots width b c d)
+takes_words (Command (Draw t group slots width html)) (a, b, c, d) =
+    draw_takes t group (option_map decimal slots) (option_map decimal width) html (name_is_plain t a) (options_pass group slots width b c d)
 takes_words (Command (Replay t s further)) (a, b, names) = replay_takes t s further (name_is_plain t a) (name_is_plain s b) names
 takes_words (Command (Simulate t l until summary csv)) (a, b, c) =
     simulate_takes t l (option_map decimal until) summary csv (name_is_plain t a) (name_is_plain l b) (time_passes until c)

@@ -10,7 +10,7 @@ use Rattle.clap.specs.declared.error.Error.{Error}
 use Rattle.clap.specs.declared.error.kind.ErrorKind.TheVariants.{InvalidValue}
 use Rattle.a429_console.specs.CommandLine.{most_slots}
 use Rattle.a429_console.specs.Requests.{CommandAsk, Draw, RequestBytes, Command, IsRead, IsReadOf, request_of}
-use Rattle.a429_console.specs.RequestRows.{command_by, draw_request, found_by, number_of, request_by, width_given}
+use Rattle.a429_console.specs.RequestRows.{command_by, draw_request, flag_given, found_by, number_of, request_by, width_given}
 use Rattle.a429_console.specs.Usage.{ComesTo, elsewhere, has_wrong_width, is_live, is_run}
 use Rattle.a429_console.specs.declared.arguments.requests.Request.{Request}
 
@@ -51,7 +51,8 @@ has_width (Some t) (Some w) rest r asked = refl
 drawing_width : (rows : List Row) (r : RequestBytes) → option_map Command (draw_request rows) ≡ Some r → is_some (width_given (first_of (codes "width") rows)) ≡ true
 drawing_width rows r asked =
     has_width (first_of (codes "TABLE") rows) (width_given (first_of (codes "width") rows))
-    (λ t w. option_map (λ (s : Option ℕ). Draw t (first_of (codes "group") rows) s w) (number_of 1 most_slots (one_of (codes "slots") rows))) r asked
+    (λ t w. option_and_then (λ (h : Bool). option_map (λ (s : Option ℕ). Draw t (first_of (codes "group") rows) s w h) (number_of 1 most_slots (one_of (codes "slots") rows)))
+    (flag_given (one_of (codes "html") rows))) r asked
 
 width_of_name : (name : Text) (rows : List Row) (b : Bool) (r : RequestBytes) → bytes_eq name (codes "draw") ≡ b → request_by name rows ≡ Some r
     → has_wrong_width (Some (name, rows)) ≡ false

@@ -153,19 +153,24 @@ width_read found t read width at is asked = is ∙ width_by (width_in t) width (
 pub no_width_read : (found : Option Text) (width : Option ℕ) → None ≡ found → width_given found ≡ Some width → None ≡ width
 no_width_read found width at asked = same_Some None width (rw (← at) at asked)
 
--- what is asked for by the numbers of `draw`
-numbers_are : (t : Text) (group : Option Text) (slots_found width_found : Option (Option ℕ)) (slots width : Option ℕ) (r : CommandAsk)
-    → ((n : Option ℕ) → slots_found ≡ Some n → slots ≡ n) → ((w : Option ℕ) → width_found ≡ Some w → width ≡ w)
-    → option_and_then (λ (w : Option ℕ). option_map (λ (s : Option ℕ). Draw t group s w) slots_found) width_found ≡ Some r → Draw t group slots width ≡ r
-numbers_are t group slots_found width_found slots width r same wide asked =
-    let read = and_then_part (λ (w : Option ℕ). option_map (λ (s : Option ℕ). Draw t group s w) slots_found) width_found width r wide asked in
-    by_part (λ (s : Option ℕ). Draw t group s width) slots_found slots r same read
+-- what is asked for by the options of `draw`
+numbers_are : (t : Text) (group : Option Text) (slots_found width_found : Option (Option ℕ)) (html_text : Option Text) (slots width : Option ℕ) (html : Bool) (r : CommandAsk)
+    → ((n : Option ℕ) → slots_found ≡ Some n → slots ≡ n) → ((w : Option ℕ) → width_found ≡ Some w → width ≡ w) → IsFlag html_text html
+    → option_and_then (λ (w : Option ℕ). option_and_then (λ (h : Bool). option_map (λ (s : Option ℕ). Draw t group s w h) slots_found) (flag_given html_text)) width_found ≡ Some r
+    → Draw t group slots width html ≡ r
+numbers_are t group slots_found width_found html_text slots width html r same wide page asked =
+    let rest : Option ℕ → Option CommandAsk = λ w. option_and_then (λ (h : Bool). option_map (λ (s : Option ℕ). Draw t group s w h) slots_found) (flag_given html_text) in
+    let first = and_then_part rest width_found width r wide asked in
+    let second = and_then_part (λ (h : Bool). option_map (λ (s : Option ℕ). Draw t group s width h) slots_found) (flag_given html_text) html r (λ b is. flag_is html_text html b page is) first in
+    by_part (λ (s : Option ℕ). Draw t group s width html) slots_found slots r same second
 
-pub draw_is : (rows : List Row) (t : Text) (group : Option Text) (slots width : Option ℕ) (r : CommandAsk) → Some t ≡ first_of (codes "TABLE") rows → group ≡ first_of (codes "group") rows
+pub draw_is : (rows : List Row) (t : Text) (group : Option Text) (slots width : Option ℕ) (html : Bool) (r : CommandAsk) → Some t ≡ first_of (codes "TABLE") rows → group ≡ first_of (codes "group") rows
     → ((n : Option ℕ) → number_of 1 most_slots (one_of (codes "slots") rows) ≡ Some n → slots ≡ n)
-    → ((w : Option ℕ) → width_given (first_of (codes "width") rows) ≡ Some w → width ≡ w) → draw_request rows ≡ Some r → Draw t group slots width ≡ r
-draw_is rows t group slots width r table at same wide asked =
-    numbers_are t group (number_of 1 most_slots (one_of (codes "slots") rows)) (width_given (first_of (codes "width") rows)) slots width r same wide (rw (← table, ← at) at asked)
+    → ((w : Option ℕ) → width_given (first_of (codes "width") rows) ≡ Some w → width ≡ w) → IsFlag (one_of (codes "html") rows) html
+    → draw_request rows ≡ Some r → Draw t group slots width html ≡ r
+draw_is rows t group slots width html r table at same wide page asked =
+    numbers_are t group (number_of 1 most_slots (one_of (codes "slots") rows)) (width_given (first_of (codes "width") rows)) (one_of (codes "html") rows) slots width html r same wide page
+    (rw (← table, ← at) at asked)
 
 pub replay_is : (rows : List Row) (t s : Text) (further : List Text) (r : CommandAsk) → Some t ≡ first_of (codes "TABLE") rows → Some s ≡ first_of (codes "SCRIPT") rows
     → further ≡ values_of (codes "FURTHER") rows → replay_request rows ≡ Some r → Replay t s further ≡ r

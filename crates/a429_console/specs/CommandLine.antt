@@ -66,8 +66,8 @@ most_slots = 8192
 
 abbrev pub draw_app : App
 draw_app =
-    with_rule (with_rule (with_rule (with_rule (new_app (codes "draw")) (required_rule (codes "TABLE"))) (option_rule (codes "group")))
-    (number_option_rule (codes "slots") 1 most_slots)) (option_rule (codes "width"))
+    with_rule (with_rule (with_rule (with_rule (with_rule (new_app (codes "draw")) (required_rule (codes "TABLE"))) (option_rule (codes "group")))
+    (number_option_rule (codes "slots") 1 most_slots)) (option_rule (codes "width"))) (flag_rule (codes "html"))
 
 abbrev pub replay_app : App
 replay_app = with_rule (with_rule (with_rule (new_app (codes "replay")) (required_rule (codes "TABLE"))) (required_rule (codes "SCRIPT"))) (many_rule (codes "FURTHER"))

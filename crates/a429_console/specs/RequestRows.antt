@@ -62,8 +62,9 @@ width_given (Some text) = option_map Some (width_in text)
 
 abbrev pub draw_request : List Row → Option CommandAsk
 draw_request rows =
-    option_and_then (λ table. option_and_then (λ width. option_map (λ slots. Draw table (first_of (codes "group") rows) slots width)
-    (number_of 1 most_slots (one_of (codes "slots") rows))) (width_given (first_of (codes "width") rows))) (first_of (codes "TABLE") rows)
+    option_and_then (λ table. option_and_then (λ width. option_and_then (λ html. option_map (λ slots. Draw table (first_of (codes "group") rows) slots width html)
+    (number_of 1 most_slots (one_of (codes "slots") rows))) (flag_given (one_of (codes "html") rows))) (width_given (first_of (codes "width") rows)))
+    (first_of (codes "TABLE") rows)
 
 abbrev pub replay_request : List Row → Option CommandAsk
 replay_request rows =

@@ -34,8 +34,9 @@ pub data CommandAsk : Type 0 where
   Lint : List ℕ → CommandAsk
   -- a table, and the one that it becomes
   Diff : List ℕ → List ℕ → CommandAsk
-  -- a table, the group that is drawn where one alone is, how many slots of each bus where that is said, and how many side by side where that is said
-  Draw : List ℕ → Option (List ℕ) → Option ℕ → Option ℕ → CommandAsk
+  -- a table, the group that is drawn where one alone is, how many slots of each bus where that is said, how many side by side where that is said,
+  -- and whether a page is made of it
+  Draw : List ℕ → Option (List ℕ) → Option ℕ → Option ℕ → Bool → CommandAsk
   -- a table, a script and further tables
   Replay : List ℕ → List ℕ → List (List ℕ) → CommandAsk
   -- a table and a log; until when cells are asked for where that is said, whether each output has one line, and whether lines are comma-separated values
@@ -75,9 +76,10 @@ request_words (Command (Icd table true)) = codes "icd" ∷ table ∷ codes "--cs
 request_words (Command (Margin table)) = codes "margin" ∷ table ∷ []
 request_words (Command (Lint table)) = codes "lint" ∷ table ∷ []
 request_words (Command (Diff table other)) = codes "diff" ∷ table ∷ other ∷ []
-request_words (Command (Draw table group slots width)) =
+request_words (Command (Draw table group slots width html)) =
     codes "draw" ∷ table
-    ∷ (option_words (codes "--group") group ++ (option_words (codes "--slots") (option_map decimal slots) ++ option_words (codes "--width") (option_map decimal width)))
+    ∷ (option_words (codes "--group") group ++ (option_words (codes "--slots") (option_map decimal slots)
+    ++ (option_words (codes "--width") (option_map decimal width) ++ flag_words (codes "--html") html)))
 request_words (Command (Replay table script further)) = codes "replay" ∷ table ∷ script ∷ further
 request_words (Command (Simulate table log until summary csv)) =
     codes "simulate" ∷ table ∷ log
@@ -95,7 +97,7 @@ HasNames (Command (Icd table csv)) = IsName table
 HasNames (Command (Margin table)) = IsName table
 HasNames (Command (Lint table)) = IsName table
 HasNames (Command (Diff table other)) = IsName table × IsName other
-HasNames (Command (Draw table group slots width)) = IsName table × IfSome group IsName × IfSome slots IsPlainSlots × IfSome width IsWidth
+HasNames (Command (Draw table group slots width html)) = IsName table × IfSome group IsName × IfSome slots IsPlainSlots × IfSome width IsWidth
 HasNames (Command (Replay table script further)) = IsName table × IsName script × AllByRecursion IsName further
 HasNames (Command (Simulate table log until summary csv)) = IsName table × IsName log × IfSome until IsPlainTime
 HasNames (Live r) = IsName r.table × IsName r.words × (r.frames ≤ most_frames) × AllByRecursion IsName r.further
@@ -112,9 +114,9 @@ command_of (asked.Icd table csv) = Icd table.now csv
 command_of (asked.Margin table) = Margin table.now
 command_of (asked.Lint table) = Lint table.now
 command_of (asked.Diff table other) = Diff table.now other.now
-command_of (asked.Draw table group slots width) = Draw table.now (option_map (λ g. g.now) group) slots width
+command_of (asked.Draw q) = Draw q.table.now (option_map (λ g. g.now) q.group) q.slots q.width q.html
 command_of (asked.Replay table script further) = Replay table.now script.now (texts_of further.items)
-command_of (asked.Simulate table log until summary csv) = Simulate table.now log.now until summary csv
+command_of (asked.Simulate q) = Simulate q.table.now q.log.now q.until q.summary q.csv
 
 abbrev pub live_of : LiveRequest → LiveAsk
 live_of q = record { table = q.table.now; words = q.words.now; frames = q.frames; further = texts_of q.further.items }

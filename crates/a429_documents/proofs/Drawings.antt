@@ -12,7 +12,9 @@ use Rattle.a429_equipment.specs.declared.rows.SourceRow.{SourceRow}
 use Rattle.a429_slots.specs.Tables.{Placed, SlotTable, PlanTable, buses_of, frame_of, groups_of, outputs_of, placed_at, source_of}
 use Rattle.a429_slots.proofs.Cells.{output_is}
 use Rattle.a429_slots.specs.declared.group_plan.SlotPlace.{SlotPlace}
-use Rattle.a429_documents.specs.Drawing.{drawn_group, group_drawing, group_height, height_at, height_of, output_legend, output_shape, legend_text, legend_top, order_at, order_of, rank_of, shape_text, slots_drawn}
+use Rattle.a429_documents.specs.Drawing.{drawn_group, group_drawing, group_height, height_at, height_of, output_legend, output_shape, legend_text, legend_top, order_at, order_of, rank_of, shape_text, spread_of}
+use Rattle.a429_documents.specs.declared.drawing.DrawingForm.{DrawingForm}
+use Rattle.a429_documents.specs.declared.drawing.places.Spread.{Spread}
 
 -- ---- pieces of a text, one behind the other
 
@@ -40,12 +42,12 @@ module _ (sources : List SourceRow) (t : SlotTable) (o n : ℕ) (row : SourceRow
   pub order_is : order_of row ≡ order_at sources t o
   order_is = sym (ap (λ (r : Option SourceRow). option_map_or order_of r 0) named)
 
-module _ (e : TableRecord) (rate slots g : ℕ) (t : SlotTable) (o n : ℕ) (row : SourceRow) (below : o < length (outputs_of t)) (from : source_of t o ≡ Some n) (there : slice_get e.sources n ≡ Some row) where
+module _ (e : TableRecord) (rate : ℕ) (spread : Spread) (g : ℕ) (t : SlotTable) (o n : ℕ) (row : SourceRow) (below : o < length (outputs_of t)) (from : source_of t o ≡ Some n) (there : slice_get e.sources n ≡ Some row) where
   -- the entry of an output in the legend, by the source that it sends and the place that it has
   pub legend_is : (place : SlotPlace) → (placed_at t o).place ≡ place
-      → legend_text e.receivers rate g o (legend_top (buses_of t) slots) (rank_of e.sources t o) row place ≡ output_legend e rate slots g t o
+      → legend_text e.receivers rate g o (legend_top (buses_of t) spread) (rank_of e.sources t o) row place ≡ output_legend e rate spread g t o
   legend_is place stands =
-      let entry : SourceRow → SlotPlace → List ℕ = legend_text e.receivers rate g o (legend_top (buses_of t) slots) (rank_of e.sources t o) in
+      let entry : SourceRow → SlotPlace → List ℕ = legend_text e.receivers rate g o (legend_top (buses_of t) spread) (rank_of e.sources t o) in
       ap (entry row) (sym stands)
       ∙ sym (ap (λ (r : Option SourceRow). option_map_or (λ (source : SourceRow). entry source (placed_at t o).place) r []) (named e.sources t o n row below from there))
 
@@ -75,12 +77,12 @@ counted_no p k here =
 
 -- ---- the groups
 
-pub height_is : (slots : Option ℕ) (p : PlanTable) (g : ℕ) (t : SlotTable) → slice_get (groups_of p) g ≡ Some t → group_height (slots_drawn slots (frame_of t)) t ≡ height_at slots p g
-height_is slots p g t there = sym (ap (λ (t : Option SlotTable). option_map_or (λ (t : SlotTable). group_height (slots_drawn slots (frame_of t)) t) t 0) there)
+pub height_is : (form : DrawingForm) (p : PlanTable) (g : ℕ) (t : SlotTable) → slice_get (groups_of p) g ≡ Some t → group_height (spread_of form (frame_of t)) t ≡ height_at form p g
+height_is form p g t there = sym (ap (λ (t : Option SlotTable). option_map_or (λ (t : SlotTable). group_height (spread_of form (frame_of t)) t) t 0) there)
 
-pub drawn_is : (e : TableRecord) (p : PlanTable) (slots : Option ℕ) (first k : ℕ) (row : GroupRow) (t : SlotTable) → slice_get e.groups (first + k) ≡ Some row → slice_get (groups_of p) (first + k) ≡ Some t
-    → group_drawing e row t (first + k) (slots_drawn slots (frame_of t)) (height_of slots p first k) ≡ drawn_group e p slots first k
-drawn_is e p slots first k row t here there =
-    let image : GroupRow → SlotTable → List ℕ = λ row t. group_drawing e row t (first + k) (slots_drawn slots (frame_of t)) (height_of slots p first k) in
+pub drawn_is : (e : TableRecord) (p : PlanTable) (form : DrawingForm) (first k : ℕ) (row : GroupRow) (t : SlotTable) → slice_get e.groups (first + k) ≡ Some row → slice_get (groups_of p) (first + k) ≡ Some t
+    → group_drawing e row t (first + k) (spread_of form (frame_of t)) (height_of form p first k) ≡ drawn_group e p form first k
+drawn_is e p form first k row t here there =
+    let image : GroupRow → SlotTable → List ℕ = λ row t. group_drawing e row t (first + k) (spread_of form (frame_of t)) (height_of form p first k) in
     sym (ap (λ (r : Option GroupRow). option_map_or (λ (row : GroupRow). option_map_or (image row) (slice_get (groups_of p) (first + k)) []) r []) here
     ∙ ap (λ (t : Option SlotTable). option_map_or (image row) t []) there)

@@ -1,5 +1,5 @@
 -- The slot tables of a plan as an image: the text of `draw` (SVG 1.1; profile: drawing). Lengths are in pixels.
-use Rattle.std.specs.Prelude.{ℕ, ◌+◌, ◌-◌, ◌*◌, ◌/◌, ◌%◌, ◌^◌, List, [], ◌++◌, Option, None, Some, codes, count_by, is_some, length, min, nat_lt, slice_get}
+use Rattle.std.specs.Prelude.{⊤, ◌≡◌, ◌≤◌, ◌<◌, ℕ, ◌+◌, ◌-◌, ◌*◌, ◌/◌, ◌%◌, ◌^◌, List, [], ◌++◌, Option, None, Some, codes, count_by, is_some, length, max, min, nat_lt, slice_get, Result, MatchResult, Vec}
 use Rattle.std.specs.Fmt.{decimal}
 use Rattle.std.specs.Int.{div_ceil}
 use Rattle.std.specs.List.{flat_map, range_with_len, sum_by}
@@ -10,8 +10,14 @@ use Rattle.a429_equipment.specs.declared.rows.GroupRow.{GroupRow}
 use Rattle.a429_equipment.specs.declared.rows.ReceiverRow.{ReceiverRow}
 use Rattle.a429_equipment.specs.declared.rows.SourceRow.{SourceRow}
 use Rattle.a429_slots.specs.declared.group_plan.SlotPlace.{SlotPlace}
+use Rattle.std.specs.declared.alloc.Global.{Global}
+use Rattle.a429_slots.specs.Proposed.{Proposed}
 use Rattle.a429_slots.specs.Tables.{SlotTable, PlanTable, buses_of, cell_at, frame_of, groups_of, outputs_of, placed_at}
 use Rattle.a429_documents.specs.Document.{receiver_name, sdi_text, slots_us}
+use Rattle.a429_documents.specs.declared.drawing.DrawingFault.{DrawingFault}
+use Rattle.a429_documents.specs.declared.drawing.DrawingFault.TheVariants.{NoMemory, TooHigh}
+use Rattle.a429_documents.specs.declared.drawing.DrawingForm.{DrawingForm}
+use Rattle.a429_documents.specs.declared.drawing.places.Spread.{Spread}
 
 -- ---- where things stand
 
@@ -20,9 +26,18 @@ abbrev pub slots_drawn : Option ℕ → ℕ → ℕ
 slots_drawn None frame = min frame 256
 slots_drawn (Some slots) frame = min slots 8192
 
--- Slots stand in rows of 64, which are folded below one another: a fold has a line of slot numbers, and a row for each bus.
-abbrev pub folds_of : ℕ → ℕ
-folds_of slots = div_ceil slots 64
+-- Slots stand in rows, which are folded below one another: a fold has a line of slot numbers, and a row for each bus. How many slots are in a row: as many as
+-- were asked for, 64 to 256; else 64
+abbrev pub fold_width : Option ℕ → ℕ
+fold_width None = 64
+fold_width (Some width) = max 64 (min width 256)
+
+-- how much of a group is drawn: so many slots, in rows of so many
+abbrev pub spread_of : DrawingForm → ℕ → Spread
+spread_of form frame = record { slots = slots_drawn form.slots frame; width = fold_width form.width }
+
+abbrev pub folds_of : Spread → ℕ
+folds_of spread = div_ceil spread.slots spread.width
 
 -- the upper edge of a fold, below the title of the group
 abbrev pub fold_top : ℕ → ℕ → ℕ
@@ -33,16 +48,16 @@ abbrev pub row_top : ℕ → ℕ → ℕ → ℕ
 row_top buses fold bus = fold_top buses fold + 14 + 18 * bus
 
 -- the left edge of a slot
-abbrev pub slot_left : ℕ → ℕ
-slot_left slot = 100 + 16 * (slot % 64)
+abbrev pub slot_left : ℕ → ℕ → ℕ
+slot_left width slot = 100 + 16 * (slot % width)
 
 -- the upper edge of the legend, below the last fold
-abbrev pub legend_top : ℕ → ℕ → ℕ
-legend_top buses slots = fold_top buses (folds_of slots) + 4
+abbrev pub legend_top : ℕ → Spread → ℕ
+legend_top buses spread = fold_top buses (folds_of spread) + 4
 
 -- the height of a group: with its legend, which has two outputs in a line
-abbrev pub group_height : ℕ → SlotTable → ℕ
-group_height slots t = legend_top (buses_of t) slots + 20 * div_ceil (length (outputs_of t)) 2 + 24
+abbrev pub group_height : Spread → SlotTable → ℕ
+group_height spread t = legend_top (buses_of t) spread + 20 * div_ceil (length (outputs_of t)) 2 + 24
 
 -- ---- times
 
@@ -142,21 +157,21 @@ abbrev pub legend_text : List ReceiverRow → ℕ → ℕ → ℕ → ℕ → �
 legend_text receivers rate g o top rank source place =
     used_text g o (entry_left rank) (entry_top top rank) ++ entry_text (entry_left rank + 22) (entry_top top rank + 13) receivers rate source place
 
-abbrev pub output_legend : TableRecord → ℕ → ℕ → ℕ → SlotTable → ℕ → List ℕ
-output_legend e rate slots g t o =
+abbrev pub output_legend : TableRecord → ℕ → Spread → ℕ → SlotTable → ℕ → List ℕ
+output_legend e rate spread g t o =
     let placed = placed_at t o in
-    option_map_or (λ source. legend_text e.receivers rate g o (legend_top (buses_of t) slots) (rank_of e.sources t o) source placed.place) (slice_get e.sources placed.source) []
+    option_map_or (λ source. legend_text e.receivers rate g o (legend_top (buses_of t) spread) (rank_of e.sources t o) source placed.place) (slice_get e.sources placed.source) []
 
 -- ---- the rows
 
 -- the number of each eighth slot, above it, and when it begins
-abbrev pub mark_place_text : ℕ → ℕ → List ℕ
-mark_place_text buses mark =
-    codes "<text x='" ++ (decimal (slot_left (8 * mark)) ++ (codes "' y='" ++ (decimal (fold_top buses (8 * mark / 64) + 11)
+abbrev pub mark_place_text : ℕ → ℕ → ℕ → List ℕ
+mark_place_text width buses mark =
+    codes "<text x='" ++ (decimal (slot_left width (8 * mark)) ++ (codes "' y='" ++ (decimal (fold_top buses (8 * mark / width) + 11)
     ++ (codes "' font-size='8' fill='#666'>" ++ (decimal (8 * mark) ++ codes " (")))))
 
-abbrev pub mark_text : ℕ → ℕ → ℕ → List ℕ
-mark_text rate buses mark = mark_place_text buses mark ++ (lasting_text rate (8 * mark) ++ codes ")</text>\n")
+abbrev pub mark_text : ℕ → ℕ → ℕ → ℕ → List ℕ
+mark_text rate width buses mark = mark_place_text width buses mark ++ (lasting_text rate (8 * mark) ++ codes ")</text>\n")
 
 -- how many slots of a frame have an output on this bus
 abbrev pub filled_on : SlotTable → ℕ → ℕ
@@ -176,28 +191,28 @@ load_text left base load =
     codes "<text x='" ++ (decimal left ++ (codes "' y='" ++ (decimal base ++ (codes "'>" ++ (decimal load ++ codes " %</text>\n")))))
 
 -- the load of a bus, at the right end of its row in the first fold
-abbrev pub bus_load_text : ℕ → ℕ → ℕ → ℕ → List ℕ
-bus_load_text buses slots bus load = load_text (106 + 16 * min 64 slots) (row_top buses 0 bus + 13) load
+abbrev pub bus_load_text : ℕ → Spread → ℕ → ℕ → List ℕ
+bus_load_text buses spread bus load = load_text (106 + 16 * min spread.width spread.slots) (row_top buses 0 bus + 13) load
 
 -- a stripe, on which cells stand
 abbrev pub stripe_text : ℕ → ℕ → List ℕ
 stripe_text top width = codes "<rect x='100' y='" ++ (decimal top ++ (codes "' width='" ++ (decimal width ++ codes "' height='17' fill='#eee'/>\n")))
 
 -- the row of a bus in a fold, without its cells: its stripe is as wide as there are slots in the fold
-abbrev pub row_text : ℕ → ℕ → ℕ → ℕ → List ℕ
-row_text buses slots bus fold =
-    bus_name_text (row_top buses fold bus + 13) bus ++ stripe_text (row_top buses fold bus) (16 * min 64 (slots - 64 * fold))
+abbrev pub row_text : ℕ → Spread → ℕ → ℕ → List ℕ
+row_text buses spread bus fold =
+    bus_name_text (row_top buses fold bus + 13) bus ++ stripe_text (row_top buses fold bus) (16 * min spread.width (spread.slots - spread.width * fold))
 
 -- a cell: the shape of the output that stands there; an empty cell, nothing
-abbrev pub cell_text : ℕ → SlotTable → ℕ → ℕ → List ℕ
-cell_text g t bus slot =
-    option_map_or (λ o. used_text g o (slot_left slot) (row_top (buses_of t) (slot / 64) bus)) (cell_at t bus slot) []
+abbrev pub cell_text : ℕ → SlotTable → ℕ → ℕ → ℕ → List ℕ
+cell_text g t width bus slot =
+    option_map_or (λ o. used_text g o (slot_left width slot) (row_top (buses_of t) (slot / width) bus)) (cell_at t bus slot) []
 
 -- the load of a bus, its rows, and its cells in these slots
-abbrev pub bus_text : ℕ → SlotTable → ℕ → ℕ → List ℕ
-bus_text g t slots bus =
-    bus_load_text (buses_of t) slots bus (load_of t bus)
-    ++ (flat_map (row_text (buses_of t) slots bus) (range_with_len 0 (folds_of slots)) ++ flat_map (cell_text g t bus) (range_with_len 0 slots))
+abbrev pub bus_text : ℕ → SlotTable → Spread → ℕ → List ℕ
+bus_text g t spread bus =
+    bus_load_text (buses_of t) spread bus (load_of t bus)
+    ++ (flat_map (row_text (buses_of t) spread bus) (range_with_len 0 (folds_of spread)) ++ flat_map (cell_text g t spread.width bus) (range_with_len 0 spread.slots))
 
 -- ---- the image
 
@@ -218,19 +233,19 @@ abbrev pub title_text : List ℕ → ℕ → ℕ → ℕ → ℕ → List ℕ
 title_text name rate buses frame slots = title_name_text name rate buses frame ++ (lasting_text rate frame ++ title_slots_text slots frame)
 
 -- the beginning of a group: its title, and the shapes of its outputs
-abbrev pub head_text : List SourceRow → GroupRow → SlotTable → ℕ → ℕ → ℕ → List ℕ
-head_text sources row t g slots top =
-    place_text top ++ (title_text row.name row.rate (buses_of t) (frame_of t) slots ++ shapes_text sources g t)
+abbrev pub head_text : List SourceRow → GroupRow → SlotTable → ℕ → Spread → ℕ → List ℕ
+head_text sources row t g spread top =
+    place_text top ++ (title_text row.name row.rate (buses_of t) (frame_of t) spread.slots ++ shapes_text sources g t)
 
 -- the rest of it: the numbers of slots, the buses and the legend
-abbrev pub body_text : TableRecord → GroupRow → SlotTable → ℕ → ℕ → List ℕ
-body_text e row t g slots =
-    flat_map (mark_text row.rate (buses_of t)) (range_with_len 0 (div_ceil slots 8))
-    ++ (flat_map (bus_text g t slots) (range_with_len 0 (buses_of t)) ++ flat_map (output_legend e row.rate slots g t) (numbers_of t))
+abbrev pub body_text : TableRecord → GroupRow → SlotTable → ℕ → Spread → List ℕ
+body_text e row t g spread =
+    flat_map (mark_text row.rate spread.width (buses_of t)) (range_with_len 0 (div_ceil spread.slots 8))
+    ++ (flat_map (bus_text g t spread) (range_with_len 0 (buses_of t)) ++ flat_map (output_legend e row.rate spread g t) (numbers_of t))
 
--- a group of which so many slots are drawn, with its upper edge here
-abbrev pub group_drawing : TableRecord → GroupRow → SlotTable → ℕ → ℕ → ℕ → List ℕ
-group_drawing e row t g slots top = head_text e.sources row t g slots top ++ (body_text e row t g slots ++ codes "</g>\n")
+-- a group of which so much is drawn, with its upper edge here
+abbrev pub group_drawing : TableRecord → GroupRow → SlotTable → ℕ → Spread → ℕ → List ℕ
+group_drawing e row t g spread top = head_text e.sources row t g spread top ++ (body_text e row t g spread ++ codes "</g>\n")
 
 -- the groups that are drawn: one, or all, from which number on and how many
 abbrev pub first_drawn : Option ℕ → ℕ
@@ -242,35 +257,54 @@ groups_drawn None p = length (groups_of p)
 groups_drawn (Some group) p = 1
 
 -- the height of a group by its number
-abbrev pub height_at : Option ℕ → PlanTable → ℕ → ℕ
-height_at slots p g = option_map_or (λ t. group_height (slots_drawn slots (frame_of t)) t) (slice_get (groups_of p) g) 0
+abbrev pub height_at : DrawingForm → PlanTable → ℕ → ℕ
+height_at form p g = option_map_or (λ t. group_height (spread_of form (frame_of t)) t) (slice_get (groups_of p) g) 0
 
 -- the height of so many groups from a first one on, one below the other
-abbrev pub height_of : Option ℕ → PlanTable → ℕ → ℕ → ℕ
-height_of slots p first count = sum_by (λ k. height_at slots p (first + k)) (range_with_len 0 count)
+abbrev pub height_of : DrawingForm → PlanTable → ℕ → ℕ → ℕ
+height_of form p first count = sum_by (λ k. height_at form p (first + k)) (range_with_len 0 count)
 
 -- a group by its place among those that are drawn, below those before it
-abbrev pub drawn_group : TableRecord → PlanTable → Option ℕ → ℕ → ℕ → List ℕ
-drawn_group e p slots first k =
-    option_map_or (λ row. option_map_or (λ t. group_drawing e row t (first + k) (slots_drawn slots (frame_of t)) (height_of slots p first k)) (slice_get (groups_of p) (first + k)) [])
+abbrev pub drawn_group : TableRecord → PlanTable → DrawingForm → ℕ → ℕ → List ℕ
+drawn_group e p form first k =
+    option_map_or (λ row. option_map_or (λ t. group_drawing e row t (first + k) (spread_of form (frame_of t)) (height_of form p first k)) (slice_get (groups_of p) (first + k)) [])
     (slice_get e.groups (first + k)) []
 
 -- as many groups as this, from the first that is drawn on
-abbrev pub drawn_groups : TableRecord → PlanTable → Option ℕ → ℕ → ℕ → List ℕ
-drawn_groups e p slots first count = flat_map (drawn_group e p slots first) (range_with_len 0 count)
+abbrev pub drawn_groups : TableRecord → PlanTable → DrawingForm → ℕ → ℕ → List ℕ
+drawn_groups e p form first count = flat_map (drawn_group e p form first) (range_with_len 0 count)
 
--- the beginning of an image of this height, and the white sheet that all stands on
-abbrev pub svg_text : ℕ → List ℕ
-svg_text height =
-    codes "<svg xmlns='http://www.w3.org/2000/svg' viewBox='0 0 1190 " ++ (decimal height ++ codes "' font-family='monospace' font-size='11'>\n")
+-- how wide an image is: the names of the buses, a row, and its load
+abbrev pub width_of : DrawingForm → ℕ
+width_of form = 166 + 16 * fold_width form.width
 
-abbrev pub sheet_text : ℕ → List ℕ
-sheet_text height = codes "<rect width='1190' height='" ++ (decimal height ++ codes "' fill='white'/>\n")
+-- the height of the image of one group of a plan, or of all
+abbrev pub image_height : PlanTable → Option ℕ → DrawingForm → ℕ
+image_height p group form = height_of form p (first_drawn group) (groups_drawn group p)
+
+-- the beginning of an image of this width and height, and the white sheet that all stands on
+abbrev pub svg_text : ℕ → ℕ → List ℕ
+svg_text width height =
+    codes "<svg xmlns='http://www.w3.org/2000/svg' viewBox='0 0 " ++ (decimal width ++ (codes " " ++ (decimal height ++ codes "' font-family='monospace' font-size='11'>\n")))
+
+abbrev pub sheet_text : ℕ → ℕ → List ℕ
+sheet_text width height = codes "<rect width='" ++ (decimal width ++ (codes "' height='" ++ (decimal height ++ codes "' fill='white'/>\n")))
 
 -- the image of one group of a plan, or of all
-abbrev pub drawing_of : TableRecord → PlanTable → Option ℕ → Option ℕ → List ℕ
-drawing_of e p group slots =
-    let first = first_drawn group in
-    let count = groups_drawn group p in
-    let height = height_of slots p first count in
-    svg_text height ++ (sheet_text height ++ (drawn_groups e p slots first count ++ codes "</svg>\n"))
+abbrev pub drawing_of : TableRecord → PlanTable → Option ℕ → DrawingForm → List ℕ
+drawing_of e p group form =
+    let width = width_of form in
+    let height = image_height p group form in
+    svg_text width height ++ (sheet_text width height ++ (drawn_groups e p form (first_drawn group) (groups_drawn group p) ++ codes "</svg>\n"))
+
+-- Programs that show images take up to 32767 pixels: a higher image is refused.
+abbrev pub IsImageText : TableRecord → PlanTable → Option ℕ → DrawingForm → List ℕ → Type 0
+IsImageText e p group form text = (image_height p group form ≤ 32767) × (text ≡ drawing_of e p group form)
+
+abbrev pub IsDrawingFault : PlanTable → Option ℕ → DrawingForm → DrawingFault → Type 0
+IsDrawingFault p group form NoMemory = ⊤
+IsDrawingFault p group form TooHigh = 32767 < image_height p group form
+
+-- what drawing a proposal's plan gives: the image, or why there is none
+abbrev pub GivesImage : Proposed → Option ℕ → DrawingForm → Result (Vec ℕ Global) DrawingFault → Type 0
+GivesImage q group form result = MatchResult result (λ text. IsImageText q.station q.plan group form text.items) (IsDrawingFault q.plan group form)

@@ -25,6 +25,14 @@ pub fn tell_groups<V: Write>(about: About, groups: &[GroupRow], err: &mut V) -> 
     writeln!(err)
 }
 
+/// Tells what helps where an image would be too high.
+pub fn tell_too_high<V: Write>(about: About, err: &mut V) -> io::Result<()> {
+    writeln!(
+        err,
+        "{about}: the image would be higher than 32767 pixels, which programs that show images refuse: ask for fewer slots (--slots), for wider rows (--width 256), or for one group (--group)"
+    )
+}
+
 /// Tells what helps a group that needs too many buses.
 pub fn tell_fewer_buses<V: Write>(
     about: About,

@@ -9,7 +9,7 @@ use crate::findings::tell_findings;
 use crate::imports::tell_rows;
 use crate::logs::{tell_log_line, tell_too_long};
 use crate::mistakes::tell_nearest_word;
-use crate::plans::{tell_all_unfit, tell_fewer_buses, tell_groups};
+use crate::plans::{tell_all_unfit, tell_fewer_buses, tell_groups, tell_too_high};
 use crate::scripts::{tell_script_line, tell_words_line};
 use crate::words::{tell_even_word, tell_filter, tell_line_byte, tell_word_text};
 use a429_console::arguments::requests::{CommandRequest, Request};
@@ -157,19 +157,23 @@ fn tell_of_line<V: Write>(
     match (request, seen.byte) {
         (_, Some(byte)) => tell_line_byte(file.as_str(), line, byte, err),
         (Request::Live(_), None) => tell_words_line(alloc, about, line, err),
-        (Request::Command(CommandRequest::Simulate { .. }), None) => {
+        (Request::Command(CommandRequest::Simulate(_)), None) => {
             tell_log_line(alloc, about, line, err)
         }
         (Request::Command(_), None) => tell_script_line(alloc, about, line, err),
     }
 }
 
-/// Tells of a log that is too long.
+/// Tells of a log that is too long, or of an image that is too high.
 fn tell_of_length<V: Write>(alloc: Global, request: &Request, err: &mut V) -> io::Result<()> {
     match request {
-        Request::Command(CommandRequest::Simulate { log, until, .. }) => {
-            let file = printable_name(alloc, log)?;
-            tell_too_long(About::file(file.as_str()), *until, err)
+        Request::Command(CommandRequest::Simulate(asked)) => {
+            let file = printable_name(alloc, asked.log)?;
+            tell_too_long(About::file(file.as_str()), asked.until, err)
+        }
+        Request::Command(CommandRequest::Draw(asked)) => {
+            let file = printable_name(alloc, asked.table)?;
+            tell_too_high(About::file(file.as_str()), err)
         }
         _ => Ok(()),
     }
@@ -263,7 +267,7 @@ fn order_of(request: &Request) -> &'static str {
         Request::Command(CommandRequest::Check { .. }) => "check TABLE PLAN",
         Request::Command(CommandRequest::Diff { .. }) => "diff TABLE OTHER",
         Request::Command(CommandRequest::Replay { .. }) => "replay TABLE SCRIPT [FURTHER..]",
-        Request::Command(CommandRequest::Simulate { .. }) => "simulate TABLE LOG",
+        Request::Command(CommandRequest::Simulate(_)) => "simulate TABLE LOG",
         Request::Command(_) => "a table alone",
     }
 }
@@ -278,11 +282,11 @@ fn table_name<'a>(request: &'a Request) -> &'a str {
             | CommandRequest::Margin { table }
             | CommandRequest::Lint { table }
             | CommandRequest::Diff { table, .. }
-            | CommandRequest::Draw { table, .. }
             | CommandRequest::Check { table, .. }
-            | CommandRequest::Replay { table, .. }
-            | CommandRequest::Simulate { table, .. },
+            | CommandRequest::Replay { table, .. },
         ) => table,
+        Request::Command(CommandRequest::Draw(asked)) => asked.table,
+        Request::Command(CommandRequest::Simulate(asked)) => asked.table,
         Request::Command(
             CommandRequest::Word { .. }
             | CommandRequest::Lines { .. }
@@ -305,7 +309,7 @@ fn text_name<'a>(request: &'a Request) -> &'a str {
         Request::Live(run) => run.words,
         Request::Command(CommandRequest::Check { plan, .. }) => plan,
         Request::Command(CommandRequest::Replay { script, .. }) => script,
-        Request::Command(CommandRequest::Simulate { log, .. }) => log,
+        Request::Command(CommandRequest::Simulate(asked)) => asked.log,
         Request::Command(CommandRequest::Lines { file, .. } | CommandRequest::Import { file }) =>
             file,
         Request::Command(_) => "",

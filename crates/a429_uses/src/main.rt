@@ -18,6 +18,7 @@
 //! | `station.rt` | `run_station`, `run_printing`: threads, and what is proved of them | as it is |
 //! | `listening.rt` | `listen`: a receiver and its line, of any length | as it is |
 //! | `calls.rt` | words, plans and the machine, without threads | as you need it |
+//! | `started.rt` | `run_all`: a station whose threads are started for it | as you need it |
 //! | `history.rt` | `History`: what a device did, for proofs | as it is |
 //! | `showing.rt` | what else this program prints | nothing |
 #![tactic(auto)]
@@ -30,13 +31,14 @@ mod line;
 mod listening;
 mod pacing;
 mod showing;
+mod started;
 mod station;
 
 use crate::bus::PrintBus;
 use crate::control::Control;
 use crate::line::HexLine;
 use crate::pacing::{LateStart, Marks};
-use crate::showing::{show_alone, show_done};
+use crate::showing::{show_alone, show_done, show_started};
 use crate::station::run_printing;
 use a429_table::read_equipment;
 use anyhow::ensure;
@@ -89,6 +91,7 @@ fn main(rt: HostRuntime) -> anyhow::Result<ExitCode> {
         "the table has another number of receivers or groups than one"
     );
     show_alone(&rt, &request.table)?;
+    show_started(&rt, &equipment)?;
     let marks = Marks::none();
     let gate = LateStart {
         rt: &rt,

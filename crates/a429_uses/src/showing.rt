@@ -1,15 +1,20 @@
 //! What the program prints beside the words that go out.
-ghost use Rattle.std.specs.Prelude.{◌<◌, length};
+ghost use Rattle.std.specs.Prelude.{◌≡◌, ◌<◌, length};
 
 use crate::calls::{plan_table, simulate, slot_of};
+use crate::started::run_all;
 use crate::station::Done;
 use a429_core::{Answer, Event};
+use a429_equipment::Equipment;
 use a429_filter::{LineSource, MemoryLine};
 use a429_line::write_slot;
 use a429_slots::{OUTPUTS, Proposal};
 use a429_word::{Label, Word};
+use a429_workers::MemorySink;
 use anyhow::Context;
 use std::alloc::Global;
+use std::sync::Wait;
+use std::thread::Threads;
 
 /// The line on which one word stands, of label 203.
 fn line_of_one_word(alloc: Global) -> anyhow::Result<MemoryLine> {
@@ -64,6 +69,26 @@ pub fn show_alone<R: Print + AllocGlobal>(rt: &R, table: &[u8]) -> anyhow::Resul
         )?;
     }
     show_simulation(rt, proposal)
+}
+
+/// Prints what a station did whose threads were started for it: one word came in, and one frame went out.
+pub fn show_started<R: Print + AllocGlobal + Threads + Wait>(
+    rt: &R,
+    equipment: &Equipment,
+) -> anyhow::Result<()>
+    requires receivers { length equipment.now.receivers ≡ 1 }
+    requires groups { length equipment.now.groups ≡ 1 }
+{
+    let lines = vec![in rt.alloc(); line_of_one_word(rt.alloc())?]?;
+    let buses = vec![in rt.alloc(); MemorySink::new(rt.alloc())]?;
+    let report = run_all(rt, rt.alloc(), equipment, lines, buses, 1)?;
+    for totals in &report.receivers {
+        println!(rt; "started accepted {}", totals.accepted)?;
+    }
+    for totals in &report.groups {
+        println!(rt; "started cells {}", totals.cells)?;
+    }
+    Ok(())
 }
 
 /// Prints what the threads of a station answered. The error is that of a thread.

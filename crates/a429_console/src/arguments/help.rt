@@ -116,6 +116,8 @@ pub const SLOTS: &str = "Slots of each bus, 1 to 8192; else a frame, at most 256
 
 pub const WIDTH: &str = "Slots side by side, 64, 128 or 256; else 64";
 
+pub const HTML: &str = "As a page (HTML) with the lines of `icd`, `margin` and `lint`";
+
 pub const DRAW_END: &str = "\
 Example:
   a429 draw --group displays examples/displays/table.toml > displays.svg";

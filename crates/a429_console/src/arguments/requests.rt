@@ -65,31 +65,40 @@ pub enum CommandRequest<'a> {
         table: &'a str,
         other: &'a str,
     },
-    /// To draw the plan of the table of this name as an image: each group, or the one of this name alone, and of each
-    /// bus so many slots, from 1 to 8192, or where that is not said a frame, of which 256 slots at most; in folds of 64, 128 or
-    /// 256 slots, or where that is not said of 64.
-    Draw {
-        table: &'a str,
-        group: Option<&'a str>,
-        slots: Option<u32>,
-        width: Option<u32>,
-    },
+    /// To draw the plan of a table.
+    Draw(DrawRequest<'a>),
     /// To play the script of this name on the station of the table of this name, beside further tables.
     Replay {
         table: &'a str,
         script: &'a str,
         further: Vec<&'a str>,
     },
-    /// To print which words the station of the table of this name sends by the log of this name: until this
-    /// microsecond, or where that is not said until all words can be out. With a summary, one line for each output in place
-    /// of one for each word. Or the same as comma-separated values.
-    Simulate {
-        table: &'a str,
-        log: &'a str,
-        until: Option<u64>,
-        summary: bool,
-        csv: bool,
-    },
+    /// To print which words the station of a table sends by a log.
+    Simulate(SimulateRequest<'a>),
+}
+
+/// To draw the plan of the table of this name as an image: each group, or the one of this name alone, and of each
+/// bus so many slots, from 1 to 8192, or where that is not said a frame, of which 256 slots at most; in folds of 64, 128 or
+/// 256 slots, or where that is not said of 64. Or a page with that image and the lines of the documents.
+#[derive(Clone, Copy, Debug)]
+pub struct DrawRequest<'a> {
+    pub table: &'a str,
+    pub group: Option<&'a str>,
+    pub slots: Option<u32>,
+    pub width: Option<u32>,
+    pub html: bool,
+}
+
+/// To print which words the station of the table of this name sends by the log of this name: until this
+/// microsecond, or where that is not said until all words can be out. With a summary, one line for each output in place
+/// of one for each word. Or the same as comma-separated values.
+#[derive(Clone, Copy, Debug)]
+pub struct SimulateRequest<'a> {
+    pub table: &'a str,
+    pub log: &'a str,
+    pub until: Option<u64>,
+    pub summary: bool,
+    pub csv: bool,
 }
 
 /// To run the station of the table of this name on threads of its own, with the words of the file of this name, for
@@ -322,12 +331,14 @@ fn asked_draw<'a>(found: &ArgMatches<'a>) -> Result<CommandRequest<'a>, Error>
     let group = found.get_str("group");
     let slots = asked_number(found, "slots");
     let width = asked_width(found);
-    Ok(CommandRequest::Draw {
+    let html = found.get_flag("html");
+    Ok(CommandRequest::Draw(DrawRequest {
         table,
         group,
         slots,
         width,
-    })
+        html,
+    }))
 }
 
 /// What the words of `replay` ask for.
@@ -355,13 +366,13 @@ fn asked_simulate<'a>(found: &ArgMatches<'a>) -> Result<CommandRequest<'a>, Erro
     let until = asked_time(found, "until");
     let summary = found.get_flag("summary");
     let csv = found.get_flag("csv");
-    Ok(CommandRequest::Simulate {
+    Ok(CommandRequest::Simulate(SimulateRequest {
         table,
         log,
         until,
         summary,
         csv,
-    })
+    }))
 }
 
 /// What the words of `live` ask for.

@@ -6,9 +6,10 @@ ghost use Rattle.a429_slots.specs.Tables.{outputs_of, source_of};
 ghost use Rattle.a429_cert.specs.PlanText.{HasSources};
 ghost use Rattle.a429_documents.specs.Document.{sdi_text};
 ghost use Rattle.a429_documents.specs.Drawing.{entry_left, entry_place_text, entry_text, entry_top, legend_text, numbers_of, order_at, order_of, output_legend, rank_of, sends_text, stands_text};
+ghost use Rattle.a429_documents.specs.Spreads.{IsDrawable};
 
 use crate::document::receiver_name;
-use crate::drawing::places::legend_top;
+use crate::drawing::places::{Spread, legend_top};
 use crate::drawing::shapes::write_used;
 use crate::drawing::times::write_lasting;
 use a429_equipment::{Equipment, ReceiverRow, SourceRow};
@@ -147,26 +148,26 @@ fn write_legend(
     write_entry(text, left + 22, line + 13, receivers, rate, source, place)
 }
 
-/// Writes the entry of an output of a group of which so many slots are drawn.
+/// Writes the entry of an output of a group of which so much is drawn.
 fn write_output_legend(
     text: &mut String,
     equipment: &Equipment,
     rate: u32,
-    slots: u32,
+    spread: Spread,
     group: usize,
     table: &GroupPlan<OUTPUTS>,
     output: OutputId,
 ) -> Result<(), AllocError>
     requires rate { 1 ≤ rate }
-    requires slots { slots ≤ 8192 }
+    requires spread { IsDrawable spread }
     requires known { HasSources equipment.now.sources table.now }
     requires below { output < length (outputs_of table.now) }
     requires source { IfSome (source_of table.now output) (λ source. source < length equipment.now.sources) }
-    ensures { Writes result text.old text.new (output_legend equipment.now rate slots group table.now output) }
+    ensures { Writes result text.old text.new (output_legend equipment.now rate spread group table.now output) }
 {
     let sources = equipment.sources();
     let source = &sources[table.source(output)];
-    let top = legend_top(table.buses(), slots);
+    let top = legend_top(table.buses(), spread);
     let rank = rank_of(sources, table, output);
     let place = table.place(output);
     write_legend(
@@ -182,23 +183,23 @@ fn write_output_legend(
     )
 }
 
-/// Writes the legend of a group of which so many slots are drawn. Its entries are put in table order, each at its place.
+/// Writes the legend of a group of which so much is drawn. Its entries are put in table order, each at its place.
 pub(crate) fn write_legends(
     text: &mut String,
     equipment: &Equipment,
     rate: u32,
-    slots: u32,
+    spread: Spread,
     group: usize,
     table: &GroupPlan<OUTPUTS>,
 ) -> Result<(), AllocError>
     requires rate { 1 ≤ rate }
     requires known { HasSources equipment.now.sources table.now }
-    requires slots { slots ≤ 8192 }
-    ensures { Writes result text.old text.new (flat_map (output_legend equipment.now rate slots group table.now) (numbers_of table.now)) }
+    requires spread { IsDrawable spread }
+    ensures { Writes result text.old text.new (flat_map (output_legend equipment.now rate spread group table.now) (numbers_of table.now)) }
 {
     for output in 0..table.outputs() {
         let output = OutputId::new(output);
-        write_output_legend(text, equipment, rate, slots, group, table, output)?;
+        write_output_legend(text, equipment, rate, spread, group, table, output)?;
     }
     Ok(())
 }

@@ -1,27 +1,45 @@
 //! The rows of an image: a bus each, with its load and its cells.
-ghost use Rattle.std.specs.Prelude.{◌≡◌, ◌≤◌, ◌<◌, ◌+◌};
+ghost use Rattle.std.specs.Prelude.{◌≡◌, ◌≤◌, ◌<◌, ◌+◌, ◌-◌, ◌*◌, ◌/◌, min};
 ghost use Rattle.std.specs.Int.{div_ceil};
 ghost use Rattle.std.specs.List.{flat_map, range_with_len};
 ghost use Rattle.a429_word.specs.Written.{Writes};
 ghost use Rattle.a429_slots.specs.Tables.{buses_of, frame_of};
 ghost use Rattle.a429_documents.specs.Drawing.{bus_load_text, bus_name_text, bus_text, cell_text, filled_on, folds_of, load_of, load_text, mark_place_text, mark_text, row_text, stripe_text};
+ghost use Rattle.a429_documents.specs.Spreads.{IsDrawable};
 
-use crate::drawing::places::{FOLD, fold_top, row_top, slot_left};
+use crate::drawing::places::{Spread, fold_top, folds_of, row_top, slot_left};
 use crate::drawing::shapes::write_used;
 use crate::drawing::times::write_lasting;
 use a429_slots::{GroupPlan, OUTPUTS};
 use std::alloc::AllocError;
 use std::fmt::Write;
 
+/// The row in which a slot stands.
+fn fold_at(width: u32, slot: u32) -> u32
+    requires least { 64 ≤ width }
+    requires slot { slot < 8192 }
+    ensures value { result ≡ slot / width }
+    ensures few { result ≤ 128 }
+{
+    slot / width
+}
+
 /// Writes the number of an eighth slot above it.
-fn write_mark_place(text: &mut String, buses: u32, mark: u32) -> Result<(), AllocError>
+fn write_mark_place(
+    text: &mut String,
+    width: u32,
+    buses: u32,
+    mark: u32,
+) -> Result<(), AllocError>
+    requires least { 64 ≤ width }
+    requires most { width ≤ 256 }
     requires buses { buses ≤ 16 }
     requires mark { mark < 1024 }
-    ensures { Writes result text.old text.new (mark_place_text buses mark) }
+    ensures { Writes result text.old text.new (mark_place_text width buses mark) }
 {
     let slot = 8 * mark;
-    let left = slot_left(slot);
-    let base = fold_top(buses, slot / FOLD) + 11;
+    let left = slot_left(width, slot);
+    let base = fold_top(buses, fold_at(width, slot)) + 11;
     write!(
         text,
         "<text x='{left}' y='{base}' font-size='8' fill='#666'>{slot} ("
@@ -29,13 +47,21 @@ fn write_mark_place(text: &mut String, buses: u32, mark: u32) -> Result<(), Allo
 }
 
 /// Writes the number of an eighth slot above it, and when it begins.
-fn write_mark(text: &mut String, rate: u32, buses: u32, mark: u32) -> Result<(), AllocError>
+fn write_mark(
+    text: &mut String,
+    rate: u32,
+    width: u32,
+    buses: u32,
+    mark: u32,
+) -> Result<(), AllocError>
     requires rate { 1 ≤ rate }
+    requires least { 64 ≤ width }
+    requires most { width ≤ 256 }
     requires buses { buses ≤ 16 }
     requires mark { mark < 1024 }
-    ensures { Writes result text.old text.new (mark_text rate buses mark) }
+    ensures { Writes result text.old text.new (mark_text rate width buses mark) }
 {
-    write_mark_place(text, buses, mark)?;
+    write_mark_place(text, width, buses, mark)?;
     write_lasting(text, rate, 8 * mark)?;
     writeln!(text, ")</text>")
 }
@@ -45,15 +71,15 @@ pub(crate) fn write_marks(
     text: &mut String,
     rate: u32,
     buses: u32,
-    slots: u32,
+    spread: Spread,
 ) -> Result<(), AllocError>
     requires rate { 1 ≤ rate }
     requires buses { buses ≤ 16 }
-    requires slots { slots ≤ 8192 }
-    ensures { Writes result text.old text.new (flat_map (mark_text rate buses) (range_with_len 0 (div_ceil slots 8))) }
+    requires spread { IsDrawable spread }
+    ensures { Writes result text.old text.new (flat_map (mark_text rate spread.width buses) (range_with_len 0 (div_ceil spread.slots 8))) }
 {
-    for mark in 0..slots.div_ceil(8) {
-        write_mark(text, rate, buses, mark)?;
+    for mark in 0..spread.slots.div_ceil(8) {
+        write_mark(text, rate, spread.width, buses, mark)?;
     }
     Ok(())
 }
@@ -98,15 +124,16 @@ fn write_load(text: &mut String, left: u32, base: u32, load: u32) -> Result<(), 
 fn write_bus_load(
     text: &mut String,
     buses: u32,
-    slots: u32,
+    spread: Spread,
     bus: u32,
     load: u32,
 ) -> Result<(), AllocError>
     requires buses { buses ≤ 16 }
     requires bus { bus < buses }
-    ensures { Writes result text.old text.new (bus_load_text buses slots bus load) }
+    requires spread { IsDrawable spread }
+    ensures { Writes result text.old text.new (bus_load_text buses spread bus load) }
 {
-    let left = 106 + 16 * FOLD.min(slots);
+    let left = 106 + 16 * spread.width.min(spread.slots);
     write_load(text, left, row_top(buses, 0, bus) + 13, load)
 }
 
@@ -120,34 +147,45 @@ fn write_stripe(text: &mut String, top: u32, width: u32) -> Result<(), AllocErro
     )
 }
 
+/// How many slots a row has.
+fn slots_in(spread: Spread, fold: u32) -> u32
+    requires spread { IsDrawable spread }
+    requires fold { fold ≤ 128 }
+    ensures value { result ≡ min spread.width (spread.slots - spread.width * fold) }
+    ensures few { result ≤ 256 }
+{
+    spread.width.min(spread.slots.saturating_sub(spread.width * fold))
+}
+
 /// Writes the row of a bus in a fold, without its cells.
 fn write_row(
     text: &mut String,
     buses: u32,
-    slots: u32,
+    spread: Spread,
     bus: u32,
     fold: u32,
 ) -> Result<(), AllocError>
     requires buses { buses ≤ 16 }
     requires bus { bus < buses }
+    requires spread { IsDrawable spread }
     requires fold { fold ≤ 128 }
-    ensures { Writes result text.old text.new (row_text buses slots bus fold) }
+    ensures { Writes result text.old text.new (row_text buses spread bus fold) }
 {
     let top = row_top(buses, fold, bus);
-    let width = 16 * FOLD.min(slots.saturating_sub(FOLD * fold));
+    let width = 16 * slots_in(spread, fold);
     write_bus_name(text, top + 13, bus)?;
     write_stripe(text, top, width)
 }
 
 /// Writes the rows of a bus, without its cells.
-fn write_rows(text: &mut String, buses: u32, slots: u32, bus: u32) -> Result<(), AllocError>
+fn write_rows(text: &mut String, buses: u32, spread: Spread, bus: u32) -> Result<(), AllocError>
     requires buses { buses ≤ 16 }
     requires bus { bus < buses }
-    requires slots { slots ≤ 8192 }
-    ensures { Writes result text.old text.new (flat_map (row_text buses slots bus) (range_with_len 0 (folds_of slots))) }
+    requires spread { IsDrawable spread }
+    ensures { Writes result text.old text.new (flat_map (row_text buses spread bus) (range_with_len 0 (folds_of spread))) }
 {
-    for fold in 0..slots.div_ceil(FOLD) {
-        write_row(text, buses, slots, bus, fold)?;
+    for fold in 0..folds_of(spread) {
+        write_row(text, buses, spread, bus, fold)?;
     }
     Ok(())
 }
@@ -157,18 +195,22 @@ fn write_cell(
     text: &mut String,
     group: usize,
     table: &GroupPlan<OUTPUTS>,
+    width: u32,
     bus: u32,
     slot: u32,
 ) -> Result<(), AllocError>
+    requires least { 64 ≤ width }
+    requires most { width ≤ 256 }
     requires bus { bus < buses_of table.now }
     requires slot { slot < 8192 }
-    ensures { Writes result text.old text.new (cell_text group table.now bus slot) }
+    ensures { Writes result text.old text.new (cell_text group table.now width bus slot) }
 {
     let Some(output) = table.at(bus, u64::from(slot)) else {
         return Ok(());
     };
-    let top = row_top(table.buses(), slot / FOLD, bus);
-    write_used(text, group, output.number(), slot_left(slot), top)
+    let top = row_top(table.buses(), fold_at(width, slot), bus);
+    let left = slot_left(width, slot);
+    write_used(text, group, output.number(), left, top)
 }
 
 /// Writes the cells of a bus in these slots.
@@ -176,15 +218,15 @@ fn write_cells(
     text: &mut String,
     group: usize,
     table: &GroupPlan<OUTPUTS>,
-    slots: u32,
+    spread: Spread,
     bus: u32,
 ) -> Result<(), AllocError>
     requires bus { bus < buses_of table.now }
-    requires slots { slots ≤ 8192 }
-    ensures { Writes result text.old text.new (flat_map (cell_text group table.now bus) (range_with_len 0 slots)) }
+    requires spread { IsDrawable spread }
+    ensures { Writes result text.old text.new (flat_map (cell_text group table.now spread.width bus) (range_with_len 0 spread.slots)) }
 {
-    for slot in 0..slots {
-        write_cell(text, group, table, bus, slot)?;
+    for slot in 0..spread.slots {
+        write_cell(text, group, table, spread.width, bus, slot)?;
     }
     Ok(())
 }
@@ -194,17 +236,17 @@ fn write_bus(
     text: &mut String,
     group: usize,
     table: &GroupPlan<OUTPUTS>,
-    slots: u32,
+    spread: Spread,
     bus: u32,
 ) -> Result<(), AllocError>
     requires bus { bus < buses_of table.now }
-    requires slots { slots ≤ 8192 }
-    ensures { Writes result text.old text.new (bus_text group table.now slots bus) }
+    requires spread { IsDrawable spread }
+    ensures { Writes result text.old text.new (bus_text group table.now spread bus) }
 {
     let buses = table.buses();
-    write_bus_load(text, buses, slots, bus, load_of(table, bus))?;
-    write_rows(text, buses, slots, bus)?;
-    write_cells(text, group, table, slots, bus)
+    write_bus_load(text, buses, spread, bus, load_of(table, bus))?;
+    write_rows(text, buses, spread, bus)?;
+    write_cells(text, group, table, spread, bus)
 }
 
 /// Writes each bus of a group.
@@ -212,13 +254,13 @@ pub(crate) fn write_buses(
     text: &mut String,
     group: usize,
     table: &GroupPlan<OUTPUTS>,
-    slots: u32,
+    spread: Spread,
 ) -> Result<(), AllocError>
-    requires slots { slots ≤ 8192 }
-    ensures { Writes result text.old text.new (flat_map (bus_text group table.now slots) (range_with_len 0 (buses_of table.now))) }
+    requires { IsDrawable spread }
+    ensures { Writes result text.old text.new (flat_map (bus_text group table.now spread) (range_with_len 0 (buses_of table.now))) }
 {
     for bus in 0..table.buses() {
-        write_bus(text, group, table, slots, bus)?;
+        write_bus(text, group, table, spread, bus)?;
     }
     Ok(())
 }

@@ -52,11 +52,11 @@ returns-in-Diff-clause-read g c =
 
 pub returns-in-Draw-clause-read : goal.returns-in-Draw-clause-read
 returns-in-Draw-clause-read g c =
-    rw c.in-Draw.is (read_weaker c.print_drawing.ensures.drawn (λ file is. IfOk-weaker c.print_drawing.result _ _ (λ status told. (told.0, inl told.1, told.2)) is))
+    rw c.in-Draw.is (read_weaker c.print_drawing.ensures.drawn (λ file is. IfOk-weaker c.print_drawing.result _ _ (λ status told. (told.0, inl (rw c.of-picture.ensures at told.1), told.2)) is))
 
 pub returns-in-Simulate-clause-read : goal.returns-in-Simulate-clause-read
 returns-in-Simulate-clause-read g c =
-    rw c.in-Simulate.is (read_weaker c.simulate.ensures.simulated (λ file is. IfOk-weaker c.simulate.result _ _ (λ status told. (told.0, inl told.1, told.2)) is))
+    rw c.in-Simulate.is (read_weaker c.simulate.ensures.simulated (λ file is. IfOk-weaker c.simulate.result _ _ (λ status told. (told.0, inl (rw c.of-form.ensures at told.1), told.2)) is))
 
 pub returns-in-Lines-clause-taken : goal.returns-in-Lines-clause-taken
 returns-in-Lines-clause-taken g c = read_weaker c.tell_lines.ensures.told (λ file is takes. refl)

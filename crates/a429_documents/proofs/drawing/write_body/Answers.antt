@@ -11,10 +11,10 @@ pub returns : goal.returns
 returns c =
     let row = c.args.row.now in
     let t = c.args.table.now in
-    let slots = c.args.slots in
-    let marks : string_bytes c.write_marks.new.text ≡ string_bytes c.args.text.now ++ flat_map (mark_text row.rate (buses_of t)) (range_with_len 0 (div_ceil slots 8)) =
-    c.in_ok-write_marks.ensures ∙ ap (λ (b : ℕ). string_bytes c.args.text.now ++ flat_map (mark_text row.rate b) (range_with_len 0 (div_ceil slots 8))) c.buses.ensures.value in
+    let spread = c.args.spread in
+    let marks : string_bytes c.write_marks.new.text ≡ string_bytes c.args.text.now ++ flat_map (mark_text row.rate spread.width (buses_of t)) (range_with_len 0 (div_ceil spread.slots 8)) =
+    c.in_ok-write_marks.ensures ∙ ap (λ (b : ℕ). string_bytes c.args.text.now ++ flat_map (mark_text row.rate spread.width b) (range_with_len 0 (div_ceil spread.slots 8))) c.buses.ensures.value in
     IfOk-weaker c.write_legends.result _ _ (λ _ last. three (string_bytes c.args.text.now) (string_bytes c.write_marks.new.text) (string_bytes c.write_buses.new.text) (string_bytes c.write_legends.new.text)
-    (flat_map (mark_text row.rate (buses_of t)) (range_with_len 0 (div_ceil slots 8))) (flat_map (bus_text c.args.group t slots) (range_with_len 0 (buses_of t)))
-    (flat_map (output_legend c.args.equipment.now row.rate slots c.args.group t) (numbers_of t))
+    (flat_map (mark_text row.rate spread.width (buses_of t)) (range_with_len 0 (div_ceil spread.slots 8))) (flat_map (bus_text c.args.group t spread) (range_with_len 0 (buses_of t)))
+    (flat_map (output_legend c.args.equipment.now row.rate spread c.args.group t) (numbers_of t))
     marks c.in_ok-write_buses.ensures last) c.write_legends.ensures

@@ -4,4 +4,4 @@ use Rattle.a429_documents.specs.Drawing.{drawn_group}
 use Rattle.a429_documents.proofs.drawing.write_groups.Given as goal
 
 abbrev pub invariant-loop-place : goal.invariant-loop-place
-invariant-loop-place l = string_bytes l.text ≡ string_bytes l.fn.text ++ flat_map (drawn_group l.proposal.station l.proposal.plan l.slots l.first) (range_with_len 0 l.place)
+invariant-loop-place l = string_bytes l.text ≡ string_bytes l.fn.text ++ flat_map (drawn_group l.proposal.station l.proposal.plan l.form l.first) (range_with_len 0 l.place)

@@ -9,9 +9,9 @@ pub returns : goal.returns
 returns c =
     let row = c.args.row.now in
     let t = c.args.table.now in
-    let title : string_bytes c.write_title.new.text ≡ string_bytes c.write_place.new.text ++ title_text row.name row.rate (buses_of t) (frame_of t) c.args.slots =
-    c.in_ok-write_title.ensures ∙ ap (λ (n : List ℕ). string_bytes c.write_place.new.text ++ title_text n row.rate c.buses.result c.frame.result c.args.slots) c.as_str-name.ensures
-    ∙ ap₂ (λ (b f : ℕ). string_bytes c.write_place.new.text ++ title_text row.name row.rate b f c.args.slots) c.buses.ensures.value c.frame.ensures.value in
+    let title : string_bytes c.write_title.new.text ≡ string_bytes c.write_place.new.text ++ title_text row.name row.rate (buses_of t) (frame_of t) c.args.spread.slots =
+    c.in_ok-write_title.ensures ∙ ap (λ (n : List ℕ). string_bytes c.write_place.new.text ++ title_text n row.rate c.buses.result c.frame.result c.args.spread.slots) c.as_str-name.ensures
+    ∙ ap₂ (λ (b f : ℕ). string_bytes c.write_place.new.text ++ title_text row.name row.rate b f c.args.spread.slots) c.buses.ensures.value c.frame.ensures.value in
     IfOk-weaker c.write_shapes.result _ _ (λ _ last. three (string_bytes c.args.text.now) (string_bytes c.write_place.new.text) (string_bytes c.write_title.new.text) (string_bytes c.write_shapes.new.text)
-    (place_text c.args.top) (title_text row.name row.rate (buses_of t) (frame_of t) c.args.slots) (shapes_text c.args.sources.now c.args.group t)
+    (place_text c.args.top) (title_text row.name row.rate (buses_of t) (frame_of t) c.args.spread.slots) (shapes_text c.args.sources.now c.args.group t)
     c.in_ok-write_place.ensures title last) c.write_shapes.ensures

@@ -4,4 +4,4 @@ use Rattle.a429_documents.specs.Drawing.{row_text}
 use Rattle.a429_documents.proofs.drawing.rows.write_rows.Given as goal
 
 abbrev pub invariant-loop-fold : goal.invariant-loop-fold
-invariant-loop-fold l = string_bytes l.text ≡ string_bytes l.fn.text ++ flat_map (row_text l.buses l.slots l.bus) (range_with_len 0 l.fold)
+invariant-loop-fold l = string_bytes l.text ≡ string_bytes l.fn.text ++ flat_map (row_text l.buses l.spread l.bus) (range_with_len 0 l.fold)
