@@ -23,3 +23,7 @@ pub mod SimulatedLines
 pub mod TrackOrder
 pub mod SimulationEnds
 pub mod SimulationPrinted
+pub mod SendFigures
+pub mod CountedSteps
+pub mod FigureSteps
+pub mod SummedUp

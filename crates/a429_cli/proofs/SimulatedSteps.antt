@@ -94,7 +94,7 @@ heard_other q past w source other is apart =
 
 -- ---- the machine
 
-history_more : (past : List Step) (s : Step) → history_of (past ++ s ∷ []) ≡ history_of past ++ event_of s ∷ []
+pub history_more : (past : List Step) (s : Step) → history_of (past ++ s ∷ []) ≡ history_of past ++ event_of s ∷ []
 history_more past s = map-append event_of past (s ∷ [])
 
 -- a source that accepts a word is one of the station
@@ -113,7 +113,7 @@ sorted_within t r raw i is = by (has_odd_parity raw) (passes_at t r raw) (positi
     by true false o at h = absurd (cc h)
     by false passes o at h = absurd (cc h)
 
-accepted_within : (q : Proposed) (past : List Step) (w : LogWord) (i : ℕ) → answer_after q past (Comes w) ≡ Accepted i → i < length q.station.sources
+pub accepted_within : (q : Proposed) (past : List Step) (w : LogWord) (i : ℕ) → answer_after q past (Comes w) ≡ Accepted i → i < length q.station.sources
 accepted_within q past w i is = by (nat_le (length q.station.receivers) w.receiver) (sorted q.station w.receiver w.raw) refl is
   where
     kept : (room : Bool) (j : ℕ) → (if room then Accepted j else Refused CountSpent) ≡ Accepted i → j ≡ i

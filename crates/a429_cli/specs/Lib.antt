@@ -21,4 +21,6 @@ pub mod Timeline
 pub mod Tracks
 pub mod Simulating
 pub mod SimulationRuns
+pub mod Summary
+pub mod SummaryRuns
 pub mod SimulationReplies

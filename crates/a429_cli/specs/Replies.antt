@@ -27,7 +27,7 @@ IsReply file (Diff table other) = IsDiffReply file table other
 IsReply file (Draw table group slots width html) = IsDrawReply file table group (picture_of slots width html)
 IsReply file (Check table text) = IsCheckReply file table text
 IsReply file (Replay table script further) = IsReplay file table script further
-IsReply file (Simulate table log until summary csv) = IsSimulation file table log (record { until = until; csv = csv })
+IsReply file (Simulate table log until summary csv) = IsSimulation file table log (record { until = until; summary = summary; csv = csv })
 
 -- the station takes the plans of all further tables of the request
 abbrev pub TakesEach : (List ℕ → Option (List ℕ)) → CommandAsk → Type 0

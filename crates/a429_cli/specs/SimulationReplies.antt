@@ -13,6 +13,7 @@ use Rattle.a429_cli.specs.SimulationLog.{AreInTime, IsLogFault, log_words}
 use Rattle.a429_cli.specs.Timeline.{IsBegun, IsTimeline, SendsTooMuch, end_of}
 use Rattle.a429_cli.specs.Simulating.{steps_of, text_of}
 use Rattle.a429_cli.specs.SimulationRuns.{HasNames, StandsAfter}
+use Rattle.a429_cli.specs.Summary.{summary_text}
 use Rattle.a429_cli.specs.Tracks.{HasTracks, IsTimelineAt, IsTrack}
 use Rattle.a429_cli.specs.declared.simulate.Beginning.{Beginning}
 use Rattle.a429_cli.specs.declared.simulate.Simulation.{Simulation}
@@ -79,12 +80,22 @@ IsPrinting q words last csv status bytes =
     (IsPrinted q words last csv bytes × (status ≡ 0))
     ⊎ ((lines : List ℕ) × IsPrintedInPart q words last csv lines × (status ≡ 1) × (bytes ≡ lines ++ memory_refused ++ 10 ∷ []))
 
+-- what a simulation that began writes in place of its lines, and its status: the summary of the whole timeline
+abbrev pub IsSummary : Proposed → List LogWord → ℕ → Bool → ℕ → List ℕ → Type 0
+IsSummary q words last csv status bytes =
+    (moments : List Moment) × IsTimeline q words last moments × (bytes ≡ summary_text q (steps_of q moments) csv) × (status ≡ 0)
+
+-- what it writes, by whether the summary is asked for
+abbrev pub IsWritten : Proposed → List LogWord → ℕ → Bool → Bool → ℕ → List ℕ → Type 0
+IsWritten q words last true csv = IsSummary q words last csv
+IsWritten q words last false csv = IsPrinting q words last csv
+
 -- what `simulate` writes, and its status: the line of a refusal, or what the simulation prints
 abbrev pub IsSimulation : (List ℕ → Option (List ℕ)) → List ℕ → List ℕ → SimulationForm → ℕ → List ℕ → Type 0
 IsSimulation file table log form status bytes =
     ((refusal : CommandRefusal) × OrMemory (IsSimulationRefusal file table log form.until) refusal × (status ≡ 1) × (bytes ≡ refusal_line refusal ++ 10 ∷ []))
     ⊎ ((i : SimulationFiles) × (q : Proposed) × (words : List LogWord) × AreSimulationFiles file table log i × IsSimulated i q words
-    × IsPrinting q words (end_of q words form.until) form.csv status bytes)
+    × IsWritten q words (end_of q words form.until) form.summary form.csv status bytes)
 
 -- ---- by the values of the program
 
@@ -126,7 +137,11 @@ pub record IsReady (s : Simulation) : Type 0 where
   pub in_time : AreInTime s.beginning.timeline.words.items
 
 -- what a simulation that begins so prints was put, or that memory was refused before that
-abbrev pub HasPrinted : {E : Type 0} → Proposed → Bool → Beginning → Option (List ℕ) → Option (List ℕ) → Result ℕ E → Type 0
-HasPrinted q csv b old new result =
+abbrev pub HasPrinted : {E : Type 0} → Proposed → Bool → Bool → Beginning → Option (List ℕ) → Option (List ℕ) → Result ℕ E → Type 0
+HasPrinted q summary csv b old new result =
     (words : List LogWord) (last : ℕ) → IsBegin q words last b
-    → IfOk result (λ status. IsPut (OrNoMemory (IsPrinting q words last csv)) old new status)
+    → IfOk result (λ status. IsPut (OrNoMemory (IsWritten q words last summary csv)) old new status)
+
+-- the text is the summary of a simulation that begins so
+abbrev pub HasSummary : Proposed → Bool → Beginning → List ℕ → Type 0
+HasSummary q csv b text = (words : List LogWord) (last : ℕ) → IsBegin q words last b → IsSummary q words last csv 0 text

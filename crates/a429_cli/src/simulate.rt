@@ -1,5 +1,5 @@
 //! The command `simulate`.
-ghost use Rattle.std.specs.Prelude.{◌≡◌, ◌≤◌, IfOk, IsTrue, MatchResult, OnOk};
+ghost use Rattle.std.specs.Prelude.{◌≡◌, ◌≤◌, false, true, IfOk, IsTrue, MatchResult, OnOk};
 ghost use Rattle.a429_equipment.specs.Sound.{OfEach};
 ghost use Rattle.a429_console.specs.Readings.{HasRead};
 ghost use Rattle.a429_console.specs.Outputs.{CountsFault};
@@ -7,7 +7,7 @@ ghost use Rattle.a429_console.specs.RefusalText.{OrMemory};
 ghost use Rattle.a429_console.specs.Replying.{HasReplied};
 ghost use Rattle.a429_console.specs.Tables.{IsTableRefusal};
 ghost use Rattle.a429_cli.specs.SimulationLog.{AreInTime};
-ghost use Rattle.a429_cli.specs.SimulationReplies.{HasPrinted, IsBeginningOf, IsPreparedFor, IsReady, IsSimulation, IsSimulationReading, IsStationOf, IsUnsimulated, files_of, heading};
+ghost use Rattle.a429_cli.specs.SimulationReplies.{HasPrinted, HasSummary, IsBeginningOf, IsPreparedFor, IsReady, IsSimulation, IsSimulationReading, IsStationOf, IsUnsimulated, files_of, heading};
 ghost use Rattle.a429_cli.specs.SimulationRuns.{HasNames};
 ghost use Rattle.a429_cli.specs.Timeline.{end_of};
 ghost use Rattle.a429_cli.specs.Tracks.{HasTracks, IsTrack};
@@ -17,6 +17,9 @@ pub mod log;
 pub mod machine;
 pub mod moments;
 pub mod playing;
+pub mod summary;
+pub mod summary_rows;
+pub mod figures;
 pub mod tracks;
 
 use crate::names::Names;
@@ -25,6 +28,8 @@ use crate::simulate::log::{LogWord, read_log};
 use crate::simulate::machine::Run;
 use crate::simulate::moments::Timeline;
 use crate::simulate::playing::{PendingLines, play_all};
+use crate::simulate::summary::{Summary, count_all};
+use crate::simulate::summary_rows::text_of;
 use crate::simulate::tracks::{end_of, tracks_of};
 use a429_console::arguments::requests::SimulateRequest;
 use a429_console::files::FileReader;
@@ -37,10 +42,12 @@ use a429_console::refusals::{CommandRefusal, refuse};
 use a429_slots::{OUTPUTS, Proposal};
 use std::alloc::{AllocError, Global};
 
-/// What a simulation prints, and until when in microseconds it asks for cells.
+/// What a simulation prints, the summary or all lines, in columns or as comma-separated values; and until when in
+/// microseconds it asks for cells.
 #[derive(Clone, Copy)]
 pub struct SimulationForm {
     pub until: Option<u64>,
+    pub summary: bool,
     pub csv: bool,
 }
 
@@ -49,10 +56,11 @@ impl SimulationForm {
 
     /// What is asked for.
     pub fn of(asked: &SimulateRequest) -> SimulationForm
-        ensures { result ≡ record { until = asked.now.until; csv = asked.now.csv } }
+        ensures { result ≡ record { until = asked.now.until; summary = asked.now.summary; csv = asked.now.csv } }
     {
         SimulationForm {
             until: asked.until,
+            summary: asked.summary,
             csv: asked.csv,
         }
     }
@@ -171,7 +179,7 @@ fn play_words<O: Output>(
     requires tracks { HasTracks setting.now.proposal.now beginning.timeline.tracks.items }
     requires sound { OfEach IsTrack beginning.timeline.tracks.items }
     requires in_time { AreInTime beginning.timeline.words.items }
-    ensures printed { HasPrinted setting.now.proposal.now setting.now.csv beginning (O.contents out.old) (O.contents out.new) result }
+    ensures printed { HasPrinted setting.now.proposal.now false setting.now.csv beginning (O.contents out.old) (O.contents out.new) result }
     ensures status { IfOk result (λ status. status ≤ 1) }
     ensures flushed { OnOk result (IsTrue (O.is_flushed out.new)) }
     ensures faults { CountsFault result (O.failures out.old) (O.failures out.new) }
@@ -188,14 +196,14 @@ fn play_words<O: Output>(
 }
 
 /// Plays what is simulated, and puts the lines of that.
-fn print_simulation<O: Output>(
+fn print_lines<O: Output>(
     alloc: Global,
     simulation: Simulation,
     csv: bool,
     out: &mut O,
 ) -> Result<u8, OutputFault>
     requires { IsReady simulation }
-    ensures printed { HasPrinted simulation.station.proposal csv simulation.beginning (O.contents out.old) (O.contents out.new) result }
+    ensures printed { HasPrinted simulation.station.proposal false csv simulation.beginning (O.contents out.old) (O.contents out.new) result }
     ensures status { IfOk result (λ status. status ≤ 1) }
     ensures flushed { OnOk result (IsTrue (O.is_flushed out.new)) }
     ensures faults { CountsFault result (O.failures out.old) (O.failures out.new) }
@@ -209,9 +217,72 @@ fn print_simulation<O: Output>(
     play_words(alloc, &setting, beginning, out)
 }
 
+/// Plays a timeline on the station of a proposal: the text of the summary of that. The error is that memory is refused.
+fn summarize(
+    alloc: Global,
+    proposal: &Proposal<OUTPUTS>,
+    beginning: &mut Beginning,
+    csv: bool,
+) -> Result<Vec<u8>, AllocError>
+    requires tracks { HasTracks proposal.now beginning.old.timeline.tracks.items }
+    requires sound { OfEach IsTrack beginning.old.timeline.tracks.items }
+    requires in_time { AreInTime beginning.old.timeline.words.items }
+    ensures { IfOk result (λ text. HasSummary proposal.now csv beginning.old text.items) }
+{
+    let mut summary = Summary::open(alloc, proposal)?;
+    count_all(
+        proposal,
+        &mut beginning.run,
+        &mut beginning.timeline,
+        &mut summary,
+    );
+    text_of(alloc, proposal, &summary, csv)
+}
+
+/// Plays what is simulated, and puts the summary of that.
+fn print_summary<O: Output>(
+    alloc: Global,
+    simulation: &mut Simulation,
+    csv: bool,
+    out: &mut O,
+) -> Result<u8, OutputFault>
+    requires { IsReady simulation.old }
+    ensures printed { HasPrinted simulation.old.station.proposal true csv simulation.old.beginning (O.contents out.old) (O.contents out.new) result }
+    ensures status { IfOk result (λ status. status ≤ 1) }
+    ensures flushed { OnOk result (IsTrue (O.is_flushed out.new)) }
+    ensures faults { CountsFault result (O.failures out.old) (O.failures out.new) }
+{
+    let proposal = &simulation.station.proposal;
+    match summarize(alloc, proposal, &mut simulation.beginning, csv) {
+        Ok(text) => finish(&text, true, out),
+        Err(_) => refuse_memory(out),
+    }
+}
+
+/// Plays what is simulated, and puts the summary of that, or its lines.
+fn print_simulation<O: Output>(
+    alloc: Global,
+    simulation: Simulation,
+    form: SimulationForm,
+    out: &mut O,
+) -> Result<u8, OutputFault>
+    requires { IsReady simulation }
+    ensures printed { HasPrinted simulation.station.proposal form.summary form.csv simulation.beginning (O.contents out.old) (O.contents out.new) result }
+    ensures status { IfOk result (λ status. status ≤ 1) }
+    ensures flushed { OnOk result (IsTrue (O.is_flushed out.new)) }
+    ensures faults { CountsFault result (O.failures out.old) (O.failures out.new) }
+{
+    let mut simulation = simulation;
+    if form.summary {
+        print_summary(alloc, &mut simulation, form.csv, out)
+    } else {
+        print_lines(alloc, simulation, form.csv, out)
+    }
+}
+
 /// Plays the words of a log on the station of a table, at their times, and puts a line for each word that is sent, and for each
-/// that is refused; or in their place the one line of a refusal. The status is 0, or 1 where it was refused, by want of
-/// memory also in the midst.
+/// that is refused, or in place of these lines the summary of what each output sent; or the one line of a refusal. The
+/// status is 0, or 1 where it was refused, by want of memory also in the midst.
 pub fn simulate<F: FileReader, O: Output>(
     alloc: Global,
     files: &mut F,
@@ -232,7 +303,7 @@ pub fn simulate<F: FileReader, O: Output>(
         Err(refusal) => return refuse(alloc, refusal, seen, out),
     };
     match prepare(alloc, &input, form.until, seen) {
-        Ok(simulation) => print_simulation(alloc, simulation, form.csv, out),
+        Ok(simulation) => print_simulation(alloc, simulation, form, out),
         Err(refusal) => refuse(alloc, refusal, seen, out),
     }
 }

@@ -102,9 +102,10 @@ fn write_rows(text: &mut Vec<u8>, widths: &[usize], rows: &[Row]) -> Result<(), 
     Ok(())
 }
 
-/// Rows in columns, each as wide as its widest field.
+/// A line for each row. Each column is as wide as its widest field, and two spaces stand between two columns. The error is
+/// that memory was refused.
 #[tactic(auto, unfolding(crate::specs::Aligned::aligned_text))]
-fn aligned_text(alloc: Global, rows: &[Row]) -> Result<Vec<u8>, AllocError>
+pub fn aligned_text(alloc: Global, rows: &[Row]) -> Result<Vec<u8>, AllocError>
     ensures { IfOk result (λ text. text.items ≡ aligned_text rows.now) }
 {
     let widths = widths(alloc, rows)?;

@@ -33,9 +33,9 @@ fn write_rows<W: Write + Drop>(writer: &mut Writer<W>, rows: &[Row]) -> Result<(
     Ok(())
 }
 
-/// Rows with commas between their fields. All have as many fields, and so an error of the writer is that memory was
-/// refused.
-fn csv_text(alloc: Global, rows: &[Row]) -> Result<Vec<u8>, AllocError>
+/// A line for each row, with commas between its fields (RFC 4180, with a line feed at each line's end). The error is that
+/// memory was refused, or that not all rows have as many fields.
+pub fn rows_csv(alloc: Global, rows: &[Row]) -> Result<Vec<u8>, AllocError>
     ensures { IfOk result (λ text. text.items ≡ csv_text_of rows.now) }
 {
     let mut writer = Writer::from_writer(Vec::new(alloc));
@@ -52,5 +52,5 @@ pub fn icd_csv(alloc: Global, proposal: &Proposal<OUTPUTS>) -> Result<Vec<u8>, A
     ensures { IfOk result (λ text. text.items ≡ csv_text_of (icd_rows proposal.now.station proposal.now.plan)) }
 {
     let rows = icd_rows(alloc, proposal)?;
-    csv_text(alloc, &rows)
+    rows_csv(alloc, &rows)
 }

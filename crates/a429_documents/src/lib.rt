@@ -7,8 +7,9 @@
 //! a page (HTML) with that image and the others' lines.
 //! `diff_text` takes two proposals, and says what changes from the one to the other. `lint_text` takes an equipment, and
 //! says which words never arrive and what has no use. `import_table` takes rows of comma-separated values, and answers an
-//! equipment table. The others take a proposal. Each answers bytes; the error is that memory is refused, of
-//! `draw_text` also that the image is too high, and of `import_table` also what is wrong with the rows.
+//! equipment table. `aligned_text` and `rows_csv` take rows of texts. The others take a proposal. Each answers bytes; the
+//! error is that memory is refused, of `draw_text` also that the image is too high, and of `import_table` also what is
+//! wrong with the rows.
 //!
 //! ```text
 //! let proposal: Proposal<OUTPUTS> = Proposal::of(alloc, equipment)?;
@@ -29,8 +30,8 @@ mod margin;
 mod page;
 mod rows;
 
-pub use aligned::icd_text;
-pub use csv_text::icd_csv;
+pub use aligned::{aligned_text, icd_text};
+pub use csv_text::{icd_csv, rows_csv};
 pub use diff::diff_text;
 pub use document::latency_us;
 pub use drawing::{DrawingFault, DrawingForm, draw_text};
@@ -40,3 +41,4 @@ pub use import::{
 pub use lint::lint_text;
 pub use margin::margin_text;
 pub use page::page_text;
+pub use rows::Row;

@@ -6,11 +6,10 @@ ghost use Rattle.a429_word.specs.Hexadecimal.{hex};
 ghost use Rattle.a429_cli.specs.AnswerLines.{refusal_text};
 ghost use Rattle.a429_cli.specs.Simulating.{refused_line, sent_line, separator, source_in};
 ghost use Rattle.a429_cli.specs.SimulationRuns.{HasGroup, HasNames};
-ghost use Rattle.a429_cli.specs.Timeline.{rate_of};
 
 use crate::names::Names;
 use crate::simulate::log::LogWord;
-use crate::simulate::tracks::micros_of;
+use crate::simulate::tracks::{micros_of, rate_of};
 use a429_console::output::from_end::{ROOM, put_decimal, put_hex, put_text};
 use a429_core::Refusal;
 use a429_slots::{OUTPUTS, Proposal};
@@ -89,15 +88,6 @@ fn reason(refusal: Refusal) -> &'static [u8]
 }
 
 impl LineSetting<'_> {
-    /// The rate of a group in bit/s.
-    fn rate(&self, group: usize) -> u32
-        requires known { HasGroup self.now.proposal.now group }
-        ensures rate { result ≡ rate_of self.now.proposal.now group }
-        ensures some { 1 ≤ result }
-    {
-        self.proposal.equipment().group_rate(group)
-    }
-
     /// The source of the output in a cell of a group; 0 if the cell is empty.
     pub fn source_in(&self, group: usize, bus: u32, slot: u64) -> usize
         requires known { HasGroup self.now.proposal.now group }
@@ -124,7 +114,7 @@ impl LineSetting<'_> {
         ensures { Gains result line.old.items line.new.items
             (sent_line self.now.proposal.now self.now.csv group slot sent.bus sent.raw sent.source sent.heard) }
     {
-        let rate = self.rate(group);
+        let rate = rate_of(self.proposal, group);
         let between = separator(self.csv);
         push_number_then(line, micros_of(rate, slot), between)?;
         push_name_then(line, self.names.group_name(group), between)?;

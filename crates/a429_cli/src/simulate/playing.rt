@@ -15,6 +15,7 @@ use crate::simulate::machine::Run;
 use crate::simulate::moments::{Moment, Timeline};
 use a429_console::output::{Output, OutputFault};
 use a429_core::{Answer, Refusal};
+use a429_slots::{OUTPUTS, Proposal};
 use std::alloc::{AllocError, Global};
 
 /// Lines that are not yet put out, and room for one more: a line is appended whole, or not at all.
@@ -150,12 +151,12 @@ fn play_cells(
 }
 
 /// A group goes on to its next frame, if this slot is the last of one.
-fn turn_after(setting: &LineSetting<'_>, run: &mut Run, group: usize, slot: u64)
-    requires known { HasGroup setting.now.proposal.now group }
+pub fn turn_after(proposal: &Proposal<OUTPUTS>, run: &mut Run, group: usize, slot: u64)
+    requires known { HasGroup proposal.now group }
     requires few { slot < 8192000000 }
-    ensures { GoesOn run.old (turn_after setting.now.proposal.now group slot) run.new }
+    ensures { GoesOn run.old (turn_after proposal.now group slot) run.new }
 {
-    let frame = setting.proposal.plan().group(group).frame();
+    let frame = proposal.plan().group(group).frame();
     if (slot + 1) % u64::from(frame) == 0 {
         run.frame(group);
     }
@@ -177,7 +178,7 @@ fn play(
         Moment::Word(word) => play_word(setting, run, word, lines),
         Moment::Slot(group, slot) => {
             play_cells(setting, run, group, slot, lines)?;
-            turn_after(setting, run, group, slot);
+            turn_after(setting.proposal, run, group, slot);
             Ok(())
         }
     }

@@ -5,7 +5,8 @@ ghost use Rattle.a429_slots.specs.Tables.{groups_of};
 ghost use Rattle.a429_slots.specs.Planned.{IsPlanOf};
 ghost use Rattle.a429_documents.specs.Document.{slots_us};
 ghost use Rattle.a429_cli.specs.Tracks.{GoesBefore, IsCounted, IsLeast, IsTrack, IsTracking, advanced, next_at};
-ghost use Rattle.a429_cli.specs.Timeline.{end_of, last_time, longest_frame};
+ghost use Rattle.a429_cli.specs.Timeline.{end_of, last_time, longest_frame, rate_of};
+ghost use Rattle.a429_cli.specs.SimulationRuns.{HasGroup};
 ghost use Rattle.a429_cli.specs.SimulationLog.{AreInTime};
 ghost use Rattle.a429_cli.specs.declared.simulate.tracks.Track.{Track as TheTrack};
 
@@ -93,6 +94,15 @@ pub fn take_slot(tracks: &mut Vec<Track>, group: usize) -> u64
     let slot = track.next;
     track.next += 1;
     slot
+}
+
+/// The rate of a group in bit/s.
+pub fn rate_of(proposal: &Proposal<OUTPUTS>, group: usize) -> u32
+    requires known { HasGroup proposal.now group }
+    ensures rate { result ≡ rate_of proposal.now group }
+    ensures some { 1 ≤ result }
+{
+    proposal.equipment().group_rate(group)
 }
 
 /// How many microseconds so many slots last at a rate in bit/s, rounded up.

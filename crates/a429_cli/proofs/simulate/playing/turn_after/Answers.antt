@@ -9,7 +9,7 @@ use Rattle.a429_cli.proofs.simulate.playing.turn_after.Goals as goal
 
 pub returns-then-slot-from-eq0 : goal.returns-then-slot-from-eq0
 returns-then-slot-from-eq0 c = λ q past S.
-    let p = c.args.setting.now.proposal.now in
+    let p = c.args.proposal.now in
     let g : ℕ = c.args.group in
     let there : slice_get (groups_of p.plan) g ≡ Some c.group.result.now = subst (λ (t : PlanTable). slice_get (groups_of t) g ≡ Some c.group.result.now) c.plan.ensures.plan c.group.ensures in
     let frame : frame_of (table_of p g) ≡ c.from.result = ap frame_of (table_at p g c.group.result.now there) ∙ sym (c.from.ensures ∙ c.frame-frame.ensures.value) in
@@ -17,7 +17,7 @@ returns-then-slot-from-eq0 c = λ q past S.
 
 pub returns-else-slot-from-eq0 : goal.returns-else-slot-from-eq0
 returns-else-slot-from-eq0 c = λ q past S.
-    let p = c.args.setting.now.proposal.now in
+    let p = c.args.proposal.now in
     let g : ℕ = c.args.group in
     let there : slice_get (groups_of p.plan) g ≡ Some c.group.result.now = subst (λ (t : PlanTable). slice_get (groups_of t) g ≡ Some c.group.result.now) c.plan.ensures.plan c.group.ensures in
     let frame : frame_of (table_of p g) ≡ c.from.result = ap frame_of (table_at p g c.group.result.now there) ∙ sym (c.from.ensures ∙ c.frame-frame.ensures.value) in
