@@ -22,7 +22,7 @@ use Rattle.a429_cli.specs.declared.simulate.log.LogWord.{LogWord}
 use Rattle.a429_cli.specs.declared.simulate.machine.Run.{Run}
 use Rattle.a429_cli.specs.declared.simulate.summary.Summary.{Summary}
 use Rattle.a429_cli.proofs.CountedSteps.{accepted_kept, counted_at, counted_many, sends_kept, sends_more, sends_up_to}
-use Rattle.a429_cli.proofs.SendFigures.{AreUpTo, figures_push}
+use Rattle.a429_cli.proofs.SendFigures.{figures_push}
 
 -- ---- one output of all
 
@@ -140,7 +140,7 @@ figures_nowhere q past g t bus slot raw s apart is nowhere F =
 
 -- a cell with a word of output o
 module _ (q : Proposed) (past : List Step) (g t bus slot raw o : ℕ) (p : Placed) (is : answer_after q past (Asks g t) ≡ Sent bus slot (Some raw))
-  (here : cell_at (table_of q g) bus slot ≡ Some o) (there : slice_get (outputs_of (table_of q g)) o ≡ Some p) where
+    (here : cell_at (table_of q g) bus slot ≡ Some o) (there : slice_get (outputs_of (table_of q g)) o ≡ Some p) where
   abbrev own_word : OutputSend
   own_word = send_after q past (placed_at (table_of q g) o).source t
 

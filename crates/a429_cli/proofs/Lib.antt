@@ -1,6 +1,10 @@
 pub mod Refused
 pub mod WordEndings
 pub mod PlayedLines
+pub mod PlainTexts
+pub mod KeptEvents
+pub mod ShortNumbers
+pub mod QuickLines
 pub mod ReportLines
 pub mod FirstFrames
 pub mod Numbered

@@ -6,8 +6,14 @@ use Rattle.std.specs.Io.KnownBytes.{Appends, append_known}
 use Rattle.a429_slots.specs.Events.{Event}
 use Rattle.a429_slots.specs.History.{Opening}
 use Rattle.a429_slots.specs.Proposed.{Proposed}
+use Rattle.a429_equipment.specs.Limits.{count_bits}
+use Rattle.a429_slots.specs.Answers.{answer}
+use Rattle.a429_slots.specs.declared.answers.Answer.{Answer}
+use Rattle.a429_core.specs.MachineStates.{GoesOnByEvents, IsWholeEvent, MachineState, StandsForHistory}
+use Rattle.a429_core.specs.MachineSteps.{CallsAreAnswered, stepped}
 use Rattle.a429_console.specs.Outputs.{ending, memory_refused, status_of}
-use Rattle.a429_cli.specs.Playing.{Happens, Played}
+use Rattle.a429_cli.specs.AnswerLines.{answer_line}
+use Rattle.a429_cli.specs.Playing.{Happens, IsEventOf, Played, PlaysOne}
 use Rattle.a429_cli.specs.Replaying.{IsOutcome, IsPlayed, ReplayInput}
 use Rattle.a429_cli.specs.declared.replay.script.ScriptEvent.{ScriptEvent}
 
@@ -18,6 +24,20 @@ played_push o names further E [] event M N bytes line (same, none) h =
     (N, line, [], subst (λ (H : List Event). Happens o names further H event N line) same h, (refl, refl), ap (λ (bs : List ℕ). bs ++ line) none ∙ sym (append-nil line))
 played_push o names further E (x ∷ xs) event M N bytes line (next, first, rest, here, later, whole) h =
     (next, first, rest ++ line, here, played_push o names further next xs event M N rest line later h, ap (λ (bs : List ℕ). bs ++ line) whole ∙ append_assoc first rest line)
+
+-- what an event comes to whose answer the machine gives
+pub played_answer : CallsAreAnswered → ((C : ℕ) (e : Event) (v : MachineState) → IsWholeEvent e → GoesOnByEvents C v (e ∷ []) (stepped C v e).1)
+    → (names further : List (List ℕ)) (event : ScriptEvent) (e : Event) (old new : MachineState) (a : Answer) (before after : List ℕ)
+    → IsWholeEvent e → IsEventOf further event e → a ≡ (stepped count_bits old e).0 → new ≡ (stepped count_bits old e).1 → after ≡ before ++ answer_line names a
+    → PlaysOne names further event old new before after
+played_answer calls goes names further event e old new a before after whole of answers next line = λ o E s.
+    let told : a ≡ answer count_bits o E e = answers ∙ calls count_bits o E e old whole s in (
+      E ++ e ∷ [],
+      answer_line names (answer count_bits o E e),
+      inl (e, of, refl, refl),
+      subst (λ (v : MachineState). StandsForHistory count_bits o (E ++ e ∷ []) v) (sym next) (goes count_bits e old whole o E s),
+      line ∙ ap (λ (given : Answer). before ++ answer_line names given) told,
+    )
 
 -- nothing is lost where bytes go out
 pub Appends-then : (a b c : Option (List ℕ)) (xs ys : List ℕ) → Appends a b xs → Appends b c ys → Appends a c (xs ++ ys)

@@ -1,18 +1,13 @@
 -- Refusals that are handed on.
-use Rattle.std.proofs.Common.{◌≡◌, ◌⊎◌, length, ℕ, List, inl, inr}
+use Rattle.std.proofs.Common.{◌≡◌, ◌⊎◌, ℕ, List, inl, inr}
 use Rattle.std.specs.Prelude.{Option, Ok}
 use Rattle.a429_equipment.specs.TableRecord.{TableRecord}
 use Rattle.a429_table.specs.Reading.{reading}
 use Rattle.a429_cert.specs.Due.{IsFirstUnfitOf}
 use Rattle.a429_cert.specs.declared.verdicts.Verdict.{Verdict}
-use Rattle.a429_slots.specs.Proposed.{Proposed}
-use Rattle.a429_console.specs.Names.{naming_of}
-use Rattle.a429_cli.specs.Script.{IsScriptFault}
-use Rattle.a429_cli.specs.Replaying.{IsNoStart, ReplayInput}
 use Rattle.a429_console.specs.Outputs.{IsMemoryReply}
 use Rattle.a429_cli.specs.PlanReplies.{IsUnjudged, IsVerdictOf, IsVerdictReply, IsCheckReply}
-use Rattle.a429_console.specs.Tables.{IsProposedBy, IsTableFault, IsUnfitNamed}
-use Rattle.a429_console.specs.RefusalText.{OrMemory}
+use Rattle.a429_console.specs.Tables.{IsTableFault, IsUnfitNamed}
 use Rattle.a429_console.specs.declared.refusals.CommandRefusal.{CommandRefusal}
 use Rattle.a429_console.specs.declared.refusals.CommandRefusal.TheVariants as refused
 
@@ -61,24 +56,3 @@ pub verdict_told : (file : List ℕ → Option (List ℕ)) (name plan : List ℕ
     → IsCheckReply file name plan status bytes
 verdict_told file name plan v status bytes is (inl reply) = inr (v, is, reply)
 verdict_told file name plan v status bytes is (inr memory) = inl (refused.Memory, tt, memory.0, memory.1)
-
--- a script's fault keeps a replay from its beginning
-pub script_fault_refuses : (i : ReplayInput) (q : Proposed) (r : CommandRefusal) → IsProposedBy i.table q → IsScriptFault (naming_of q.station) (length i.further) i.script r → OrMemory (IsNoStart i) r
-script_fault_refuses i q (refused.File name) p f = absurd f
-script_fault_refuses i q refused.WordText p f = absurd f
-script_fault_refuses i q refused.Parity p f = absurd f
-script_fault_refuses i q (refused.LineByte place) p f = absurd f
-script_fault_refuses i q (refused.Filter number) p f = absurd f
-script_fault_refuses i q (refused.Table kind place) p f = absurd f
-script_fault_refuses i q (refused.Unfit group source) p f = absurd f
-script_fault_refuses i q (refused.TooManyBuses group needed) p f = absurd f
-script_fault_refuses i q (refused.Group name) p f = absurd f
-script_fault_refuses i q (refused.Script line) p f = inr (q, p, f)
-script_fault_refuses i q (refused.LogLine line) p f = absurd f
-script_fault_refuses i q (refused.Csv line kind) p f = absurd f
-script_fault_refuses i q refused.Join p f = absurd f
-script_fault_refuses i q refused.Gate p f = absurd f
-script_fault_refuses i q refused.Source p f = absurd f
-script_fault_refuses i q refused.Sink p f = absurd f
-script_fault_refuses i q refused.TooMuch p f = absurd f
-script_fault_refuses i q refused.Memory p f = tt

@@ -1,11 +1,10 @@
 -- What is kept of an output's sends, with one send more.
 use Rattle.std.proofs.Common.{◌≡◌, ◌∙◌, ◌+◌, ◌-◌, ◌^◌, ◌<◌, ◌≤◌, ℕ, suc, Bool, true, false, List, [], ◌∷◌, ◌++◌, length, length-append, refl, sym, ap, arith, append_assoc, append-nil, eq-eqb, inl, inr}
-use Rattle.std.specs.Prelude.{◌==◌, Option, Some, None, if◌then◌else◌, max, min, not, ◌||◌, option_map, slice_get}
+use Rattle.std.specs.Prelude.{◌==◌, Option, Some, None, if◌then◌else◌, max, min, ◌||◌, slice_get}
 use Rattle.std.specs.List.{AllByRecursion, fold, list_any}
-use Rattle.std.specs.Option.{option_map_or}
 use Rattle.std.proofs.lemmas.Bool.{cases_eq, ne_eqb}
 use Rattle.std.proofs.lemmas.List.Sums.{fold-append}
-use Rattle.std.proofs.lemmas.Option.{none-some, same_Some}
+use Rattle.std.proofs.lemmas.Option.{same_Some}
 use Rattle.a429_equipment.specs.Agreement.{last_of}
 use Rattle.a429_equipment.proofs.Cutting.{last_push}
 use Rattle.a429_documents.specs.Document.{slots_us}
@@ -13,7 +12,6 @@ use Rattle.a429_word.proofs.Lists.{all_push}
 use Rattle.a429_cli.specs.Summary.{greatest_in, is_first_of, lateness, latenesses, latenesses_from, least_in, times_after, times_between}
 use Rattle.a429_cli.specs.SummaryRuns.{figures_after, figures_of, greater, is_other, late_if_other, lesser, time_since}
 use Rattle.a429_cli.specs.declared.simulate.figures.OutputSend.{OutputSend}
-use Rattle.a429_cli.specs.declared.simulate.figures.OutputFigures.{OutputFigures}
 
 -- a number, if there is one, as a list
 abbrev pub listed : Option ℕ → List ℕ

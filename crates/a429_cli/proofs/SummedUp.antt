@@ -1,7 +1,6 @@
 -- The summary of a whole timeline: how many words an output can have sent, and the rows.
-use Rattle.std.proofs.Common.{◌≡◌, ◌∙◌, ◌+◌, ◌-◌, ◌*◌, ◌%◌, ◌^◌, ◌<◌, ◌≤◌, ℕ, zero, suc, Bool, true, false, inl, inr, List, [], ◌∷◌, ◌++◌, length, length-append, append-nil, append_assoc, map, replicate, refl, sym, ap, ap₂, subst, arith}
+use Rattle.std.proofs.Common.{◌≡◌, ◌∙◌, ◌+◌, ◌-◌, ◌*◌, ◌%◌, ◌^◌, ◌<◌, ◌≤◌, ℕ, zero, suc, Bool, true, false, inl, inr, List, [], ◌∷◌, ◌++◌, length, length-append, append-nil, append_assoc, map, replicate, refl, sym, ap, ap₂, arith}
 use Rattle.std.specs.Prelude.{◌==◌, ◌&&◌, Option, Some, None, if◌then◌else◌, filter_map, min, nat_lt, option_map, slice_get, unwrap_or}
-use Rattle.std.specs.Fmt.{decimal}
 use Rattle.std.specs.List.{AllZip, flat_map, range_with_len}
 use Rattle.std.proofs.lemmas.Bool.{cases_eq, ltb-true, ne_eqb}
 use Rattle.std.proofs.lemmas.List.{map-append}
@@ -24,7 +23,6 @@ use Rattle.a429_cli.specs.SummaryRuns.{HasFigures, figure_fields, figures_of, ke
 use Rattle.a429_cli.specs.Timeline.{IsTimeline, rate_of, slot_of, slots_by, table_of}
 use Rattle.a429_cli.specs.Tracks.{AreTracks, IsTrack}
 use Rattle.a429_cli.specs.declared.simulate.figures.OutputFigures.{OutputFigures}
-use Rattle.a429_cli.specs.declared.simulate.figures.OutputSend.{OutputSend}
 use Rattle.a429_cli.specs.declared.simulate.log.LogWord.{LogWord}
 use Rattle.a429_cli.specs.declared.simulate.moments.Moment.{Moment}
 use Rattle.a429_cli.specs.declared.simulate.moments.Moment.TheVariants.{Word, Slot}

@@ -9,7 +9,6 @@ use Rattle.a429_documents.specs.ImportTables.{record_stated}
 use Rattle.a429_documents.specs.Imports.{AreLines, IsImport}
 use Rattle.a429_documents.specs.declared.import.fault.CsvFaultKind.{CsvFaultKind}
 use Rattle.a429_documents.specs.declared.import.fault.CsvFaultKind.TheVariants as rows
-use Rattle.a429_documents.specs.declared.import.fault.ImportColumn.{ImportColumn}
 use Rattle.a429_documents.specs.declared.import.fault.ImportFault.{ImportFault}
 use Rattle.a429_documents.specs.declared.import.fault.ImportFault.TheVariants as wrong
 use Rattle.a429_documents.specs.declared.import.lines.CsvLine.{CsvLine}

@@ -1,5 +1,7 @@
 pub mod WordLines
 pub mod Script
+pub mod NameLists
+pub mod Kept
 pub mod Playing
 pub mod Replaying
 pub mod Opened

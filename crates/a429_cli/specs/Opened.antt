@@ -1,5 +1,5 @@
 -- A station that is open for a script, and what a replay makes of the bytes that it was given.
-use Rattle.std.specs.Prelude.{◌≡◌, ◌∷◌, [], ℕ, List, Option, Result, MatchResult}
+use Rattle.std.specs.Prelude.{◌≡◌, ◌∷◌, [], ℕ, List, Option, Result, MatchResult, length}
 use Rattle.std.specs.declared.vec.Vec.{Vec}
 use Rattle.std.specs.declared.alloc.Global.{Global}
 use Rattle.a429_equipment.specs.Limits.{count_bits}
@@ -9,11 +9,12 @@ use Rattle.a429_console.specs.FileReadings.{AreRead, IsFirstUnread}
 use Rattle.a429_console.specs.Names.{naming_of}
 use Rattle.a429_console.specs.Outputs.{IsPut}
 use Rattle.a429_console.specs.RefusalText.{OrMemory}
+use Rattle.a429_cli.specs.Kept.{TakesAllTables, events_of}
 use Rattle.a429_cli.specs.Replaying.{IsInput, IsOutcome, IsStart, ReplayInput}
 use Rattle.a429_console.specs.Tables.{IsProposedBy}
 use Rattle.a429_console.specs.declared.refusals.CommandRefusal.{CommandRefusal}
 use Rattle.a429_cli.specs.declared.replay.Input.{Input}
-use Rattle.a429_cli.specs.declared.replay.script.ScriptEvent.{ScriptEvent}
+use Rattle.a429_cli.specs.declared.replay.Prepared.{Prepared}
 use Rattle.a429_cli.specs.declared.replay.station.ReplayStation.{ReplayStation}
 
 -- it has the names of the proposed station, and nothing happened to it since it was opened at slot 0
@@ -36,11 +37,11 @@ abbrev pub IsInputReading : (List ℕ → Option (List ℕ)) → List ℕ → Li
 IsInputReading file table script further result =
     MatchResult result (λ i. IsInput file table script further (input_of i)) (OrMemory (IsFirstUnread file (table ∷ script ∷ further)))
 
--- the station, just opened, from which a replay of these bytes starts, whose script has no faulty line
-abbrev pub IsPreparedFor : ReplayInput → ReplayStation → Type 0
-IsPreparedFor i s = (q : Proposed) × (events : List ScriptEvent) × IsStart i q events × IsOpened q s
+-- the station, just opened, from which a replay of these bytes starts, and the events of the script, which has no faulty line
+abbrev pub IsPreparedFor : ReplayInput → Prepared → Type 0
+IsPreparedFor i p = (q : Proposed) × IsStart i q (events_of p.events.items) × IsOpened q p.station × TakesAllTables (length i.further) p.events.items
 
--- of a station just opened: what the events of the script come to was put
-abbrev pub IsOutcomePut : ReplayInput → ReplayStation → Option (List ℕ) → Option (List ℕ) → ℕ → Type 0
-IsOutcomePut i s old new status =
-    (q : Proposed) (events : List ScriptEvent) → IsStart i q events → IsOpened q s → IsPut (IsOutcome i q events) old new status
+-- of a station just opened: what the events come to was put
+abbrev pub IsOutcomePut : ReplayInput → Prepared → Option (List ℕ) → Option (List ℕ) → ℕ → Type 0
+IsOutcomePut i p old new status =
+    (q : Proposed) → IsStart i q (events_of p.events.items) → IsOpened q p.station → IsPut (IsOutcome i q (events_of p.events.items)) old new status

@@ -1,5 +1,5 @@
 -- What the program writes of a script: a line for each event, of the machine's answer, or of the fault of a table that was to be published.
-use Rattle.std.specs.Prelude.{◌≡◌, ◌-◌, ◌≤◌, ◌++◌, ◌∷◌, [], ◌⊎◌, ℕ, List, Bool, Option, Some, IfSome, Result, Ok, IfOk, IsTrue, MatchResult, ⊤, length, slice_get, take}
+use Rattle.std.specs.Prelude.{◌≡◌, ◌-◌, ◌≤◌, ◌++◌, ◌∷◌, [], ◌⊎◌, ℕ, List, Bool, Option, Some, IfSome, Result, IfOk, IsTrue, MatchResult, ⊤, length, slice_get, take}
 use Rattle.std.specs.Borrow.{Bor}
 use Rattle.a429_equipment.specs.Limits.{count_bits}
 use Rattle.a429_slots.specs.Events.{Event}
@@ -11,10 +11,8 @@ use Rattle.a429_core.specs.Happened.{event_of}
 use Rattle.a429_core.specs.MachineStates.{MachineState, StandsForHistory}
 use Rattle.a429_core.specs.declared.events.Event.{Event as MachineEvent}
 use Rattle.a429_cli.specs.AnswerLines.{answer_line}
-use Rattle.a429_console.specs.Names.{Naming}
 use Rattle.a429_console.specs.Outputs.{AppendsPending}
 use Rattle.a429_console.specs.RefusalText.{OrMemory, refusal_line}
-use Rattle.a429_cli.specs.Script.{script_events}
 use Rattle.a429_console.specs.Tables.{IsProposedBy, IsTableRefusal}
 use Rattle.a429_console.specs.declared.refusals.CommandRefusal.{CommandRefusal}
 use Rattle.a429_cli.specs.declared.pending.Pending.{Pending}
@@ -60,17 +58,17 @@ PlaysOne names further event old new before after =
     (o : Opening) (E : List Event) → StandsForHistory count_bits o E old
     → (E' : List Event) × (line : List ℕ) × Happens o names further E event E' line × StandsForHistory count_bits o E' new × (after ≡ before ++ line)
 
--- the first of a script's events happen to a state, whatever history the state stands for, and the bytes that are printed are put as Puts says;
+-- the first of these events happen to a state, whatever history the state stands for, and the bytes that are printed are put as Puts says;
 -- where memory sufficed, all of them happen
-abbrev pub PlaysScript : Naming → List (List ℕ) → List ℕ → MachineState → (List ℕ → Type 0) → Bool → Type 0
-PlaysScript names further script old Puts sufficed =
-    (events : List ScriptEvent) → script_events names (length further) script ≡ Ok events → (o : Opening) (E : List Event) → StandsForHistory count_bits o E old
-    → (n : ℕ) × (E' : List Event) × (bytes : List ℕ) × Played o names.sources further E (take n events) E' bytes × Puts bytes × (IsTrue sufficed → n ≡ length events)
+abbrev pub PlaysEvents : List (List ℕ) → List (List ℕ) → List ScriptEvent → MachineState → (List ℕ → Type 0) → Bool → Type 0
+PlaysEvents names further events old Puts sufficed =
+    (o : Opening) (E : List Event) → StandsForHistory count_bits o E old
+    → (n : ℕ) × (E' : List Event) × (bytes : List ℕ) × Played o names further E (take n events) E' bytes × Puts bytes × (IsTrue sufficed → n ≡ length events)
 
 -- the same of the lines that are printed: they are put out, or appended to those that are yet to be; the answer says whether memory sufficed for all
-abbrev pub PlaysAll : {X E : Type 0} → (X → Option (List ℕ)) → Naming → List (List ℕ) → List ℕ → MachineState → X → X → Pending → Pending → Result Bool E → Type 0
-PlaysAll contents names further script old out out' lines lines' result =
-    IfOk result (PlaysScript names further script old (AppendsPending (contents out) lines.text.items (contents out') lines'.text.items))
+abbrev pub PlaysAll : {X E : Type 0} → (X → Option (List ℕ)) → List (List ℕ) → List (List ℕ) → List ScriptEvent → MachineState → X → X → Pending → Pending → Result Bool E → Type 0
+PlaysAll contents names further events old out out' lines lines' result =
+    IfOk result (PlaysEvents names further events old (AppendsPending (contents out) lines.text.items (contents out') lines'.text.items))
 
 -- an event of a history that is as Is says; or why there is none, as Not tells, or that memory was refused
 abbrev pub GivesEvent : (Event → Type 0) → (CommandRefusal → Type 0) → Result MachineEvent (Option (Bor CommandRefusal)) → Type 0

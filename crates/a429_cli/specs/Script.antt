@@ -1,5 +1,5 @@
 -- Scripts: one event a line (profile: replay script). A script is read with the names of its station and the number of further tables.
-use Rattle.std.specs.Prelude.{◌≡◌, ◌+◌, ◌∷◌, [], ◌++◌, ◌&&◌, ℕ, List, Option, Some, None, Result, Ok, Err, MatchResult, codes, if◌then◌else◌, nat_lt, nat_le, option_map, option_and_then}
+use Rattle.std.specs.Prelude.{◌≡◌, ◌&&◌, ℕ, List, Option, Some, None, Result, Err, codes, if◌then◌else◌, nat_lt, nat_le, option_map, option_and_then}
 use Rattle.std.specs.Str.{bytes_eq}
 use Rattle.a429_word.specs.Hexadecimal.{raw_word}
 use Rattle.a429_console.specs.CutText.{cut}
@@ -46,11 +46,3 @@ script_events names further script = entries_of (line_event names further) scrip
 abbrev pub IsScriptFault : Naming → ℕ → List ℕ → CommandRefusal → Type 0
 IsScriptFault names further script (refused.Script n) = script_events names further script ≡ Err n
 IsScriptFault names further script _ = ⊥
-
--- it has no faulty line
-abbrev pub IsScript : Naming → ℕ → List ℕ → Type 0
-IsScript names further script = (events : List ScriptEvent) × (script_events names further script ≡ Ok events)
-
--- whether it has none, or which is the first
-abbrev pub ChecksScript : Naming → ℕ → List ℕ → Result (Unit {0}) CommandRefusal → Type 0
-ChecksScript names further script result = MatchResult result (λ _. IsScript names further script) (IsScriptFault names further script)

@@ -1,9 +1,14 @@
 //! Names of a station: of its receivers, sources and groups, and the numbers that they stand for.
-ghost use Rattle.std.specs.Prelude.{◌≡◌, ◌≤◌, IfOk, length, map, string_bytes};
+ghost use Rattle.std.specs.Prelude.{◌≡◌, IfOk, IfSome, map, string_bytes};
 ghost use Rattle.a429_slots.specs.declared.answers.Answer.TheVariants.{Accepted};
 ghost use Rattle.a429_cli.specs.AnswerLines.{answer_line};
 ghost use Rattle.a429_console.specs.Names.{name_at, naming_of, number_named};
+ghost use Rattle.a429_cli.specs.NameLists.{BeginsWithName};
 
+mod guesses;
+mod lists;
+
+use crate::names::lists::NameList;
 use a429_console::hints::SeenLine;
 use a429_equipment::{Equipment, GroupRow, ReceiverRow, SourceRow};
 use std::alloc::{AllocError, Global};
@@ -45,37 +50,24 @@ impl SourceName {
     }
 }
 
-/// The name of a number among these; nothing where there is none.
-fn name_in(names: &[String], number: usize) -> &[u8]
-    ensures { result.now ≡ name_at (map string_bytes names.entry.now) number }
-{
-    match names.get(number) {
-        Some(own) => own.as_bytes(),
-        None => b"",
-    }
-}
-
 /// The names of a station's receivers, sources and groups, each in table order.
 #[derive(Drop)]
 pub struct Names {
-    receivers: Vec<String>,
+    receivers: NameList,
     sources: Vec<SourceName>,
-    groups: Vec<String>,
+    groups: NameList,
 }
 
 impl Model for Names {
-    ghost use Rattle.std.specs.Prelude.{◌≤◌, length, map, string_bytes};
     ghost use Rattle.a429_console.specs.Names.{Naming};
 
     ghost Value = { Naming };
 
     ghost view = { λ n. record {
-      receivers = map string_bytes n.receivers.items;
+      receivers = n.receivers;
       sources = n.sources.items;
-      groups = map string_bytes n.groups.items;
+      groups = n.groups;
     } };
-
-    ghost invariant = { λ n. (length n.receivers.items ≤ 16) × (length n.groups.items ≤ 8) };
 }
 
 impl Names {
@@ -87,9 +79,9 @@ impl Names {
         let sources = source_names(alloc, equipment.sources())?;
         let groups = group_names(alloc, equipment.groups())?;
         Ok(Names {
-            receivers,
+            receivers: NameList::of(receivers, b' '),
             sources,
-            groups,
+            groups: NameList::of(groups, b'\n'),
         })
     }
 
@@ -103,12 +95,12 @@ impl Names {
         further: usize,
     ) -> Option<SeenLine> {
         let mut line = SeenLine::of(alloc, text, number).ok()?;
-        for name in &self.receivers {
+        for name in self.receivers.names() {
             line.receivers
                 .push(String::from_str(alloc, name.as_str()).ok()?)
                 .ok()?;
         }
-        for name in &self.groups {
+        for name in self.groups.names() {
             line.groups
                 .push(String::from_str(alloc, name.as_str()).ok()?)
                 .ok()?;
@@ -121,28 +113,46 @@ impl Names {
     pub fn receiver(&self, name: &[u8]) -> Option<u8>
         ensures { result ≡ number_named self.now.receivers name.now }
     {
-        number_of(&self.receivers, name)
+        self.receivers.number(name)
     }
 
     /// The number of the group with this name.
     pub fn group(&self, name: &[u8]) -> Option<u8>
         ensures { result ≡ number_named self.now.groups name.now }
     {
-        number_of(&self.groups, name)
+        self.groups.number(name)
+    }
+
+    /// The number of the receiver with whose name and a space a text begins, and the text after the space. `None` says
+    /// nothing.
+    #[inline(always)]
+    pub fn receiver_before<'a>(&self, text: &'a [u8]) -> Option<(u8, &'a [u8])>
+        ensures { IfSome result (λ p. BeginsWithName self.now.receivers 32 text.entry.now p.0 p.1.now) }
+    {
+        self.receivers.number_before(text, b' ')
+    }
+
+    /// The number of the group with whose name and a line feed a text begins, and the text after the line feed. `None`
+    /// says nothing.
+    #[inline(always)]
+    pub fn group_before<'a>(&self, text: &'a [u8]) -> Option<(u8, &'a [u8])>
+        ensures { IfSome result (λ p. BeginsWithName self.now.groups 10 text.entry.now p.0 p.1.now) }
+    {
+        self.groups.number_before(text, b'\n')
     }
 
     /// The name of the receiver of this number; nothing where there is none.
     pub fn receiver_name(&self, number: usize) -> &[u8]
         ensures { result.now ≡ name_at self.now.receivers number }
     {
-        name_in(&self.receivers, number)
+        self.receivers.name(number)
     }
 
     /// The name of the group of this number; nothing where there is none.
     pub fn group_name(&self, number: usize) -> &[u8]
         ensures { result.now ≡ name_at self.now.groups number }
     {
-        name_in(&self.groups, number)
+        self.groups.name(number)
     }
 
     /// The name of the source of this number; nothing where there is none.
@@ -164,16 +174,6 @@ impl Names {
             None => b"accepted \n",
         }
     }
-}
-
-/// The number of the first of these names that is this one.
-#[tactic(auto, unfolding(a429_console::specs::Names::number_named))]
-fn number_of(names: &[String], name: &[u8]) -> Option<u8>
-    requires { length names.now ≤ 16 }
-    ensures { result ≡ number_named (map string_bytes names.now) name.now }
-{
-    let number = names.iter().position(|own| own.as_bytes() == name)?;
-    Some(number as u8)
 }
 
 fn receiver_names(alloc: Global, rows: &[ReceiverRow]) -> Result<Vec<String>, AllocError>

@@ -39,6 +39,7 @@ impl Pending {
     }
 
     /// Appends the line of an answer. Where memory is refused, nothing is appended.
+    #[inline(always)]
     pub fn push_answer(&mut self, names: &Names, answer: Answer) -> Result<(), AllocError>
         ensures line { OnOk result (self.new.text.items ≡ self.old.text.items ++ answer_line names.now.sources answer) }
         ensures kept { OnErr result (self.new.text.items ≡ self.old.text.items) }

@@ -1,23 +1,27 @@
 //! The command `replay`.
-ghost use Rattle.std.specs.Prelude.{◌≡◌, ◌≤◌, IfOk, IsTrue, MatchResult, OnOk};
+ghost use Rattle.std.specs.Prelude.{◌≡◌, ◌≤◌, IfOk, IsTrue, MatchResult, OnOk, length};
 ghost use Rattle.a429_console.specs.Files.{texts_of};
 ghost use Rattle.a429_console.specs.Readings.{HasRead};
 ghost use Rattle.a429_console.specs.Outputs.{CountsFault};
 ghost use Rattle.a429_console.specs.RefusalText.{OrMemory};
 ghost use Rattle.a429_console.specs.Tables.{TakesAll};
+ghost use Rattle.a429_cli.specs.Kept.{TakesAllTables};
 ghost use Rattle.a429_cli.specs.Replaying.{HasReplayed, IsNoStart, TakesFurther};
 ghost use Rattle.a429_cli.specs.Opened.{AreTablesRead, IsInputReading, IsOutcomePut, IsPreparedFor, input_of};
 
 pub mod answers;
 pub mod further;
+pub mod kept;
 pub mod playing;
+pub mod reading;
 pub mod script;
 pub mod station;
 
 use crate::pending::Pending;
 use crate::replay::further::{FurtherTable, hand_published, none_published, plan_tables};
+use crate::replay::kept::KeptEvent;
 use crate::replay::playing::play_all;
-use crate::replay::script::{ScriptForm, check_script};
+use crate::replay::script::{ScriptForm, read_script};
 use crate::replay::station::ReplayStation;
 use a429_console::files::FileReader;
 use a429_console::files::reading::{read_file, read_files};
@@ -69,14 +73,21 @@ fn read_input<F: FileReader>(
     })
 }
 
-/// The station that is given, where the script is one of it. Refused is the table, its plan, or the script. The further
-/// tables whose plans the station does not take are noted.
+/// A station, and the events that are to happen to it.
+#[derive(Drop)]
+struct Prepared {
+    station: ReplayStation,
+    events: Vec<KeptEvent>,
+}
+
+/// The station that is given, with the events of the script, if that is one of it. Refused is the table, its plan, or the
+/// script. The further tables whose plans the station does not take are noted.
 fn prepare(
     alloc: Global,
     input: &Input,
     seen: &mut Seen,
     faults: &mut Vec<FurtherFault>,
-) -> Result<ReplayStation, CommandRefusal>
+) -> Result<Prepared, CommandRefusal>
     ensures prepared { MatchResult result (IsPreparedFor (input_of input.now)) (OrMemory (IsNoStart (input_of input.now))) }
     ensures taken { TakesAll (input_of input.now).table (input_of input.now).further → faults.new.items ≡ faults.old.items }
 {
@@ -85,29 +96,31 @@ fn prepare(
         names: &station.names,
         further: input.further.len(),
     };
-    check_script(alloc, &form, &input.script, seen)?;
-    Ok(station)
+    let events = read_script(alloc, &form, &input.script, seen)?;
+    Ok(Prepared { station, events })
 }
 
-/// Plays the script on the station, and puts the lines that its events come to. Where memory is refused in the
-/// midst, these lines end with the one that says so.
+/// Plays events on the station, and puts the lines that they come to. Where memory is refused in the midst, these lines
+/// end with the one that says so.
 fn play_prepared<O: Output>(
     alloc: Global,
-    station: ReplayStation,
+    prepared: Prepared,
     input: &Input,
     published: &mut [bool],
     out: &mut O,
 ) -> Result<u8, OutputFault>
-    ensures played { IfOk result (IsOutcomePut (input_of input.now) station (O.contents out.old) (O.contents out.new)) }
+    requires { TakesAllTables (length (input_of input.now).further) prepared.events.items }
+    ensures played { IfOk result (IsOutcomePut (input_of input.now) prepared (O.contents out.old) (O.contents out.new)) }
     ensures status { IfOk result (λ status. status ≤ 1) }
     ensures flushed { OnOk result (IsTrue (O.is_flushed out.new)) }
     ensures faults { CountsFault result (O.failures out.old) (O.failures out.new) }
 {
+    let Prepared { station, events } = prepared;
     let ReplayStation { names, mut state } = station;
     let mut lines = Pending::new(alloc);
-    let (further, script) = (&input.further, &input.script);
+    let further = &input.further;
     let sufficed = play_all(
-        alloc, &mut state, &names, further, script, published, &mut lines, out,
+        alloc, &mut state, &names, further, &events, published, &mut lines, out,
     )?;
     finish(&lines.text, sufficed, out)
 }
@@ -138,9 +151,9 @@ pub fn replay<F: FileReader, O: Output>(
     };
     let mut found = Vec::new(alloc);
     match prepare(alloc, &input, seen, &mut found) {
-        Ok(station) => {
+        Ok(prepared) => {
             let mut published = none_published(alloc, input.further.len());
-            let status = play_prepared(alloc, station, &input, &mut published, out);
+            let status = play_prepared(alloc, prepared, &input, &mut published, out);
             hand_published(found, &published, faults);
             status
         }

@@ -179,7 +179,8 @@ fn play_words<O: Output>(
     requires tracks { HasTracks setting.now.proposal.now beginning.timeline.tracks.items }
     requires sound { OfEach IsTrack beginning.timeline.tracks.items }
     requires in_time { AreInTime beginning.timeline.words.items }
-    ensures printed { HasPrinted setting.now.proposal.now false setting.now.csv beginning (O.contents out.old) (O.contents out.new) result }
+    ensures printed { HasPrinted setting.now.proposal.now false setting.now.csv beginning
+        (O.contents out.old) (O.contents out.new) result }
     ensures status { IfOk result (λ status. status ≤ 1) }
     ensures flushed { OnOk result (IsTrue (O.is_flushed out.new)) }
     ensures faults { CountsFault result (O.failures out.old) (O.failures out.new) }
@@ -203,7 +204,8 @@ fn print_lines<O: Output>(
     out: &mut O,
 ) -> Result<u8, OutputFault>
     requires { IsReady simulation }
-    ensures printed { HasPrinted simulation.station.proposal false csv simulation.beginning (O.contents out.old) (O.contents out.new) result }
+    ensures printed { HasPrinted simulation.station.proposal false csv simulation.beginning
+        (O.contents out.old) (O.contents out.new) result }
     ensures status { IfOk result (λ status. status ≤ 1) }
     ensures flushed { OnOk result (IsTrue (O.is_flushed out.new)) }
     ensures faults { CountsFault result (O.failures out.old) (O.failures out.new) }
@@ -247,7 +249,8 @@ fn print_summary<O: Output>(
     out: &mut O,
 ) -> Result<u8, OutputFault>
     requires { IsReady simulation.old }
-    ensures printed { HasPrinted simulation.old.station.proposal true csv simulation.old.beginning (O.contents out.old) (O.contents out.new) result }
+    ensures printed { HasPrinted simulation.old.station.proposal true csv simulation.old.beginning
+        (O.contents out.old) (O.contents out.new) result }
     ensures status { IfOk result (λ status. status ≤ 1) }
     ensures flushed { OnOk result (IsTrue (O.is_flushed out.new)) }
     ensures faults { CountsFault result (O.failures out.old) (O.failures out.new) }
@@ -267,7 +270,8 @@ fn print_simulation<O: Output>(
     out: &mut O,
 ) -> Result<u8, OutputFault>
     requires { IsReady simulation }
-    ensures printed { HasPrinted simulation.station.proposal form.summary form.csv simulation.beginning (O.contents out.old) (O.contents out.new) result }
+    ensures printed { HasPrinted simulation.station.proposal form.summary form.csv simulation.beginning
+        (O.contents out.old) (O.contents out.new) result }
     ensures status { IfOk result (λ status. status ≤ 1) }
     ensures flushed { OnOk result (IsTrue (O.is_flushed out.new)) }
     ensures faults { CountsFault result (O.failures out.old) (O.failures out.new) }

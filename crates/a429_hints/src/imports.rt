@@ -124,6 +124,18 @@ fn tell_column<V: Write>(
     }
 }
 
+/// The field of a heading that is nearest to the name of a column, among those that name no column.
+fn nearest_field<'a>(alloc: Global, heading: &'a CsvLine, name: &'a str) -> Nearest<'a> {
+    let mut nearest = Nearest::to(name);
+    for place in 0..min(heading.len(), LISTED) {
+        let text = str::from_utf8(heading.field(place)).unwrap_or("");
+        if !is_column(text) {
+            nearest = nearest.or(alloc, text);
+        }
+    }
+    nearest
+}
+
 /// Tells of a column that the heading lacks, and of those that it has.
 fn tell_missing<V: Write>(
     alloc: Global,
@@ -136,19 +148,14 @@ fn tell_missing<V: Write>(
         err,
         "{about}: the column {name} is missing; the heading has"
     )?;
-    let mut nearest = Nearest::to(name);
     for place in 0..min(heading.len(), LISTED) {
-        let text = str::from_utf8(heading.field(place)).unwrap_or("");
-        let shown = short_text(text);
+        let shown = short_text(str::from_utf8(heading.field(place)).unwrap_or(""));
         write!(err, " {:?}", shown.as_str())?;
-        if !is_column(text) {
-            nearest = nearest.or(alloc, text);
-        }
     }
     if heading.len() > LISTED {
         write!(err, " and {} more", heading.len() - LISTED)?;
     }
-    match nearest.name() {
+    match nearest_field(alloc, heading, name).name() {
         Some(near) => {
             let shown = short_text(near);
             writeln!(err, ", of which {:?} is the nearest", shown.as_str())

@@ -41,6 +41,7 @@ fn put_cell(room: &mut [u8], end: usize, word: Option<Word>) -> usize
 }
 
 /// Appends the line of a cell that was sent. Where memory is refused, nothing is appended.
+#[inline(always)]
 fn push_sent(text: &mut Vec<u8>, bus: u32, slot: u64, word: Option<Word>) -> Result<(), AllocError>
     ensures line { Gains result text.old.items text.new.items (answer_line [] (Sent bus slot word)) }
     ensures kept { OnErr result (text.new.items ≡ text.old.items) }
@@ -57,6 +58,7 @@ fn push_sent(text: &mut Vec<u8>, bus: u32, slot: u64, word: Option<Word>) -> Res
 }
 
 /// Appends the line of an answer. Where memory is refused, nothing is appended.
+#[inline(always)]
 pub fn push_answer(text: &mut Vec<u8>, names: &Names, answer: Answer) -> Result<(), AllocError>
     ensures line { Gains result text.old.items text.new.items (answer_line names.now.sources answer) }
     ensures kept { OnErr result (text.new.items ≡ text.old.items) }

@@ -1,44 +1,61 @@
 //! Scripts played on a station.
 ghost use Rattle.std.specs.Prelude.{◌≡◌, ◌<◌, OnOk, OnErr, length};
 ghost use Rattle.a429_console.specs.Outputs.{CountsFault};
+ghost use Rattle.a429_cli.specs.declared.replay.script.ScriptEvent.TheVariants.{Publish};
+ghost use Rattle.a429_cli.specs.Kept.{TakesAllTables, events_of};
 ghost use Rattle.a429_cli.specs.Playing.{GivesEvent, HasTable, IsEventOf, IsUnread, PlaysAll, PlaysOne};
 
 use crate::names::Names;
 use crate::pending::{Pending, put_if_full};
 use crate::replay::further::FurtherTable;
-use crate::replay::script::{ScriptEvent, ScriptForm};
-use a429_console::files::lines::first_entry;
+use crate::replay::kept::KeptEvent;
+use crate::replay::script::ScriptEvent;
 use a429_console::output::{Output, OutputFault};
 use a429_console::refusals::CommandRefusal;
+use a429_core::laws::calls_are_answered;
 use a429_core::{Event, StationState};
 use std::alloc::{AllocError, Global};
 
-/// The event of the machine that a script's event stands for, where these are the further tables. Refused is the
-/// fault of the one that is published, or else that of its plan; with no refusal memory is.
-fn machine_event(
+/// The event of the machine that publishes the further table of a number. Refused is the table's fault, or else that of
+/// its plan; with no refusal memory is.
+fn publication(
     alloc: Global,
     further: &[FurtherTable],
-    event: ScriptEvent,
+    number: usize,
 ) -> Result<Event, Option<&CommandRefusal>>
-    requires { HasTable (length further.now) event }
-    ensures { GivesEvent (IsEventOf further.now event) (IsUnread further.now event) result }
+    requires { HasTable (length further.now) (Publish number) }
+    ensures { GivesEvent (IsEventOf further.now (Publish number)) (IsUnread further.now (Publish number)) result }
 {
-    match event {
-        ScriptEvent::Arrive(receiver, raw) => Ok(Event::Arrive {
-            receiver: usize::from(receiver),
-            raw,
-        }),
-        ScriptEvent::Cell(group) => Ok(Event::Cell {
-            group: usize::from(group),
-        }),
-        ScriptEvent::Frame(group) => Ok(Event::Frame {
-            group: usize::from(group),
-        }),
-        ScriptEvent::Publish(number) => further[number - 1].publication(alloc),
+    further[number - 1].publication(alloc)
+}
+
+/// Publishes the further table of a number, and appends the line that this comes to. Where memory is refused, nothing is
+/// appended.
+fn play_publication(
+    alloc: Global,
+    state: &mut StationState,
+    names: &Names,
+    further: &[FurtherTable],
+    number: usize,
+    lines: &mut Pending,
+) -> Result<(), AllocError>
+    requires { HasTable (length further.now) (Publish number) }
+    ensures played { OnOk result (PlaysOne names.now.sources further.now (Publish number)
+        state.old state.new lines.old.text.items lines.new.text.items) }
+    ensures kept { OnErr result (lines.new.text.items ≡ lines.old.text.items) }
+{
+    match publication(alloc, further, number) {
+        Ok(event) => match state.step(event) {
+            Ok(answer) => lines.push_answer(names, answer),
+            Err(error) => Err(error),
+        },
+        Err(None | Some(CommandRefusal::Memory)) => Err(AllocError),
+        Err(Some(refusal)) => lines.push_refusal(refusal),
     }
 }
 
 /// Appends the line that an event of a script comes to. Where memory is refused, nothing is appended.
+#[inline(always)]
 fn play(
     alloc: Global,
     state: &mut StationState,
@@ -52,13 +69,23 @@ fn play(
         state.old state.new lines.old.text.items lines.new.text.items) }
     ensures kept { OnErr result (lines.new.text.items ≡ lines.old.text.items) }
 {
-    match machine_event(alloc, further, event) {
-        Ok(event) => match state.step(event) {
-            Ok(answer) => lines.push_answer(names, answer),
-            Err(error) => Err(error),
-        },
-        Err(None | Some(CommandRefusal::Memory)) => Err(AllocError),
-        Err(Some(refusal)) => lines.push_refusal(refusal),
+    calls_are_answered();
+    match event {
+        ScriptEvent::Arrive(receiver, raw) => {
+            let answer = state.arrive(usize::from(receiver), raw);
+            lines.push_answer(names, answer)
+        }
+        ScriptEvent::Cell(group) => {
+            let answer = state.cell(usize::from(group));
+            lines.push_answer(names, answer)
+        }
+        ScriptEvent::Frame(group) => {
+            let answer = state.frame(usize::from(group));
+            lines.push_answer(names, answer)
+        }
+        ScriptEvent::Publish(number) => {
+            play_publication(alloc, state, names, further, number, lines)
+        }
     }
 }
 
@@ -71,35 +98,31 @@ fn mark_published(published: &mut [bool], event: ScriptEvent) {
     }
 }
 
-/// Plays the events of a script one after another, each as it is read. Their lines are put out where they have
-/// become many, and those that are left stand in `lines`. The further tables that are published are marked. Whether
-/// memory sufficed for all.
+/// Plays events one after another. Their lines are put out where they have become many, and those that are left stand
+/// in `lines`. The further tables that are published are marked. Whether memory sufficed for all.
 pub fn play_all<O: Output>(
     alloc: Global,
     state: &mut StationState,
     names: &Names,
     further: &[FurtherTable],
-    script: &[u8],
+    events: &[KeptEvent],
     published: &mut [bool],
     lines: &mut Pending,
     out: &mut O,
 ) -> Result<bool, OutputFault>
-    ensures played { PlaysAll O.contents names.now further.now script.now state.old out.old out.new lines.old lines.new result }
+    requires { TakesAllTables (length further.now) events.now }
+    ensures played { PlaysAll O.contents names.now.sources further.now (events_of events.now) state.old
+        out.old out.new lines.old lines.new result }
     ensures few { OnOk result (length lines.old.text.items < 65536 → length lines.new.text.items < 65536) }
     ensures faults { CountsFault result (O.failures out.old) (O.failures out.new) }
 {
-    let form = ScriptForm {
-        names,
-        further: further.len(),
-    };
-    let mut text = script;
-    while let Some((event, rest)) = first_entry(&form, text) {
+    for kept in events {
+        let event = kept.event();
         mark_published(published, event);
         let Ok(()) = play(alloc, state, names, further, event, lines) else {
             return Ok(false);
         };
         put_if_full(&mut lines.text, out)?;
-        text = rest;
     }
     Ok(true)
 }

@@ -1,10 +1,12 @@
 //! Scripts of events, one a line.
-ghost use Rattle.std.specs.Prelude.{◌≡◌, ℕ, IfSome};
-ghost use Rattle.a429_cli.specs.Script.{arrive_event, line_event, publish_event, ChecksScript};
-ghost use Rattle.a429_cli.specs.Playing.{HasTable};
+ghost use Rattle.std.specs.Prelude.{◌≡◌, ℕ, IfOk, IfSome};
+ghost use Rattle.a429_cli.specs.Script.{arrive_event, line_event, publish_event};
+ghost use Rattle.a429_cli.specs.Kept.{CanBeKept, ReadsScript, TakesAllTables};
 
 use crate::names::Names;
-use a429_console::files::lines::{LineForm, check_lines};
+use crate::replay::kept::KeptEvent;
+use crate::replay::reading::read_events;
+use a429_console::files::lines::{LineForm, LinesFault};
 use a429_console::hints::Seen;
 use a429_console::refusals::CommandRefusal;
 use a429_console::texts::cut_at;
@@ -23,7 +25,7 @@ pub enum ScriptEvent {
 
 fn arrive(names: &Names, words: &[u8]) -> Option<ScriptEvent>
     ensures event { result ≡ arrive_event names.now words.now }
-    ensures table { (further : ℕ) → IfSome result (HasTable further) }
+    ensures fits { (further : ℕ) → IfSome result (CanBeKept further) }
 {
     let (receiver, raw) = cut_at(words, b' ')?;
     let receiver = names.receiver(receiver)?;
@@ -33,7 +35,7 @@ fn arrive(names: &Names, words: &[u8]) -> Option<ScriptEvent>
 /// The publication of one of so many further tables.
 fn publish(further: usize, number: &[u8]) -> Option<ScriptEvent>
     ensures event { result ≡ publish_event further number.now }
-    ensures table { IfSome result (HasTable further) }
+    ensures fits { IfSome result (CanBeKept further) }
 {
     let number = decimal_number(number)?;
     if number == 0 || number > further as u64 {
@@ -46,7 +48,7 @@ fn publish(further: usize, number: &[u8]) -> Option<ScriptEvent>
 #[tactic(auto, unfolding(crate::specs::Script::line_event))]
 fn read_line(names: &Names, further: usize, line: &[u8]) -> Option<ScriptEvent>
     ensures event { result ≡ line_event names.now further line.now }
-    ensures table { IfSome result (HasTable further) }
+    ensures fits { IfSome result (CanBeKept further) }
 {
     let (verb, words) = cut_at(line, b' ')?;
     if verb == b"arrive".as_slice() {
@@ -71,34 +73,36 @@ pub struct ScriptForm<'a> {
 
 impl LineForm for ScriptForm<'_> {
     ghost use Rattle.a429_cli.specs.Script.{line_event};
-    ghost use Rattle.a429_cli.specs.Playing.{HasTable};
+    ghost use Rattle.a429_cli.specs.Kept.{CanBeKept};
 
     type Entry = ScriptEvent;
 
     ghost states = { λ f. line_event f.names.now f.further };
 
-    ghost fits = { λ f e. HasTable f.further e };
+    ghost fits = { λ f e. CanBeKept f.further e };
 
     fn entry(&self, line: &[u8]) -> Option<ScriptEvent> {
         read_line(self.names, self.further, line)
     }
 }
 
-/// Checks a script. The refusal has the number of its first faulty line, from 1: one that is no event, names nothing, or
+/// Reads a script. The refusal has the number of its first faulty line, from 1: one that is no event, names nothing, or
 /// does not end with a line feed. That line is kept in `seen`.
-pub fn check_script(
+pub fn read_script(
     alloc: Global,
     form: &ScriptForm<'_>,
     script: &[u8],
     seen: &mut Seen,
-) -> Result<(), CommandRefusal>
-    ensures { ChecksScript form.now.names.now form.now.further script.now result }
+) -> Result<Vec<KeptEvent>, CommandRefusal>
+    ensures read { ReadsScript form.now.names.now form.now.further script.now result }
+    ensures tables { IfOk result (λ kept. TakesAllTables form.now.further kept.items) }
 {
-    match check_lines(form, script) {
-        Ok(()) => Ok(()),
-        Err(line) => {
+    match read_events(alloc, form, script) {
+        Ok(kept) => Ok(kept),
+        Err(LinesFault::Line(line)) => {
             seen.line = form.names.seen_line(alloc, script, line, form.further);
             Err(CommandRefusal::Script(line))
         }
+        Err(LinesFault::NoMemory) => Err(CommandRefusal::Memory),
     }
 }

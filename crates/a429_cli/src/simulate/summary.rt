@@ -10,11 +10,11 @@ ghost use Rattle.a429_cli.specs.SimulationRuns.{HasGroup, IsWithin};
 ghost use Rattle.a429_cli.specs.SummaryRuns.{CountsSteps, CountsTimeline, HasFigures, counted, figures_at, groups_after, nothing_sent, unsent};
 ghost use Rattle.a429_cli.specs.Tracks.{HasTracks, IsTrack};
 
+use crate::simulate::figures::{GroupFigures, OutputFigures, OutputSend};
 use crate::simulate::log::LogWord;
 use crate::simulate::machine::Run;
 use crate::simulate::moments::{Moment, Timeline};
 use crate::simulate::playing::turn_after;
-use crate::simulate::figures::{GroupFigures, OutputSend, OutputFigures};
 use crate::simulate::tracks::rate_of;
 use a429_core::Answer;
 use a429_slots::{OUTPUTS, Plan, Proposal};
@@ -50,7 +50,13 @@ fn count_accepted(words: &mut Vec<u64>, answer: &Answer)
 }
 
 /// An output of a group sends, at the group's bit rate.
-fn note_send(groups: &mut Vec<GroupFigures>, group: usize, output: usize, rate: u32, send: OutputSend)
+fn note_send(
+    groups: &mut Vec<GroupFigures>,
+    group: usize,
+    output: usize,
+    rate: u32,
+    send: OutputSend,
+)
     requires rate { 1 ≤ rate }
     requires few { send.slot < 8192000000 }
     ensures { groups.new.items ≡ groups_after groups.old.items group output rate send }
@@ -157,12 +163,7 @@ fn count_cells(
 }
 
 /// A moment happens.
-fn count(
-    proposal: &Proposal<OUTPUTS>,
-    run: &mut Run,
-    moment: Moment,
-    summary: &mut Summary,
-)
+fn count(proposal: &Proposal<OUTPUTS>, run: &mut Run, moment: Moment, summary: &mut Summary)
     requires known { IsWithin proposal.now moment }
     ensures { CountsSteps proposal.now (steps_in proposal.now moment) run.old run.new summary.old summary.new }
 {

@@ -7,8 +7,8 @@ ghost use Rattle.a429_cli.specs.Summary.{bound_fields, name_fields, number_or_da
 ghost use Rattle.a429_cli.specs.SummaryRuns.{kept_group, kept_row, kept_rows, figure_fields};
 ghost use Rattle.a429_cli.specs.Timeline.{rate_of, table_of};
 
-use crate::simulate::summary::Summary;
 use crate::simulate::figures::OutputFigures;
+use crate::simulate::summary::Summary;
 use crate::simulate::tracks::rate_of;
 use a429_console::refusals::names::{group_name, source_name};
 use a429_documents::{Row, aligned_text, latency_us, rows_csv};
@@ -35,11 +35,7 @@ fn columns(alloc: Global) -> Result<Row, AllocError>
 }
 
 /// Adds a number, or that there is none.
-fn push_number_or_dash(
-    alloc: Global,
-    row: &mut Row,
-    number: Option<u64>,
-) -> Result<(), AllocError>
+fn push_number_or_dash(alloc: Global, row: &mut Row, number: Option<u64>) -> Result<(), AllocError>
     ensures { Gains result row.old row.new (number_or_dash number ∷ []) }
 {
     match number {
@@ -84,10 +80,7 @@ fn push_bound(
     ensures { Gains result row.old row.new (bound_fields (rate_of proposal.now group) (placed_at (table_of proposal.now group) output)) }
 {
     let place = proposal.plan().group(group).place(OutputId::new(output));
-    row.push_number(
-        alloc,
-        latency_us(rate_of(proposal, group), place.period),
-    )
+    row.push_number(alloc, latency_us(rate_of(proposal, group), place.period))
 }
 
 /// The row of an output.

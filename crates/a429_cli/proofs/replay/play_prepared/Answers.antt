@@ -1,8 +1,9 @@
 use Rattle.std.proofs.Common.{◌≡◌, ◌++◌, [], List, ℕ, ap, length, take, subst, sym}
-use Rattle.std.specs.Prelude.{Ok}
+use Rattle.std.specs.Prelude.{IsTrue}
 use Rattle.a429_slots.specs.History.{Opening}
+use Rattle.a429_cli.specs.Kept.{events_of}
 use Rattle.a429_cli.specs.Playing.{Played}
-use Rattle.a429_cli.specs.Script.{script_events}
+use Rattle.a429_cli.specs.declared.replay.kept.KeptEvent.{KeptEvent}
 use Rattle.a429_console.specs.Names.{Naming, naming_of}
 use Rattle.a429_cli.specs.Opened.{input_of}
 use Rattle.a429_console.specs.Outputs.{ending}
@@ -13,21 +14,24 @@ use Rattle.a429_cli.proofs.replay.play_prepared.Goals as goal
 
 pub returns-clause-played : goal.returns-clause-played
 returns-clause-played g c =
-    both_ok c.finish.result _ _ (λ status is put q events start opened.
+    both_ok c.finish.result _ _ (λ status is put q start opened.
     let o : Opening = record { proposal = q; first = 0 } in
     let i = input_of c.args.input.now in
+    let events = events_of c.args.prepared.events.items in
     let all = c.in_ok-sufficed.sufficed in
-    let script : script_events c.args.station.names (length c.deref.result.now) c.deref-2.result.now ≡ Ok events =
-    rw (opened.0, c.deref.ensures.value, c.deref-2.ensures.value) start.events_are in
-    let (n, E, lines, told, appended, every) = c.in_ok-sufficed.ensures.played events script o [] opened.1 in
+    let (n, E, lines, told, appended, every) = c.in_ok-sufficed.ensures.played o [] opened.1 in
     let kept = rw c.new-lines.ensures at appended in
     let sent = rw c.deref-3.ensures.value at put in
+    let of_events : Played o c.args.prepared.station.names.sources c.deref.result.now [] (take n events) E lines =
+    subst (λ (ks : List KeptEvent). Played o c.args.prepared.station.names.sources c.deref.result.now [] (take n (events_of ks)) E lines) c.deref-2.ensures.value told in
+    let of_tables : Played o c.args.prepared.station.names.sources i.further [] (take n events) E lines =
+    subst (λ (ts : List (List ℕ)). Played o c.args.prepared.station.names.sources ts [] (take n events) E lines) c.deref.ensures.value of_events in
     let played : Played o (naming_of q.station).sources i.further [] (take n events) E lines =
-    subst (λ (names : List (List ℕ)). Played o names i.further [] (take n events) E lines) (ap (λ (n : Naming). n.sources) opened.0)
-    (subst (λ (ts : List (List ℕ)). Played o c.args.station.names.sources ts [] (take n events) E lines) c.deref.ensures.value told) in
+    subst (λ (names : List (List ℕ)). Played o names i.further [] (take n events) E lines) (ap (λ (n : Naming). n.sources) opened.0) of_tables in
+    let whole : IsTrue all → n ≡ length events = subst (λ (ks : List KeptEvent). IsTrue all → n ≡ length (events_of ks)) c.deref-2.ensures.value every in
     let bytes = lines ++ ending all in (
       bytes,
-      subst (λ (n : ℕ). IsOutcome i q events n bytes) (sym is) (played_ended i q events n lines all (E, played) every),
+      subst (λ (n : ℕ). IsOutcome i q events n bytes) (sym is) (played_ended i q events n lines all (E, played) whole),
       Appends-ended (g.O.Output.contents c.args.out.now) _ _ c.play_all.new.lines.text.items lines (ending all) kept sent,
     ))
     c.finish.ensures.status c.finish.ensures.put

@@ -4,6 +4,7 @@ use Rattle.std.proofs.lemmas.Result.{IfOk-weaker}
 use Rattle.a429_console.specs.FileReadings.{IsFirstUnread}
 use Rattle.a429_console.specs.RefusalText.{refusal_line}
 use Rattle.a429_console.specs.Tables.{IsTableRefusal}
+use Rattle.a429_cli.specs.Kept.{events_of}
 use Rattle.a429_cli.specs.Replaying.{IsReplayRefusal, IsScriptRefusal}
 use Rattle.a429_cli.specs.Opened.{input_of}
 use Rattle.a429_console.proofs.Refused.{both_ok, or_memory_weaker, told_or_memory}
@@ -19,10 +20,10 @@ returns-in-Err-clause-replayed g c = read_weaker c.in-Err.ensures (λ file bad.
 
 pub returns-in-Ok-prepare-clause-replayed : goal.returns-in-Ok-prepare-clause-replayed
 returns-in-Ok-prepare-clause-replayed g c =
-    let (q, events, start, opened) = c.in-Ok-prepare.ensures.prepared in
+    let (q, start, opened, tables) = c.in-Ok-prepare.ensures.prepared in
     read_weaker c.in-Ok.ensures (λ file read. IfOk-weaker c.play_prepared-status.result _ _ (λ status played.
-    let was = played q events start opened in
-    (was.0, inr (input_of c.in-Ok.input, q, events, read, start, was.1), was.2))
+    let was = played q start opened in
+    (was.0, inr (input_of c.in-Ok.input, q, events_of c.in-Ok-prepare.prepared.events.items, read, start, was.1), was.2))
     c.play_prepared-status.ensures.played)
 
 pub returns-clause-replayed : goal.returns-clause-replayed

@@ -1,4 +1,4 @@
-use Rattle.std.proofs.Common.{◌++◌, ◌∷◌, [], ℕ, List, append-nil, inl, inr, refl, subst, sym}
+use Rattle.std.proofs.Common.{◌++◌, ◌∷◌, [], ℕ, append-nil, inl, inr, refl, subst, sym}
 use Rattle.a429_console.specs.Outputs.{memory_refused}
 use Rattle.a429_console.proofs.Refused.{both_ok}
 use Rattle.a429_cli.specs.SimulationReplies.{IsSummary}

@@ -1,52 +1,58 @@
-use Rattle.std.proofs.Common.{rules, ◌≡◌, ◌∙◌, ◌++◌, ◌∷◌, [], length, ap, refl, sym, append-nil}
-use Rattle.std.specs.Prelude.{Some, None}
+use Rattle.std.proofs.Common.{rules, ◌≡◌, ◌∙◌, ◌++◌, [], List, length, take, refl, sym, subst, arith, append-nil}
+use Rattle.std.proofs.lemmas.List.{length-map}
 use Rattle.std.specs.Io.KnownBytes.{Appends, append_known}
-use Rattle.a429_console.specs.Lines.{entries_of, first_entry}
-use Rattle.a429_cli.specs.Script.{line_event}
+use Rattle.a429_cli.specs.Kept.{event_of, events_of}
+use Rattle.a429_cli.specs.Playing.{Played}
+use Rattle.a429_cli.specs.declared.replay.script.ScriptEvent.{ScriptEvent}
+use Rattle.a429_cli.proofs.KeptEvents.{events_of-take, events_of-take_more, table_at}
 use Rattle.a429_cli.proofs.PlayedLines.{Appends-same, Appends-text, Appends-then, played_push}
-use Rattle.a429_console.proofs.EntryLines.{entries_before-nil, entries_last, entries_next, entries_so_far}
 use Rattle.a429_cli.proofs.replay.playing.play_all.Goals as goal
 
-pub loop-event-init : goal.loop-event-init
-unfolding entries_of
-loop-event-init g c = record { played = λ o E s. ([], E, [], sym (entries_before-nil _), (refl, refl), s, Appends-same _); few = λ h. h; kept = refl }
+pub loop-kept-init : goal.loop-kept-init
+loop-kept-init g c = record { played = λ o E s. (E, [], (refl, refl), s, Appends-same _); few = λ h. h; kept = refl }
 
-pub returns-in_default-play-clause-played : goal.returns-in_default-play-clause-played
-returns-in_default-play-clause-played g c = λ events is o E s.
-    let (done, M, bytes, read, played, stands, put) = c.loop-event.invariant.played o E s in
-    let kept : c.play.new.lines.text.items ≡ c.loop-event.lines.text.items = search rules in
-    let first = entries_so_far done _ events (sym read ∙ is) in
-    (length done, M, bytes, rw first played, rw kept put, λ no. cc)
+pub play-requires : goal.play-requires
+play-requires g c = table_at (length c.args.further.now) c.args.events.now c.loop-kept.kept-index _ c.event-event.result c.loop-kept-test.true c.requires c.event-event.ensures
 
-pub loop-event-preserved : goal.loop-event-preserved
-loop-event-preserved g c = record {
+pub returns-in_default-clause-played : goal.returns-in_default-clause-played
+returns-in_default-clause-played g c = λ o E s.
+    let events = c.args.events.now in
+    let n = c.loop-kept.kept-index in
+    let (M, bytes, played, stands, put) = c.loop-kept.invariant.played o E s in
+    let kept : c.play.new.lines.text.items ≡ c.loop-kept.lines.text.items = search rules in
+    let first = subst (λ (es : List ScriptEvent). Played o c.args.names.now.sources c.args.further.now E es M bytes) (events_of-take n events) played in
+    (n, M, bytes, first, rw kept put, λ no. cc)
+
+pub loop-kept-preserved : goal.loop-kept-preserved
+loop-kept-preserved g c = record {
   played = λ o E s.
-      let (done, M, bytes, read, played, stands, put) = c.loop-event.invariant.played o E s in
-      let names = c.args.names.now in
+      let (M, bytes, played, stands, put) = c.loop-kept.invariant.played o E s in
+      let names = c.args.names.now.sources in
       let further = c.args.further.now in
-      let event = c.in-Some.event in
-      let first : first_entry (line_event names (length c.args.further.now)) c.loop-event.text.now ≡ Some (event, c.in-Some.rest.now) = search rules in
+      let events = c.args.events.now in
+      let i = c.loop-kept.kept-index in
+      let event = c.event-event.result in
       let (N, line, happens, stands_next, lines) = c.in-Ok.ensures.played o M stands in
-      let one : Appends (append_known (g.O.Output.contents c.loop-event.out) c.loop-event.lines.text.items) (append_known (g.O.Output.contents c.loop-event.out) c.play.new.lines.text.items) line =
+      let one : Appends (append_known (g.O.Output.contents c.loop-kept.out) c.loop-kept.lines.text.items) (append_known (g.O.Output.contents c.loop-kept.out) c.play.new.lines.text.items) line =
       rw lines (Appends-text _ _ _) in
-      let last = rw (append-nil line) at (Appends-then _ _ _ _ _ one c.in_ok-put_if_full.ensures.put) in (
-        done ++ event ∷ [],
+      let last = rw (append-nil line) at (Appends-then _ _ _ _ _ one c.in_ok-put_if_full.ensures.put) in
+      let more = events_of-take_more events i _ event c.loop-kept-test.true c.event-event.ensures in (
         N,
         bytes ++ line,
-        read ∙ entries_next (line_event names (length c.args.further.now)) done event c.loop-event.text.now c.in-Some.rest.now first,
-        played_push o names.sources further E done event M N bytes line played happens,
+        subst (λ (es : List ScriptEvent). Played o names further E es N (bytes ++ line)) (sym more)
+            (played_push o names further E (events_of (take i events)) event M N bytes line played happens),
         stands_next,
         Appends-then _ _ _ _ _ put last,
       );
   few = λ h. c.in_ok-put_if_full.ensures.few;
-  kept = c.in_ok-put_if_full.ensures.faults ∙ c.loop-event.invariant.kept;
+  kept = c.in_ok-put_if_full.ensures.faults ∙ c.loop-kept.invariant.kept;
 }
 
 pub returns-clause-played : goal.returns-clause-played
-returns-clause-played g c = λ events is o E s.
-    let (done, M, bytes, read, played, stands, put) = c.loop-event.invariant.played o E s in
-    let names = c.args.names.now in
-    let none : first_entry (line_event names (length c.args.further.now)) c.loop-event.text.now ≡ None = search rules in
-    let all = entries_last (line_event names (length c.args.further.now)) done events c.loop-event.text.now none (sym read ∙ is) in
-    let first = entries_so_far done _ events (sym read ∙ is) in
-    (length done, M, bytes, rw first played, put, λ sufficed. ap length (sym all))
+returns-clause-played g c = λ o E s.
+    let events = c.args.events.now in
+    let n = c.loop-kept.kept-index in
+    let (M, bytes, played, stands, put) = c.loop-kept.invariant.played o E s in
+    let first = subst (λ (es : List ScriptEvent). Played o c.args.names.now.sources c.args.further.now E es M bytes) (events_of-take n events) played in
+    let every : n ≡ length events = omega arith in
+    (n, M, bytes, first, put, λ sufficed. every ∙ sym (length-map events event_of))

@@ -1,4 +1,4 @@
-use Rattle.std.proofs.Common.{◌++◌, sym, subst}
+use Rattle.std.proofs.Common.{sym, subst}
 use Rattle.a429_cli.specs.Simulating.{cells_in, steps_in, turn_after}
 use Rattle.a429_cli.specs.SummaryRuns.{CountsSteps}
 use Rattle.a429_cli.specs.declared.simulate.moments.Moment.{Moment}

@@ -1,4 +1,4 @@
-use Rattle.std.proofs.Common.{◌≡◌, ℕ, List, []}
+use Rattle.std.proofs.Common.{ℕ, List, []}
 use Rattle.a429_equipment.specs.Sound.{OfEach}
 use Rattle.a429_cli.specs.Simulating.{steps_of}
 use Rattle.a429_cli.specs.SimulationLog.{AreInTime}

@@ -1,8 +1,8 @@
-use Rattle.std.proofs.Common.{◌≡◌, ◌∙◌, ◌+◌, ◌++◌, ◌∷◌, [], ℕ, List, ap, ap₂, length, replicate, sym, arith, map, take}
+use Rattle.std.proofs.Common.{◌≡◌, ◌∙◌, ◌+◌, ◌++◌, ◌∷◌, [], ℕ, List, ap, ap₂, replicate, sym, arith, map, take}
 use Rattle.std.specs.Prelude.{Some, slice_get}
 use Rattle.std.proofs.lemmas.List.{map-append, take_all}
 use Rattle.a429_word.proofs.Lists.{take_next}
-use Rattle.a429_slots.specs.Tables.{SlotTable, groups_of, outputs_of}
+use Rattle.a429_slots.specs.Tables.{SlotTable, groups_of}
 use Rattle.a429_cli.specs.SummaryRuns.{nothing_sent, unsent}
 use Rattle.a429_cli.specs.declared.simulate.figures.OutputFigures.{OutputFigures}
 use Rattle.a429_cli.proofs.simulate.summary.no_sends.Goals as goal

@@ -1,10 +1,4 @@
-use Rattle.std.proofs.Common.{◌∙◌, ◌≡◌, ◌++◌, List, map, ℕ, ap, refl, subst, sym}
-use Rattle.std.specs.Prelude.{Some, slice_get}
-use Rattle.std.specs.List.{range_with_len}
-use Rattle.a429_slots.specs.Tables.{PlanTable, groups_of, outputs_of}
 use Rattle.a429_cli.specs.SummaryRuns.{kept_row}
-use Rattle.a429_cli.specs.Timeline.{table_of}
-use Rattle.a429_cli.proofs.SimulatedSteps.{table_at}
 use Rattle.a429_cli.proofs.SummedUp.{rows_more}
 use Rattle.a429_cli.proofs.simulate.summary_rows.push_outputs.Goals as goal
 

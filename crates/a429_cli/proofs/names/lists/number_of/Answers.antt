@@ -5,7 +5,7 @@ use Rattle.std.proofs.lemmas.Iterator.Search.{position_from_yields_List}
 use Rattle.std.proofs.lemmas.Iterator.{YieldsList-from_slice}
 use Rattle.a429_console.specs.Names.{number_named}
 use Rattle.a429_cli.proofs.Numbered.{position-map}
-use Rattle.a429_cli.proofs.names.number_of.Goals as goal
+use Rattle.a429_cli.proofs.names.lists.number_of.Goals as goal
 
 pub returns-in_err-number : goal.returns-in_err-number
 unfolding number_named
