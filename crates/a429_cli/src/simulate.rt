@@ -12,6 +12,7 @@ ghost use Rattle.a429_cli.specs.SimulationRuns.{HasNames};
 ghost use Rattle.a429_cli.specs.Timeline.{end_of};
 ghost use Rattle.a429_cli.specs.Tracks.{HasTracks, IsTrack};
 
+pub mod figures;
 pub mod lines;
 pub mod log;
 pub mod machine;
@@ -19,7 +20,6 @@ pub mod moments;
 pub mod playing;
 pub mod summary;
 pub mod summary_rows;
-pub mod figures;
 pub mod tracks;
 
 use crate::names::Names;

@@ -11,7 +11,8 @@ use std::sync::Wait;
 use std::thread::Threads;
 
 /// What is told of a station with two receivers and one group whose threads are refused.
-const NO_THREADS: &[u8] = b"a429: t: threads could not be started: this station needs 3, one for each receiver and each group\n";
+const NO_THREADS: &[u8] =
+    b"a429: t: threads could not be started: this station needs 3, one for each receiver and each group\n";
 
 /// Words as the system has them, which need not be text. The first is the path of the program.
 #[derive(Clone, Copy)]

@@ -4,9 +4,9 @@ ghost use Rattle.clap.specs.Words.{App, HasKind, Rule, app_of, kind_of, new_app,
 ghost use Rattle.a429_console.specs.CommandLine.{HasRule, bare_line, check_app, command_line, diff_app, draw_app, flag_rule, icd_app, import_app, last_time, lines_app, lint_app, live_app, many_rule, margin_app, most_slots, number_option_rule, number_rule, option_rule, plan_app, planning_line, reading_line, replay_app, required_rule, simulate_app, word_app};
 
 use crate::arguments::help::{
-    CHECK, CHECK_END, CSV, DIFF, DIFF_END, DRAW, DRAW_END, FILE, FILTER, FRAMES, FURTHER, GROUP, HTML,
-    HEX, ICD, ICD_END, IMPORT, IMPORT_END, LINES, LINES_END, LINT, LINT_END, LIVE, LIVE_END, LOG,
-    MARGIN, MARGIN_END, OTHER, PLAN, PLAN_END, PROGRAM, PROGRAM_END, REPLAY, REPLAY_END,
+    CHECK, CHECK_END, CSV, DIFF, DIFF_END, DRAW, DRAW_END, FILE, FILTER, FRAMES, FURTHER, GROUP,
+    HEX, HTML, ICD, ICD_END, IMPORT, IMPORT_END, LINES, LINES_END, LINT, LINT_END, LIVE, LIVE_END,
+    LOG, MARGIN, MARGIN_END, OTHER, PLAN, PLAN_END, PROGRAM, PROGRAM_END, REPLAY, REPLAY_END,
     RESUBMITTED, ROWS, SCRIPT, SIMULATE, SIMULATE_END, SLOTS, SUMMARY, TABLE, TEXT, UNTIL, VERSION,
     WIDTH, WORD, WORD_END, WORDS,
 };

@@ -127,12 +127,7 @@ fn group_height(table: &GroupPlan<OUTPUTS>, spread: Spread) -> u32
 }
 
 /// The height of so many groups from a first one on, one below the other.
-pub(crate) fn height_of(
-    plan: &Plan<OUTPUTS>,
-    form: DrawingForm,
-    first: usize,
-    count: usize,
-) -> u32
+pub(crate) fn height_of(plan: &Plan<OUTPUTS>, form: DrawingForm, first: usize, count: usize) -> u32
     requires known { first + count ≤ length (groups_of plan.now) }
     requires few { first + count ≤ 8 }
     ensures { result ≡ height_of form plan.now first count }

@@ -25,12 +25,7 @@ fn fold_at(width: u32, slot: u32) -> u32
 }
 
 /// Writes the number of an eighth slot above it.
-fn write_mark_place(
-    text: &mut String,
-    width: u32,
-    buses: u32,
-    mark: u32,
-) -> Result<(), AllocError>
+fn write_mark_place(text: &mut String, width: u32, buses: u32, mark: u32) -> Result<(), AllocError>
     requires least { 64 ≤ width }
     requires most { width ≤ 256 }
     requires buses { buses ≤ 16 }
@@ -154,7 +149,9 @@ fn slots_in(spread: Spread, fold: u32) -> u32
     ensures value { result ≡ min spread.width (spread.slots - spread.width * fold) }
     ensures few { result ≤ 256 }
 {
-    spread.width.min(spread.slots.saturating_sub(spread.width * fold))
+    spread
+        .width
+        .min(spread.slots.saturating_sub(spread.width * fold))
 }
 
 /// Writes the row of a bus in a fold, without its cells.

@@ -22,8 +22,13 @@ returns c =
     let t2 : List ℕ = c.push_documents.new.page.items in
     let t3 : List ℕ = c.extend_from_slice-2.new.self.items in
     let drawn : t1 ≡ t0 ++ drawing_of e p c.args.group c.args.form =
-    c.in_ok-extend_from_slice.ensures.items ∙ ap (λ (x : List ℕ). t0 ++ x) (c.deref.ensures.value ∙ image.1) in
-    (margin, lint, below.2, below.3, image.0,
-    four [] t0 t1 t2 t3 (page_head wide) (drawing_of e p c.args.group c.args.form) (documents_text e p margin lint) (codes "</body>\n</html>\n")
-    (ap (λ (v : Vec ℕ Global). v.items) c.into_bytes-page.ensures.value ∙ c.in_ok-write_head.ensures
-    ∙ ap₂ (λ (before : List ℕ) (width : ℕ). before ++ page_head width) c.new-head.ensures.bytes c.width_of.ensures) drawn below.4 c.in_ok-extend_from_slice-2.ensures.items)
+    c.in_ok-extend_from_slice.ensures.items ∙ ap (λ (x : List ℕ). t0 ++ x) (c.deref.ensures.value ∙ image.1) in (
+      margin,
+      lint,
+      below.2,
+      below.3,
+      image.0,
+      four [] t0 t1 t2 t3 (page_head wide) (drawing_of e p c.args.group c.args.form) (documents_text e p margin lint) (codes "</body>\n</html>\n")
+          (ap (λ (v : Vec ℕ Global). v.items) c.into_bytes-page.ensures.value ∙ c.in_ok-write_head.ensures
+          ∙ ap₂ (λ (before : List ℕ) (width : ℕ). before ++ page_head width) c.new-head.ensures.bytes c.width_of.ensures) drawn below.4 c.in_ok-extend_from_slice-2.ensures.items,
+    )

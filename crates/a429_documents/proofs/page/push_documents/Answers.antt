@@ -25,6 +25,11 @@ returns c =
     c.in_ok-push_part-2.ensures ∙ ap (λ (lines : List ℕ). t1 ++ part_text (codes "Margin") lines) c.deref-2.ensures.value in
     let linted : IsLintText e lint = subst (λ (e : TableRecord). IsLintText e lint) c.equipment.ensures.equipment c.in_ok-lint.ensures in
     let lines : c.findings_or_none.result.now ≡ findings_or_none lint = c.findings_or_none.ensures ∙ ap findings_or_none c.deref-3.ensures.value in
-    IfOk-weaker c.push_part-3.result _ _ (λ _ last. (margin, lint, c.in_ok-margin.ensures, linted,
-    three t0 t1 t2 t3 (part_text (codes "Outputs") (aligned_text (icd_rows e p))) (part_text (codes "Margin") margin) (part_text (codes "Findings") (findings_or_none lint))
-    outputs margins (last ∙ ap (λ (lines : List ℕ). t2 ++ part_text (codes "Findings") lines) lines))) c.push_part-3.ensures
+    IfOk-weaker c.push_part-3.result _ _ (λ _ last. (
+      margin,
+      lint,
+      c.in_ok-margin.ensures,
+      linted,
+      three t0 t1 t2 t3 (part_text (codes "Outputs") (aligned_text (icd_rows e p))) (part_text (codes "Margin") margin) (part_text (codes "Findings") (findings_or_none lint))
+          outputs margins (last ∙ ap (λ (lines : List ℕ). t2 ++ part_text (codes "Findings") lines) lines),
+    )) c.push_part-3.ensures
