@@ -116,7 +116,7 @@ pub const SLOTS: &str = "Slots of each bus, 1 to 8192; else a frame, at most 256
 
 pub const WIDTH: &str = "Slots side by side, 64, 128 or 256; else 64";
 
-pub const HTML: &str = "As a page (HTML) with the lines of `icd`, `margin` and `lint`";
+pub const HTML: &str = "As a page (HTML) with `icd`, `margin` and `lint`";
 
 pub const DRAW_END: &str = "\
 Example:
