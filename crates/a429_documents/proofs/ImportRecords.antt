@@ -35,11 +35,11 @@ of_all : {X : Type 0} (P : X → Type 0) → ((x : X) → P x) → (xs : List X)
 of_all P each [] = tt
 of_all P each (x ∷ xs) = (each x, of_all P each xs)
 
-from_all : {X : Type 0} (P Q : X → Type 0) → ((x : X) → P x → Q x) → (xs : List X) → AllByRecursion P xs → AllByRecursion Q xs
+pub from_all : {X : Type 0} (P Q : X → Type 0) → ((x : X) → P x → Q x) → (xs : List X) → AllByRecursion P xs → AllByRecursion Q xs
 from_all P Q then [] all = tt
 from_all P Q then (x ∷ xs) all = (then x all.0, from_all P Q then xs all.1)
 
-position_same : {X Y : Type 0} (p : Y → Bool) (q : X → Bool) (f : X → Y) → ((x : X) → p (f x) ≡ q x) → (i : ℕ) (xs : List X) → position_from p i (map f xs) ≡ position_from q i xs
+pub position_same : {X Y : Type 0} (p : Y → Bool) (q : X → Bool) (f : X → Y) → ((x : X) → p (f x) ≡ q x) → (i : ℕ) (xs : List X) → position_from p i (map f xs) ≡ position_from q i xs
 position_same p q f same i [] = refl
 position_same p q f same i (x ∷ xs) = ap₂ (λ b o. cond b (Some i) o) (same x) (position_same p q f same (i + 1) xs)
 
@@ -66,7 +66,7 @@ unfolding text_at
 name_with [] name = refl
 name_with (w ∷ ws) name = refl
 
-named_receiver : (row : ImportRow) → name_of (receiver_tree row) ≡ row.texts.receiver
+pub named_receiver : (row : ImportRow) → name_of (receiver_tree row) ≡ row.texts.receiver
 unfolding receiver_tree
 named_receiver row = name_with (words row.texts.filters) row.texts.receiver
 

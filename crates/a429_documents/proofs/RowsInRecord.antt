@@ -40,7 +40,7 @@ at_all P (y ∷ xs) zero x all h = subst P (same_Some y x h) all.0
 at_all P (y ∷ xs) (suc i) x all h = at_all P xs i x all.1 h
 
 -- a place in a list
-abbrev IsAt : {X : Type 0} → List X → X → Type 0
+abbrev pub IsAt : {X : Type 0} → List X → X → Type 0
 IsAt xs x = (i : ℕ) × (slice_get xs i ≡ Some x)
 
 kept_at : {X : Type 0} (p : X → Bool) (b : Bool) (y : X) (xs : List X) (x : X) → IsAt (filter p xs) x → IsAt (cond b (y ∷ filter p xs) (filter p xs)) x
@@ -229,17 +229,17 @@ known_or_first part name (r ∷ rows) earlier (suc i) row h same = elim (known_o
 ]
 
 -- the first row of the name of a row, at the number of that name
-record First (part : Part) (rows : List ImportRow) (row : ImportRow) : Type 0 where
-  first : ImportRow
-  there : slice_get (firsts part rows) (number_of part rows (name_in part row)) ≡ Some first
-  named : name_in part first ≡ name_in part row
-  among : IsAt rows first
+pub record First (part : Part) (rows : List ImportRow) (row : ImportRow) : Type 0 where
+  pub first : ImportRow
+  pub there : slice_get (firsts part rows) (number_of part rows (name_in part row)) ≡ Some first
+  pub named : name_in part first ≡ name_in part row
+  pub among : IsAt rows first
 
 none_earlier : (part : Part) (name : List ℕ) (rows : List ImportRow) → KnownOrFirst part name [] rows → list_any (λ f. bytes_eq name (name_in part f)) (firsts part rows) ≡ true
 none_earlier part name rows (inl known) = cc
 none_earlier part name rows (inr first) = first
 
-first_of : (part : Part) (rows : List ImportRow) (i : ℕ) (row : ImportRow) → slice_get rows i ≡ Some row → First part rows row
+pub first_of : (part : Part) (rows : List ImportRow) (i : ℕ) (row : ImportRow) → slice_get rows i ≡ Some row → First part rows row
 first_of part rows i row h =
     let name = name_in part row in
     let test : ImportRow → Bool = λ f. bytes_eq name (name_in part f) in

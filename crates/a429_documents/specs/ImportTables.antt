@@ -94,10 +94,6 @@ output_tree row = table (with_hold row.numbers.hold (
     member (codes "min_us") (number row.numbers.min_us) (
     member (codes "source") (string row.texts.source) no_members))))
 
--- the table of the output of a row, if it is of the group of another row
-abbrev pub output_in : ImportRow → ImportRow → List Data
-output_in group row = if same_name Groups group row then output_tree row ∷ [] else []
-
 unfoldable pub group_tree : List ImportRow → ImportRow → Data
 group_tree rows row = table (
     member (codes "name") (string row.texts.group) (

@@ -2,12 +2,14 @@
 ghost use Rattle.a429_documents.specs.Imports.{IsImport, IsImportOf};
 
 mod building;
+mod clashes;
 mod columns;
 mod fault;
 mod fields;
 mod firsts;
 mod lines;
 mod reading;
+mod row_index;
 mod rows;
 mod tables;
 mod words;

@@ -1,8 +1,11 @@
 //! Which rows are the first of their receiver, source or group.
-ghost use Rattle.std.specs.Prelude.{◌≡◌};
-ghost use Rattle.a429_documents.specs.ImportTables.{is_known, name_in, same_name};
+ghost use Rattle.std.specs.Prelude.{◌≡◌, IfOk, OnOk};
+ghost use Rattle.a429_table.specs.Numbers.{NumbersOneMore};
+ghost use Rattle.a429_documents.specs.ImportTables.{name_in};
 
 use crate::import::rows::ImportRow;
+use indexmap::IndexMap;
+use std::alloc::{AllocError, Global};
 
 /// The arrays of an equipment table.
 #[derive(Clone, Copy)]
@@ -23,16 +26,79 @@ fn name_in(part: Part, row: &ImportRow) -> &str
     }
 }
 
-/// Whether two rows have one receiver, source or group.
-pub fn same_name(part: Part, a: &ImportRow, b: &ImportRow) -> bool
-    ensures { result ≡ same_name part a.now b.now }
-{
-    name_in(part, a) == name_in(part, b)
+/// The numbers of rows that are the first of their receiver, source or group, by its name. Rows are counted from 0.
+#[derive(Drop)]
+pub struct FirstRows {
+    receivers: IndexMap<String, usize>,
+    sources: IndexMap<String, usize>,
+    groups: IndexMap<String, usize>,
 }
 
-/// Whether one of the earlier rows has the same receiver, source or group.
-pub fn is_known(part: Part, earlier: &[ImportRow], row: &ImportRow) -> bool
-    ensures { result ≡ is_known part earlier.now row.now }
+impl FirstRows {
+    ghost use Rattle.std.specs.Prelude.{[]};
+    ghost use Rattle.a429_documents.specs.FirstRows.{AreFirstRows, NotesRow, first_named};
+
+    /// Those of no rows.
+    pub fn new(alloc: Global) -> FirstRows
+        ensures { AreFirstRows result [] }
+    {
+        FirstRows {
+            receivers: IndexMap::new(alloc),
+            sources: IndexMap::new(alloc),
+            groups: IndexMap::new(alloc),
+        }
+    }
+
+    /// Those of these rows. The error is that memory was refused.
+    pub fn of(alloc: Global, rows: &[ImportRow]) -> Result<FirstRows, AllocError>
+        ensures { IfOk result (λ firsts. AreFirstRows firsts rows.now) }
+    {
+        let mut firsts = FirstRows::new(alloc);
+        for (number, row) in rows.iter().enumerate() {
+            firsts.note(alloc, row, number)?;
+        }
+        Ok(firsts)
+    }
+
+    /// The number of the first row with the receiver, the source or the group of a row.
+    pub fn number(&self, part: Part, row: &ImportRow) -> Option<usize>
+        ensures { result ≡ first_named self.now part (name_in part row.now) }
+    {
+        let name = name_in(part, row);
+        match part {
+            Part::Receivers => self.receivers.get(name).copied(),
+            Part::Sources => self.sources.get(name).copied(),
+            Part::Groups => self.groups.get(name).copied(),
+        }
+    }
+
+    /// Notes the number of a row for each of its names that has none. The error is that memory was refused.
+    pub fn note(&mut self, alloc: Global, row: &ImportRow, number: usize) -> Result<(), AllocError>
+        ensures { OnOk result (NotesRow self.old self.new row.now number) }
+    {
+        note_name(
+            &mut self.receivers,
+            alloc,
+            row.texts.receiver.as_str(),
+            number,
+        )?;
+        note_name(&mut self.sources, alloc, row.texts.source.as_str(), number)?;
+        note_name(&mut self.groups, alloc, row.texts.group.as_str(), number)?;
+        Ok(())
+    }
+}
+
+/// Gives a name a number, unless it has one.
+fn note_name(
+    numbers: &mut IndexMap<String, usize>,
+    alloc: Global,
+    name: &str,
+    number: usize,
+) -> Result<(), AllocError>
+    ensures { OnOk result (NumbersOneMore numbers.old numbers.new name.now number) }
 {
-    earlier.iter().any(|other| same_name(part, other, row))
+    if !numbers.contains_key(name) {
+        numbers.insert(String::from_str(alloc, name)?, number)?;
+    }
+    Ok(())
 }

@@ -1,103 +1,33 @@
 //! What rows state, one after the other.
-ghost use Rattle.std.specs.Prelude.{◌≡◌, [], Some};
-ghost use Rattle.std.specs.Str.{bytes_eq};
+ghost use Rattle.std.specs.Prelude.{◌≡◌, ◌++◌, [], ◌∷◌, OnOk, Some, length};
 ghost use Rattle.csv.specs.Records.{fields_of};
-ghost use Rattle.a429_equipment.specs.SameStation.{same_sdi};
-ghost use Rattle.a429_documents.specs.ImportRows.{below_heading, clash, first_clash, next_row, other_clash, rows_after, rows_stated, source_clash};
+ghost use Rattle.a429_documents.specs.FirstRows.{AreFirstRows, NotesRow};
+ghost use Rattle.a429_documents.specs.ImportClashes.{Agree};
+ghost use Rattle.a429_documents.specs.ImportRows.{below_heading, next_row, rows_after, rows_stated};
 ghost use Rattle.a429_documents.specs.Imports.{States};
 
+use crate::import::clashes::first_clash;
 use crate::import::columns::wrong_column;
 use crate::import::fault::{CsvFaultKind, ImportColumn, ImportFault};
+use crate::import::firsts::FirstRows;
 use crate::import::lines::CsvLine;
 use crate::import::rows::{ImportRow, row_of};
-use a429_equipment::Name;
-use a429_word::Sdi;
-use std::alloc::Global;
-
-fn same_sdi(a: Option<Sdi>, b: Option<Sdi>) -> bool
-    ensures { result ≡ same_sdi a b }
-{
-    match (a, b) {
-        (None, None) => true,
-        (Some(a), Some(b)) => a.value() == b.value(),
-        _ => false,
-    }
-}
-
-fn same_text(a: &Name, b: &Name) -> bool
-    ensures { result ≡ bytes_eq a.now b.now }
-{
-    a.as_str() == b.as_str()
-}
-
-/// What a later row states otherwise of the source of an earlier one.
-fn source_clash(earlier: &ImportRow, row: &ImportRow) -> Option<ImportColumn>
-    ensures { result ≡ source_clash earlier.now row.now }
-{
-    if !same_text(&earlier.texts.source, &row.texts.source) {
-        None
-    } else if !same_text(&earlier.texts.receiver, &row.texts.receiver) {
-        Some(ImportColumn::Receiver)
-    } else if earlier.numbers.label.value() != row.numbers.label.value() {
-        Some(ImportColumn::Label)
-    } else if !same_sdi(earlier.numbers.sdi, row.numbers.sdi) {
-        Some(ImportColumn::Sdi)
-    } else {
-        None
-    }
-}
-
-/// What a later row states otherwise of the receiver or the group of an earlier one.
-fn other_clash(earlier: &ImportRow, row: &ImportRow) -> Option<ImportColumn>
-    ensures { result ≡ other_clash earlier.now row.now }
-{
-    if same_text(&earlier.texts.receiver, &row.texts.receiver)
-        && !same_text(&earlier.texts.filters, &row.texts.filters)
-    {
-        return Some(ImportColumn::Filters);
-    }
-    if same_text(&earlier.texts.group, &row.texts.group)
-        && earlier.numbers.rate != row.numbers.rate
-    {
-        return Some(ImportColumn::Rate);
-    }
-    None
-}
-
-/// The first column in which a later row states otherwise than an earlier one.
-#[tactic(auto, unfolding(crate::specs::ImportRows::clash))]
-fn clash(earlier: &ImportRow, row: &ImportRow) -> Option<ImportColumn>
-    ensures { result ≡ clash earlier.now row.now }
-{
-    match source_clash(earlier, row) {
-        Some(column) => Some(column),
-        None => other_clash(earlier, row),
-    }
-}
-
-/// The same for the first of the earlier rows that states otherwise.
-fn first_clash(earlier: &[ImportRow], row: &ImportRow) -> Option<ImportColumn>
-    ensures { result ≡ first_clash earlier.now row.now }
-{
-    for other in earlier {
-        if let Some(column) = clash(other, row) {
-            return Some(column);
-        }
-    }
-    None
-}
+use std::alloc::{AllocError, Global};
 
 /// What a row states, after these.
 fn next_row(
     alloc: Global,
     heading: &CsvLine,
     earlier: &[ImportRow],
+    firsts: &FirstRows,
     line: &CsvLine,
 ) -> Result<ImportRow, ImportFault>
+    requires agree { Agree earlier.now }
+    requires firsts { AreFirstRows firsts.now earlier.now }
     ensures { States (λ row. row) result (next_row (fields_of heading.now.fields) earlier.now line.now) }
 {
     let row = row_of(alloc, heading, line)?;
-    match first_clash(earlier, &row) {
+    match first_clash(earlier, firsts, &row) {
         None => Ok(row),
         Some(column) => Err(ImportFault::Csv {
             line: line.number,
@@ -105,6 +35,21 @@ fn next_row(
             column: Some(column),
         }),
     }
+}
+
+/// Adds a row, and notes its number if it is the first of its receiver, source or group.
+fn push_row(
+    alloc: Global,
+    rows: &mut Vec<ImportRow>,
+    firsts: &mut FirstRows,
+    row: ImportRow,
+) -> Result<(), AllocError>
+    ensures rows { OnOk result (rows.new.items ≡ rows.old.items ++ row ∷ []) }
+    ensures firsts { OnOk result (NotesRow firsts.old firsts.new row (length rows.old.items)) }
+{
+    firsts.note(alloc, &row, rows.len())?;
+    rows.push(row)?;
+    Ok(())
 }
 
 /// What rows state below a heading.
@@ -116,9 +61,10 @@ fn rows_below(
     ensures { States (λ rows. rows.items) result (rows_after (fields_of heading.now.fields) [] lines.now) }
 {
     let mut rows = Vec::new(alloc);
+    let mut firsts = FirstRows::new(alloc);
     for line in lines {
-        let row = next_row(alloc, heading, &rows, line)?;
-        rows.push(row)?;
+        let row = next_row(alloc, heading, &rows, &firsts, line)?;
+        push_row(alloc, &mut rows, &mut firsts, row)?;
     }
     Ok(rows)
 }

@@ -1,15 +1,17 @@
 //! The equipment table that rows state, as TOML.
-ghost use Rattle.std.specs.Prelude.{◌≡◌, IfOk, [], ◌∷◌, Some, codes, if◌then◌else◌, map, string_bytes};
+ghost use Rattle.std.specs.Prelude.{◌≡◌, IfOk, [], ◌∷◌, Some, codes, if◌then◌else◌, map, slice_get, string_bytes, take};
 ghost use Rattle.toml.specs.Data.{string};
 ghost use Rattle.toml.specs.View.{table_view, view};
 ghost use Rattle.a429_word.specs.Texts.{octal};
 ghost use Rattle.a429_word.specs.Written.{Gains};
 ghost use Rattle.toml.specs.Parse.{parse_document};
 ghost use Rattle.a429_documents.specs.ImportBuilding.{GainsTables, Puts, PutsFilters, PutsHold};
-ghost use Rattle.a429_documents.specs.ImportTables.{group_tree, is_word, listed, output_in, output_tree, part_tree, part_trees, receiver_tree, root_members, rows_of_group, same_name, sdi_data, source_tree, unless_known, words};
+ghost use Rattle.a429_documents.specs.ImportTables.{group_tree, is_word, listed, output_tree, part_tree, part_trees, receiver_tree, root_members, rows_of_group, sdi_data, source_tree, unless_known, words};
+ghost use Rattle.a429_documents.specs.NextRows.{IsFirst, outputs_at};
 
 use crate::import::building::{put, put_number, put_text};
-use crate::import::firsts::{Part, is_known, same_name};
+use crate::import::firsts::Part;
+use crate::import::row_index::RowIndex;
 use crate::import::rows::ImportRow;
 use crate::import::words::parts;
 use std::alloc::{AllocError, Global};
@@ -115,43 +117,52 @@ fn output_table(alloc: Global, row: &ImportRow) -> Result<Value, AllocError>
     Ok(Value::Table(table))
 }
 
-/// Adds the table of the output of a row, if it is of the group of another row.
+/// Adds the table of the output of the row of a number, if there is one.
 fn push_output(
     alloc: Global,
     outputs: &mut Vec<Value>,
-    group: &ImportRow,
-    row: &ImportRow,
+    rows: &[ImportRow],
+    number: usize,
 ) -> Result<(), AllocError>
-    ensures { GainsTables result outputs.old outputs.new (output_in group.now row.now) }
+    ensures { GainsTables result outputs.old outputs.new (outputs_at rows.now number) }
 {
-    if !same_name(Part::Groups, group, row) {
-        return Ok(());
+    if let Some(row) = rows.get(number) {
+        outputs.push(output_table(alloc, row)?)?;
     }
-    outputs.push(output_table(alloc, row)?)?;
     Ok(())
 }
 
-/// The tables of the outputs of the group of a row.
+/// The tables of the outputs of the group of a row, which is the first of its group.
 fn output_tables(
     alloc: Global,
-    rows: &[ImportRow],
+    index: &RowIndex<'_>,
+    first: usize,
     group: &ImportRow,
 ) -> Result<Vec<Value>, AllocError>
-    ensures { IfOk result (λ values. map view values.items ≡ map output_tree (rows_of_group rows.now group.now)) }
+    requires { IsFirst Part.Groups index.now.rows.now first group.now }
+    ensures { IfOk result (λ values. map view values.items ≡ map output_tree (rows_of_group index.now.rows.now group.now)) }
 {
     let mut outputs = Vec::new(alloc);
-    for row in rows {
-        push_output(alloc, &mut outputs, group, row)?;
+    let mut next = Some(first);
+    while let Some(number) = next {
+        push_output(alloc, &mut outputs, index.rows, number)?;
+        next = index.next(number);
     }
     Ok(outputs)
 }
 
-/// The table of the group of a row.
+/// The table of the group of a row, which is the first of its group.
 #[tactic(auto, unfolding(crate::specs::ImportTables::group_tree))]
-fn group_table(alloc: Global, rows: &[ImportRow], row: &ImportRow) -> Result<Value, AllocError>
-    ensures { IfOk result (λ value. view value ≡ group_tree rows.now row.now) }
+fn group_table(
+    alloc: Global,
+    index: &RowIndex<'_>,
+    first: usize,
+    row: &ImportRow,
+) -> Result<Value, AllocError>
+    requires { IsFirst Part.Groups index.now.rows.now first row.now }
+    ensures { IfOk result (λ value. view value ≡ group_tree index.now.rows.now row.now) }
 {
-    let outputs = output_tables(alloc, rows, row)?;
+    let outputs = output_tables(alloc, index, first, row)?;
     let mut table = Table::new(alloc);
     put_number(alloc, &mut table, "rate", row.numbers.rate)?;
     put(alloc, &mut table, "output", Value::Array(outputs))?;
@@ -159,19 +170,21 @@ fn group_table(alloc: Global, rows: &[ImportRow], row: &ImportRow) -> Result<Val
     Ok(Value::Table(table))
 }
 
-/// The table of the receiver, the source or the group of a row.
+/// The table of the receiver, the source or the group of a row, which is the first of it.
 fn part_table(
     alloc: Global,
     part: Part,
-    rows: &[ImportRow],
+    index: &RowIndex<'_>,
+    first: usize,
     row: &ImportRow,
 ) -> Result<Value, AllocError>
-    ensures { IfOk result (λ value. view value ≡ part_tree part rows.now row.now) }
+    requires { IsFirst part index.now.rows.now first row.now }
+    ensures { IfOk result (λ value. view value ≡ part_tree part index.now.rows.now row.now) }
 {
     match part {
         Part::Receivers => receiver_table(alloc, row),
         Part::Sources => source_table(alloc, row),
-        Part::Groups => group_table(alloc, rows, row),
+        Part::Groups => group_table(alloc, index, first, row),
     }
 }
 
@@ -180,33 +193,28 @@ fn push_first(
     alloc: Global,
     tables: &mut Vec<Value>,
     part: Part,
-    rows: &[ImportRow],
-    earlier: &[ImportRow],
+    index: &RowIndex<'_>,
+    number: usize,
     row: &ImportRow,
 ) -> Result<(), AllocError>
-    ensures { GainsTables result tables.old tables.new (map (part_tree part rows.now) (unless_known part earlier.now row.now)) }
+    requires { slice_get index.now.rows.now number ≡ Some row.now }
+    ensures { GainsTables result tables.old tables.new
+        (map (part_tree part index.now.rows.now) (unless_known part (take number index.now.rows.now) row.now)) }
 {
-    if is_known(part, earlier, row) {
-        return Ok(());
+    if index.is_first(part, number, row) {
+        tables.push(part_table(alloc, part, index, number, row)?)?;
     }
-    tables.push(part_table(alloc, part, rows, row)?)?;
     Ok(())
 }
 
 /// The tables of the receivers, the sources or the groups, in the order of their first rows.
-fn part_tables(alloc: Global, part: Part, rows: &[ImportRow]) -> Result<Vec<Value>, AllocError>
-    ensures { IfOk result (λ values. map view values.items ≡ part_trees part rows.now) }
+fn part_tables(alloc: Global, part: Part, index: &RowIndex<'_>) -> Result<Vec<Value>, AllocError>
+    ensures { IfOk result (λ values. map view values.items ≡ part_trees part index.now.rows.now) }
 {
     let mut tables = Vec::new(alloc);
+    let rows = index.rows;
     for number in 0..rows.len() {
-        push_first(
-            alloc,
-            &mut tables,
-            part,
-            rows,
-            &rows[..number],
-            &rows[number],
-        )?;
+        push_first(alloc, &mut tables, part, index, number, &rows[number])?;
     }
     Ok(tables)
 }
@@ -217,24 +225,24 @@ fn put_part(
     table: &mut Table,
     key: &str,
     part: Part,
-    rows: &[ImportRow],
+    index: &RowIndex<'_>,
 ) -> Result<(), AllocError>
-    ensures { Puts result (table_view table.old) (table_view table.new) key.now (listed (part_trees part rows.now)) }
+    ensures { Puts result (table_view table.old) (table_view table.new) key.now (listed (part_trees part index.now.rows.now)) }
 {
-    let tables = part_tables(alloc, part, rows)?;
+    let tables = part_tables(alloc, part, index)?;
     put(alloc, table, key, Value::Array(tables))
 }
 
 /// The root table.
 #[tactic(auto, unfolding(crate::specs::ImportTables::root_members))]
-fn root_table(alloc: Global, rows: &[ImportRow]) -> Result<Table, AllocError>
-    ensures { IfOk result (λ root. table_view root ≡ root_members rows.now) }
+fn root_table(alloc: Global, index: &RowIndex<'_>) -> Result<Table, AllocError>
+    ensures { IfOk result (λ root. table_view root ≡ root_members index.now.rows.now) }
 {
     let mut root = Table::new(alloc);
     put_number(alloc, &mut root, "version", 2)?;
-    put_part(alloc, &mut root, "source", Part::Sources, rows)?;
-    put_part(alloc, &mut root, "receiver", Part::Receivers, rows)?;
-    put_part(alloc, &mut root, "group", Part::Groups, rows)?;
+    put_part(alloc, &mut root, "source", Part::Sources, index)?;
+    put_part(alloc, &mut root, "receiver", Part::Receivers, index)?;
+    put_part(alloc, &mut root, "group", Part::Groups, index)?;
     Ok(root)
 }
 
@@ -242,7 +250,8 @@ fn root_table(alloc: Global, rows: &[ImportRow]) -> Result<Table, AllocError>
 pub fn table_text(alloc: Global, rows: &[ImportRow]) -> Result<String, AllocError>
     ensures { IfOk result (λ text. parse_document (string_bytes text) ≡ Some (root_members rows.now)) }
 {
-    let root = root_table(alloc, rows)?;
+    let index = RowIndex::of(alloc, rows)?;
+    let root = root_table(alloc, &index)?;
     match toml::table_to_string(alloc, &root) {
         Ok(text) => Ok(text),
         Err(_) => Err(AllocError),

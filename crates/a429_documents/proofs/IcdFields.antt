@@ -1,0 +1,161 @@
+-- The fields of a row of an interface control document state what they were written from.
+use Rattle.std.proofs.Common.{◌≡◌, ◌∙◌, ℕ, zero, suc, ◌+◌, ◌<◌, ◌^◌, Bool, true, false, List, [], ◌∷◌, length, Option, None, Some, Result, Ok, Err, IsAscii, ap, sym, refl, arith, inl, inr, lt-ltb, eqb-true}
+use Rattle.std.specs.Prelude.{◌==◌, ◌||◌, ◌&&◌, IfSome, codes, if◌then◌else◌, nat_le}
+use Rattle.std.specs.Fmt.{decimal}
+use Rattle.std.specs.List.{list_all}
+use Rattle.std.specs.Option.{option_map}
+use Rattle.std.specs.Str.{bytes_eq}
+use Rattle.std.proofs.lemmas.Bool.{and_parts, leb-true}
+use Rattle.std.proofs.lemmas.Fmt.{decimal_digit, decimal_nonempty}
+use Rattle.std.proofs.lemmas.Option.{none-some}
+use Rattle.std.proofs.lemmas.Str.{IsUtf8-from_ascii, IsUtf8-nil, is_utf8-from_IsUtf8}
+use Rattle.std.proofs.lemmas.Str.Ascii.{IsAscii-cons, IsAscii-nil}
+use Rattle.a429_word.specs.Decimal.{decimal_number, is_numeral}
+use Rattle.a429_word.specs.Texts.{octal}
+use Rattle.a429_word.proofs.LabelTexts.{value_of_written}
+use Rattle.a429_word.proofs.Lists.{false_unless, or_parts}
+use Rattle.a429_equipment.specs.NameForm.{is_name, is_name_byte}
+use Rattle.a429_equipment.specs.declared.rows.GroupRow.{GroupRow}
+use Rattle.a429_equipment.specs.declared.rows.OutputRow.{OutputRow}
+use Rattle.a429_equipment.specs.declared.rows.ReceiverRow.{ReceiverRow}
+use Rattle.a429_equipment.specs.declared.rows.SourceRow.{SourceRow}
+use Rattle.a429_slots.specs.declared.group_plan.SendLimits.{SendLimits}
+use Rattle.a429_slots.specs.declared.group_plan.SlotPlace.{SlotPlace}
+use Rattle.a429_cert.specs.Spelling.{limit_text}
+use Rattle.a429_cert.proofs.CheckedPlans.{same_bytes}
+use Rattle.a429_cert.proofs.Fields.{value_again}
+use Rattle.a429_documents.specs.declared.import.fault.CsvFaultKind.TheVariants.{Form}
+use Rattle.a429_documents.specs.declared.import.fault.ImportColumn.TheVariants.{Group, Rate, Source, Receiver, Label, Sdi, MinUs, MaxUs, Hold, Filters}
+use Rattle.a429_documents.specs.declared.import.rows.ImportRow.{ImportRow}
+use Rattle.a429_documents.specs.declared.import.rows.RowNumbers.{RowNumbers}
+use Rattle.a429_documents.specs.declared.import.rows.RowTexts.{RowTexts}
+use Rattle.a429_documents.specs.Document.{icd_columns, icd_row, receiver_name, sdi_text}
+use Rattle.a429_documents.specs.ImportFields.{filters_in, hold_in, label_in, number_in, sdi_in, text_in}
+use Rattle.a429_documents.specs.ImportRows.{CsvFault, column_field, joined, numbers_of, texts_of}
+
+-- ---- numbers
+
+number_back : (n : ℕ) → n < 2 ^ 32 → number_in (decimal n) ≡ Some n
+unfolding number_in
+number_back n small = rw (value_again n (omega (arith, small))) (ap (λ (b : Bool). if b then Some n else None) (lt-ltb n (2 ^ 32) small))
+
+label_back : (label : ℕ) → label < 256 → label_in (octal label) ≡ Some label
+unfolding label_in
+label_back label small = value_of_written label small
+
+digit_back : (k : ℕ) → k < 4 → sdi_in ((48 + k) ∷ []) ≡ Some (Some k)
+unfolding sdi_in
+digit_back zero small = refl
+digit_back (suc zero) small = refl
+digit_back (suc (suc zero)) small = refl
+digit_back (suc (suc (suc zero))) small = refl
+digit_back (suc (suc (suc (suc k)))) small = absurd (omega (arith, small))
+
+any_back : sdi_in (codes "any") ≡ Some None
+unfolding sdi_in
+any_back = refl
+
+sdi_back : (sdi : Option ℕ) → IfSome sdi (λ k. k < 4) → sdi_in (sdi_text sdi) ≡ Some sdi
+sdi_back None small = any_back
+sdi_back (Some k) small = ap sdi_in (decimal_digit k (omega (arith, small))) ∙ digit_back k small
+
+no_number : decimal_number (codes "none") ≡ None
+unfolding decimal_number is_numeral
+no_number = refl
+
+not_word : (n : ℕ) → n < 2 ^ 32 → ((length (decimal n) == 0) || bytes_eq (decimal n) (codes "none")) ≡ false
+not_word n small =
+    false_unless ((length (decimal n) == 0) || bytes_eq (decimal n) (codes "none"))
+    (λ either. elim (or_parts (length (decimal n) == 0) (bytes_eq (decimal n) (codes "none")) either) [
+      | inl empty ↦ omega (arith, eqb-true (length (decimal n)) 0 empty, decimal_nonempty n (omega (arith, small)))
+      | inr word ↦ none-some n (sym no_number ∙ sym (ap decimal_number (same_bytes (decimal n) (codes "none") word)) ∙ value_again n (omega (arith, small)))
+    ])
+
+hold_back : (hold : Option ℕ) → IfSome hold (λ n. n < 2 ^ 32) → hold_in (limit_text hold) ≡ Some hold
+unfolding hold_in
+hold_back None small = refl
+hold_back (Some n) small = rw (not_word n small) (ap (option_map (λ n. Some n)) (number_back n small))
+
+-- ---- texts
+
+name_byte : (b : ℕ) → is_name_byte b ≡ true → b < 128
+name_byte b h = elim (or_parts ((nat_le 97 b && nat_le b 122) || (nat_le 48 b && nat_le b 57)) (b == 45 || b == 95) h) [
+  | inl either ↦ elim (or_parts (nat_le 97 b && nat_le b 122) (nat_le 48 b && nat_le b 57) either) [
+    | inl letter ↦ omega (arith, leb-true b 122 (and_parts (nat_le 97 b) (nat_le b 122) letter).1)
+    | inr digit ↦ omega (arith, leb-true b 57 (and_parts (nat_le 48 b) (nat_le b 57) digit).1)
+  ]
+  | inr either ↦ elim (or_parts (b == 45) (b == 95) either) [
+    | inl dash ↦ omega (arith, eqb-true b 45 dash)
+    | inr line ↦ omega (arith, eqb-true b 95 line)
+  ]
+]
+
+ascii : (bytes : List ℕ) → list_all is_name_byte bytes ≡ true → IsAscii bytes
+ascii [] h = IsAscii-nil
+ascii (b ∷ bytes) h = let parts = and_parts (is_name_byte b) (list_all is_name_byte bytes) h in IsAscii-cons b bytes (name_byte b parts.0) (ascii bytes parts.1)
+
+text_back : (name : List ℕ) → is_name name ≡ true → text_in name ≡ Some name
+unfolding text_in is_name
+text_back name h =
+    let bytes = (and_parts (nat_le 1 (length name) && nat_le (length name) 16) (list_all is_name_byte name) h).1 in
+    rw (is_utf8-from_IsUtf8 name (IsUtf8-from_ascii name (ascii name bytes))) refl
+
+no_text : text_in [] ≡ Some []
+unfolding text_in
+no_text = rw (is_utf8-from_IsUtf8 [] IsUtf8-nil) refl
+
+no_filters : filters_in [] ≡ Some []
+unfolding filters_in
+no_filters = rw no_text refl
+
+-- ---- a row
+
+-- what fields state below a heading
+abbrev pub row_from : List (List ℕ) → ℕ → List (List ℕ) → Result ImportRow CsvFault
+row_from heading number fields =
+    if length fields == length heading then joined number (numbers_of heading fields) (texts_of heading fields) else Err (number, Form, None)
+
+numbers_are : (heading fields : List (List ℕ)) (n : RowNumbers) → number_in (column_field heading fields Rate) ≡ Some n.rate → label_in (column_field heading fields Label) ≡ Some n.label
+    → sdi_in (column_field heading fields Sdi) ≡ Some n.sdi → number_in (column_field heading fields MinUs) ≡ Some n.min_us → number_in (column_field heading fields MaxUs) ≡ Some n.max_us
+    → hold_in (column_field heading fields Hold) ≡ Some n.hold → numbers_of heading fields ≡ Ok n
+unfolding numbers_of
+numbers_are heading fields n rate label sdi least most hold = rw (rate, label, sdi, least, most, hold) refl
+
+texts_are : (heading fields : List (List ℕ)) (t : RowTexts) → text_in (column_field heading fields Group) ≡ Some t.group → text_in (column_field heading fields Source) ≡ Some t.source
+    → text_in (column_field heading fields Receiver) ≡ Some t.receiver → filters_in (column_field heading fields Filters) ≡ Some t.filters → texts_of heading fields ≡ Ok t
+unfolding texts_of
+texts_are heading fields t group source receiver filters = rw (group, source, receiver, filters) refl
+
+-- what is read of the row of an output
+abbrev pub read_row : List ReceiverRow → GroupRow → SourceRow → OutputRow → ImportRow
+read_row receivers g s o = record {
+  texts = record { group = g.name; source = s.name; receiver = receiver_name receivers s.receiver; filters = [] };
+  numbers = record { rate = g.rate; label = s.label; sdi = s.sdi; min_us = o.min_us; max_us = o.max_us; hold = o.hold };
+}
+
+-- its names and numbers can be read
+pub record IsReadable (receivers : List ReceiverRow) (g : GroupRow) (s : SourceRow) (o : OutputRow) : Type 0 where
+  pub group : is_name g.name ≡ true
+  pub source : is_name s.name ≡ true
+  pub receiver : is_name (receiver_name receivers s.receiver) ≡ true
+  pub rate : g.rate < 2 ^ 32
+  pub label : s.label < 256
+  pub sdi : IfSome s.sdi (λ k. k < 4)
+  pub least : o.min_us < 2 ^ 32
+  pub most : o.max_us < 2 ^ 32
+  pub hold : IfSome o.hold (λ n. n < 2 ^ 32)
+
+module _ (receivers : List ReceiverRow) (g : GroupRow) (s : SourceRow) (o : OutputRow) (place : SlotPlace) (limits : SendLimits) (R : IsReadable receivers g s o) (held : limits.hold ≡ o.hold) where
+  numbers_back : numbers_of icd_columns (icd_row receivers g s o place limits) ≡ Ok (read_row receivers g s o).numbers
+  unfolding column_field
+  numbers_back =
+      numbers_are icd_columns (icd_row receivers g s o place limits) (read_row receivers g s o).numbers (number_back g.rate R.rate) (label_back s.label R.label) (sdi_back s.sdi R.sdi) (number_back o.min_us R.least)
+      (number_back o.max_us R.most) (ap (λ (h : Option ℕ). hold_in (limit_text h)) held ∙ hold_back o.hold R.hold)
+
+  texts_back : texts_of icd_columns (icd_row receivers g s o place limits) ≡ Ok (read_row receivers g s o).texts
+  unfolding column_field
+  texts_back =
+      texts_are icd_columns (icd_row receivers g s o place limits) (read_row receivers g s o).texts (text_back g.name R.group) (text_back s.name R.source) (text_back (receiver_name receivers s.receiver) R.receiver) no_filters
+
+  pub row_back : (number : ℕ) → row_from icd_columns number (icd_row receivers g s o place limits) ≡ Ok (read_row receivers g s o)
+  row_back number = rw (numbers_back, texts_back) refl

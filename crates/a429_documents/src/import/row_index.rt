@@ -1,0 +1,99 @@
+//! Rows whose first rows, and the next row of each group, are known.
+ghost use Rattle.std.specs.Prelude.{◌≡◌, ◌++◌, ℕ, [], ◌∷◌, List, None, OnOk, IfOk, if◌then◌else◌, reverse, slice_index_or};
+ghost use Rattle.std.specs.Str.{bytes_eq};
+ghost use Rattle.indexmap.specs.IndexMap.{get_by_text};
+ghost use Rattle.a429_documents.specs.FirstRows.{AreFirstRows};
+ghost use Rattle.a429_documents.specs.NextRows.{next_rows};
+
+use crate::import::firsts::{FirstRows, Part};
+use crate::import::rows::ImportRow;
+use indexmap::IndexMap;
+use std::alloc::{AllocError, Global};
+
+/// Rows with the first of each receiver, source and group, and for each row the next of its group.
+#[derive(Drop)]
+pub struct RowIndex<'a> {
+    pub rows: &'a [ImportRow],
+    firsts: FirstRows,
+    nexts: Vec<Option<usize>>,
+    ghost of_firsts: { AreFirstRows firsts rows.now },
+    ghost of_nexts: { nexts.items ≡ next_rows 0 rows.now },
+}
+
+impl<'a> RowIndex<'a> {
+    ghost use Rattle.std.specs.Prelude.{Some, not, slice_get, take};
+    ghost use Rattle.a429_documents.specs.ImportTables.{is_known};
+
+    /// Looks through the rows once. The error is that memory was refused.
+    pub fn of(alloc: Global, rows: &'a [ImportRow]) -> Result<RowIndex<'a>, AllocError>
+        ensures { IfOk result (λ index. index.rows.now ≡ rows.now) }
+    {
+        let firsts = FirstRows::of(alloc, rows)?;
+        let nexts = next_rows(alloc, rows)?;
+        Ok(RowIndex {
+            rows,
+            firsts,
+            nexts,
+        })
+    }
+
+    /// Whether the row of a number is the first of its receiver, source or group.
+    pub fn is_first(&self, part: Part, number: usize, row: &ImportRow) -> bool
+        requires { slice_get self.now.rows.now number ≡ Some row.now }
+        ensures { result ≡ not (is_known part (take number self.now.rows.now) row.now) }
+    {
+        match self.firsts.number(part, row) {
+            Some(first) => first == number,
+            None => false,
+        }
+    }
+
+    /// The number of the next row of the group of a row.
+    pub fn next(&self, number: usize) -> Option<usize>
+        ensures { result ≡ slice_index_or (next_rows 0 self.now.rows.now) number None }
+    {
+        match self.nexts.get(number) {
+            Some(next) => *next,
+            None => None,
+        }
+    }
+}
+
+/// Adds the next row of the group of a row, which comes before the rows whose groups have numbers.
+fn push_next(
+    alloc: Global,
+    nexts: &mut Vec<Option<usize>>,
+    groups: &mut IndexMap<String, usize>,
+    row: &ImportRow,
+    number: usize,
+) -> Result<(), AllocError>
+    ensures nexts { OnOk result (nexts.new.items ≡ nexts.old.items ++ get_by_text groups.old row.now.texts.group ∷ []) }
+    ensures groups { OnOk result ((name : List ℕ) →
+        get_by_text groups.new name ≡ (if bytes_eq name row.now.texts.group then Some number else get_by_text groups.old name)) }
+{
+    let group = row.texts.group.as_str();
+    nexts.push(groups.get(group).copied())?;
+    groups.insert(String::from_str(alloc, group)?, number)?;
+    Ok(())
+}
+
+/// The number of the next row of the group of each row, from the last row to the first.
+fn nexts_backward(alloc: Global, rows: &[ImportRow]) -> Result<Vec<Option<usize>>, AllocError>
+    ensures { IfOk result (λ nexts. reverse nexts.items ≡ next_rows 0 rows.now) }
+{
+    let mut nexts = Vec::new(alloc);
+    let mut groups = IndexMap::new(alloc);
+    for number in (0..rows.len()).rev() {
+        push_next(alloc, &mut nexts, &mut groups, &rows[number], number)?;
+    }
+    Ok(nexts)
+}
+
+/// The number of the next row of the group of each row.
+fn next_rows(alloc: Global, rows: &[ImportRow]) -> Result<Vec<Option<usize>>, AllocError>
+    ensures { IfOk result (λ nexts. nexts.items ≡ next_rows 0 rows.now) }
+{
+    let mut nexts = nexts_backward(alloc, rows)?;
+    nexts.reverse();
+    Ok(nexts)
+}
