@@ -1,9 +1,9 @@
 -- What holds of workers that have ended, and of the station that they were of.
-use Rattle.std.proofs.Common.{◌≡◌, ◌∙◌, ℕ, ◌+◌, ◌-◌, ◌^◌, ◌≤◌, Bool, true, false, List, [], ◌∷◌, ◌++◌, length, drop, map, ap, subst, sym, refl, arith}
-use Rattle.std.specs.Prelude.{Option, None, Result, Ok, Err, if◌then◌else◌, nat_lt, slice_get}
+use Rattle.std.proofs.Common.{◌≡◌, ◌∙◌, ◌⊎◌, ℕ, ◌+◌, ◌-◌, ◌^◌, ◌≤◌, Bool, true, false, List, [], ◌∷◌, ◌++◌, length, drop, map, ap, inl, inr, subst, sym, refl, arith}
+use Rattle.std.specs.Prelude.{Option, None, Some, option_map, Result, Ok, Err, if◌then◌else◌, nat_lt, slice_get}
 use Rattle.std.specs.List.{AllByRecursion, AllZip, range_with_len}
 use Rattle.std.proofs.lemmas.List.{length_push, map-append}
-use Rattle.std.proofs.lemmas.Option.{same_Some}
+use Rattle.std.proofs.lemmas.Option.{none-some, same_Some}
 use Rattle.a429_equipment.specs.declared.arrivals.ArrivalRefusal.{ArrivalRefusal}
 use Rattle.a429_equipment.specs.TableRecord.{TableRecord}
 use Rattle.a429_equipment.specs.Agreement.{Agrees, words_of}
@@ -29,7 +29,7 @@ use Rattle.a429_workers.specs.declared.receiving.ReceiveFault.TheVariants as rec
 use Rattle.a429_workers.specs.declared.sending.SendTotals.{SendTotals}
 use Rattle.a429_workers.specs.declared.sending.SendFault.{SendFault}
 use Rattle.a429_station.specs.Course.{Course, IsHeardIn, IsSentIn, RunAsk, fresh, heard_in, meeting}
-use Rattle.a429_station.specs.Faults.{EndsGroup, EndsLine, GaveTooMuch, HasStopped, IsFirst, first_fault}
+use Rattle.a429_station.specs.Faults.{EndsGroup, EndsLine, GaveTooMuch, HasStopped, IsFirst, first_fault, of_receiver}
 use Rattle.a429_station.specs.Numbered.{AllNumbered, AllOfTwo}
 use Rattle.a429_station.specs.Resubmitting.{GoesOn, IsBegun, IsDoneBetween, IsLed, Running, opening}
 use Rattle.a429_station.specs.Working.{Emitting, HasEmitted, HasReceived, IsJoined, IsOver, IsReady, IsReceiverAt, emitting, meeting_of}
@@ -223,6 +223,16 @@ group_ended sink gate g frames v w answer E =
 -- where no worker has a fault
 pub want_of_memory : (x : Option ReceiveFault) (y : Option SendFault) (fault : LiveFault) → x ≡ None → y ≡ None → fault ≡ NoMemory → IsFirst x y fault
 want_of_memory x y fault well none is = subst (λ (z : Option ReceiveFault). IsFirst z y fault) (sym well) (subst (λ (z : Option SendFault). IsFirst None z fault) (sym none) is)
+
+-- so it is where what receivers did is gathered
+pub unheard : (x : Option ReceiveFault) (y : Option SendFault) (fault e : LiveFault) → x ≡ None → y ≡ None → (fault ≡ NoMemory) ⊎ (Some fault ≡ option_map of_receiver x) → e ≡ fault → IsFirst x y e
+unheard x y fault e well none (inl want) is = want_of_memory x y e well none (is ∙ want)
+unheard x y fault e well none (inr why) is = absurd (none-some fault (sym (why ∙ ap (option_map of_receiver) well)))
+
+-- and what groups did
+pub untold : (x : Option ReceiveFault) (y z : Option SendFault) (fault e : LiveFault) → x ≡ None → y ≡ None → z ≡ y → (fault ≡ NoMemory) ⊎ IsFirst None z fault → e ≡ fault → IsFirst x y e
+untold x y z fault e well none same (inl want) is = want_of_memory x y e well none (is ∙ want)
+untold x y z fault e well none same (inr first) is = want_of_memory x y e well none (is ∙ subst (λ (w : Option SendFault). IsFirst None w fault) (same ∙ none) first)
 
 -- ---- all workers
 

@@ -56,6 +56,20 @@ pushed_mapped {X} {Y} f xs ys x y before rest all grown is next so_far =
     ∙ (append_assoc (map f xs) (f x ∷ []) rest
     ∙ (ap (λ (z : Y). map f xs ++ z ∷ rest) is ∙ (ap (λ (l : List Y). map f xs ++ l) (sym next) ∙ so_far))))
 
+pub mapped_push : {X Y : Type 0} (f : X → Y) (xs ys : List X) (x : X) (y : Y) → ys ≡ xs ++ x ∷ [] → f x ≡ y → map f ys ≡ map f xs ++ y ∷ []
+mapped_push {X} {Y} f xs ys x y grown is = ap (λ (l : List X). map f l) grown ∙ (map-append f xs (x ∷ []) ∙ ap (λ (z : Y). map f xs ++ z ∷ []) is)
+
+-- the items before the rest of a list
+pub list_grown : {Y : Type 0} (xs ys : List Y) (y : Y) (before rest all : List Y) → ys ≡ xs ++ y ∷ [] → before ≡ y ∷ rest → xs ++ before ≡ all → ys ++ rest ≡ all
+list_grown {Y} xs ys y before rest all grown next so_far =
+    ap (λ (l : List Y). l ++ rest) grown ∙ (append_assoc xs (y ∷ []) rest ∙ (ap (λ (l : List Y). xs ++ l) (sym next) ∙ so_far))
+
+-- the same of a list whose rest is mapped too
+pub mapped_grown : {X Y : Type 0} (f : X → Y) (xs ys : List Y) (x : X) (before rest : List X) (all : List Y) → ys ≡ xs ++ f x ∷ [] → before ≡ x ∷ rest → xs ++ map f before ≡ all → ys ++ map f rest ≡ all
+mapped_grown {X} {Y} f xs ys x before rest all grown next so_far =
+    ap (λ (l : List Y). l ++ map f rest) grown
+    ∙ (append_assoc xs (f x ∷ []) (map f rest) ∙ (ap (λ (l : List X). xs ++ map f l) (sym next) ∙ so_far))
+
 -- ---- counts of what is left
 
 -- so many come after it of those that are left
@@ -65,11 +79,17 @@ inside_of n more now all most left one few = omega (arith, left, one, few)
 pub one_less : (n more now all : ℕ) → n + now ≡ all → more + 1 ≡ now → n + 1 + more ≡ all
 one_less n more now all left one = omega (arith, left, one)
 
+pub one_less_by : (n m more now all : ℕ) → n + now ≡ all → more + 1 ≡ now → m ≡ n + 1 → m + more ≡ all
+one_less_by n m more now all left one next = omega (arith, left, one, next)
+
 pub both_less : (more now rest have : ℕ) → more + 1 ≡ now → rest + 1 ≡ have → now ≤ have → more ≤ rest
 both_less more now rest have one other enough = omega (arith, one, other, enough)
 
 pub at_most : (n m k : ℕ) → n ≡ m → k ≡ m → n ≤ k
 at_most n m k one other = omega (arith, one, other)
+
+pub at_most_same : (n m k : ℕ) → n ≤ m → k ≡ m → n ≤ k
+at_most_same n m k few same = omega (arith, few, same)
 
 -- what holds of a place alone
 pub numbered_place : {X : Type 0} (P : ℕ → Type 0) (xs : List X) (k : ℕ) → k < length xs → AllNumbered (λ j x. P j) xs → P k

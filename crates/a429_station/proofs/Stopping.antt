@@ -1,18 +1,20 @@
 -- Why a run did not come to its end.
-use Rattle.std.proofs.Common.{◌≡◌, ℕ, suc, List, [], ◌∷◌, inl, inr, refl, subst, sym}
-use Rattle.std.specs.Prelude.{Option, Some, None, Result, Ok, Err, IfErr, slice_get}
+use Rattle.std.proofs.Common.{◌≡◌, ◌∙◌, ◌⊎◌, ℕ, suc, List, [], ◌∷◌, ap, inl, inr, map, refl, subst, sym}
+use Rattle.std.specs.Prelude.{Option, Some, None, Result, Ok, Err, IfErr, option_map, slice_get}
 use Rattle.std.proofs.lemmas.Option.{none-some, same_Some}
 use Rattle.a429_slots.specs.declared.planner.PlanFault.{PlanFault}
 use Rattle.a429_filter.specs.declared.sources.LineSource as LineSource
 use Rattle.a429_workers.specs.declared.sinks.BusSink as BusSink
 use Rattle.a429_workers.specs.declared.gates.Point.{Point}
+use Rattle.a429_workers.specs.declared.receiving.ReceiveTotals.{ReceiveTotals}
 use Rattle.a429_workers.specs.declared.receiving.ReceiveFault.{ReceiveFault}
 use Rattle.a429_workers.specs.declared.receiving.ReceiveFault.TheVariants as receive
+use Rattle.a429_workers.specs.declared.sending.SendTotals.{SendTotals}
 use Rattle.a429_workers.specs.declared.sending.SendFault.{SendFault}
 use Rattle.a429_workers.specs.declared.sending.SendFault.TheVariants as send
 use Rattle.a429_workers.specs.Gates.{GatePoints, point_after_cell, point_after_word, point_before_cell, point_before_word}
 use Rattle.a429_station.specs.Course.{RunAsk}
-use Rattle.a429_station.specs.Faults.{CanStart, EndsGroup, EndsLine, HasStopped, IsFirst, IsLiveFault, IsRunFault, first_fault}
+use Rattle.a429_station.specs.Faults.{CanStart, EndsGroup, EndsLine, HasStopped, IsFirst, IsLiveFault, IsRunFault, first_fault, of_receiver}
 use Rattle.a429_station.specs.Numbered.{AllOfTwo}
 use Rattle.a429_station.specs.declared.faults.LiveFault.{LiveFault}
 use Rattle.a429_station.specs.declared.faults.LiveFault.TheVariants.{Plan, TooMuch, Join, Source, Gate, Sink, NoMemory}
@@ -20,6 +22,43 @@ use Rattle.a429_station.specs.declared.faults.LiveFault.TheVariants.{Plan, TooMu
 pub weaker : {A E : Type 0} (P Q : E → Type 0) (r : Result A E) → ((e : E) → P e → Q e) → IfErr r P → IfErr r Q
 weaker P Q (Ok a) on h = tt
 weaker P Q (Err e) on h = on e h
+
+-- ---- the first fault, one worker after another
+
+-- it is that of the others, if this one ended well
+first_later : {A E : Type 0} (r : Result A E) (rs : List (Result A E)) → first_fault (r ∷ []) ≡ None → first_fault (r ∷ rs) ≡ first_fault rs
+first_later (Ok done) rs well = refl
+first_later (Err why) rs well = absurd (none-some why (sym well))
+
+first_of_all : {D A E : Type 0} (f : D → Result A E) (d : D) (before rest : List D) (all : Option E) → before ≡ d ∷ rest → first_fault (map f before) ≡ all → first_fault (f d ∷ map f rest) ≡ all
+first_of_all {D} f d before rest all next so_far = ap (λ (l : List D). first_fault (map f l)) (sym next) ∙ so_far
+
+pub first_goes_on : {D A E : Type 0} (f : D → Result A E) (d : D) (before rest : List D) (all : Option E) → before ≡ d ∷ rest → first_fault (f d ∷ []) ≡ None → first_fault (map f before) ≡ all → first_fault (map f rest) ≡ all
+first_goes_on f d before rest all next well so_far = sym (first_later (f d) (map f rest) well) ∙ first_of_all f d before rest all next so_far
+
+-- the fault of a group, or want of memory if it ended well
+group_here : (r : Result SendTotals SendFault) (rs : List (Result SendTotals SendFault)) (fault : LiveFault) → IsFirst None (first_fault (r ∷ [])) fault → (fault ≡ NoMemory) ⊎ IsFirst None (first_fault (r ∷ rs)) fault
+group_here (Ok totals) rs fault is = inl is
+group_here (Err why) rs fault is = inr is
+
+pub group_stops : {D : Type 0} (f : D → Result SendTotals SendFault) (d : D) (before rest : List D) (all : Option SendFault) (fault e : LiveFault) → before ≡ d ∷ rest → first_fault (map f before) ≡ all
+    → IsFirst None (first_fault (f d ∷ [])) fault → e ≡ fault → (e ≡ NoMemory) ⊎ IsFirst None all e
+group_stops f d before rest all fault e next so_far stop is =
+    subst (λ (x : LiveFault). (x ≡ NoMemory) ⊎ IsFirst None all x) (sym is)
+    (subst (λ (w : Option SendFault). (fault ≡ NoMemory) ⊎ IsFirst None w fault) (first_of_all f d before rest all next so_far) (group_here (f d) (map f rest) fault stop))
+
+-- the same of a receiver
+receiver_here : (r : Result ReceiveTotals ReceiveFault) (rs : List (Result ReceiveTotals ReceiveFault)) (fault : LiveFault) → (fault ≡ NoMemory) ⊎ (Some fault ≡ option_map of_receiver (first_fault (r ∷ [])))
+    → (fault ≡ NoMemory) ⊎ (Some fault ≡ option_map of_receiver (first_fault (r ∷ rs)))
+receiver_here (Ok totals) rs fault (inl want) = inl want
+receiver_here (Ok totals) rs fault (inr is) = absurd (none-some fault (sym is))
+receiver_here (Err why) rs fault is = is
+
+pub receiver_stops : {D : Type 0} (f : D → Result ReceiveTotals ReceiveFault) (d : D) (before rest : List D) (all : Option ReceiveFault) (fault e : LiveFault) → before ≡ d ∷ rest → first_fault (map f before) ≡ all
+    → (fault ≡ NoMemory) ⊎ (Some fault ≡ option_map of_receiver (first_fault (f d ∷ []))) → e ≡ fault → (e ≡ NoMemory) ⊎ (Some e ≡ option_map of_receiver all)
+receiver_stops f d before rest all fault e next so_far stop is =
+    subst (λ (x : LiveFault). (x ≡ NoMemory) ⊎ (Some x ≡ option_map of_receiver all)) (sym is)
+    (subst (λ (w : Option ReceiveFault). (fault ≡ NoMemory) ⊎ (Some fault ≡ option_map of_receiver w)) (first_of_all f d before rest all next so_far) (receiver_here (f d) (map f rest) fault stop))
 
 -- ---- the worker whose fault it is
 

@@ -1,5 +1,5 @@
 -- The workers of a station, before their loops and after them.
-use Rattle.std.specs.Prelude.{◌≡◌, ℕ, List, Option, map}
+use Rattle.std.specs.Prelude.{◌≡◌, ℕ, IsTrue, List, Ok, Option, is_ok, map}
 use Rattle.std.specs.List.{AllByRecursion}
 use Rattle.a429_equipment.specs.TableRecord.{TableRecord}
 use Rattle.a429_slots.specs.Tables.{PlanTable}
@@ -12,6 +12,8 @@ use Rattle.a429_workers.specs.declared.sending.SendFault.{SendFault}
 use Rattle.a429_station.specs.Faults.{first_fault}
 use Rattle.a429_station.specs.Numbered.{AllNumbered}
 use Rattle.a429_station.specs.Working.{IsJoined, IsReady}
+use Rattle.a429_station.specs.declared.reports.Report.{Report}
+use Rattle.a429_station.specs.declared.threads.Ended.{Ended}
 use Rattle.a429_station.specs.declared.working.Emitted.{Emitted}
 use Rattle.a429_station.specs.declared.working.GroupWorker.{GroupWorker}
 use Rattle.a429_station.specs.declared.working.Received.{Received}
@@ -31,3 +33,13 @@ groups_fault sent = first_fault (map (λ d. d.answer) sent)
 -- the transmitters of all groups were told all plans that were published, and then met the receivers
 abbrev pub AreJoined : {B : Type 0} → TableRecord → List PlanTable → List ends.ReceiverEnd → List (Emitted B) → Type 0
 AreJoined t list receivers sent = AllByRecursion (λ d. IsJoined t list receivers d.transmit) sent
+
+-- What the workers did, all of which ended well, with their devices. The transmitters of all groups were told all plans that were published, and then
+-- met the receivers; and the control ended well too.
+pub record IsReportOf {L B : Type 0} (t : TableRecord) (list : List PlanTable) (done : Ended (Received L) (Emitted B)) (report : Report L B) : Type 0 where
+  pub receivers : map (λ x. Ok x) report.receivers.items ≡ map (λ d. d.answer) done.first.items
+  pub groups : map (λ x. Ok x) report.groups.items ≡ map (λ d. d.answer) done.second.items
+  pub sources : report.sources.items ≡ map (λ d. d.line) done.first.items
+  pub sinks : report.sinks.items ≡ map (λ d. d.sink) done.second.items
+  pub joined : AreJoined t list (map (λ d. d.receiver) done.first.items) done.second.items
+  pub control : IsTrue (is_ok done.answer)

@@ -1,18 +1,20 @@
 //! What a station did, from what its workers did.
-ghost use Rattle.std.specs.Prelude.{◌≡◌, ◌⊎◌, Ok, None, Some, IfOk, IfErr, IsTrue, OnOk, is_ok, map, option_map};
+ghost use Rattle.std.specs.Prelude.{◌≡◌, ◌⊎◌, ◌++◌, ◌∷◌, [], Ok, None, Some, IfOk, IfErr, IsTrue, OnOk, is_ok, map, option_map};
 ghost use Rattle.std.specs.List.{AllByRecursion};
-ghost use Rattle.a429_station.specs.Faults.{IsFirst, of_receiver};
+ghost use Rattle.a429_station.specs.Faults.{IsFirst, first_fault, of_receiver};
 ghost use Rattle.a429_station.specs.Numbered.{AllNumbered};
-ghost use Rattle.a429_station.specs.Workers.{AreJoined, groups_fault, receivers_fault};
-ghost use Rattle.a429_station.specs.Working.{HasMet, IsOver, IsReceiverAt};
+ghost use Rattle.a429_station.specs.Workers.{AreJoined, IsReportOf, groups_fault, receivers_fault};
+ghost use Rattle.a429_station.specs.Working.{HasMet, IsJoined, IsOver, IsReceiverAt};
 ghost use Rattle.a429_station.specs.declared.faults.LiveFault.TheVariants.{NoMemory};
 
 use crate::faults::{LiveFault, group_fault};
 use crate::running::Values;
 use crate::station::Station;
+use crate::threads::Ended;
 use crate::working::{Emitted, Received};
 use a429_values::Receiver;
 use a429_workers::{ReceiveTotals, SendTotals, Transmit};
+use core::mem::drop;
 use std::alloc::{AllocError, Global};
 use std::sync::Wait;
 
@@ -31,17 +33,45 @@ pub struct Report<L, B> {
 
 /// What the receivers did, with their devices.
 #[derive(Drop)]
-pub(crate) struct Heard<L> {
+struct Heard<L> {
     pub totals: Vec<ReceiveTotals>,
     pub sources: Vec<L>,
     pub receivers: Vec<Receiver>,
 }
 
+impl<L: Drop> Heard<L> {
+    /// Adds what a further receiver did. The error is that memory was refused.
+    fn push(&mut self, totals: ReceiveTotals, line: L, receiver: Receiver) -> Result<(), LiveFault>
+        ensures totals { OnOk result (self.new.totals.items ≡ self.old.totals.items ++ totals ∷ []) }
+        ensures sources { OnOk result (self.new.sources.items ≡ self.old.sources.items ++ line ∷ []) }
+        ensures receivers { OnOk result (self.new.receivers.items ≡ self.old.receivers.items ++ receiver ∷ []) }
+        ensures fault { IfErr result (λ f. f ≡ NoMemory) }
+    {
+        self.receivers.push(receiver)?;
+        self.sources.push(line)?;
+        self.totals.push(totals)?;
+        Ok(())
+    }
+}
+
 /// What the groups did, with their devices.
 #[derive(Drop)]
-pub(crate) struct Told<B> {
+struct Told<B> {
     pub totals: Vec<SendTotals>,
     pub sinks: Vec<B>,
+}
+
+impl<B: Drop> Told<B> {
+    /// Adds what a further group did. The error is that memory was refused.
+    fn push(&mut self, totals: SendTotals, sink: B) -> Result<(), LiveFault>
+        ensures totals { OnOk result (self.new.totals.items ≡ self.old.totals.items ++ totals ∷ []) }
+        ensures sinks { OnOk result (self.new.sinks.items ≡ self.old.sinks.items ++ sink ∷ []) }
+        ensures fault { IfErr result (λ f. f ≡ NoMemory) }
+    {
+        self.totals.push(totals)?;
+        self.sinks.push(sink)?;
+        Ok(())
+    }
 }
 
 /// Whether the loops of all receivers came to their ends. The error is the fault of the first that has one. It takes no
@@ -84,7 +114,7 @@ fn check_group_ends<R: Wait, B: Drop>(
 /// Whether all loops came to their ends, and the control too. The error is the fault of the first receiver that has one,
 /// or else of the first group, or else `NoMemory` of the control. It takes no memory, so a worker's fault is told
 /// whatever memory the report would take.
-pub(crate) fn check_all_ends<R: Wait, L: Drop, B: Drop>(
+fn check_all_ends<R: Wait, L: Drop, B: Drop>(
     hub: &Values,
     station: &mut Station<'_, R>,
     received: &Vec<Received<L>>,
@@ -105,8 +135,30 @@ pub(crate) fn check_all_ends<R: Wait, L: Drop, B: Drop>(
     Ok(())
 }
 
+/// Adds what a receiver did to what those before it did. The error is its fault, or else `NoMemory`.
+fn report_receiver<L: Drop>(done: Received<L>, heard: &mut Heard<L>) -> Result<(), LiveFault>
+    ensures ended { OnOk result (first_fault (done.answer ∷ []) ≡ None) }
+    ensures totals { OnOk result (map (λ t. Ok t) heard.new.totals.items ≡ map (λ t. Ok t) heard.old.totals.items ++ done.answer ∷ []) }
+    ensures sources { OnOk result (heard.new.sources.items ≡ heard.old.sources.items ++ done.line ∷ []) }
+    ensures receivers { OnOk result (heard.new.receivers.items ≡ heard.old.receivers.items ++ done.receiver ∷ []) }
+    ensures fault { IfErr result (λ f. (f ≡ NoMemory) ⊎ (Some f ≡ option_map of_receiver (first_fault (done.answer ∷ [])))) }
+{
+    let Received {
+        line,
+        receiver,
+        answer,
+    } = done;
+    match answer {
+        Ok(totals) => heard.push(totals, line, receiver),
+        Err(fault) => {
+            drop(receiver);
+            Err(LiveFault::from(fault))
+        }
+    }
+}
+
 /// The totals of the receivers, or the fault of the first that has one.
-pub(crate) fn report_receivers<L: Drop>(
+fn report_receivers<L: Drop>(
     alloc: Global,
     received: Vec<Received<L>>,
 ) -> Result<Heard<L>, LiveFault>
@@ -115,28 +167,15 @@ pub(crate) fn report_receivers<L: Drop>(
     ensures receivers { IfOk result (λ r. r.receivers.items ≡ map (λ d. d.receiver) received.items) }
     ensures fault { IfErr result (λ f. (f ≡ NoMemory) ⊎ (Some f ≡ option_map of_receiver (receivers_fault received.items))) }
 {
-    let mut totals = Vec::new(alloc);
-    let mut sources = Vec::new(alloc);
-    let mut receivers = Vec::new(alloc);
+    let mut heard = Heard {
+        totals: Vec::new(alloc),
+        sources: Vec::new(alloc),
+        receivers: Vec::new(alloc),
+    };
     for done in received {
-        let Received {
-            line,
-            receiver,
-            answer,
-        } = done;
-        let one = match answer {
-            Ok(one) => one,
-            Err(fault) => return Err(LiveFault::from(fault)),
-        };
-        totals.push(one)?;
-        sources.push(line)?;
-        receivers.push(receiver)?;
+        report_receiver(done, &mut heard)?;
     }
-    Ok(Heard {
-        totals,
-        sources,
-        receivers,
-    })
+    Ok(heard)
 }
 
 /// A transmitter meets each receiver of its hub.
@@ -150,9 +189,44 @@ fn meet_all(transmit: &mut Transmit, receivers: &mut [Receiver])
     }
 }
 
+/// A group's transmitter is told all plans that were published, and meets each receiver. Then what the group did is
+/// added to what those before it did. The error is its fault, or else `NoMemory`.
+fn report_group<R: Wait, B: Drop>(
+    hub: &Values,
+    station: &mut Station<'_, R>,
+    receivers: &mut [Receiver],
+    done: Emitted<B>,
+    told: &mut Told<B>,
+) -> Result<(), LiveFault>
+    requires receivers { AllNumbered (IsReceiverAt hub.now) receivers.old }
+    requires group { IsOver hub.now station.old.planner done.transmit done.answer }
+    ensures station { station.new ≡ station.old }
+    ensures receivers { receivers.new ≡ receivers.old }
+    ensures joined { IsJoined hub.now.station station.old.planner.list receivers.old done.transmit }
+    ensures ended { OnOk result (first_fault (done.answer ∷ []) ≡ None) }
+    ensures totals { OnOk result (map (λ t. Ok t) told.new.totals.items ≡ map (λ t. Ok t) told.old.totals.items ++ done.answer ∷ []) }
+    ensures sinks { OnOk result (told.new.sinks.items ≡ told.old.sinks.items ++ done.sink ∷ []) }
+    ensures fault { IfErr result (IsFirst None (first_fault (done.answer ∷ []))) }
+{
+    let _at = hub;
+    let Emitted {
+        mut transmit,
+        sink,
+        answer,
+    } = done;
+    station.tell(&mut transmit);
+    meet_all(&mut transmit, receivers);
+    // `drop` keeps the proof short: a drop in place goes through all parts of a transmitter, once for each arm.
+    drop(transmit);
+    match answer {
+        Ok(totals) => told.push(totals, sink),
+        Err(fault) => Err(group_fault(fault)),
+    }
+}
+
 /// Each group's transmitter is told all plans that were published, and meets each receiver. Answers the totals of the
 /// groups, or the fault of the first that has one.
-pub(crate) fn report_groups<R: Wait, B: Drop>(
+fn report_groups<R: Wait, B: Drop>(
     alloc: Global,
     hub: &Values,
     station: &mut Station<'_, R>,
@@ -166,23 +240,51 @@ pub(crate) fn report_groups<R: Wait, B: Drop>(
     ensures joined { OnOk result (AreJoined hub.now.station station.old.planner.list receivers.old sent.items) }
     ensures fault { IfErr result (λ f. (f ≡ NoMemory) ⊎ IsFirst None (groups_fault sent.items) f) }
 {
-    let _at = hub;
-    let mut totals = Vec::new(alloc);
-    let mut sinks = Vec::new(alloc);
+    let mut told = Told {
+        totals: Vec::new(alloc),
+        sinks: Vec::new(alloc),
+    };
     for done in sent {
-        let Emitted {
-            mut transmit,
-            sink,
-            answer,
-        } = done;
-        station.tell(&mut transmit);
-        meet_all(&mut transmit, receivers);
-        let one = match answer {
-            Ok(one) => one,
-            Err(fault) => return Err(group_fault(fault)),
-        };
-        totals.push(one)?;
-        sinks.push(sink)?;
+        report_group(hub, station, receivers, done, &mut told)?;
     }
-    Ok(Told { totals, sinks })
+    Ok(told)
+}
+
+/// What the workers did, with their devices alone.
+fn report_from<L: Drop, B: Drop>(heard: Heard<L>, told: Told<B>) -> Report<L, B>
+    ensures receivers { result.receivers.items ≡ heard.totals.items }
+    ensures groups { result.groups.items ≡ told.totals.items }
+    ensures sources { result.sources.items ≡ heard.sources.items }
+    ensures sinks { result.sinks.items ≡ told.sinks.items }
+{
+    Report {
+        receivers: heard.totals,
+        groups: told.totals,
+        sources: heard.sources,
+        sinks: told.sinks,
+    }
+}
+
+/// What the workers did, when all of them have ended, and the control too. The error is the fault of the first receiver
+/// that has one, or else of the first group, or else `NoMemory`.
+pub(crate) fn report_all<R: Wait, L: Drop, B: Drop>(
+    alloc: Global,
+    hub: &Values,
+    station: &mut Station<'_, R>,
+    done: Ended<Received<L>, Emitted<B>>,
+) -> Result<Report<L, B>, LiveFault>
+    requires receivers { AllNumbered (λ r d. IsReceiverAt hub.now r d.receiver) done.first.items }
+    requires groups { AllByRecursion (λ d. IsOver hub.now station.old.planner d.transmit d.answer) done.second.items }
+    ensures reported { IfOk result (IsReportOf hub.now.station station.old.planner.list done) }
+    ensures fault { IfErr result (IsFirst (receivers_fault done.first.items) (groups_fault done.second.items)) }
+{
+    let Ended {
+        first,
+        mut second,
+        answer,
+    } = done;
+    check_all_ends(hub, station, &first, &mut second, answer)?;
+    let mut heard = report_receivers(alloc, first)?;
+    let told = report_groups(alloc, hub, station, heard.receivers.as_mut_slice(), second)?;
+    Ok(report_from(heard, told))
 }

@@ -1,5 +1,5 @@
 //! A station that runs: its receivers and groups at once.
-ghost use Rattle.std.specs.Prelude.{◌≡◌, ◌+◌, ◌<◌, ◌≤◌, [], length, vec_len, IfOk, IfErr, map};
+ghost use Rattle.std.specs.Prelude.{◌≡◌, ◌+◌, ◌++◌, ◌∷◌, ◌<◌, ◌≤◌, [], length, vec_len, IfOk, IfErr, OnOk, map};
 ghost use Rattle.std.specs.List.{AllByRecursion};
 ghost use Rattle.a429_workers.specs.Gates.{points_of};
 ghost use Rattle.a429_slots.specs.Planned.{IsPlanOf};
@@ -16,9 +16,9 @@ ghost use Rattle.a429_station.specs.declared.faults.LiveFault.TheVariants.{NoMem
 
 use crate::control::Control;
 use crate::faults::LiveFault;
-use crate::reports::{Heard, Report, Told, check_all_ends, report_groups, report_receivers};
+use crate::reports::{Report, report_all};
 use crate::station::Station;
-use crate::threads::{Ended, run_at_once};
+use crate::threads::run_at_once;
 use crate::working::{GroupWorker, ReceiverWorker, group_worker};
 use a429_board::{Board, Watcher};
 use a429_equipment::laws::{numbers_in_range, sources_apart};
@@ -27,6 +27,7 @@ use a429_filter::LineSource;
 use a429_slots::{OUTPUTS, Plan, plan};
 use a429_values::{Desk, Hub, HubFault};
 use a429_workers::{BusSink, Gate, OpenFault, Transmit};
+use core::mem::drop;
 use std::alloc::Global;
 use std::sync::Wait;
 use std::thread::Threads;
@@ -70,6 +71,39 @@ fn receivers<'a, L: LineSource + Drop, G: Gate>(
     Ok(workers)
 }
 
+/// The values of a station, with the desk that gives out their ends, and the receivers, each with its line.
+#[derive(Drop)]
+struct OpenHub<'a, L: LineSource + Drop, G: Gate> {
+    hub: Values,
+    desk: Desk,
+    receiving: Vec<ReceiverWorker<'a, L, G>>,
+}
+
+/// The values of a station and its receivers, each with its line. No transmitter was given out.
+fn open_hub<'a, L: LineSource + Drop, G: Gate>(
+    alloc: Global,
+    equipment: &Equipment,
+    sources: Vec<L>,
+    gate: &'a G,
+) -> Result<OpenHub<'a, L, G>, LiveFault>
+    requires sources { vec_len sources ≤ length equipment.now.receivers }
+    ensures station { IfOk result (λ o. o.hub.station ≡ equipment.now) }
+    ensures desk { IfOk result (λ o. (o.desk.at ≡ o.hub) × (o.desk.transmitters ≡ [])) }
+    ensures lines { IfOk result (λ o. map (λ w. w.line) o.receiving.items ≡ sources.items) }
+    ensures fresh { IfOk result (λ o. AllNumbered (λ r w. w.receiver ≡ fresh o.hub r) o.receiving.items) }
+    ensures gates { IfOk result (λ o. AllNumbered (λ r w. (w.number ≡ r) × (w.gate.now ≡ gate.now)) o.receiving.items) }
+    ensures fault { IfErr result (λ fault. fault ≡ NoMemory) }
+{
+    numbers_in_range(equipment);
+    let (hub, mut desk) = Values::open(alloc, equipment)?;
+    let receiving = receivers(alloc, &hub, &mut desk, sources, gate)?;
+    Ok(OpenHub {
+        hub,
+        desk,
+        receiving,
+    })
+}
+
 /// The transmitter of a group, at slot 0. It was not given out before.
 fn transmitter(
     alloc: Global,
@@ -102,6 +136,40 @@ fn transmitter(
     }
 }
 
+/// Adds the worker of the next group, with its sink. It was not given out before. The error is that memory was refused.
+fn push_group<'a, R: Wait, B: BusSink + Drop, G: Gate>(
+    alloc: Global,
+    hub: &Values,
+    desk: &mut Desk,
+    station: &Station<'_, R>,
+    watcher: Watcher,
+    sink: B,
+    frames: u32,
+    gate: &'a G,
+    workers: &mut Vec<GroupWorker<'a, B, G>>,
+) -> Result<(), LiveFault>
+    requires hub { desk.old.at ≡ hub.now }
+    requires group { length workers.old.items < length hub.now.station.groups }
+    requires earlier { AllByRecursion (λ g. g < length workers.old.items) desk.old.transmitters }
+    requires planned { length workers.old.items < length (groups_of station.now.planner.last) }
+    requires small { HasFewSlots station.now.planner.last }
+    requires watcher { watcher ≡ beginner station.now.planner }
+    requires ready { AreReady hub.now station.now.planner frames workers.old.items }
+    requires gates { AllNumbered (λ g w. (w.number ≡ g) × (w.gate.now ≡ gate.now)) workers.old.items }
+    ensures desk { desk.new.at ≡ desk.old.at }
+    ensures count { OnOk result (length workers.new.items ≡ length workers.old.items + 1) }
+    ensures given { OnOk result (AllByRecursion (λ g. g < length workers.new.items) desk.new.transmitters) }
+    ensures sinks { OnOk result (map (λ w. w.sink) workers.new.items ≡ map (λ w. w.sink) workers.old.items ++ sink ∷ []) }
+    ensures ready { OnOk result (AreReady hub.now station.now.planner frames workers.new.items) }
+    ensures gates { OnOk result (AllNumbered (λ g w. (w.number ≡ g) × (w.gate.now ≡ gate.now)) workers.new.items) }
+    ensures fault { IfErr result (λ fault. fault ≡ NoMemory) }
+{
+    let number = workers.len();
+    let transmit = transmitter(alloc, hub, desk, watcher, number)?;
+    workers.push(group_worker(transmit, sink, number, frames, gate))?;
+    Ok(())
+}
+
 /// The groups of a station, each with its sink. None was given out before.
 fn groups<'a, R: Wait, B: BusSink + Drop, G: Gate>(
     alloc: Global,
@@ -127,14 +195,21 @@ fn groups<'a, R: Wait, B: BusSink + Drop, G: Gate>(
 {
     let mut workers = Vec::new(alloc);
     let mut watchers = watchers;
-    let mut number = 0;
     for sink in sinks {
         let Some(watcher) = watchers.pop() else {
             unreachable!()
         };
-        let transmit = transmitter(alloc, hub, desk, watcher, number)?;
-        workers.push(group_worker(transmit, sink, number, frames, gate))?;
-        number += 1;
+        push_group(
+            alloc,
+            hub,
+            desk,
+            station,
+            watcher,
+            sink,
+            frames,
+            gate,
+            &mut workers,
+        )?;
     }
     Ok(workers)
 }
@@ -179,29 +254,7 @@ fn run<
         return Err(LiveFault::Join);
     };
     station.plans_are_of_station();
-    let Ended {
-        first,
-        mut second,
-        answer,
-    } = done;
-    check_all_ends(hub, station, &first, &mut second, answer)?;
-    let mut heard = report_receivers(alloc, first)?;
-    let told = report_groups(alloc, hub, station, heard.receivers.as_mut_slice(), second)?;
-    let Heard {
-        totals: receivers,
-        sources,
-        ..
-    } = heard;
-    let Told {
-        totals: groups,
-        sinks,
-    } = told;
-    Ok(Report {
-        receivers,
-        groups,
-        sources,
-        sinks,
-    })
+    report_all(alloc, hub, station, done)
 }
 
 /// Runs a station: of its equipment, with a source for the line of each receiver and a sink for each group. One thread
@@ -283,10 +336,14 @@ pub fn live_planned<
     if frames > FRAMES {
         return Err(LiveFault::TooMuch);
     }
-    let (hub, mut desk) = Values::open(alloc, equipment)?;
-    let receiving = receivers(alloc, &hub, &mut desk, sources, gate)?;
+    let opened = open_hub(alloc, equipment, sources, gate)?;
     let watchers = equipment.groups().len().max(1) as u32;
     let (planner, watchers) = Board::open(rt, alloc, plan, watchers)?;
+    let OpenHub {
+        hub,
+        mut desk,
+        receiving,
+    } = opened;
     let mut station = Station::of_planner(rt, alloc, equipment, planner);
     let answer = run(
         rt,
@@ -302,5 +359,8 @@ pub fn live_planned<
         control,
     );
     station.close();
+    // `drop` keeps the proof short: a drop in place goes through all parts of both.
+    drop(desk);
+    drop(hub);
     answer
 }
