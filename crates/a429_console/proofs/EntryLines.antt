@@ -1,9 +1,6 @@
 -- What the first line of a text states, and the lines after it.
-use Rattle.std.proofs.Common.{◌≡◌, ◌∙◌, ◌+◌, ◌<◌, ℕ, List, take, [], ◌∷◌, ◌++◌, length, refl, sym, ap, arith, append_assoc, append-nil, length-append}
+use Rattle.std.proofs.Common.{◌≡◌, ◌∙◌, ◌+◌, ◌<◌, ℕ, List, [], ◌∷◌, ◌++◌, length, refl, sym, ap, arith, append_assoc, length-append}
 use Rattle.std.specs.Prelude.{Option, Some, None, Result, Ok, Err, option_map, option_and_then}
-use Rattle.std.proofs.lemmas.Option.{same_Some}
-use Rattle.std.proofs.Math.Seq.{take-append_seam}
-use Rattle.a429_word.proofs.Lists.{same_Ok}
 use Rattle.a429_console.specs.CutText.{cut}
 use Rattle.a429_console.specs.Lines.{entries_after, entries_before, entries_from, entry_then, first_entry}
 use Rattle.a429_console.proofs.CutLines.{lines_by, lines-cut}
@@ -41,35 +38,7 @@ pub entries_before-append : {A : Type 0} (es : List A) (e : A) (r : Result (List
 entries_before-append es e (Ok later) = ap Ok (sym (append_assoc es (e ∷ []) later))
 entries_before-append es e (Err n) = refl
 
--- ---- faults
-
--- the number of a faulty line
-abbrev pub fault_of : {A : Type 0} → Result (List A) ℕ → Option ℕ
-fault_of (Ok entries) = None
-fault_of (Err n) = Some n
-
-pub fault_before : {A : Type 0} (es : List A) (r : Result (List A) ℕ) → fault_of (entries_before es r) ≡ fault_of r
-fault_before es (Ok later) = refl
-fault_before es (Err n) = refl
-
-pub no_fault : {A : Type 0} (r : Result (List A) ℕ) → fault_of r ≡ None → (entries : List A) × (r ≡ Ok entries)
-no_fault (Ok entries) none = (entries, refl)
-no_fault (Err n) none = cc
-
-pub a_fault : {A : Type 0} (r : Result (List A) ℕ) (n : ℕ) → fault_of r ≡ Some n → r ≡ Err n
-a_fault (Ok entries) n is = cc
-a_fault (Err m) n is = ap Err (same_Some m n is)
-
-pub entries_end : {A : Type 0} (states : List ℕ → Option A) (n : ℕ) (text : List ℕ) → length text ≡ 0 → entries_after states n text ≡ Ok []
-entries_end states n [] none = refl
-entries_end states n (x ∷ xs) none = absurd (omega (arith, none))
-
 -- ---- entries taken one after another
-
--- what stands before the entries that are left
-pub entries_so_far : {A : Type 0} (done : List A) (r : Result (List A) ℕ) (entries : List A) → entries_before done r ≡ Ok entries → take (length done) entries ≡ done
-entries_so_far done (Ok later) entries is = rw (← same_Ok (done ++ later) entries is, take-append_seam done later) refl
-entries_so_far done (Err n) entries is = cc
 
 no_first : {A : Type 0} (states : List ℕ → Option A) (e : A) (rest : List ℕ) → first_entry states [] ≡ Some (e, rest) → ⊥
 unfolding cut
@@ -83,12 +52,3 @@ entries_next states done e (x ∷ xs) rest first =
     let step = entries_step states (length done) (x ∷ xs) (omega arith) in
     let count : length (done ++ e ∷ []) ≡ length done + 1 = length-append done (e ∷ []) in
     rw (step, first, entries_before-append done e (entries_after states (length done + 1) rest), count) refl
-
--- no entry more
-pub entries_last : {A : Type 0} (states : List ℕ → Option A) (done entries : List A) (text : List ℕ) → first_entry states text ≡ None
-    → entries_before done (entries_after states (length done) text) ≡ Ok entries → entries ≡ done
-entries_last states done entries [] none is = sym (same_Ok (done ++ []) entries is) ∙ append-nil done
-entries_last states done entries (x ∷ xs) none is =
-    let step = entries_step states (length done) (x ∷ xs) (omega arith) in
-    let bad = rw (step, none) at is in
-    cc

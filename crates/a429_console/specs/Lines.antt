@@ -35,11 +35,6 @@ entries_of states text = entries_after states 0 text
 
 -- ---- what calls answer
 
--- no line is faulty, or this is the number of the first that is
-abbrev pub ChecksLines : {A : Type 0} → (List ℕ → Option A) → List ℕ → Result (Unit {0}) ℕ → Type 0
-ChecksLines {A} states text result =
-    MatchResult result (λ _. (entries : List A) × (entries_of states text ≡ Ok entries)) (λ n. entries_of states text ≡ Err n)
-
 -- the entries of all lines, or the first faulty one; memory may be refused
 abbrev pub ReadsLines : {A : Type 0} → (List ℕ → Option A) → List ℕ → Result (Vec A Global) LinesFault → Type 0
 ReadsLines states text result =

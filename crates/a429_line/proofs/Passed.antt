@@ -1,16 +1,20 @@
 -- one more byte of a stretch: what it adds to the reports, and the stage behind it
-use Rattle.std.proofs.Common.{◌≡◌, ℕ, ◌+◌, ◌-◌, ◌*◌, ◌%◌, ◌^◌, ◌<◌, ◌≤◌, List, [], ◌∷◌, ◌++◌, length, zero, suc, refl, ap, sym, subst, ◌∙◌, arith, append_assoc, add-zero, get_or, drop, take, slice_range}
-use Rattle.std.proofs.lemmas.Bool.{and_parts}
-use Rattle.std.specs.Prelude.{◌==◌, ◌||◌, ◌&&◌, Bool, IsTrue, Option, Some, None, nat_lt, if◌then◌else◌, bit_or}
+use Rattle.std.proofs.Common.{◌≡◌, ℕ, ◌+◌, ◌-◌, ◌*◌, ◌%◌, ◌^◌, ◌<◌, ◌≤◌, List, [], ◌∷◌, ◌++◌, length, zero, suc, cond, inl, inr, map, refl, ap, ap₂, sym, subst, ◌∙◌, arith, append_assoc, add-one, get_or, drop, take, slice_range}
+use Rattle.std.proofs.Math.Nat.{pow-suc}
+use Rattle.std.proofs.lemmas.Bool.{cases_eq, ne_eqb}
+use Rattle.std.proofs.lemmas.Simd.{length-chunk, mask_l-lt}
+use Rattle.std.specs.Simd.Lanes.{chunk, mask_l}
+use Rattle.std.specs.Prelude.{◌==◌, ◌⊎◌, Option, Some, None, nat_lt, if◌then◌else◌, bit_or}
 use Rattle.std.specs.Option.{option_to_list}
 use Rattle.std.proofs.Math.Seq.{take-add}
-use Rattle.std.proofs.lemmas.List.{drop-drop}
+use Rattle.std.proofs.lemmas.List.{drop-drop, length-map}
 use Rattle.std.proofs.lemmas.List.Edits.{between_none, between_more}
 use Rattle.std.proofs.lemmas.List.Elements.{filter_map-append}
 use Rattle.std.proofs.lemmas.Bool.Decides.{nat_tests}
 use Rattle.a429_line.specs.LineBytes.{symbol_of, symbols_of, bit_of}
 use Rattle.a429_line.specs.Stages.{due, after, due_in, after_all}
-use Rattle.a429_line.specs.Stretches.{Takes}
+use Rattle.a429_line.specs.Stretches.{Takes, places}
+use Rattle.a429_line.proofs.Steps.{or_one, or_none}
 use Rattle.a429_line.specs.declared.found.Symbol.{Symbol}
 use Rattle.a429_line.specs.declared.found.Symbol.TheVariants.{Hi, Null, Lo}
 use Rattle.a429_line.specs.declared.found.Found.{Found}
@@ -98,6 +102,14 @@ takes_symbol bytes i s t y h is due after =
     (ap (λ (o : Option Symbol). due_in s (option_to_list o)) is ∙ ap (λ (o : Option Found). option_to_list o ++ []) due)
     (ap (λ (o : Option Symbol). after_all s (option_to_list o)) is ∙ after)
 
+-- a byte that stands for no symbol
+pub takes_skipped : (bytes : List ℕ) (i : ℕ) (s : Stage) → i < length bytes → symbol_of (get_or bytes i 0) ≡ None → Takes bytes i s [] (i + 1) s
+unfolding due_in after_all
+takes_skipped bytes i s h none =
+    takes_byte bytes i s s [] h
+    (ap (λ (o : Option Symbol). due_in s (option_to_list o)) none)
+    (ap (λ (o : Option Symbol). after_all s (option_to_list o)) none)
+
 -- ---- a gap
 
 pub gap_more : (bytes : List ℕ) (a i n m k : ℕ) → Takes bytes a (Between n) [] i (Between m) → i < length bytes → get_or bytes i 0 ≡ 46 →
@@ -147,38 +159,107 @@ run_begun bytes i n b h gap is =
     takes_symbol bytes i (Between n) (Within 1 b) (level b) h (bit_level (get_or bytes i 0) b is) (first_due n b gap)
     (first_after n b gap (bit_lt (get_or bytes i 0) b is))
 
--- ---- a whole run
+-- ---- a whole run, by the places of its ones and of its zeros
 
-bit_is : (v one : ℕ) → IsTrue (v == 49 || v == 48) → one ≡ (if v == 49 then 1 else 0) → bit_of v ≡ Some one
-bit_is v one is e = grind (arith, nat_tests)
+-- a bit before others
+bit_before : (s t u : Stage) (y : Symbol) (x : List Symbol) → due s y ≡ None → after s y ≡ t → due_in t x ≡ [] → after_all t x ≡ u →
+    (due_in s (y ∷ x) ≡ []) × (after_all s (y ∷ x) ≡ u)
+unfolding due_in after_all
+bit_before s t u y x none next quiet last = (
+  ap (λ (o : Option Found). option_to_list o ++ due_in (after s y) x) none ∙ ap (λ (st : Stage). due_in st x) next ∙ quiet,
+  ap (λ (st : Stage). after_all st x) next ∙ last,
+)
 
-or_first : (b : ℕ) → b < 2 → bit_or 0 (b * 2 ^ 0 % 2 ^ 32) ≡ b
-or_first zero h = refl
-or_first (suc zero) h = refl
-or_first (suc (suc b)) h = absurd (omega arith)
+-- each place is of a one or of a zero
+abbrev AreWhole : List ℕ → Type 0
+AreWhole xs = places 49 xs + places 48 xs + 1 ≡ 2 ^ length xs
 
-pub whole_more : (bytes : List ℕ) (a place raw one : ℕ) (good : Bool) → a + 32 ≤ length bytes → place < 32 → (place ≡ 0 → raw ≡ 0) →
-    (IsTrue good → 0 < place → (n : ℕ) → 4 ≤ n → Takes bytes a (Between n) [] (a + place) (Within place raw)) →
-    one ≡ (if get_or bytes (a + place) 0 == 49 then 1 else 0) →
-    IsTrue (good && (get_or bytes (a + place) 0 == 49 || get_or bytes (a + place) 0 == 48)) → (n : ℕ) → 4 ≤ n →
-    Takes bytes a (Between n) [] (a + (place + 1)) (Within (place + 1) (bit_or raw (one * 2 ^ place % 2 ^ 32)))
-whole_more bytes a zero raw one good room few begun run is all n gap =
-    let bit : bit_of (get_or bytes (a + 0) 0) ≡ Some one = bit_is (get_or bytes (a + 0) 0) one (and_parts _ _ all).1 is in
-    let number : one ≡ bit_or raw (one * 2 ^ 0 % 2 ^ 32) = sym (ap (λ (r : ℕ). bit_or r (one * 2 ^ 0 % 2 ^ 32)) (begun refl) ∙ or_first one (bit_lt (get_or bytes (a + 0) 0) one bit)) in
-    subst (λ (r : ℕ). Takes bytes a (Between n) [] (a + 1) (Within 1 r)) number
-    (run_begun bytes a n one within gap (ap (λ (i : ℕ). bit_of (get_or bytes i 0)) (sym (add-zero a)) ∙ bit))
-  where
-    within : a < length bytes
-    within = omega arith
-whole_more bytes a (suc p) raw one good room few begun run is all n gap =
-    subst (λ (i : ℕ). Takes bytes a (Between n) [] i (Within (suc p + 1) (bit_or raw (one * 2 ^ suc p % 2 ^ 32)))) place
-    (run_more bytes a (a + suc p) (suc p) raw one (Between n) (run (and_parts _ _ all).0 some n gap) within few (bit_is (get_or bytes (a + suc p) 0) one (and_parts _ _ all).1 is))
-  where
-    within : a + suc p < length bytes
-    within = omega arith
+one_or_zero : (b : ℕ) (xs : List ℕ) → AreWhole (b ∷ xs) → ((b ≡ 49) ⊎ (b ≡ 48)) × AreWhole xs
+one_or_zero b xs all =
+    let twice : 2 ^ suc (length xs) ≡ 2 ^ length xs * 2 = pow-suc 2 (length xs) in
+    elim (cases_eq b 49) [
+      | inl is ↦
+          let here : 1 + 2 * places 49 xs + (0 + 2 * places 48 xs) + 1 ≡ 2 ^ suc (length xs) = subst (λ (x : ℕ). AreWhole (x ∷ xs)) is all in
+          (inl is, omega (arith, here, twice))
+      | inr one ↦ elim (cases_eq b 48) [
+        | inl is ↦
+            let here : 0 + 2 * places 49 xs + (1 + 2 * places 48 xs) + 1 ≡ 2 ^ suc (length xs) = subst (λ (x : ℕ). AreWhole (x ∷ xs)) is all in
+            (inr is, omega (arith, here, twice))
+        | inr other ↦
+            let here : cond (b == 49) 1 0 + 2 * places 49 xs + (cond (b == 48) 1 0 + 2 * places 48 xs) + 1 ≡ 2 ^ suc (length xs) = all in
+            absurd (omega (arith, rw (ne_eqb b 49 one, ne_eqb b 48 other) at here, twice))
+      ]
+    ]
 
-    some : 0 < suc p
-    some = omega arith
+-- bits behind so many of a run
+bits_behind : (xs : List ℕ) (len raw : ℕ) → raw < 2 ^ len → len + length xs ≤ 32 → AreWhole xs →
+    (due_in (Within len raw) (symbols_of xs) ≡ []) × (after_all (Within len raw) (symbols_of xs) ≡ Within (len + length xs) (raw + 2 ^ len * places 49 xs))
+unfolding due_in after_all
+bits_behind [] len raw below few all = (refl, ap₂ Within (omega arith) (omega arith))
+bits_behind (b ∷ xs) len raw below few all =
+    let s = Within len raw in
+    let room : len < 32 = omega arith in
+    let later : len + 1 + length xs ≤ 32 = omega arith in
+    let long : len + 1 + length xs ≡ len + suc (length xs) = omega arith in
+    let twice : 2 ^ (len + 1) ≡ 2 ^ len * 2 = ap (λ (n : ℕ). 2 ^ n) (add-one len) ∙ pow-suc 2 len in
+    let bits = one_or_zero b xs all in
+    elim bits.0 [
+      | inl is ↦
+          let rest = bits_behind xs (len + 1) (raw + 2 ^ len) (omega (arith, twice)) later bits.1 in
+          let number : raw + 2 ^ len + 2 ^ (len + 1) * places 49 xs ≡ raw + 2 ^ len * (1 + 2 * places 49 xs) = rw twice (omega arith) in
+          let next : after s Hi ≡ Within (len + 1) (raw + 2 ^ len) = level_after len raw 1 room (omega arith) ∙ ap (Within (len + 1)) (or_one raw len below room) in
+          subst (λ (x : ℕ). (due_in s (symbols_of (x ∷ xs)) ≡ []) × (after_all s (symbols_of (x ∷ xs)) ≡ Within (len + suc (length xs)) (raw + 2 ^ len * places 49 (x ∷ xs)))) (sym is)
+          (bit_before s (Within (len + 1) (raw + 2 ^ len)) (Within (len + suc (length xs)) (raw + 2 ^ len * (1 + 2 * places 49 xs))) Hi (symbols_of xs)
+          (level_due len raw 1 room) next rest.0 (rest.1 ∙ ap₂ Within long number))
+      | inr is ↦
+          let rest = bits_behind xs (len + 1) raw (omega (arith, twice)) later bits.1 in
+          let number : raw + 2 ^ (len + 1) * places 49 xs ≡ raw + 2 ^ len * (0 + 2 * places 49 xs) = rw twice (omega arith) in
+          let next : after s Lo ≡ Within (len + 1) raw = level_after len raw 0 room (omega arith) ∙ ap (Within (len + 1)) (or_none raw len) in
+          subst (λ (x : ℕ). (due_in s (symbols_of (x ∷ xs)) ≡ []) × (after_all s (symbols_of (x ∷ xs)) ≡ Within (len + suc (length xs)) (raw + 2 ^ len * places 49 (x ∷ xs)))) (sym is)
+          (bit_before s (Within (len + 1) raw) (Within (len + suc (length xs)) (raw + 2 ^ len * (0 + 2 * places 49 xs))) Lo (symbols_of xs)
+          (level_due len raw 0 room) next rest.0 (rest.1 ∙ ap₂ Within long number))
+    ]
 
-    place : a + suc p + 1 ≡ a + (suc p + 1)
-    place = omega arith
+-- 32 bits behind a gap
+bits_alone : (xs : List ℕ) (n : ℕ) → 4 ≤ n → length xs ≡ 32 → AreWhole xs →
+    (due_in (Between n) (symbols_of xs) ≡ []) × (after_all (Between n) (symbols_of xs) ≡ Within 32 (places 49 xs))
+bits_alone [] n gap long all = absurd (omega (arith, long))
+bits_alone (b ∷ xs) n gap long all =
+    let s = Between n in
+    let few : 1 + length xs ≤ 32 = omega (arith, long) in
+    let whole : 1 + length xs ≡ 32 = omega (arith, long) in
+    let bits = one_or_zero b xs all in
+    elim bits.0 [
+      | inl is ↦
+          let rest = bits_behind xs 1 1 (omega arith) few bits.1 in
+          subst (λ (x : ℕ). (due_in s (symbols_of (x ∷ xs)) ≡ []) × (after_all s (symbols_of (x ∷ xs)) ≡ Within 32 (places 49 (x ∷ xs)))) (sym is)
+          (bit_before s (Within 1 1) (Within 32 (1 + 2 * places 49 xs)) Hi (symbols_of xs)
+          (first_due n 1 gap) (first_after n 1 gap (omega arith)) rest.0 (rest.1 ∙ ap₂ Within whole (omega arith)))
+      | inr is ↦
+          let rest = bits_behind xs 1 0 (omega arith) few bits.1 in
+          subst (λ (x : ℕ). (due_in s (symbols_of (x ∷ xs)) ≡ []) × (after_all s (symbols_of (x ∷ xs)) ≡ Within 32 (places 49 (x ∷ xs)))) (sym is)
+          (bit_before s (Within 1 0) (Within 32 (0 + 2 * places 49 xs)) Lo (symbols_of xs)
+          (first_due n 0 gap) (first_after n 0 gap (omega arith)) rest.0 (rest.1 ∙ ap₂ Within whole (omega arith)))
+    ]
+
+pub whole_taken : (bytes : List ℕ) (from : ℕ) → from + 32 ≤ length bytes → places 49 (chunk from 32 bytes) + places 48 (chunk from 32 bytes) ≡ 0xffff_ffff →
+    (n : ℕ) → 4 ≤ n → Takes bytes from (Between n) [] (from + 32) (Within 32 (places 49 (chunk from 32 bytes)))
+whole_taken bytes from room all n gap =
+    let run = chunk from 32 bytes in
+    let long : length run ≡ 32 = length-chunk from 32 bytes room in
+    let each : AreWhole run = ap (λ (k : ℕ). k + 1) all ∙ ap (λ (k : ℕ). 2 ^ k) (sym long) in
+    let count : from + 32 - from ≡ 32 = omega arith in
+    let same : slice_range bytes from (from + 32) ≡ run = ap (λ (k : ℕ). take k (drop from bytes)) count in
+    let bits = bits_alone run n gap long each in
+    record {
+      forward = omega arith;
+      within = room;
+      due = ap (λ (x : List ℕ). due_in (Between n) (symbols_of x)) same ∙ bits.0;
+      after = ap (λ (x : List ℕ). after_all (Between n) (symbols_of x)) same ∙ bits.1;
+    }
+
+-- the number of the places among 32
+pub places_lt : (byte : ℕ) (xs : List ℕ) → length xs ≡ 32 → places byte xs < 2 ^ 32
+places_lt byte xs long =
+    let marks = map (λ b. b == byte) xs in
+    subst (λ (k : ℕ). mask_l marks < 2 ^ k) (length-map xs (λ b. b == byte) ∙ long) (mask_l-lt marks)

@@ -1,13 +1,15 @@
 //! Stretches of a line's bytes: what a reader takes of them at once.
-ghost use Rattle.std.specs.Prelude.{◌≡◌, ◌+◌, ◌≤◌, ◌<◌, [], ℕ, IfSome, IsTrue, None, length};
+ghost use Rattle.std.specs.Prelude.{◌≡◌, ◌+◌, ◌^◌, ◌≤◌, ◌<◌, [], ℕ, IfSome, IsTrue, None, length};
 ghost use Rattle.std.specs.Option.{option_to_list};
 ghost use Rattle.a429_line.specs.LineBytes.{bit_of, symbol_of};
 ghost use Rattle.a429_line.specs.Stages.{after_all, due_in};
-ghost use Rattle.a429_line.specs.Stretches.{Takes};
+ghost use Rattle.a429_line.specs.Stretches.{Takes, places};
+ghost use Rattle.a429_line.specs.declared.stage.Stage.{Stage};
 ghost use Rattle.a429_line.specs.declared.stage.Stage.TheVariants.{Between, Within};
 
 use crate::found::{Found, Symbol};
 use crate::stage::Stage;
+use std::simd::prelude::*;
 
 /// How many Nulls are counted.
 const GAP: u32 = 4;
@@ -86,20 +88,41 @@ fn take_run(bytes: &[u8], from: usize, len: u32, raw: u32) -> (usize, u32, u32)
     (at, len, raw)
 }
 
+/// The places of a byte among 32, as the bits of a number: the first is the lowest.
+#[inline(always)]
+fn places_of(run: u8x32, byte: u8) -> u64
+    ensures places { result ≡ places byte run }
+    ensures few { result < 2 ^ 32 }
+{
+    run.simd_eq(u8x32::splat(byte)).to_bitmask()
+}
+
 /// The number of the 32 bits that stand next, if they do. Behind a gap they are a run.
 fn whole_run(bytes: &[u8], from: usize) -> Option<u32>
     requires { from + 32 ≤ length bytes.now }
     ensures { (nulls : ℕ) → 4 ≤ nulls → IfSome result (λ raw. Takes bytes.now from (Between nulls) [] (from + 32) (Within 32 raw)) }
 {
-    let mut good = true;
-    let mut raw = 0;
-    for place in 0..BITS {
-        let byte = bytes[from + place as usize];
-        let one = byte == b'1';
-        good = good & (one | (byte == b'0'));
-        raw |= u32::from(one) << place;
+    let run = u8x32::from_slice(&bytes[from..]);
+    let ones = places_of(run, b'1');
+    let zeros = places_of(run, b'0');
+    // no place is of both: all are of one or the other where each bit of the sum is set
+    if ones + zeros == 0xffff_ffff {
+        Some(ones as u32)
+    } else {
+        None
     }
-    if good { Some(raw) } else { None }
+}
+
+/// Takes the line feed that stands next, if one does: the place behind it.
+fn take_line_feed(bytes: &[u8], from: usize) -> usize
+    requires { from ≤ length bytes.now }
+    ensures { (stage : Stage) → Takes bytes.now from stage [] result stage }
+{
+    if from < bytes.len() && bytes[from] == b'\n' {
+        from + 1
+    } else {
+        from
+    }
 }
 
 /// Takes bytes without a report: the place behind them, and the stage then.
@@ -112,7 +135,7 @@ fn pass(bytes: &[u8], from: usize, stage: Stage) -> (usize, Stage)
             let (at, nulls) = take_gap(bytes, from, nulls);
             if nulls >= GAP && bytes.len() - at >= RUN {
                 if let Some(raw) = whole_run(bytes, at) {
-                    return (at + RUN, Stage::Within(BITS, raw));
+                    return (take_line_feed(bytes, at + RUN), Stage::Within(BITS, raw));
                 }
             }
             (at, Stage::Between(nulls))
@@ -132,8 +155,7 @@ pub fn next_found(bytes: &[u8], from: usize, stage: Stage) -> (Option<Found>, us
     ensures goes_on { IfSome result.0 (λ _. from < result.1) }
     ensures end { result.0 ≡ None → result.1 ≡ length bytes.now }
 {
-    let mut at = from;
-    let mut now = stage;
+    let (mut at, mut now) = pass(bytes, from, stage);
     while at < bytes.len() {
         let found = take_byte(&mut now, bytes[at]);
         at += 1;

@@ -1,6 +1,6 @@
 //! Files with one thing a line.
 ghost use Rattle.std.specs.Prelude.{◌≡◌, ◌<◌, ℕ, List, Option, Ok, Err, IfSome, length, option_map};
-ghost use Rattle.a429_console.specs.Lines.{ChecksLines, ReadsLines, first_entry};
+ghost use Rattle.a429_console.specs.Lines.{ReadsLines, first_entry};
 
 use crate::texts::cut_at;
 use std::alloc::{AllocFailed, Global};
@@ -53,22 +53,6 @@ pub fn first_entry<'a, F: LineForm>(form: &F, text: &'a [u8]) -> Option<(F::Entr
 {
     let (line, rest) = cut_at(text, b'\n')?;
     Some((form.entry(line)?, rest))
-}
-
-/// Checks that each line of a text has the form. The error is the number of the first faulty line, from 1.
-pub fn check_lines<F: LineForm>(form: &F, text: &[u8]) -> Result<(), usize>
-    ensures { ChecksLines (F.states form.now) text.now result }
-{
-    let mut lines = 0;
-    let mut left = text;
-    while !left.is_empty() {
-        let Some((_, rest)) = first_entry(form, left) else {
-            return Err(lines + 1);
-        };
-        lines += 1;
-        left = rest;
-    }
-    Ok(())
 }
 
 /// What the lines of a text state, in order.

@@ -1,5 +1,5 @@
 //! Short lines, written from their end into a room on the stack: so each is appended whole, or not at all.
-ghost use Rattle.std.specs.Prelude.{◌≡◌, ◌+◌, ◌<◌, ◌≤◌, ◌++◌, ◌∷◌, [], drop, length, OnErr};
+ghost use Rattle.std.specs.Prelude.{◌≡◌, ◌+◌, ◌/◌, ◌%◌, ◌≤◌, ◌++◌, ◌∷◌, [], drop, length, OnErr};
 ghost use Rattle.std.specs.Fmt.{decimal};
 ghost use Rattle.a429_word.specs.Written.{Gains};
 ghost use Rattle.a429_word.specs.Hexadecimal.{hex};
@@ -24,17 +24,36 @@ pub fn put_text(room: &mut [u8], end: usize, text: &[u8]) -> usize
     start
 }
 
-/// The hexadecimal digit of a number below 16.
-#[tactic(auto, unfolding(crate::specs::Nibbles::nibble))]
-fn nibble(number: u8) -> u8
-    requires { number < 16 }
-    ensures { result ≡ nibble number }
+/// The two hexadecimal digits of each byte, one byte after another.
+static DIGITS: [u8; 512] = *b"\
+    000102030405060708090a0b0c0d0e0f\
+    101112131415161718191a1b1c1d1e1f\
+    202122232425262728292a2b2c2d2e2f\
+    303132333435363738393a3b3c3d3e3f\
+    404142434445464748494a4b4c4d4e4f\
+    505152535455565758595a5b5c5d5e5f\
+    606162636465666768696a6b6c6d6e6f\
+    707172737475767778797a7b7c7d7e7f\
+    808182838485868788898a8b8c8d8e8f\
+    909192939495969798999a9b9c9d9e9f\
+    a0a1a2a3a4a5a6a7a8a9aaabacadaeaf\
+    b0b1b2b3b4b5b6b7b8b9babbbcbdbebf\
+    c0c1c2c3c4c5c6c7c8c9cacbcccdcecf\
+    d0d1d2d3d4d5d6d7d8d9dadbdcdddedf\
+    e0e1e2e3e4e5e6e7e8e9eaebecedeeef\
+    f0f1f2f3f4f5f6f7f8f9fafbfcfdfeff";
+
+/// Writes the two hexadecimal digits of a byte at a place.
+#[inline(always)]
+fn put_byte(room: &mut [u8], at: usize, byte: u8)
+    requires { at + 2 ≤ length room.old }
+    ensures written { drop at room.new ≡ nibble (byte / 16) ∷ nibble (byte % 16) ∷ drop (at + 2) room.old }
+    ensures size { length room.new ≡ length room.old }
 {
-    if number < 10 {
-        48 + number
-    } else {
-        87 + number
-    }
+    let pair = usize::from(byte) * 2;
+    let (high, low) = (DIGITS[pair], DIGITS[pair + 1]);
+    room[at] = high;
+    room[at + 1] = low;
 }
 
 /// Writes eight hexadecimal digits before the bytes that begin at `end`, and gives their start.
@@ -46,9 +65,9 @@ pub fn put_hex(room: &mut [u8], end: usize, raw: u32) -> usize
     ensures size { length room.new ≡ length room.old }
 {
     let mut left = raw;
-    for place in 0..8 {
-        room[end - 1 - place] = nibble((left % 16) as u8);
-        left /= 16;
+    for place in 0..4 {
+        put_byte(room, end - 2 - 2 * place, (left % 256) as u8);
+        left /= 256;
     }
     end - 8
 }
@@ -79,6 +98,7 @@ pub fn push_number(text: &mut Vec<u8>, before: &[u8], number: u64) -> Result<(),
 }
 
 /// Appends a line of a short text and a raw word. Where memory is refused, nothing is appended.
+#[inline(always)]
 pub fn push_hex(text: &mut Vec<u8>, before: &[u8], raw: u32) -> Result<(), AllocError>
     requires { length before.now ≤ 32 }
     ensures line { Gains result text.old.items text.new.items (before.now ++ hex raw ++ 10 ∷ []) }

@@ -2,11 +2,11 @@ use Rattle.std.proofs.Common.{◌≡◌, ◌∙◌, ap, rules}
 use Rattle.std.specs.Prelude.{Option, None}
 use Rattle.std.specs.Option.{option_to_list}
 use Rattle.a429_line.specs.declared.found.Found.{Found}
-use Rattle.a429_line.proofs.Passed.{takes_none, takes_byte, takes_then}
+use Rattle.a429_line.proofs.Passed.{takes_byte, takes_then}
 use Rattle.a429_line.proofs.stretches.next_found.Goals as goal
 
 pub loop-at-init : goal.loop-at-init
-loop-at-init c = takes_none _ _ _ c.requires
+loop-at-init c = c.pass-at.ensures
 
 pub returns-then-is_some-clause-takes : goal.returns-then-is_some-clause-takes
 returns-then-is_some-clause-takes c =

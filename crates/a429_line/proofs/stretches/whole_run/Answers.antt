@@ -1,10 +1,15 @@
-use Rattle.std.proofs.Common.{arith}
-use Rattle.std.proofs.lemmas.Grind.{common_steps}
-use Rattle.a429_line.proofs.Passed.{whole_more}
+use Rattle.std.proofs.Common.{◌≡◌, ap₂, sym, subst, ◌∙◌, ◌+◌, []}
+use Rattle.std.specs.Simd.Lanes.{chunk}
+use Rattle.a429_line.specs.Stretches.{Takes, places}
+use Rattle.a429_line.specs.declared.stage.Stage.TheVariants.{Between, Within}
+use Rattle.a429_line.proofs.Passed.{whole_taken}
 use Rattle.a429_line.proofs.stretches.whole_run.Goals as goal
 
-pub loop-place-preserved : goal.loop-place-preserved
-loop-place-preserved c = record {
-  begun = λ zero. absurd (omega arith);
-  run = λ good some. whole_more _ _ _ _ _ _ c.requires c.loop-place-test.true c.loop-place.invariant.begun c.loop-place.invariant.run (grind (arith, common_steps)) good;
-}
+pub returns-then-ones-zeros-eq4294967295 : goal.returns-then-ones-zeros-eq4294967295
+returns-then-ones-zeros-eq4294967295 c = λ nulls gap.
+    let bytes = c.args.bytes.now in
+    let from = c.args.from in
+    let ones = c.places_of-ones.ensures.places in
+    let all : places 49 (chunk from 32 bytes) + places 48 (chunk from 32 bytes) ≡ 0xffff_ffff =
+    sym (ap₂ (λ a b. a + b) ones c.places_of-zeros.ensures.places) ∙ c.if-ones-zeros-eq4294967295.true in
+    subst (λ raw. Takes bytes from (Between nulls) [] (from + 32) (Within 32 raw)) (sym ones) (whole_taken bytes from c.requires all nulls gap)
