@@ -24,6 +24,8 @@ pub mod LogLines
 pub mod Timelines
 pub mod SimulatedSteps
 pub mod SimulatedLines
+pub mod ShortNames
+pub mod SentCells
 pub mod TrackOrder
 pub mod SimulationEnds
 pub mod SimulationPrinted

@@ -23,6 +23,7 @@ pub mod Timeline
 pub mod Tracks
 pub mod Simulating
 pub mod SimulationRuns
+pub mod CellLines
 pub mod Summary
 pub mod SummaryRuns
 pub mod SimulationReplies

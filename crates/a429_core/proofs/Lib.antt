@@ -19,3 +19,4 @@ pub mod GoingOut
 pub mod AcrossChanges
 pub mod ManyChanges
 pub mod LatencyExample
+pub mod ComingRound

@@ -9,6 +9,7 @@ use Rattle.a429_slots.specs.Recalling.{Recent, source_sends, source_after}
 use Rattle.a429_slots.specs.Proposed.{Proposed}
 use Rattle.a429_slots.specs.Events.{Event, Arrive, Cell, Frame, Publish}
 use Rattle.a429_slots.specs.History.{Opening}
+use Rattle.a429_core.specs.declared.sends.SentCell.{SentCell}
 use Rattle.a429_core.specs.declared.sources.Kept.{Kept}
 use Rattle.a429_slots.specs.declared.senders.Due.{Due}
 use Rattle.a429_slots.specs.declared.answers.Answer.{Answer}
@@ -75,6 +76,19 @@ sent_in v g (Some c) = sent_due v g c.0 c.1 c.2
 abbrev pub cell_asked : MachineState → ℕ → Answer × MachineState
 cell_asked v g =
     if nat_lt g (length v.groups) then sent_in (record v { groups = after_asked v.groups g }) g (asked_cell v.groups g) else (Refused NoSuch, v)
+
+-- the word that a cell sends for an output, with the output's source
+abbrev pub sent_for : MachineState → ℕ → ℕ → ℕ → Option Due → Option SentCell
+sent_for v g bus slot None = None
+sent_for v g bus slot (Some due) = option_map (λ word. record { bus = bus; slot = slot; source = due.source; word = word }) (word_at v g slot due).0
+
+abbrev pub sent_of : MachineState → ℕ → Option (ℕ × ℕ × Option Due) → Option SentCell
+sent_of v g None = None
+sent_of v g (Some c) = sent_for v g c.0 c.1 c.2
+
+-- the word that a group's next cell sends, if it sends one
+abbrev pub cell_sent : MachineState → ℕ → Option SentCell
+cell_sent v g = if nat_lt g (length v.groups) then sent_of (record v { groups = after_asked v.groups g }) g (asked_cell v.groups g) else None
 
 -- a group goes on to its next frame by this table, where the frame before is over
 abbrev pub framed : FrameState → ℕ → SlotTable → Answer × FrameState

@@ -20,4 +20,5 @@ mod state;
 pub use a429_equipment::COUNT_BITS;
 pub use a429_slots::{Answer, Refusal};
 pub use events::Event;
+pub use sends::SentCell;
 pub use state::{OpenFault, State, StationState};

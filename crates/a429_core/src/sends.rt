@@ -4,7 +4,18 @@ ghost use Rattle.a429_slots.specs.Recalling.{never};
 ghost use Rattle.a429_core.specs.MachineSteps.{group_sends, group_after};
 
 use a429_slots::{Due, GroupSends};
+use a429_word::Word;
 use std::alloc::{AllocError, Global};
+
+/// A word that a group sent: the bus and the slot of its cell, the source of the output that stands there, and the word.
+/// The slot is counted from the station's first.
+#[derive(Clone, Copy, Debug, PartialEq, Eq)]
+pub struct SentCell {
+    pub bus: u32,
+    pub slot: u64,
+    pub source: usize,
+    pub word: Word,
+}
 
 /// The sends of so many groups before their first cells.
 pub fn sends_of(alloc: Global, groups: usize, sources: usize) -> Result<Vec<GroupSends>, AllocError>

@@ -7,10 +7,10 @@ ghost use Rattle.a429_core.specs.Happened.{event_of};
 ghost use Rattle.a429_slots.specs.declared.answers.Refusal.{Refusal as Why};
 ghost use Rattle.a429_slots.specs.FrameStates.{begun, all_fit};
 ghost use Rattle.a429_core.specs.MachineStates.{AnswerEvents, AnswersEvent, GoesOnByEvents, StandsForHistory, IsWhole, IsWholeEvent};
-ghost use Rattle.a429_core.specs.MachineSteps.{word_at, arrived, cell_asked, frame_asked, publish_asked, asked_cell, after_asked, frame_at, stepped};
+ghost use Rattle.a429_core.specs.MachineSteps.{word_at, arrived, cell_asked, cell_sent, frame_asked, publish_asked, asked_cell, after_asked, frame_at, stepped};
 
 use crate::events::Event;
-use crate::sends::{send_word, sends_of};
+use crate::sends::{SentCell, send_word, sends_of};
 use crate::sources::{Kept, keep};
 use a429_equipment::{COUNT_BITS, Equipment};
 use a429_slots::laws::sends_are_recalled;
@@ -208,6 +208,28 @@ impl<const C: u32> State<C> {
                 slot,
                 word: self.send(group, slot, due),
             },
+        }
+    }
+
+    /// A group sends its next cell, as `cell` does. The word in it, with its source; `None` if there is no word or no cell.
+    pub fn send_cell(&mut self, group: usize) -> Option<SentCell>
+        ensures sent { result ≡ cell_sent self.old group }
+        ensures after { self.new ≡ (cell_asked self.old group).1 }
+    {
+        if group >= self.groups.len() {
+            return None;
+        }
+        match next_cell(&mut self.groups, group) {
+            Some((bus, slot, Some(due))) => match self.send(group, slot, due) {
+                Some(word) => Some(SentCell {
+                    bus,
+                    slot,
+                    source: due.source,
+                    word,
+                }),
+                None => None,
+            },
+            _ => None,
         }
     }
 

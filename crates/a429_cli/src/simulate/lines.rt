@@ -1,19 +1,24 @@
 //! Lines of a simulation.
-ghost use Rattle.std.specs.Prelude.{◌≡◌, ◌<◌, ◌≤◌, ◌++◌, length};
-ghost use Rattle.std.specs.Fmt.{decimal};
+ghost use Rattle.std.specs.Prelude.{◌≡◌, ◌+◌, ◌<◌, ◌≤◌, ◌++◌, drop, length, OnErr};
 ghost use Rattle.a429_word.specs.Written.{Gains};
-ghost use Rattle.a429_word.specs.Hexadecimal.{hex};
+ghost use Rattle.a429_documents.specs.Document.{slots_us};
+ghost use Rattle.a429_console.specs.Names.{name_at, naming_of};
 ghost use Rattle.a429_cli.specs.AnswerLines.{refusal_text};
-ghost use Rattle.a429_cli.specs.Simulating.{refused_line, sent_line, separator, source_in};
+ghost use Rattle.a429_cli.specs.CellLines.{BeginsCells, begin_of, rest_of};
+ghost use Rattle.a429_cli.specs.Simulating.{refused_line, sent_line, separator};
 ghost use Rattle.a429_cli.specs.SimulationRuns.{HasGroup, HasNames};
+ghost use Rattle.a429_cli.specs.Timeline.{rate_of as bit_rate};
 
 use crate::names::Names;
 use crate::simulate::log::LogWord;
 use crate::simulate::tracks::{micros_of, rate_of};
-use a429_console::output::from_end::{ROOM, put_decimal, put_hex, put_text};
+use a429_console::output::from_end::{put_decimal, put_hex, put_text};
 use a429_core::Refusal;
 use a429_slots::{OUTPUTS, Proposal};
 use std::alloc::AllocError;
+
+/// How many bytes the room has in which a line is written. The longest line has fewer.
+const ROOM: usize = 128;
 
 /// What lines are written with: the proposal of the station, its names, and whether fields have commas between them.
 #[derive(Clone, Copy)]
@@ -32,47 +37,34 @@ pub struct SentWord {
     pub heard: u64,
 }
 
-/// What separates the fields of a line.
-pub fn separator(csv: bool) -> &'static [u8]
-    ensures value { result.now ≡ separator csv }
-    ensures short { length result.now ≤ 1 }
-{
-    if csv { b"," } else { b" " }
+/// A slot of a group, as the lines of its cells tell of it: what they begin with, and when the slot ends, in microseconds.
+#[derive(Clone, Copy)]
+pub struct CellSlot<'a> {
+    pub group: usize,
+    pub slot: u64,
+    pub begin: &'a [u8],
+    pub end: u64,
 }
 
-/// Appends a number and a text after it.
-fn push_number_then(line: &mut Vec<u8>, number: u64, then: &[u8]) -> Result<(), AllocError>
-    requires short { length then.now ≤ 8 }
-    ensures line { Gains result line.old.items line.new.items (decimal number ++ then.now) }
+/// Writes what separates the fields of a line before the bytes that begin at `end`, and gives its start.
+#[inline(always)]
+fn put_separator(room: &mut [u8], end: usize, csv: bool) -> usize
+    requires { (1 ≤ end) × (end ≤ length room.old) }
+    ensures start { result + 1 ≡ end }
+    ensures written { drop result room.new ≡ separator csv ++ drop end room.old }
+    ensures size { length room.new ≡ length room.old }
 {
-    let mut room = [0u8; ROOM];
-    let at = put_text(&mut room, ROOM, then);
-    let at = put_decimal(&mut room, at, number);
-    line.extend_from_slice(&room[at..])
-}
-
-/// Appends a raw word and a text after it.
-fn push_raw_then(line: &mut Vec<u8>, raw: u32, then: &[u8]) -> Result<(), AllocError>
-    requires short { length then.now ≤ 16 }
-    ensures line { Gains result line.old.items line.new.items (hex raw ++ then.now) }
-{
-    let mut room = [0u8; ROOM];
-    let at = put_text(&mut room, ROOM, then);
-    let at = put_hex(&mut room, at, raw);
-    line.extend_from_slice(&room[at..])
-}
-
-/// Appends a name and a text after it.
-fn push_name_then(line: &mut Vec<u8>, name: &[u8], then: &[u8]) -> Result<(), AllocError>
-    ensures line { Gains result line.old.items line.new.items (name.now ++ then.now) }
-{
-    line.extend_from_slice(name)?;
-    line.extend_from_slice(then)
+    if csv {
+        put_text(room, end, b",")
+    } else {
+        put_text(room, end, b" ")
+    }
 }
 
 /// The name of the reason for which a word is refused.
 fn reason(refusal: Refusal) -> &'static [u8]
-    ensures { result.now ≡ refusal_text refusal }
+    ensures name { result.now ≡ refusal_text refusal }
+    ensures short { length result.now ≤ 16 }
 {
     match refusal {
         Refusal::NoSuch => b"no-such",
@@ -88,60 +80,132 @@ fn reason(refusal: Refusal) -> &'static [u8]
 }
 
 impl LineSetting<'_> {
-    /// The source of the output in a cell of a group; 0 if the cell is empty.
-    pub fn source_in(&self, group: usize, bus: u32, slot: u64) -> usize
-        requires known { HasGroup self.now.proposal.now group }
-        ensures { result ≡ source_in self.now.proposal.now group bus slot }
+    /// The name of a group; nothing if there is none. It has few bytes.
+    #[tactic(auto, using(crate::proofs::ShortNames::group_short))]
+    fn group_name(&self, group: usize) -> &[u8]
+        requires names { HasNames self.now.names.now self.now.proposal.now }
+        ensures name { result.now ≡ name_at (naming_of self.now.proposal.now.station).groups group }
+        ensures short { length result.now ≤ 16 }
     {
-        let table = self.proposal.plan().group(group);
-        match table.at(bus, slot) {
-            None => 0,
-            Some(output) => table.source(output),
-        }
+        prove!(self.proposal.equipment().groups().len() <= 8);
+        self.names.group_name(group)
     }
 
-    /// Appends the line of a word that a group sent in a slot. The error is that memory is refused, and may leave a part of the line.
-    pub fn write_sent(
-        &self,
-        line: &mut Vec<u8>,
-        group: usize,
-        slot: u64,
-        sent: SentWord,
-    ) -> Result<(), AllocError>
+    /// The name of a source; nothing if there is none. It has few bytes.
+    #[tactic(auto, using(crate::proofs::ShortNames::source_short))]
+    #[inline(always)]
+    fn source_name(&self, source: usize) -> &[u8]
+        requires names { HasNames self.now.names.now self.now.proposal.now }
+        ensures name { result.now ≡ name_at (naming_of self.now.proposal.now.station).sources source }
+        ensures short { length result.now ≤ 16 }
+    {
+        prove!(self.proposal.equipment().sources().len() <= 256);
+        self.names.source_name(source)
+    }
+
+    /// The name of a receiver; nothing if there is none. It has few bytes.
+    #[tactic(auto, using(crate::proofs::ShortNames::receiver_short))]
+    fn receiver_name(&self, receiver: usize) -> &[u8]
+        requires names { HasNames self.now.names.now self.now.proposal.now }
+        ensures name { result.now ≡ name_at (naming_of self.now.proposal.now.station).receivers receiver }
+        ensures short { length result.now ≤ 16 }
+    {
+        prove!(self.proposal.equipment().receivers().len() <= 16);
+        self.names.receiver_name(receiver)
+    }
+
+    /// When a slot of a group ends, in microseconds, rounded up.
+    pub fn end_of(&self, group: usize, slot: u64) -> u64
+        requires known { HasGroup self.now.proposal.now group }
+        requires few { slot < 8192000000 }
+        ensures { result ≡ slots_us (bit_rate self.now.proposal.now group) (slot + 1) }
+    {
+        micros_of(rate_of(self.proposal, group), slot + 1)
+    }
+
+    /// Writes what the lines of a group's cells in a slot begin with before the bytes that begin at `end`, and gives its start.
+    pub fn put_begin(&self, room: &mut [u8], end: usize, group: usize, slot: u64) -> usize
         requires names { HasNames self.now.names.now self.now.proposal.now }
         requires known { HasGroup self.now.proposal.now group }
         requires few { slot < 8192000000 }
-        ensures { Gains result line.old.items line.new.items
-            (sent_line self.now.proposal.now self.now.csv group slot sent.bus sent.raw sent.source sent.heard) }
+        requires room { (40 ≤ end) × (end ≤ length room.old) }
+        ensures start { (result ≤ end) × (end ≤ result + 40) }
+        ensures written { drop result room.new ≡ begin_of self.now.proposal.now self.now.csv group slot ++ drop end room.old }
+        ensures size { length room.new ≡ length room.old }
     {
-        let rate = rate_of(self.proposal, group);
-        let between = separator(self.csv);
-        push_number_then(line, micros_of(rate, slot), between)?;
-        push_name_then(line, self.names.group_name(group), between)?;
-        push_number_then(line, u64::from(sent.bus), between)?;
-        push_raw_then(line, sent.raw, between)?;
-        push_name_then(line, self.names.source_name(sent.source), between)?;
-        let age = micros_of(rate, slot + 1).saturating_sub(sent.heard);
-        push_number_then(line, age, b"\n")
+        let at = put_separator(room, end, self.csv);
+        let at = put_text(room, at, self.group_name(group));
+        let at = put_separator(room, at, self.csv);
+        put_decimal(room, at, micros_of(rate_of(self.proposal, group), slot))
     }
 
-    /// Appends the line of a word that is refused. The error is that memory is refused, and may leave a part of the line.
-    pub fn write_refused(
+    /// Writes the rest of the line of a sent word, of this age in microseconds, before the bytes that begin at `end`, and
+    /// gives its start.
+    #[inline(always)]
+    fn put_rest(&self, room: &mut [u8], end: usize, sent: SentWord, age: u64) -> usize
+        requires names { HasNames self.now.names.now self.now.proposal.now }
+        requires room { (80 ≤ end) × (end ≤ length room.old) }
+        ensures start { (result ≤ end) × (end ≤ result + 80) }
+        ensures written { drop result room.new
+            ≡ rest_of self.now.proposal.now self.now.csv sent.bus sent.raw sent.source age ++ drop end room.old }
+        ensures size { length room.new ≡ length room.old }
+    {
+        let at = put_text(room, end, b"\n");
+        let at = put_decimal(room, at, age);
+        let at = put_separator(room, at, self.csv);
+        let at = put_text(room, at, self.source_name(sent.source));
+        let at = put_separator(room, at, self.csv);
+        let at = put_hex(room, at, sent.raw);
+        let at = put_separator(room, at, self.csv);
+        put_decimal(room, at, u64::from(sent.bus))
+    }
+
+    /// Appends the line of a word that a group sent in a slot. If memory is refused, nothing is appended.
+    #[inline(always)]
+    pub fn push_sent(
         &self,
-        line: &mut Vec<u8>,
+        text: &mut Vec<u8>,
+        cell: &CellSlot<'_>,
+        sent: SentWord,
+    ) -> Result<(), AllocError>
+        requires names { HasNames self.now.names.now self.now.proposal.now }
+        requires begin { BeginsCells self.now.proposal.now self.now.csv cell.now.group cell.now.slot cell.now.begin.now cell.now.end }
+        ensures line { Gains result text.old.items text.new.items
+            (sent_line self.now.proposal.now self.now.csv cell.now.group cell.now.slot sent.bus sent.raw sent.source sent.heard) }
+        ensures kept { OnErr result (text.new.items ≡ text.old.items) }
+    {
+        let mut room = [0u8; ROOM];
+        let age = cell.end.saturating_sub(sent.heard);
+        let at = self.put_rest(&mut room, ROOM, sent, age);
+        let at = put_text(&mut room, at, cell.begin);
+        text.extend_from_slice(&room[at..])
+    }
+
+    /// Appends the line of a word that is refused. If memory is refused, nothing is appended.
+    pub fn push_refused(
+        &self,
+        text: &mut Vec<u8>,
         word: LogWord,
         refusal: Refusal,
     ) -> Result<(), AllocError>
         requires names { HasNames self.now.names.now self.now.proposal.now }
-        ensures { Gains result line.old.items line.new.items (refused_line self.now.proposal.now word (refusal_text refusal)) }
+        ensures line { Gains result text.old.items text.new.items
+            (refused_line self.now.proposal.now word (refusal_text refusal)) }
+        ensures kept { OnErr result (text.new.items ≡ text.old.items) }
     {
-        push_number_then(line, word.time, b" ")?;
-        push_name_then(
-            line,
-            self.names.receiver_name(usize::from(word.receiver)),
-            b" ",
-        )?;
-        push_raw_then(line, word.raw, b" refused ")?;
-        push_name_then(line, reason(refusal), b"\n")
+        let mut room = [0u8; ROOM];
+        let at = put_text(&mut room, ROOM, b"\n");
+        let at = put_text(&mut room, at, reason(refusal));
+        let at = put_text(&mut room, at, b" refused ");
+        let at = put_hex(&mut room, at, word.raw);
+        let at = put_text(&mut room, at, b" ");
+        let at = put_text(
+            &mut room,
+            at,
+            self.receiver_name(usize::from(word.receiver)),
+        );
+        let at = put_text(&mut room, at, b" ");
+        let at = put_decimal(&mut room, at, word.time);
+        text.extend_from_slice(&room[at..])
     }
 }

@@ -1,8 +1,10 @@
 //! The machine in a simulation, and when the last accepted word of each source came in.
 ghost use Rattle.std.specs.Prelude.{◌≡◌, ◌∷◌, [], ℕ};
+ghost use Rattle.a429_cli.specs.CellLines.{SendsWord};
 ghost use Rattle.a429_cli.specs.Simulating.{Comes, Asks, Turns};
 ghost use Rattle.a429_cli.specs.SimulationRuns.{GoesOn, HasTime, IsAnswerTo, IsOpening, noted};
 
+use crate::simulate::lines::SentWord;
 use crate::simulate::log::LogWord;
 use a429_console::refusals::CommandRefusal;
 use a429_core::laws::calls_are_answered;
@@ -62,6 +64,24 @@ impl Run {
     {
         calls_are_answered();
         self.state.cell(group)
+    }
+
+    /// A group sends its next cell: the word in it, if it has one.
+    #[inline(always)]
+    pub fn send(&mut self, group: usize) -> Option<SentWord>
+        ensures word { SendsWord self.old group result }
+        ensures after { (slot : ℕ) → GoesOn self.old (Asks group slot ∷ []) self.new }
+    {
+        calls_are_answered();
+        match self.state.send_cell(group) {
+            None => None,
+            Some(cell) => Some(SentWord {
+                bus: cell.bus,
+                raw: cell.word.raw(),
+                source: cell.source,
+                heard: self.time_of(cell.source),
+            }),
+        }
     }
 
     /// A group goes on to its next frame.

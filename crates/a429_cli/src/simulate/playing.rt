@@ -1,28 +1,28 @@
 //! A timeline played on a station.
-ghost use Rattle.std.specs.Prelude.{◌≡◌, ◌<◌, ◌++◌, ◌∷◌, [], OnOk, OnErr, length};
+ghost use Rattle.std.specs.Prelude.{◌≡◌, ◌<◌, ◌∷◌, [], length};
 ghost use Rattle.a429_equipment.specs.Sound.{OfEach};
 ghost use Rattle.a429_console.specs.Outputs.{CountsFault};
-ghost use Rattle.a429_cli.specs.AnswerLines.{refusal_text};
-ghost use Rattle.a429_cli.specs.Simulating.{Asks, Comes, cells_in, refused_line, sent_line, steps_in, turn_after};
+ghost use Rattle.a429_slots.specs.Planned.{IsPlanOf};
+ghost use Rattle.a429_cli.specs.CellLines.{BeginsCells};
+ghost use Rattle.a429_cli.specs.Simulating.{Asks, Comes, cells_in, steps_in, turn_after};
 ghost use Rattle.a429_cli.specs.SimulationLog.{AreInTime};
 ghost use Rattle.a429_cli.specs.SimulationRuns.{GoesOn, HasGroup, HasNames, IsWithin, Plays, PlaysTimeline};
 ghost use Rattle.a429_cli.specs.Tracks.{HasTracks, IsTrack};
 
 use crate::pending::put_if_full;
-use crate::simulate::lines::{LineSetting, SentWord};
+use crate::simulate::lines::{CellSlot, LineSetting};
 use crate::simulate::log::LogWord;
 use crate::simulate::machine::Run;
 use crate::simulate::moments::{Moment, Timeline};
 use a429_console::output::{Output, OutputFault};
-use a429_core::{Answer, Refusal};
+use a429_core::Answer;
 use a429_slots::{OUTPUTS, Proposal};
 use std::alloc::{AllocError, Global};
 
-/// Lines that are not yet put out, and room for one more: a line is appended whole, or not at all.
+/// Lines that are not yet put out. A line is appended whole, or not at all.
 #[derive(Drop)]
 pub struct PendingLines {
     pub text: Vec<u8>,
-    line: Vec<u8>,
 }
 
 impl PendingLines {
@@ -32,45 +32,7 @@ impl PendingLines {
     {
         PendingLines {
             text: Vec::new(alloc),
-            line: Vec::new(alloc),
         }
-    }
-
-    /// Appends the line of a word that a group sent in a slot. If memory is refused, nothing is appended.
-    fn push_sent(
-        &mut self,
-        setting: &LineSetting<'_>,
-        group: usize,
-        slot: u64,
-        sent: SentWord,
-    ) -> Result<(), AllocError>
-        requires names { HasNames setting.now.names.now setting.now.proposal.now }
-        requires known { HasGroup setting.now.proposal.now group }
-        requires few { slot < 8192000000 }
-        ensures line { OnOk result (self.new.text.items ≡ self.old.text.items
-            ++ sent_line setting.now.proposal.now setting.now.csv group slot sent.bus sent.raw sent.source sent.heard) }
-        ensures kept { OnErr result (self.new.text.items ≡ self.old.text.items) }
-    {
-        self.line.clear();
-        setting.write_sent(&mut self.line, group, slot, sent)?;
-        self.text.extend_from_slice(&self.line)
-    }
-
-    /// Appends the line of a word that is refused. If memory is refused, nothing is appended.
-    fn push_refused(
-        &mut self,
-        setting: &LineSetting<'_>,
-        word: LogWord,
-        refusal: Refusal,
-    ) -> Result<(), AllocError>
-        requires names { HasNames setting.now.names.now setting.now.proposal.now }
-        ensures line { OnOk result (self.new.text.items ≡ self.old.text.items
-            ++ refused_line setting.now.proposal.now word (refusal_text refusal)) }
-        ensures kept { OnErr result (self.new.text.items ≡ self.old.text.items) }
-    {
-        self.line.clear();
-        setting.write_refused(&mut self.line, word, refusal)?;
-        self.text.extend_from_slice(&self.line)
     }
 }
 
@@ -91,45 +53,52 @@ fn play_word(
     if setting.csv {
         return Ok(());
     }
-    lines.push_refused(setting, word, refusal)
+    setting.push_refused(&mut lines.text, word, refusal)
 }
 
 /// A group sends its next cell, in this slot: appends its line if it has a word. If memory is refused, nothing is appended.
+#[inline(always)]
 fn play_cell(
     setting: &LineSetting<'_>,
     run: &mut Run,
-    group: usize,
-    slot: u64,
+    cell: &CellSlot<'_>,
     lines: &mut PendingLines,
 ) -> Result<(), AllocError>
     requires names { HasNames setting.now.names.now setting.now.proposal.now }
-    requires known { HasGroup setting.now.proposal.now group }
-    requires few { slot < 8192000000 }
-    ensures { Plays setting.now.proposal.now setting.now.csv (Asks group slot ∷ []) run.old run.new
+    requires planned { IsPlanOf setting.now.proposal.now.station setting.now.proposal.now.plan }
+    requires known { HasGroup setting.now.proposal.now cell.now.group }
+    requires begin { BeginsCells setting.now.proposal.now setting.now.csv cell.now.group cell.now.slot cell.now.begin.now cell.now.end }
+    ensures { Plays setting.now.proposal.now setting.now.csv (Asks cell.now.group cell.now.slot ∷ []) run.old run.new
         lines.old.text.items lines.new.text.items result }
 {
-    let Answer::Sent {
-        bus,
-        slot: at,
-        word,
-    } = run.cell(group)
-    else {
-        return Ok(());
-    };
-    let Some(word) = word else {
-        return Ok(());
-    };
-    let source = setting.source_in(group, bus, at);
-    let sent = SentWord {
-        bus,
-        raw: word.raw(),
-        source,
-        heard: run.time_of(source),
-    };
-    lines.push_sent(setting, group, slot, sent)
+    match run.send(cell.group) {
+        None => Ok(()),
+        Some(sent) => setting.push_sent(&mut lines.text, cell, sent),
+    }
 }
 
 /// A group sends the cells of its next slot, bus by bus: appends the lines of those that have a word.
+fn play_buses(
+    setting: &LineSetting<'_>,
+    run: &mut Run,
+    cell: &CellSlot<'_>,
+    lines: &mut PendingLines,
+) -> Result<(), AllocError>
+    requires names { HasNames setting.now.names.now setting.now.proposal.now }
+    requires known { HasGroup setting.now.proposal.now cell.now.group }
+    requires begin { BeginsCells setting.now.proposal.now setting.now.csv cell.now.group cell.now.slot cell.now.begin.now cell.now.end }
+    ensures { Plays setting.now.proposal.now setting.now.csv (cells_in setting.now.proposal.now cell.now.group cell.now.slot)
+        run.old run.new lines.old.text.items lines.new.text.items result }
+{
+    let buses = setting.proposal.plan().group(cell.group).buses();
+    for _ in 0..buses {
+        play_cell(setting, run, cell, lines)?;
+    }
+    Ok(())
+}
+
+/// A group sends the cells of its next slot: appends the lines of those that have a word. What all of them begin with is
+/// written once.
 fn play_cells(
     setting: &LineSetting<'_>,
     run: &mut Run,
@@ -143,11 +112,15 @@ fn play_cells(
     ensures { Plays setting.now.proposal.now setting.now.csv (cells_in setting.now.proposal.now group slot) run.old run.new
         lines.old.text.items lines.new.text.items result }
 {
-    let buses = setting.proposal.plan().group(group).buses();
-    for _ in 0..buses {
-        play_cell(setting, run, group, slot, lines)?;
-    }
-    Ok(())
+    let mut room = [0u8; 64];
+    let at = setting.put_begin(&mut room, 64, group, slot);
+    let cell = CellSlot {
+        group,
+        slot,
+        begin: &room[at..],
+        end: setting.end_of(group, slot),
+    };
+    play_buses(setting, run, &cell, lines)
 }
 
 /// A group goes on to its next frame, if this slot is the last of one.

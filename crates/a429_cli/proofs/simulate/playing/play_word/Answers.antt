@@ -29,6 +29,6 @@ returns c =
     let csv = c.args.setting.now.csv in
     let w = c.args.word in
     let why = c.in-Refused.refusal in
-    plays_one q csv (Comes w) c.args.run.now c.arrive.new.self c.args.lines.now.text.items c.push_refused.new.self.text.items (refused_line q w (refusal_text why)) c.push_refused.result
+    plays_one q csv (Comes w) c.args.run.now c.arrive.new.self c.args.lines.now.text.items c.push_refused.new.text.items (refused_line q w (refusal_text why)) c.push_refused.result
     (λ past S. c.arrive.ensures.after q past S) (λ past S. refused_is q csv past w why (sym (c.arrive.ensures.answer q past S) ∙ c.in-Refused.is) c.if-setting.false)
     c.push_refused.ensures.line c.push_refused.ensures.kept
