@@ -1,11 +1,13 @@
 //! Plays a script as `a429 replay` does, or tells a line as `a429 lines` does, in plain Rust that is written to be fast:
 //! what bench/replay and bench/lines compare the program with, in time and in every byte. It shares no code with the
 //! program, knows the table that bench/replay makes (source `sN` has label N, and receiver `rM` has the sources from 16 M
-//! on), and takes the slot tables from the text of the plan.
+//! on), and takes the slot tables from the text of the plan. A word is counted, and a cell is looked up, as the program does
+//! it: in 41 bits, by a binary search, with spacing and hold.
 //!
 //! Words: `replay`, the text of the plan and the script; or `lines`, the line file and filters.
 
 use std::error::Error;
+use std::hint::select_unpredictable;
 use std::io::{self, Write};
 use std::{env, fs};
 
@@ -124,56 +126,178 @@ enum Event {
     Frame(u8),
 }
 
-/// A group in its frame. Its cells stand slot by slot, and in a slot bus by bus: the source of each, if it has one.
-struct Group {
-    cells: Vec<Option<u8>>,
-    buses: Vec<Short>,
-    frame: u64,
-    cell: usize,
-    bus: usize,
+/// The newest word of a source, and how many were accepted.
+#[derive(Clone, Copy, Default)]
+struct Current {
+    count: u64,
+    raw: u32,
+}
+
+/// How many words of a source are accepted at most: as many as 41 bits count.
+const MOST: u64 = (1 << 41) - 1;
+
+/// What stands for no source in a table of sources.
+const NO_SOURCE: u16 = 256;
+
+/// The source of each receiver, label and SDI, by the receiver and the lowest ten bits of a word.
+fn sources() -> Vec<u16> {
+    (0..16 << 10).map(|place| {
+        let label = u16::from((place as u8).reverse_bits());
+        if usize::from(label / 16) == place >> 10 { label } else { NO_SOURCE }
+    }).collect()
+}
+
+/// What a group sent last of a source; the count is 0 where it sent nothing.
+#[derive(Clone, Copy, Default)]
+struct LastSend {
+    count: u64,
     slot: u64,
+    times: u32,
+}
+
+/// How many outputs a group has at most.
+const OUTPUTS: usize = 128;
+
+/// The outputs of a group, in the order in which they were placed: each has the cells from its start up to that of the
+/// next, bus by bus, with the slots of a bus in the order of their reversed digits.
+struct Layout {
+    starts: [u32; OUTPUTS],
+    sources: [u8; OUTPUTS],
+    /// So many slots are two sends apart at least.
+    spacings: [u32; OUTPUTS],
+    /// So often one accepted word is sent at most.
+    holds: [u32; OUTPUTS],
+    cells: u32,
+    digits: u32,
+}
+
+impl Layout {
+    /// Of a frame of so many slots, the starts, sources and periods of its outputs, in the order of the starts. The
+    /// table that bench/replay makes asks for an interval of a microsecond or more, and for no hold.
+    fn of(frame: u32, outputs: &[(u32, u8, u32)]) -> Layout {
+        let mut layout = Layout {
+            starts: [u32::MAX; OUTPUTS],
+            sources: [0; OUTPUTS],
+            spacings: [1; OUTPUTS],
+            holds: [u32::MAX; OUTPUTS],
+            cells: outputs.last().map_or(0, |(start, _, period)| start + frame / period),
+            digits: frame.ilog2(),
+        };
+        for (place, (start, source, _)) in outputs.iter().enumerate() {
+            (layout.starts[place], layout.sources[place]) = (*start, *source);
+        }
+        layout
+    }
+
+    /// The output of a cell, which is given by its bus and the reversed digits of its slot.
+    #[inline(always)]
+    fn output(&self, bus: u32, reversed: u32) -> Option<usize> {
+        let cell = bus << self.digits | reversed;
+        if cell >= self.cells {
+            return None;
+        }
+        let mut output = 0;
+        for step in [64, 32, 16, 8, 4, 2, 1] {
+            let next = output | step;
+            output = select_unpredictable(self.starts[next] <= cell, next, output);
+        }
+        Some(output)
+    }
+}
+
+/// The lowest digits of a number in binary, in reverse.
+#[inline(always)]
+fn reversed(number: u32, digits: u32) -> u32 {
+    if digits == 0 { 0 } else { number.reverse_bits() >> (32 - digits) }
+}
+
+/// A group in its frame, which began with the slot `first`.
+struct Group {
+    layout: Layout,
+    sends: Box<[LastSend; 256]>,
+    buses: Vec<Short>,
+    frame: u32,
+    first: u64,
+    slot: u32,
+    bus: u32,
+    reversed: u32,
     slot_text: Short,
 }
 
 impl Group {
-    fn begin(&mut self, slot: u64) {
-        (self.cell, self.bus, self.slot, self.slot_text) = (0, 0, slot, Short::number(slot));
+    fn of(frame: u32, buses: u64, outputs: &mut [(u32, u8, u32)]) -> Group {
+        outputs.sort();
+        Group {
+            layout: Layout::of(frame, outputs),
+            sends: Box::new([LastSend::default(); 256]),
+            buses: (0..buses).map(Short::number).collect(),
+            frame,
+            first: 0,
+            slot: 0,
+            bus: 0,
+            reversed: 0,
+            slot_text: Short::number(0),
+        }
+    }
+
+    #[inline(always)]
+    fn is_at_end(&self) -> bool {
+        self.slot == self.frame
+    }
+
+    /// The word of the cell that is due, if its output has one that may be sent; what is sent is noted.
+    #[inline(always)]
+    fn word(&mut self, values: &[Current; 256]) -> Option<u32> {
+        let output = self.layout.output(self.bus, self.reversed)?;
+        let source = usize::from(self.layout.sources[output]);
+        let Current { count, raw } = values[source];
+        if count == 0 {
+            return None;
+        }
+        let slot = self.first + u64::from(self.slot);
+        let last = &mut self.sends[source];
+        let times = if last.count == count { last.times } else { 0 };
+        let is_soon = last.count != 0 && slot - last.slot < u64::from(self.layout.spacings[output]);
+        if is_soon || times >= self.layout.holds[output] {
+            return None;
+        }
+        *last = LastSend { count, slot, times: (times + 1).min(u32::MAX - 1) };
+        Some(raw)
     }
 
     /// Goes on to the next cell.
     #[inline(always)]
     fn pass(&mut self) {
-        self.cell += 1;
         self.bus += 1;
-        if self.bus == self.buses.len() {
+        if self.bus as usize == self.buses.len() {
             self.bus = 0;
             self.slot += 1;
-            self.slot_text = Short::number(self.slot);
+            self.reversed = reversed(self.slot & (self.frame - 1), self.layout.digits);
+            self.slot_text = Short::number(self.first + u64::from(self.slot));
         }
+    }
+
+    /// Goes on to the next frame.
+    fn begin(&mut self) {
+        (self.first, self.slot) = (self.first + u64::from(self.frame), 0);
     }
 }
 
 fn groups(plan: &str) -> Result<Vec<Group>, Fault> {
-    let mut groups: Vec<Group> = Vec::new();
+    let mut groups: Vec<(u32, u64, Vec<(u32, u8, u32)>)> = Vec::new();
     for line in plan.lines() {
         match *line.split(' ').collect::<Vec<_>>() {
-            ["group", _, "frame", slots, "buses", buses] => {
-                let (frame, buses): (u64, u64) = (slots.parse()?, buses.parse()?);
-                let cells = vec![None; (frame * buses) as usize];
-                let buses = (0..buses).map(Short::number).collect();
-                groups.push(Group { cells, buses, frame, cell: 0, bus: 0, slot: 0, slot_text: Short::number(0) });
-            }
+            ["group", _, "frame", slots, "buses", buses] => groups.push((slots.parse()?, buses.parse()?, Vec::new())),
             ["output", source, "period", period, "bus", bus, "offset", offset] => {
-                let group = groups.last_mut().ok_or("an output before its group")?;
-                let (source, bus): (u8, usize) = (source[1..].parse()?, bus.parse()?);
-                for slot in (offset.parse()?..group.frame).step_by(period.parse()?) {
-                    group.cells[slot as usize * group.buses.len() + bus] = Some(source);
-                }
+                let (frame, _, outputs) = groups.last_mut().ok_or("an output before its group")?;
+                let digits = frame.ilog2();
+                let start = bus.parse::<u32>()? << digits | reversed(offset.parse()?, digits);
+                outputs.push((start, source[1..].parse()?, period.parse()?));
             }
             _ => {}
         }
     }
-    Ok(groups)
+    Ok(groups.into_iter().map(|(frame, buses, mut outputs)| Group::of(frame, buses, &mut outputs)).collect())
 }
 
 // ---- Scripts
@@ -293,31 +417,35 @@ fn replay(plan: &str, script: &str) -> Result<(), Fault> {
     let mut groups = groups(&fs::read_to_string(plan)?)?;
     let events = events(fs::read(script)?)?;
     let accepted: Vec<Short> = (0..256).map(|source| Short::of(&format!("accepted s{source}\n"))).collect();
-    let mut last: [Option<u32>; 256] = [None; 256];
+    let sources = sources();
+    let mut values = Box::new([Current::default(); 256]);
     let mut lines = Lines::to(io::stdout().lock());
     for event in events {
         lines.begin()?;
         match event {
             Event::Arrive(_, raw) if raw.count_ones() % 2 == 0 => lines.put(b"refused parity\n"),
-            Event::Arrive(receiver, raw) => {
-                let source = (raw as u8).reverse_bits();
-                if source / 16 == receiver {
-                    last[usize::from(source)] = Some(raw);
-                    lines.put_short(&accepted[usize::from(source)]);
-                } else {
-                    lines.put(b"refused no-source\n");
+            Event::Arrive(receiver, raw) => match sources[usize::from(receiver) << 10 | (raw & 0x3ff) as usize] {
+                NO_SOURCE => lines.put(b"refused no-source\n"),
+                source => {
+                    let value = &mut values[usize::from(source as u8)];
+                    if value.count == MOST {
+                        lines.put(b"refused count-spent\n");
+                        continue;
+                    }
+                    *value = Current { count: value.count + 1, raw };
+                    lines.put_short(&accepted[usize::from(source as u8)]);
                 }
-            }
+            },
             Event::Cell(number) => {
                 let group = &mut groups[usize::from(number)];
-                let Some(source) = group.cells.get(group.cell) else {
+                if group.is_at_end() {
                     lines.put(b"refused frame-end\n");
                     continue;
-                };
+                }
                 lines.put(b"sent ");
-                lines.put_short(&group.buses[group.bus]);
+                lines.put_short(&group.buses[group.bus as usize]);
                 lines.put_short(&group.slot_text);
-                match source.and_then(|source| last[usize::from(source)]) {
+                match group.word(&values) {
                     Some(raw) => lines.put_hex(raw),
                     None => lines.put(b"none"),
                 }
@@ -326,11 +454,11 @@ fn replay(plan: &str, script: &str) -> Result<(), Fault> {
             }
             Event::Frame(number) => {
                 let group = &mut groups[usize::from(number)];
-                if group.cell < group.cells.len() {
-                    lines.put(b"refused mid-frame\n");
-                } else {
-                    group.begin(group.slot);
+                if group.is_at_end() {
+                    group.begin();
                     lines.put(b"changed 0\n");
+                } else {
+                    lines.put(b"refused mid-frame\n");
                 }
             }
         }

@@ -1,14 +1,15 @@
 //! Plans a table as `a429 plan` does, tells of its plan as `a429 icd`, `margin` and `draw` do, or checks its text as
-//! `a429 check` does, in plain Rust: what bench/plan compares the program with, in time and in every byte. It shares
-//! no code with the program, reads tables of version 1 line by line in the form that bench/plan writes, where the
+//! `a429 check` does, in plain Rust that is written to be fast where tables are read, planned and printed: what bench/plan
+//! and bench/ratios compare the program with, in time and in every byte. It shares no code with the program, reads tables of version 1 line by line in the form that bench/plan writes, where the
 //! program reads any TOML document, and asks of a table and of a text what the program asks of them.
 //!
 //! Words: `plan`, `icd`, `margin` or `draw` and the table; or `icd`, the table and `--csv`; or `check`, the table and
 //! the text.
 
-use std::collections::{HashMap, HashSet};
+use std::collections::HashMap;
 use std::error::Error;
 use std::fmt::Write as _;
+use std::hash::{BuildHasherDefault, Hasher};
 use std::io::{self, Write as _};
 use std::{env, fs};
 
@@ -57,108 +58,173 @@ struct Plan {
     placed: Vec<Placed>,
 }
 
-/// A table of the document: the array that it is of, and its keys.
-type Section<'a> = (&'a str, HashMap<&'a str, &'a str>);
+/// The keys of a table of the document, which are few, and their values.
+type Keys<'a> = Vec<(&'a str, &'a str)>;
 
-fn sections(text: &str) -> Result<Vec<Section<'_>>, Fault> {
-    let mut all: Vec<Section> = vec![("", HashMap::new())];
-    for line in text.lines() {
-        if let Some(head) = line.strip_prefix("[[") {
-            all.push((head.strip_suffix("]]").ok_or("a head")?, HashMap::new()));
-        } else {
-            let (key, value) = line.split_once(" = ").ok_or("a key")?;
-            if all.last_mut().ok_or("a table")?.1.insert(key, value).is_some() {
+/// The tables of a document, one after another: the array that each is of, and its keys.
+struct Sections<'a> {
+    left: &'a str,
+    head: &'a str,
+    keys: Keys<'a>,
+}
+
+impl<'a> Sections<'a> {
+    fn of(text: &'a str) -> Sections<'a> {
+        Sections { left: text, head: "", keys: Vec::with_capacity(8) }
+    }
+
+    /// Reads the keys of the table whose head was read, and the head of the next one, if there is one.
+    fn next(&mut self) -> Result<Option<&'a str>, Fault> {
+        self.keys.clear();
+        while !self.left.is_empty() {
+            let end = self.left.bytes().position(|byte| byte == b'\n').unwrap_or(self.left.len());
+            let line = &self.left[..end];
+            self.left = self.left.get(end + 1..).unwrap_or("");
+            if let Some(head) = line.strip_prefix("[[") {
+                return Ok(Some(head.strip_suffix("]]").ok_or("a head")?));
+            }
+            let space = line.bytes().position(|byte| byte == b' ').ok_or("a key")?;
+            let (key, value) = (&line[..space], line[space..].strip_prefix(" = ").ok_or("a key")?);
+            if self.keys.iter().any(|(other, _)| *other == key) {
                 return Err("a key stands twice".into());
             }
+            self.keys.push((key, value));
         }
+        Ok(None)
     }
-    Ok(all)
 }
 
-/// The value of a key, and that no other keys stand there.
-fn value<'a>(keys: &HashMap<&str, &'a str>, key: &str) -> Result<&'a str, Fault> {
-    keys.get(key).copied().ok_or_else(|| format!("no {key}").into())
+/// The value of a key.
+fn value<'a>(keys: &Keys<'a>, key: &str) -> Result<&'a str, Fault> {
+    keys.iter().find(|(other, _)| *other == key).map(|(_, value)| *value).ok_or_else(|| format!("no {key}").into())
 }
 
-fn text<'a>(keys: &HashMap<&str, &'a str>, key: &str) -> Result<&'a str, Fault> {
+fn text<'a>(keys: &Keys<'a>, key: &str) -> Result<&'a str, Fault> {
     value(keys, key)?.strip_prefix('"').and_then(|rest| rest.strip_suffix('"')).ok_or_else(|| "no text".into())
 }
 
-fn name(keys: &HashMap<&str, &str>) -> Result<String, Fault> {
+fn name<'a>(keys: &Keys<'a>) -> Result<&'a str, Fault> {
     let name = text(keys, "name")?;
-    let fits = |c: char| c.is_ascii_lowercase() || c.is_ascii_digit() || c == '-' || c == '_';
-    if (1..=16).contains(&name.len()) && name.chars().all(fits) { Ok(name.into()) } else { Err("a name".into()) }
+    let fits = |c: u8| c.is_ascii_lowercase() || c.is_ascii_digit() || c == b'-' || c == b'_';
+    if (1..=16).contains(&name.len()) && name.bytes().all(fits) { Ok(name) } else { Err("a name".into()) }
+}
+
+/// A hash of short names.
+#[derive(Default)]
+struct NameHasher(u64);
+
+impl Hasher for NameHasher {
+    fn write(&mut self, bytes: &[u8]) {
+        for piece in bytes.chunks(8) {
+            let mut eight = [0; 8];
+            eight[..piece.len()].copy_from_slice(piece);
+            self.0 = (self.0 ^ u64::from_le_bytes(eight)).wrapping_mul(0x9e37_79b9_7f4a_7c15).rotate_left(29);
+        }
+    }
+
+    fn write_u8(&mut self, _: u8) {}
+
+    fn finish(&self) -> u64 {
+        self.0
+    }
+}
+
+/// The numbers of names.
+type Numbers<'a> = HashMap<&'a str, usize, BuildHasherDefault<NameHasher>>;
+
+fn no_numbers<'a>() -> Numbers<'a> {
+    Numbers::with_capacity_and_hasher(512, BuildHasherDefault::default())
 }
 
 /// Gives a name the next number, unless it has one.
-fn number(numbers: &mut HashMap<String, usize>, name: &str) -> Result<(), Fault> {
+fn number<'a>(numbers: &mut Numbers<'a>, name: &'a str) -> Result<(), Fault> {
     let next = numbers.len();
-    if numbers.insert(name.into(), next).is_some() { Err("a name stands twice".into()) } else { Ok(()) }
+    if numbers.insert(name, next).is_some() { Err("a name stands twice".into()) } else { Ok(()) }
+}
+
+/// A number for each SDI, and one for any.
+fn sdi_bit(sdi: Option<u32>) -> u8 {
+    1 << sdi.unwrap_or(4)
 }
 
 fn table(text_of: &str) -> Result<Table, Fault> {
-    let (mut receivers, mut sources, mut groups) = (HashMap::new(), HashMap::new(), HashMap::new());
+    let (mut receivers, mut sources, mut groups) = (no_numbers(), no_numbers(), no_numbers());
     let mut table = Table { rate: 0, sources: Vec::new(), groups: Vec::new() };
-    let (mut heard, mut sent) = (HashSet::new(), HashSet::new());
-    for (head, keys) in sections(text_of)? {
+    // the SDIs of each label at each receiver, and in a group
+    let (mut heard, mut sent) = (vec![[0; 256]; 16], [0; 256]);
+    let mut sections = Sections::of(text_of);
+    let mut is_last = false;
+    while !is_last {
+        let next = sections.next()?;
+        let (head, keys) = (sections.head, &sections.keys);
         let only = |count: usize| if keys.len() == count { Ok(()) } else { Err("unknown keys") };
         match head {
             "" => {
                 only(2)?;
-                table.rate = value(&keys, "rate")?.parse()?;
-                if value(&keys, "version")? != "1" || !matches!(table.rate, 100000 | 12000..=14500) {
+                table.rate = value(keys, "rate")?.parse()?;
+                if value(keys, "version")? != "1" || !matches!(table.rate, 100000 | 12000..=14500) {
                     return Err("version or rate".into());
                 }
             }
             "receiver" => {
                 only(1)?;
-                number(&mut receivers, &name(&keys)?)?;
+                number(&mut receivers, name(keys)?)?;
+                if receivers.len() > 16 {
+                    return Err("too many receivers".into());
+                }
             }
             "source" => {
                 only(4)?;
+                let (own, sdi) = (name(keys)?, value(keys, "sdi")?);
+                number(&mut sources, own)?;
+                let receiver = *receivers.get(text(keys, "receiver")?).ok_or("unknown receiver")?;
                 let source = Source {
-                    name: name(&keys)?,
-                    receiver: text(&keys, "receiver")?.into(),
-                    label: u32::from_str_radix(text(&keys, "label")?, 8)?,
-                    sdi: if value(&keys, "sdi")? == "\"any\"" { None } else { Some(value(&keys, "sdi")?.parse()?) },
+                    name: own.into(),
+                    receiver: text(keys, "receiver")?.into(),
+                    label: u32::from_str_radix(text(keys, "label")?, 8)?,
+                    sdi: if sdi == "\"any\"" { None } else { Some(sdi.parse()?) },
                 };
-                number(&mut sources, &source.name)?;
-                let receiver = *receivers.get(text(&keys, "receiver")?).ok_or("unknown receiver")?;
-                let (label, sdi) = (source.label, source.sdi);
-                let taken = sdi.is_none() && (0..4).any(|sdi| heard.contains(&(receiver, label, Some(sdi))));
-                if label > 255 || sdi > Some(3) || taken || sdi.is_some() && heard.contains(&(receiver, label, None)) {
+                if source.label > 255 || source.sdi > Some(3) {
                     return Err("a source".into());
                 }
-                if !heard.insert((receiver, label, sdi)) {
+                let taken = &mut heard[receiver][source.label as usize];
+                // any stands for all four
+                let clashes = if source.sdi.is_none() { 31 } else { sdi_bit(source.sdi) | 16 };
+                if *taken & clashes != 0 {
                     return Err("a source stands twice".into());
                 }
+                *taken |= sdi_bit(source.sdi);
                 table.sources.push(source);
             }
             "group" => {
                 only(1)?;
-                let name = name(&keys)?;
-                number(&mut groups, &name)?;
-                sent.clear();
-                table.groups.push(Group { name, outputs: Vec::new() });
+                let name = name(keys)?;
+                number(&mut groups, name)?;
+                sent = [0; 256];
+                table.groups.push(Group { name: name.into(), outputs: Vec::with_capacity(128) });
             }
             "group.output" => {
                 only(3)?;
                 let output = Output {
-                    source: *sources.get(text(&keys, "source")?).ok_or("unknown source")?,
-                    min_us: value(&keys, "min_us")?.parse()?,
-                    max_us: value(&keys, "max_us")?.parse()?,
+                    source: *sources.get(text(keys, "source")?).ok_or("unknown source")?,
+                    min_us: value(keys, "min_us")?.parse()?,
+                    max_us: value(keys, "max_us")?.parse()?,
                 };
                 let source = &table.sources[output.source];
                 if !(1..=output.max_us).contains(&output.min_us) || output.max_us > 30_000_000 {
                     return Err("an interval".into());
                 }
-                if !sent.insert((source.label, source.sdi)) {
+                let taken = &mut sent[source.label as usize];
+                if *taken & sdi_bit(source.sdi) != 0 {
                     return Err("an output stands twice".into());
                 }
+                *taken |= sdi_bit(source.sdi);
                 table.groups.last_mut().ok_or("an output before its group")?.outputs.push(output);
             }
             _ => return Err("unknown table".into()),
         }
+        is_last = next.is_none();
+        sections.head = next.unwrap_or("");
     }
     let many = receivers.len() > 16 || table.sources.len() > 256 || table.groups.len() > 8;
     if many || table.groups.iter().any(|group| !(1..=128).contains(&group.outputs.len())) {
@@ -196,14 +262,35 @@ fn plan(table: &Table, group: &Group) -> Result<Plan, Fault> {
     if buses > BUSES || frame > SLOTS { Err("too many buses".into()) } else { Ok(Plan { frame, buses, demand: start, placed }) }
 }
 
+/// Adds a text and a number.
+fn push_number(text: &mut String, before: &str, mut number: u64) {
+    let (mut digits, mut at) = ([0; 20], 20);
+    loop {
+        at -= 1;
+        digits[at] = b'0' + (number % 10) as u8;
+        number /= 10;
+        if number == 0 {
+            break;
+        }
+    }
+    text.push_str(before);
+    text.extend(digits[at..].iter().map(|digit| char::from(*digit)));
+}
+
 fn plan_text(table: &Table) -> Result<String, Fault> {
-    let mut text = format!("plan 1\nrate {}\n", table.rate);
+    let mut text = String::with_capacity(65536);
+    write!(text, "plan 1\nrate {}\n", table.rate)?;
     for group in &table.groups {
         let plan = plan(table, group)?;
         writeln!(text, "group {} frame {} buses {}", group.name, plan.frame, plan.buses)?;
         for placed in &plan.placed {
             let source = &table.sources[group.outputs[placed.output].source].name;
-            writeln!(text, "output {source} period {} bus {} offset {}", placed.period, placed.bus, placed.offset)?;
+            text.push_str("output ");
+            text.push_str(source);
+            push_number(&mut text, " period ", placed.period);
+            push_number(&mut text, " bus ", placed.bus);
+            push_number(&mut text, " offset ", placed.offset);
+            text.push('\n');
         }
         writeln!(text, "bound {} > {} * {}", plan.demand, plan.buses - 1, plan.frame)?;
     }
@@ -438,13 +525,14 @@ fn check<'a>(table: &Table, text: &'a str) -> Result<Option<(&'static str, usize
         }
         _ => return Ok(Some(("form", number))),
     }
-    let names: HashMap<&str, usize> = table.sources.iter().enumerate().map(|(at, it)| (it.name.as_str(), at)).collect();
+    let names: Numbers = table.sources.iter().enumerate().map(|(at, it)| (it.name.as_str(), at)).collect();
     for group in &table.groups {
-        let mut periods = HashMap::with_capacity(group.outputs.len());
+        // the period of each source that is not listed yet
+        let mut periods = [None; 256];
         for output in &group.outputs {
-            periods.insert(output.source, grid_period(table.rate, output)?);
+            periods[output.source] = Some(grid_period(table.rate, output)?);
         }
-        let greatest = periods.values().copied().max().unwrap_or(1);
+        let greatest = periods.iter().flatten().copied().max().unwrap_or(1);
         let number = words(&mut line);
         let (name, frame, buses) = match line[..] {
             ["group", name, "frame", frame, "buses", buses] => match (decimal(frame), decimal(buses)) {
@@ -462,8 +550,8 @@ fn check<'a>(table: &Table, text: &'a str) -> Result<Option<(&'static str, usize
         if !(1..=BUSES).contains(&buses) {
             return Ok(Some(("buses", number)));
         }
-        let mut listed: HashSet<usize> = HashSet::new();
-        let mut places: Vec<(u64, u64, u64)> = Vec::with_capacity(group.outputs.len());
+        // the slots of each bus that are taken, whose periods divide the frame
+        let mut taken = vec![false; (frame * buses) as usize];
         let mut demand = 0;
         for _ in &group.outputs {
             let number = words(&mut line);
@@ -476,27 +564,22 @@ fn check<'a>(table: &Table, text: &'a str) -> Result<Option<(&'static str, usize
                 }
                 _ => return Ok(Some(("form", number))),
             };
-            let due = names.get(name).and_then(|source| Some((*source, *periods.get(source)?)));
-            let Some((source, due)) = due else {
+            let Some(due) = names.get(name).and_then(|source| periods[*source].take()) else {
                 return Ok(Some(("output", number)));
             };
-            if !listed.insert(source) {
-                return Ok(Some(("output", number)));
-            }
             if period != due {
                 return Ok(Some(("period", number)));
             }
             if bus >= buses || offset >= period {
                 return Ok(Some(("place", number)));
             }
-            let meets = |place: &(u64, u64, u64)| {
-                let smaller = place.1.min(period);
-                place.0 == bus && place.2 % smaller == offset % smaller
-            };
-            if places.iter().any(meets) {
-                return Ok(Some(("shared", number)));
+            let own = &mut taken[(bus * frame) as usize..((bus + 1) * frame) as usize];
+            for slot in own[offset as usize..].iter_mut().step_by(period as usize) {
+                if *slot {
+                    return Ok(Some(("shared", number)));
+                }
+                *slot = true;
             }
-            places.push((bus, period, offset));
             demand += frame / period;
         }
         let number = words(&mut line);

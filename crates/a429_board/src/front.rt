@@ -56,9 +56,9 @@ impl Play<Plan<OUTPUTS>, u64> for Reserves {
 }
 
 /// A step that looks at the whole list.
-pub(crate) struct Looks;
+pub(crate) struct LooksAtAll;
 
-impl Play<Plan<OUTPUTS>, u64> for Looks {
+impl Play<Plan<OUTPUTS>, u64> for LooksAtAll {
     ghost use Rattle.a429_board.specs.Lists.{looks};
 
     ghost then = { looks };
@@ -211,7 +211,7 @@ impl Front {
         let mut both = self.seen.again();
         both.learn(&other.seen);
         let mut offer: Asked = both.plain::<Nothing, Plan<OUTPUTS>, Asks>(&self.plan);
-        head.compare_exchange::<Looks, Nothing>(0, 0, &mut both, &mut offer, pen);
+        head.compare_exchange::<LooksAtAll, Nothing>(0, 0, &mut both, &mut offer, pen);
     }
 
     /// This list with one plan more, by the pen of the next plan.

@@ -31,7 +31,7 @@ impl Absorb<Front> for Shown {
 }
 
 /// What a seat knows: the book of what is shown. No value of it is made.
-pub(crate) struct View {
+pub(crate) struct BookView {
     pub knows: bool,
     pub book: BookName,
 }
@@ -45,7 +45,7 @@ pub(crate) struct BookName {
 
 pub(crate) struct OneBook;
 
-impl Protocol<Shown, View> for OneBook {
+impl Protocol<Shown, BookView> for OneBook {
     ghost use Rattle.a429_board.specs.Showing.{Keeps, newcomer};
 
     ghost holds = { Keeps };
@@ -56,7 +56,7 @@ impl Protocol<Shown, View> for OneBook {
 /// A step that learns which book it is.
 pub(crate) struct Learns;
 
-impl Outcome<Shown, View> for Learns {
+impl Outcome<Shown, BookView> for Learns {
     ghost use Rattle.a429_board.specs.Showing.{learns};
 
     ghost then = { learns };
@@ -64,13 +64,13 @@ impl Outcome<Shown, View> for Learns {
 
 pub(crate) struct Copies;
 
-impl Split<View> for Copies {
+impl Split<BookView> for Copies {
     ghost left = { λ v. v };
 
     ghost right = { λ v. v };
 }
 
-impl Join<View> for Copies {
+impl Join<BookView> for Copies {
     ghost use Rattle.a429_board.specs.Showing.{newcomer};
 
     ghost both = { λ v w. w };
@@ -78,6 +78,6 @@ impl Join<View> for Copies {
     ghost spent = { newcomer };
 }
 
-pub(crate) type PlanReader = Reader<Shown, View, OneBook>;
+pub(crate) type PlanReader = Reader<Shown, BookView, OneBook>;
 
-pub(crate) type PlanWriter = Writer<Shown, Front, View, OneBook>;
+pub(crate) type PlanWriter = Writer<Shown, Front, BookView, OneBook>;

@@ -6,7 +6,7 @@ use Rattle.a429_slots.specs.Proposed.{Proposed}
 use Rattle.a429_slots.specs.Events.{Event, Arrive, Cell, Frame, Publish}
 use Rattle.a429_slots.specs.History.{Opening}
 use Rattle.a429_slots.specs.Answers.{answer}
-use Rattle.a429_core.specs.MachineStates.{IsWhole, IsWholeEvent, StandsForHistory}
+use Rattle.a429_core.specs.MachineStates.{HasTableForEach, IsWholeEvent, StandsForHistory}
 use Rattle.a429_core.specs.MachineSteps.{cell_asked, frame_asked, publish_asked, stepped}
 use Rattle.a429_c.specs.Stations.{Held}
 use Rattle.a429_c.specs.Calls.{arrival_step, asked, cell_of, moved, plan_of, source_of}
@@ -26,7 +26,7 @@ pub record AnswersCalls (o : Opening) (E : List Event) (held : Option Held) : Ty
   pub arrives : (r raw : ℕ) → asked source_of (arrival_step r raw) held ≡ source_of (answer count_bits o E (Arrive r raw))
   pub cells : (g : ℕ) → asked cell_of (λ s. cell_asked s g) held ≡ cell_of (answer count_bits o E (Cell g))
   pub frames : (g : ℕ) → asked plan_of (λ s. frame_asked s g) held ≡ plan_of (answer count_bits o E (Frame g))
-  pub publishes : (q : Proposed) → IsWhole q → asked plan_of (λ s. publish_asked s q) held ≡ plan_of (answer count_bits o E (Publish q))
+  pub publishes : (q : Proposed) → HasTableForEach q → asked plan_of (λ s. publish_asked s q) held ≡ plan_of (answer count_bits o E (Publish q))
 
 -- whatever calls were made of a station, it has their history, and the next call is answered by it
 abbrev pub StationsKeepHistory : Type 0

@@ -4,7 +4,7 @@ use Rattle.a429_equipment.specs.Limits.{count_bits}
 use Rattle.a429_slots.specs.Tables.{groups_of}
 use Rattle.a429_slots.specs.FrameStates.{all_fit}
 use Rattle.a429_slots.specs.Proposed.{Proposed}
-use Rattle.a429_core.specs.MachineStates.{IsWhole, StandsForHistory}
+use Rattle.a429_core.specs.MachineStates.{HasTableForEach, StandsForHistory}
 use Rattle.a429_core.specs.MachineSteps.{publish_asked}
 use Rattle.a429_console.specs.Names.{naming_of}
 use Rattle.a429_console.specs.Tables.{IsProposedBy, IsTableRefusal}
@@ -50,7 +50,7 @@ IsPutFor (Table refusal) (Table put) = IsToldOf refusal put
 IsPutFor (Table refusal) (Call status) = ⊥
 
 -- a station of the table's bytes to which nothing has happened, whose first frames begin at this slot
-pub record IsOpenedFrom (table : List ℕ) (first : ℕ) (m : Held) : Type 0 where
+pub record IsHeldFrom (table : List ℕ) (first : ℕ) (m : Held) : Type 0 where
   pub proposal : Proposed
   pub proposed : IsProposedBy table proposal
   pub small : length table ≤ table_limit
@@ -59,7 +59,7 @@ pub record IsOpenedFrom (table : List ℕ) (first : ℕ) (m : Held) : Type 0 whe
   pub stands : StandsForHistory count_bits (record { proposal = proposal; first = first }) [] m.state
 
 abbrev pub IsOpenIn : List ℕ → ℕ → Option Held → Type 0
-IsOpenIn table first (Some m) = IsOpenedFrom table first m
+IsOpenIn table first (Some m) = IsHeldFrom table first m
 IsOpenIn table first None = ⊥
 
 -- an opening is refused with this number and this text
@@ -67,37 +67,37 @@ abbrev pub IsRefusedOpening : List ℕ → ℕ → ℕ → List ℕ → Type 0
 IsRefusedOpening table first code text = (why : TableRefusal) × IsNoOpening table first why × IsPutAs why code text
 
 -- a proposal of the table's bytes was published, which has a slot table for each group: the machine's answer, and the station after it
-pub record IsPublication (table : List ℕ) (before after : Held) (outcome : Result ℕ Status) : Type 0 where
+pub record HasPublishedTable (table : List ℕ) (before after : Held) (outcome : Result ℕ Status) : Type 0 where
   pub proposal : Proposed
   pub proposed : IsProposedBy table proposal
-  pub whole : IsWhole proposal
+  pub whole : HasTableForEach proposal
   pub small : length table ≤ table_limit
   pub answer : outcome ≡ plan_of (publish_asked before.state proposal).0
   pub moved : after ≡ with_state before (publish_asked before.state proposal).1
 
 -- what a publication finds and leaves in the caller's memory: the station that is held, the number of a plan, the text of the last refusal
-pub record Found : Type 0 where
+pub record PublicationMemory : Type 0 where
   pub held : Option Held
   pub number : ℕ
   pub refusal_text : List ℕ
 
 -- on a closed station its status is answered, and nothing else is looked at
-abbrev pub IsClosedPublication : Found → Found → ℕ → Type 0
+abbrev pub IsClosedPublication : PublicationMemory → PublicationMemory → ℕ → Type 0
 IsClosedPublication before after code =
     (code ≡ 10) × (after.held ≡ None) × (after.number ≡ before.number) × (after.refusal_text ≡ kept_text (line_of Closed))
 
 -- a proposal of the table was answered by the machine
-pub record IsAnsweredPublication (table : List ℕ) (m : Held) (before after : Found) (code : ℕ) : Type 0 where
+pub record IsAnsweredPublication (table : List ℕ) (m : Held) (before after : PublicationMemory) (code : ℕ) : Type 0 where
   pub next : Held
   pub outcome : Result ℕ Status
-  pub publication : IsPublication table m next outcome
+  pub publication : HasPublishedTable table m next outcome
   pub held : after.held ≡ Some next
   pub status : code ≡ status_of outcome
   pub number : after.number ≡ given_or outcome before.number
   pub refusal_text : after.refusal_text ≡ text_after outcome before.refusal_text
 
 -- the table was refused with this number and this text, or memory was, and nothing else changed
-pub record IsRefusedPublication (table : List ℕ) (m : Held) (before after : Found) (code : ℕ) : Type 0 where
+pub record IsRefusedPublication (table : List ℕ) (m : Held) (before after : PublicationMemory) (code : ℕ) : Type 0 where
   pub why : TableRefusal
   pub stands : IsNoPublication table why
   pub put : IsPutAs why code after.refusal_text
@@ -105,6 +105,6 @@ pub record IsRefusedPublication (table : List ℕ) (m : Held) (before after : Fo
   pub number : after.number ≡ before.number
 
 -- what a publication comes to
-abbrev pub IsPublishing : List ℕ → Found → Found → Option Held → ℕ → Type 0
+abbrev pub IsPublishing : List ℕ → PublicationMemory → PublicationMemory → Option Held → ℕ → Type 0
 IsPublishing table before after None code = IsClosedPublication before after code
 IsPublishing table before after (Some m) code = IsAnsweredPublication table m before after code ⊎ IsRefusedPublication table m before after code

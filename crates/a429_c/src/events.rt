@@ -2,13 +2,13 @@
 ghost use Rattle.std.specs.Prelude.{◌≡◌, ◌≤◌, None, IfOk, IfErr, OnErr};
 ghost use Rattle.a429_core.specs.MachineSteps.{cell_asked, frame_asked};
 ghost use Rattle.a429_c.specs.Calls.{arrival_step, asked, cell_of, given_or, moved, plan_of, source_of, status_of, text_in};
-ghost use Rattle.a429_c.specs.Openings.{IsNoPublication, IsOpenIn, IsPublication, IsPublishing, IsRefusedOpening};
+ghost use Rattle.a429_c.specs.Openings.{IsNoPublication, IsOpenIn, HasPublishedTable, IsPublishing, IsRefusedOpening};
 ghost use Rattle.a429_c.specs.Places.{KeepsText, found_in};
 
 use crate::answers::{SentCell, cell_of, plan_of, source_of};
 use crate::machine::{Machine, build};
 use crate::sizes::sizes_of;
-use crate::station::Station;
+use crate::station::StationHandle;
 use crate::statuses::Status;
 use crate::tables::{TableRefusal, read_proposal, refuse_table};
 use std::alloc::Global;
@@ -19,7 +19,7 @@ use std::alloc::Global;
 #[unsafe(no_mangle)]
 pub extern "C" fn a429_open(
     alloc: Global,
-    station: &mut Station,
+    station: &mut StationHandle,
     table: &[u8],
     first_slot: u64,
 ) -> u32
@@ -39,7 +39,7 @@ pub extern "C" fn a429_open(
 
 /// Closes a station. If none is held, nothing happens.
 #[unsafe(no_mangle)]
-pub extern "C" fn a429_close(alloc: Global, station: &mut Station)
+pub extern "C" fn a429_close(alloc: Global, station: &mut StationHandle)
     ensures closed { station.new.handle.held ≡ None }
     ensures refusal_text { station.new.refusal_text ≡ station.old.refusal_text }
 {
@@ -50,7 +50,7 @@ pub extern "C" fn a429_close(alloc: Global, station: &mut Station)
 #[unsafe(no_mangle)]
 pub extern "C" fn a429_arrive(
     alloc: Global,
-    station: &mut Station,
+    station: &mut StationHandle,
     receiver: usize,
     raw: u32,
     source: &mut usize,
@@ -72,7 +72,7 @@ pub extern "C" fn a429_arrive(
 #[unsafe(no_mangle)]
 pub extern "C" fn a429_cell(
     alloc: Global,
-    station: &mut Station,
+    station: &mut StationHandle,
     group: usize,
     sent: &mut SentCell,
 ) -> u32
@@ -93,7 +93,7 @@ pub extern "C" fn a429_cell(
 #[unsafe(no_mangle)]
 pub extern "C" fn a429_frame(
     alloc: Global,
-    station: &mut Station,
+    station: &mut StationHandle,
     group: usize,
     plan: &mut u64,
 ) -> u32
@@ -115,7 +115,7 @@ pub extern "C" fn a429_frame(
 #[unsafe(no_mangle)]
 pub extern "C" fn a429_publish(
     alloc: Global,
-    station: &mut Station,
+    station: &mut StationHandle,
     table: &[u8],
     plan: &mut u64,
 ) -> u32
@@ -142,7 +142,7 @@ fn publish(
     machine: &mut Machine,
     table: &[u8],
 ) -> Result<Result<u64, Status>, TableRefusal>
-    ensures published { IfOk result (IsPublication table.now machine.old machine.new) }
+    ensures published { IfOk result (HasPublishedTable table.now machine.old machine.new) }
     ensures refused { IfErr result (IsNoPublication table.now) }
     ensures kept { OnErr result (machine.new ≡ machine.old) }
 {

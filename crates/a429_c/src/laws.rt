@@ -1,7 +1,7 @@
 //! What follows for all calls of a station.
 ghost use denote.Param.Send.{IsSend};
 ghost use Rattle.a429_c.specs.Histories.{StationsKeepHistory};
-ghost use Rattle.a429_c.specs.contracts.station.Station.{the_row as station_row};
+ghost use Rattle.a429_c.specs.contracts.station.StationHandle.{the_row as station_row};
 
 use a429_core::laws::calls_are_answered;
 

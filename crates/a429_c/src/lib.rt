@@ -21,4 +21,4 @@ mod tables;
 pub use answers::SentCell;
 pub use handle::Handle;
 pub use refusal_text::RefusalText;
-pub use station::Station;
+pub use station::StationHandle;

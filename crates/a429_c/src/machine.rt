@@ -1,11 +1,11 @@
 //! A station in operation, with its names and the sizes of the plans in force.
 ghost use Rattle.std.specs.Prelude.{◌≡◌, MatchResult, map, option_map, slice_get};
 ghost use Rattle.a429_slots.specs.Tables.{buses_of, frame_of, groups_of};
-ghost use Rattle.a429_core.specs.MachineStates.{IsWhole};
+ghost use Rattle.a429_core.specs.MachineStates.{HasTableForEach};
 ghost use Rattle.a429_core.specs.MachineSteps.{cell_asked, frame_asked, publish_asked};
 ghost use Rattle.a429_console.specs.Names.{number_named};
 ghost use Rattle.a429_c.specs.Calls.{arrival_step, with_state};
-ghost use Rattle.a429_c.specs.Openings.{IsNoOpening, IsOpenedFrom};
+ghost use Rattle.a429_c.specs.Openings.{IsNoOpening, IsHeldFrom};
 ghost use Rattle.a429_c.specs.Sizes.{size_of};
 
 use crate::sizes::{GroupSize, follow, sizes_of};
@@ -74,7 +74,7 @@ impl Machine {
         requires { sizes.items ≡ map size_of (groups_of proposal.plan) }
         ensures answer { result ≡ (publish_asked self.old.state proposal).0 }
         ensures after { self.new ≡ with_state self.old (publish_asked self.old.state proposal).1 }
-        ensures whole { IsWhole proposal }
+        ensures whole { HasTableForEach proposal }
     {
         let answer = self.state.publish(proposal);
         if let Answer::Published { .. } = answer {
@@ -144,7 +144,7 @@ pub(crate) fn group_number(rows: &[GroupRow], name: &[u8]) -> Option<usize>
 
 /// The station of a table's bytes, to which nothing has happened, whose first frames begin at this slot.
 pub(crate) fn build(alloc: Global, table: &[u8], first: u64) -> Result<Box<Machine>, TableRefusal>
-    ensures { MatchResult result (λ b. IsOpenedFrom table.now first b.value) (IsNoOpening table.now first) }
+    ensures { MatchResult result (λ b. IsHeldFrom table.now first b.value) (IsNoOpening table.now first) }
 {
     let proposal = read_proposal(alloc, table)?;
     let Ok(sizes) = sizes_of(alloc, proposal.plan()) else {

@@ -6,7 +6,7 @@ ghost use Rattle.a429_c.specs.Calls.{counted, fitting, given_or, length_or, name
 
 use crate::machine::{group_number, receiver_number};
 use crate::refusal_text::put_text;
-use crate::station::Station;
+use crate::station::StationHandle;
 use crate::statuses::Status;
 use std::alloc::Global;
 
@@ -14,7 +14,7 @@ use std::alloc::Global;
 #[unsafe(no_mangle)]
 pub extern "C" fn a429_receiver(
     alloc: Global,
-    station: &mut Station,
+    station: &mut StationHandle,
     name: &[u8],
     receiver: &mut usize,
 ) -> u32
@@ -35,7 +35,7 @@ pub extern "C" fn a429_receiver(
 #[unsafe(no_mangle)]
 pub extern "C" fn a429_group(
     alloc: Global,
-    station: &mut Station,
+    station: &mut StationHandle,
     name: &[u8],
     group: &mut usize,
 ) -> u32
@@ -56,7 +56,7 @@ pub extern "C" fn a429_group(
 #[unsafe(no_mangle)]
 pub extern "C" fn a429_receiver_name(
     alloc: Global,
-    station: &mut Station,
+    station: &mut StationHandle,
     receiver: usize,
     room: &mut [u8],
     count: &mut usize,
@@ -79,7 +79,7 @@ pub extern "C" fn a429_receiver_name(
 #[unsafe(no_mangle)]
 pub extern "C" fn a429_group_name(
     alloc: Global,
-    station: &mut Station,
+    station: &mut StationHandle,
     group: usize,
     room: &mut [u8],
     count: &mut usize,
@@ -102,7 +102,7 @@ pub extern "C" fn a429_group_name(
 #[unsafe(no_mangle)]
 pub extern "C" fn a429_source_name(
     alloc: Global,
-    station: &mut Station,
+    station: &mut StationHandle,
     source: usize,
     room: &mut [u8],
     count: &mut usize,
@@ -123,7 +123,11 @@ pub extern "C" fn a429_source_name(
 
 /// Gives how many receivers the station has, numbered from 0.
 #[unsafe(no_mangle)]
-pub extern "C" fn a429_receivers(alloc: Global, station: &mut Station, count: &mut usize) -> u32
+pub extern "C" fn a429_receivers(
+    alloc: Global,
+    station: &mut StationHandle,
+    count: &mut usize,
+) -> u32
     ensures status { result ≡ status_of (counted (λ n. n.receivers) station.old.handle.held) }
     ensures count { count.new ≡ given_or (counted (λ n. n.receivers) station.old.handle.held) count.old }
     ensures same { station.new.handle.held ≡ station.old.handle.held }
@@ -139,7 +143,7 @@ pub extern "C" fn a429_receivers(alloc: Global, station: &mut Station, count: &m
 
 /// Gives how many groups the station has, numbered from 0.
 #[unsafe(no_mangle)]
-pub extern "C" fn a429_groups(alloc: Global, station: &mut Station, count: &mut usize) -> u32
+pub extern "C" fn a429_groups(alloc: Global, station: &mut StationHandle, count: &mut usize) -> u32
     ensures status { result ≡ status_of (counted (λ n. n.groups) station.old.handle.held) }
     ensures count { count.new ≡ given_or (counted (λ n. n.groups) station.old.handle.held) count.old }
     ensures same { station.new.handle.held ≡ station.old.handle.held }
@@ -157,7 +161,7 @@ pub extern "C" fn a429_groups(alloc: Global, station: &mut Station, count: &mut 
 #[unsafe(no_mangle)]
 pub extern "C" fn a429_buses(
     alloc: Global,
-    station: &mut Station,
+    station: &mut StationHandle,
     group: usize,
     buses: &mut u32,
 ) -> u32
@@ -178,7 +182,7 @@ pub extern "C" fn a429_buses(
 #[unsafe(no_mangle)]
 pub extern "C" fn a429_frame_slots(
     alloc: Global,
-    station: &mut Station,
+    station: &mut StationHandle,
     group: usize,
     slots: &mut u32,
 ) -> u32
@@ -199,7 +203,11 @@ pub extern "C" fn a429_frame_slots(
 /// refused. It is answered for a closed station too: an opening that is refused leaves none. Its own refusal keeps the
 /// text.
 #[unsafe(no_mangle)]
-pub extern "C" fn a429_refusal(station: &mut Station, room: &mut [u8], count: &mut usize) -> u32
+pub extern "C" fn a429_refusal(
+    station: &mut StationHandle,
+    room: &mut [u8],
+    count: &mut usize,
+) -> u32
     ensures status { result ≡ status_of (fitting (length room.old) (text_in station.old.refusal_text)) }
     ensures room { room.new ≡ room_after (fitting (length room.old) (text_in station.old.refusal_text)) room.old }
     ensures count { count.new ≡ length_or (fitting (length room.old) (text_in station.old.refusal_text)) count.old }

@@ -4,7 +4,7 @@ use Rattle.std.specs.Prelude.{Bool, true, Option}
 use Rattle.std.proofs.lemmas.List.{take_all}
 use Rattle.a429_equipment.specs.declared.loads.Load.{Load}
 use Rattle.a429_equipment.specs.TableRecord.{TableRecord}
-use Rattle.a429_equipment.specs.Agreement.{AgreesTo, Cuts, IsCut, is_of, last_of, words_of}
+use Rattle.a429_equipment.specs.Agreement.{AgreesTo, Cuts, IsCutOfLoad, is_of, last_of, words_of}
 use Rattle.a429_values.specs.Later.{StaysWhole}
 
 pub between : (t : TableRecord) (r s count last : ℕ) (A : List (ℕ × ℕ)) (loads rest : List Load) (word : Option ℕ)
@@ -17,5 +17,5 @@ between t r s count last A loads rest word own whole agrees =
     let all : Cuts (is_of t r) (A ++ []) 0 (loads ++ l ∷ rest) last = subst (λ (B : List (ℕ × ℕ)). Cuts (is_of t r) B 0 (loads ++ l ∷ rest) last) (sym (append-nil A)) flat in
     let (cut, within, before, cuts) = whole [] (l ∷ rest) last all in
     let later : Cuts (is_of t r) A cut (l ∷ rest) last = subst (λ (B : List (ℕ × ℕ)). Cuts (is_of t r) B cut (l ∷ rest) last) (append-nil A) cuts in
-    let is : IsCut true A cut l later.0 = subst (λ (b : Bool). IsCut b A cut l later.0) own later.1 in
+    let is : IsCutOfLoad true A cut l later.0 = subst (λ (b : Bool). IsCutOfLoad b A cut l later.0) own later.1 in
     ap (λ (x : Load). x.word) is.2 ∙ ap (λ (B : List (ℕ × ℕ)). last_of (words_of s B)) (take_all later.0 A (omega (arith, within, is.0)))

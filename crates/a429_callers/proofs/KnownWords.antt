@@ -9,7 +9,7 @@ use Rattle.std.proofs.lemmas.List.{length-append, length-take}
 use Rattle.std.proofs.lemmas.Nat.{pow_pos}
 use Rattle.std.proofs.lemmas.Option.{none-some, same_Some, slice_get_within}
 use Rattle.a429_word.proofs.Lists.{all_at, get_within}
-use Rattle.a429_equipment.specs.Arrivals.{AreApart}
+use Rattle.a429_equipment.specs.Arrivals.{SourcesAreApart}
 use Rattle.a429_equipment.specs.declared.loads.Load.{Load}
 use Rattle.a429_equipment.specs.declared.rows.SourceRow.{SourceRow}
 use Rattle.a429_slots.specs.declared.group_plan.SlotPlace.{SlotPlace}
@@ -30,7 +30,7 @@ use Rattle.a429_core.specs.Histories.{history_of}
 use Rattle.a429_core.specs.Latency.{AcceptedWordsGoOutInTime, IsAcceptedAt, next_on, next_slot_on, period_of}
 use Rattle.a429_workers.specs.Calls.{Call, Carried, Asks, Turns, Meets, GroupState, AreLawful, IsAnswered, IsLawful, after, before_calls, loads_of, state_after, word_of}
 use Rattle.a429_workers.specs.Runs.{IsRun, IsWorking, WorkIsOneRun, answered, event_of, is_publish, is_sending, turn_answer}
-use Rattle.a429_callers.specs.KnownWords.{GroupCalls, HasSpacedOutput, IsKnown, KnownWordsGoOutInTime, SendsKnown, StaysInCalls, calls_of, frame_after, next_after}
+use Rattle.a429_callers.specs.KnownWords.{GroupCalls, HasSpacedOutput, IsKnownBy, KnownWordsGoOutInTime, SendsKnown, StaysInCalls, calls_of, frame_after, next_after}
 use Rattle.a429_callers.proofs.RunPlaces.{CutsAlike, adds_one, at_count, count_at, count_grows, earlier, length-answers, nth, on_the_way, same_place, stands_alike}
 
 -- what the crates below promise
@@ -101,7 +101,7 @@ none_yet C o source = by (slice_get o.proposal.station.sources source)
     by None = refl
     by (Some r) = omega (arith, length-take (2 ^ C - 1) (let none : List ℕ = [] in none))
 
-words_next : WordsAreAcceptedOneByOne → (C : ℕ) (o : Opening) (E : List Event) (source m : ℕ) → AreApart o.proposal.station.sources → m < length E → words_at C o E source m ≤ words_at C o E source (suc m)
+words_next : WordsAreAcceptedOneByOne → (C : ℕ) (o : Opening) (E : List Event) (source m : ℕ) → SourcesAreApart o.proposal.station.sources → m < length E → words_at C o E source m ≤ words_at C o E source (suc m)
 words_next law C o E source m apart below =
     let (e, there) = get_within E m below in
     let on : words_at C o E source (suc m) ≡ length (accepted_by C o source (take m E ++ e ∷ [])) = ap (λ (F : List Event). length (accepted_by C o source F)) (take_following E m e there) in
@@ -110,7 +110,7 @@ words_next law C o E source m apart below =
       | inr N ↦ omega (arith, on, ap (λ (ws : List ℕ). length ws) N.same)
     ]
 
-words_by : WordsAreAcceptedOneByOne → (C : ℕ) (o : Opening) (E : List Event) (source a d : ℕ) → AreApart o.proposal.station.sources → d + a ≤ length E → words_at C o E source a ≤ words_at C o E source (d + a)
+words_by : WordsAreAcceptedOneByOne → (C : ℕ) (o : Opening) (E : List Event) (source a d : ℕ) → SourcesAreApart o.proposal.station.sources → d + a ≤ length E → words_at C o E source a ≤ words_at C o E source (d + a)
 words_by law C o E source a zero apart few =
     let same : zero + a ≡ a = omega arith in
     omega (arith, ap (words_at C o E source) same)
@@ -118,7 +118,7 @@ words_by law C o E source a (suc d) apart few =
     let on : suc d + a ≡ suc (d + a) = omega arith in
     omega (arith, ap (words_at C o E source) on, words_next law C o E source (d + a) apart (omega (arith, few)), words_by law C o E source a d apart (omega (arith, few)))
 
-words_grow : WordsAreAcceptedOneByOne → (C : ℕ) (o : Opening) (E : List Event) (source a b : ℕ) → AreApart o.proposal.station.sources → a ≤ b → b ≤ length E → words_at C o E source a ≤ words_at C o E source b
+words_grow : WordsAreAcceptedOneByOne → (C : ℕ) (o : Opening) (E : List Event) (source a b : ℕ) → SourcesAreApart o.proposal.station.sources → a ≤ b → b ≤ length E → words_at C o E source a ≤ words_at C o E source b
 words_grow law C o E source a b apart after few =
     let rest : (b - a) + a ≡ b = omega (arith, after) in
     subst (λ (z : ℕ). words_at C o E source a ≤ words_at C o E source z) rest (words_by law C o E source a (b - a) apart (omega (arith, few, rest)))
@@ -130,7 +130,7 @@ record IsAcceptedBy (C : ℕ) (o : Opening) (E : List Event) (source n m : ℕ) 
   pub accepted : IsAcceptedAt C o E place source
   pub enough : n ≤ words_at C o E source (suc place)
 
-accepted_at : WordsAreAcceptedOneByOne → (C : ℕ) (o : Opening) (E : List Event) (source n m : ℕ) → AreApart o.proposal.station.sources → m ≤ length E → 1 ≤ n → n ≤ words_at C o E source m → IsAcceptedBy C o E source n m
+accepted_at : WordsAreAcceptedOneByOne → (C : ℕ) (o : Opening) (E : List Event) (source n m : ℕ) → SourcesAreApart o.proposal.station.sources → m ≤ length E → 1 ≤ n → n ≤ words_at C o E source m → IsAcceptedBy C o E source n m
 accepted_at law C o E source n zero apart few some enough = absurd (omega (arith, some, enough, none_yet C o source))
 accepted_at law C o E source n (suc m) apart few some enough =
     let (e, there) = get_within E m (omega (arith, few)) in
@@ -231,7 +231,7 @@ module _ (law : AreLaws) (C : ℕ) (o : Opening) (g : ℕ) (p : SlotTable) (late
   ]
 
   -- the cell in which a word of the source is sent, as a call
-  sent_in_call : (m k source slot word count first : ℕ) (x : Placed) (bus : ℕ) (cell : ℕ × ℕ) → AreApart o.proposal.station.sources → slice_get E m ≡ Some (Cell g) → cell_due g (current o g p (take m E)) ≡ Some cell
+  sent_in_call : (m k source slot word count first : ℕ) (x : Placed) (bus : ℕ) (cell : ℕ × ℕ) → SourcesAreApart o.proposal.station.sources → slice_get E m ≡ Some (Cell g) → cell_due g (current o g p (take m E)) ≡ Some cell
       → output_in (current o g p (take m E)).table cell.0 cell.1 ≡ Some x → x.source ≡ source → answer C o (take m E) (Cell g) ≡ Sent bus slot (Some word) → m < place_of k → slot < first
       → ((l : Load) → words_at C o E l.source m ≡ l.count → l.source ≡ source → count ≤ l.count) → SendsKnown calls k source count first
   sent_in_call m k source slot word count first x bus cell apart asked due there same told before high enough =
@@ -276,8 +276,8 @@ module _ (law : AreLaws) (C : ℕ) (o : Opening) (g : ℕ) (p : SlotTable) (late
         sent = D.word_is;
       }
 
-  out_in_time : (h i k source : ℕ) (at : SlotPlace) (q count : ℕ) → AreApart o.proposal.station.sources → IsOwnPlan o.proposal → AllByRecursion IsOwnPlan later → h ≤ i → i ≤ k → StaysInCalls made h k source at q
-      → IsKnown calls i source count → 1 ≤ count → next_after made h at.bus + period_of at ≤ next_after made i at.bus → next_after made i at.bus + period_of at ≤ next_after made k at.bus
+  out_in_time : (h i k source : ℕ) (at : SlotPlace) (q count : ℕ) → SourcesAreApart o.proposal.station.sources → IsOwnPlan o.proposal → AllByRecursion IsOwnPlan later → h ≤ i → i ≤ k → StaysInCalls made h k source at q
+      → IsKnownBy calls i source count → 1 ≤ count → next_after made h at.bus + period_of at ≤ next_after made i at.bus → next_after made i at.bus + period_of at ≤ next_after made k at.bus
       → SendsKnown calls k source count (next_after made i at.bus + period_of at)
   out_in_time h i k source at q count apart opened own low after stays K some settled passes =
       let period : 0 < period_of at = pow_pos at.period in

@@ -4,7 +4,7 @@ use Rattle.std.specs.Prelude.{Some, None, Option, Result, Ok, drop, slice_get}
 use Rattle.std.specs.Option.{option_map_or}
 use Rattle.std.proofs.lemmas.Option.{none-some, same_Some}
 use Rattle.a429_word.proofs.Lists.{same_Ok}
-use Rattle.a429_equipment.specs.Arrivals.{AreApart}
+use Rattle.a429_equipment.specs.Arrivals.{SourcesAreApart}
 use Rattle.a429_slots.specs.Answers.{answer, cell_answer}
 use Rattle.a429_slots.specs.Events.{Event, Arrive, Cell, Frame, Publish}
 use Rattle.a429_slots.specs.History.{Opening, OpensWith, answered_cells, current}
@@ -65,7 +65,7 @@ unfolding is_sent
 group_there C o E a None is answered sent = absurd (omega (arith, ap is_sent answered, sent))
 group_there C o E a (Some p) is answered sent = (p, sym is)
 
-pub second_sent : (C : ℕ) (o : Opening) (r first second a bus slot w : ℕ) → SentWordsWereAccepted → AreApart o.proposal.station.sources
+pub second_sent : (C : ℕ) (o : Opening) (r first second a bus slot w : ℕ) → SentWordsWereAccepted → SourcesAreApart o.proposal.station.sources
     → answer C o [] (Arrive r first) ≡ Accepted a → answer C o (Arrive r first ∷ []) (Arrive r second) ≡ Accepted a
     → answer C o (Arrive r first ∷ Arrive r second ∷ []) (Cell 0) ≡ Sent bus slot (Some w) → w ≡ second
 unfolding is_sent

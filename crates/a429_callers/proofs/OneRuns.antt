@@ -25,7 +25,7 @@ use Rattle.a429_workers.specs.Runs.{IsWired, IsWorking, WorkIsOneRun}
 use Rattle.a429_workers.specs.Sends.{HasSent, sent_in, with_cells}
 use Rattle.a429_workers.specs.Transmitting.{BeginsWith, GoesOnByCalls, HasMade, IsKnownPlan, Outset, StandsForCalls, Transmitting, led_by, met}
 use Rattle.a429_workers.specs.declared.cells.Sent.{Sent}
-use Rattle.a429_callers.specs.OneRun.{AreShown, EndsRunOnce, HasHeard, HasMet, HasSentAll, IsOneRun, IsRunOver, fresh, heard_of, opening, two}
+use Rattle.a429_callers.specs.OneRun.{AreShown, EndsRunOnce, HasHeard, HasMetTwo, HasSentAll, IsOneRun, IsRunOver, fresh, heard_of, opening, two}
 use Rattle.a429_equipment.specs.declared.rows.SourceRow.{SourceRow}
 use Rattle.a429_workers.proofs.Known.{plan_known}
 
@@ -97,7 +97,7 @@ first_of (x ∷ xs) some = (x, refl)
 pub one_run_of : (law : WorkIsOneRun) (at : Place) (w : Watched) (list : List PlanTable) (begun sent done : Transmitting) (a b : List ℕ) (calls : List Call) (before after : Option (List Sent))
     → IsWired at.station → length at.station.receivers ≡ 2 → 0 < length at.station.groups → IsPlanOf at.station w.opened
     → BeginsWith (record { at = at; number = 0; loads = [] }) w 0 begun → begun.transmitter.at ≡ at → HasSent begun sent before after calls []
-    → AreShown (opening at.station w.opened) list → HasMet sent done (heard_at at 0 a) (heard_at at 1 b) list
+    → AreShown (opening at.station w.opened) list → HasMetTwo sent done (heard_at at 0 a) (heard_at at 1 b) list
     → IsOneRun at.station (two a b) before after
 one_run_of law at w list begun sent done a b calls before after wired few some planned begins here S shown M =
     let t = at.station in
@@ -158,7 +158,7 @@ pub met_both : (old told one other : Transmitting) (a b : ReceiverEnd) (list : L
     → AgreesToTheEnd one.transmitter.at.station b.number b.accepted other.transmitter.loads
     → OthersStayAgreed one.transmitter.at.station b.number one.transmitter.loads other.transmitter.loads
     → IsReceived a.limit a.at.station a.number a.accepted → IsReceived b.limit b.at.station b.number b.accepted
-    → HasMet old other a b list
+    → HasMetTwo old other a b list
 met_both old told one other a b list l m apart is_told is_one is_other first second third agrees_one agrees_other others received_one received_other =
     let at_told : told.transmitter.at ≡ old.transmitter.at = ap (λ (v : Transmitting). v.transmitter.at) is_told in
     let at_one : one.transmitter.at ≡ old.transmitter.at = ap (λ (v : Transmitting). v.transmitter.at) is_one ∙ at_told in
@@ -197,13 +197,13 @@ pub run_over : {L B : Type 0} (given : L → List ℕ) (taken : B → Option (Li
     → at.station ≡ t → IsWired t → length t.receivers ≡ 2 → 0 < length t.groups → IsPlanOf t w.opened
     → end ≡ record { at = at; number = 0; loads = [] } → BeginsWith end w 0 begun → begun.transmitter ≡ end
     → one ≡ fresh at 0 → other ≡ fresh at 1 → HasHeard given f f' one one' heard → HasHeard given s s' other other' also → HasSentAll begun sent (taken b) (taken b') took
-    → AreShown (opening t w.opened) list → HasMet sent done one' other' list → heard ≡ true → also ≡ true → took ≡ true → IsRunOver given taken t f f' s s' b b'
+    → AreShown (opening t w.opened) list → HasMetTwo sent done one' other' list → heard ≡ true → also ≡ true → took ≡ true → IsRunOver given taken t f f' s s' b b'
 run_over given taken law t at w list end begun sent done one one' other other' heard also took f f' s s' b b' here wired few some planned is_end begins ends is_one is_other first second S shown M all_first all_second all_sent =
     let x = first.words in
     let y = second.words in
     let was_one : one' ≡ heard_at at 0 x = first.taken all_first ∙ ap (λ (r : ReceiverEnd). after_words r x) is_one in
     let was_other : other' ≡ heard_at at 1 y = second.taken all_second ∙ ap (λ (r : ReceiverEnd). after_words r y) is_other in
-    let met : HasMet sent done (heard_at at 0 x) (heard_at at 1 y) list = subst (λ (r : ReceiverEnd). HasMet sent done (heard_at at 0 x) r list) was_other (subst (λ (r : ReceiverEnd). HasMet sent done r other' list) was_one M) in
+    let met : HasMetTwo sent done (heard_at at 0 x) (heard_at at 1 y) list = subst (λ (r : ReceiverEnd). HasMetTwo sent done (heard_at at 0 x) r list) was_other (subst (λ (r : ReceiverEnd). HasMetTwo sent done r other' list) was_one M) in
     let back = sym here in
     record {
       one = x;

@@ -13,9 +13,9 @@ use Rattle.a429_equipment.specs.declared.arrivals.ArrivalRefusal.TheVariants.{Pa
 use Rattle.a429_equipment.specs.declared.loads.Load.{Load}
 use Rattle.a429_equipment.specs.declared.rows.SourceRow.{SourceRow}
 use Rattle.a429_equipment.specs.TableRecord.{TableRecord}
-use Rattle.a429_equipment.specs.Arrivals.{AreApart, accepts, is_for, passes_at, sorted}
+use Rattle.a429_equipment.specs.Arrivals.{SourcesAreApart, accepts, is_for, passes_at, sorted}
 use Rattle.a429_equipment.specs.Receiving.{with_word, accepted_after}
-use Rattle.a429_equipment.specs.Agreement.{Agrees, Cuts, IsCut, is_of, words_of}
+use Rattle.a429_equipment.specs.Agreement.{Agrees, Cuts, IsCutOfLoad, is_of, words_of}
 use Rattle.a429_filter.specs.declared.sources.LineSource as LineSource
 use Rattle.a429_workers.specs.declared.sinks.BusSink as BusSink
 use Rattle.a429_slots.specs.Tables.{Placed, SlotTable, output_in}
@@ -127,7 +127,7 @@ cuts_tell : (mine : ℕ → Bool) (A : List (ℕ × ℕ)) (before last : ℕ) (l
 cuts_tell mine A before last [] P h all = tt
 cuts_tell mine A before last (l ∷ ls) P h all = (
   λ own w is.
-      let c : IsCut true A before l h.0 = subst (λ (b : Bool). IsCut b A before l h.0) own h.1 in
+      let c : IsCutOfLoad true A before l h.0 = subst (λ (b : Bool). IsCutOfLoad b A before l h.0) own h.1 in
       all_at (P l.source) (words_of l.source (take h.0 A)) (length (words_of l.source (take h.0 A)) - 1) w (all_words P l.source h.0 A all) (sym (ap (λ (m : Load). m.word) c.2) ∙ is),
   cuts_tell mine A h.0 last ls P h.2 all,
 )
@@ -288,7 +288,7 @@ module _ {L B : Type 0} (source : LineSource.Ghosts L) (sink : BusSink.Ghosts B)
       }) ask.sinks report.sinks.items report.groups.items H.sent
 
   -- by the laws of a429_workers and of a429_core
-  pub all_latest : WorkIsOneRun → SentWordsWereAccepted → AreApart ask.table.sources → (report : Report L B)
+  pub all_latest : WorkIsOneRun → SentWordsWereAccepted → SourcesAreApart ask.table.sources → (report : Report L B)
       → HasRun source sink ask report → HasRunOnLatestWords source sink ask report
   all_latest one_run accepted apart report H =
       let c : Course = H.course in
@@ -304,7 +304,7 @@ module _ {L B : Type 0} (source : LineSource.Ghosts L) (sink : BusSink.Ghosts B)
       }
 
   -- by the law of this crate
-  pub all_in_time : KnownWordsGoOutInTime → AreApart ask.table.sources → (report : Report L B)
+  pub all_in_time : KnownWordsGoOutInTime → SourcesAreApart ask.table.sources → (report : Report L B)
       → HasRun source sink ask report → HasRunInTime source sink ask report
   all_in_time law apart report H =
       let c : Course = H.course in

@@ -1,7 +1,7 @@
 -- How late a word goes out that a group's transmitter knows of, by the transmitter's calls.
 use Rattle.std.specs.Prelude.{◌≡◌, ◌+◌, ◌<◌, ◌≤◌, ℕ, List, Some, length, slice_get, take}
 use Rattle.std.specs.List.{AllByRecursion}
-use Rattle.a429_equipment.specs.Arrivals.{AreApart}
+use Rattle.a429_equipment.specs.Arrivals.{SourcesAreApart}
 use Rattle.a429_equipment.specs.declared.loads.Load.{Load}
 use Rattle.a429_slots.specs.declared.group_plan.SlotPlace.{SlotPlace}
 use Rattle.a429_slots.specs.Tables.{Placed, SlotTable, outputs_of}
@@ -40,7 +40,7 @@ abbrev pub StaysInCalls : GroupCalls → ℕ → ℕ → ℕ → SlotPlace → �
 StaysInCalls made h k source at q = (n : ℕ) → h ≤ n → n ≤ k → HasSpacedOutput (frame_after made n).table source at q
 
 -- in the first n calls, by a cell or by meeting a receiver, the source was loaded when it had accepted `count` words or more
-pub record IsKnown (calls : List Call) (n source count : ℕ) : Type 0 where
+pub record IsKnownBy (calls : List Call) (n source count : ℕ) : Type 0 where
   pub number : ℕ
   pub load : Load
   pub there : slice_get (loads_of (take n calls)) number ≡ Some load
@@ -66,7 +66,7 @@ pub record SendsKnown (calls : List Call) (k source count end : ℕ) : Type 0 wh
 abbrev pub GoOutInTime : GroupCalls → Type 0
 GoOutInTime made =
     (h i k source : ℕ) (at : SlotPlace) (q count : ℕ) → h ≤ i → i ≤ k → k ≤ length made.calls → StaysInCalls made h k source at q
-    → IsKnown made.calls i source count → 1 ≤ count → next_after made h at.bus + period_of at ≤ next_after made i at.bus
+    → IsKnownBy made.calls i source count → 1 ≤ count → next_after made h at.bus + period_of at ≤ next_after made i at.bus
     → next_after made i at.bus + period_of at ≤ next_after made k at.bus
     → SendsKnown made.calls k source count (next_after made i at.bus + period_of at)
 
@@ -74,5 +74,5 @@ GoOutInTime made =
 abbrev pub KnownWordsGoOutInTime : Type 0
 KnownWordsGoOutInTime =
     (C : ℕ) (o : Opening) (g : ℕ) (p : SlotTable) (later : List Proposed) (calls : List Call) (heard : ℕ → List (ℕ × ℕ))
-    → IsWorking C o g p later calls heard → AreApart o.proposal.station.sources → IsOwnPlan o.proposal → AllByRecursion IsOwnPlan later
+    → IsWorking C o g p later calls heard → SourcesAreApart o.proposal.station.sources → IsOwnPlan o.proposal → AllByRecursion IsOwnPlan later
     → GoOutInTime (calls_of o g p calls)

@@ -13,7 +13,7 @@ use Rattle.a429_slots.specs.History.{Opening}
 use Rattle.a429_board.specs.Lists.{Planning, Watched}
 use Rattle.a429_values.specs.Ends.{Place, ReceiverEnd}
 use Rattle.a429_workers.specs.Calls.{Call, Meets}
-use Rattle.a429_workers.specs.Runs.{ArePublished, HasRun, IsWired, plans_of}
+use Rattle.a429_workers.specs.Runs.{ArePublished, CallsAreOneRun, IsWired, plans_of}
 use Rattle.a429_workers.specs.Receives.{after_words}
 use Rattle.a429_workers.specs.Sends.{HasSent, sent_in, with_cells}
 use Rattle.a429_workers.specs.Transmitting.{BeginsWith, GoesOnByCalls, IsKnownPlan, Transmitting}
@@ -40,7 +40,7 @@ pub record IsOneRun (t : TableRecord) (words : ℕ → List ℕ) (before after :
   pub planned : IsPlanOf t plan
   pub later : List Proposed
   pub calls : List Call
-  pub run : HasRun 41 (opening t plan) 0 later calls (heard_of t words)
+  pub run : CallsAreOneRun 41 (opening t plan) 0 later calls (heard_of t words)
   pub cells : after ≡ with_cells before (sent_in calls)
 
 -- two lines gave words, and a sink took cells: that was one run
@@ -83,7 +83,7 @@ pub record AreShown (o : Opening) (list : List PlanTable) : Type 0 where
   pub known : AllByRecursion (IsKnownPlan o.proposal.station) list
 
 -- a transmitter met two receivers, and was told this list of plans
-pub record HasMet (old new : Transmitting) (first second : ReceiverEnd) (list : List PlanTable) : Type 0 where
+pub record HasMetTwo (old new : Transmitting) (first second : ReceiverEnd) (list : List PlanTable) : Type 0 where
   pub one : List Load
   pub other : List Load
   pub stands : GoesOnByCalls old (Meets one ∷ Meets other ∷ []) new
@@ -101,5 +101,5 @@ EndsRunOnce =
     (at : Place) (w : Watched) (list : List PlanTable) (begun sent done : Transmitting) (first second : List ℕ) (calls : List Call) (before after : Option (List Sent))
     → IsWired at.station → length at.station.receivers ≡ 2 → 0 < length at.station.groups → IsPlanOf at.station w.opened
     → BeginsWith (record { at = at; number = 0; loads = [] }) w 0 begun → begun.transmitter.at ≡ at → HasSent begun sent before after calls []
-    → AreShown (opening at.station w.opened) list → HasMet sent done (after_words (fresh at 0) first) (after_words (fresh at 1) second) list
+    → AreShown (opening at.station w.opened) list → HasMetTwo sent done (after_words (fresh at 0) first) (after_words (fresh at 1) second) list
     → IsOneRun at.station (two first second) before after

@@ -95,7 +95,7 @@ CarriesLatestWords o g p E =
 -- what the group was asked for, the words that came in and the plans that were published are one run of the machine, in which the group sent latest words
 pub record SendsLatestWords {B : Type 0} (taken : B → Option (List cells.Sent)) (frames : ℕ) (t : TableRecord) (course : Course) (g : ℕ) (before after : B) (totals : SendTotals) : Type 0 where
   pub sent : IsSentIn taken frames t course g before after totals
-  pub run : machine.HasRun 41 (opening t course.opened) g course.later (sent.calls ++ meetings t course) (heard_in t course)
+  pub run : machine.CallsAreOneRun 41 (opening t course.opened) g course.later (sent.calls ++ meetings t course) (heard_in t course)
   pub latest : CarriesLatestWords (opening t course.opened) g sent.table run.events
 
 -- the station ran, and each of its groups sent latest words

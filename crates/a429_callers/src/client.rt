@@ -7,7 +7,7 @@ ghost use Rattle.a429_slots.specs.Tables.{groups_of};
 ghost use Rattle.a429_board.specs.Lists.{beginner};
 ghost use Rattle.a429_workers.specs.Receives.{IsSameReceiver};
 ghost use Rattle.a429_workers.specs.Transmitting.{BeginsWith, IsSameGroup};
-ghost use Rattle.a429_callers.specs.OneRun.{AreShown, CanPublish, EndsRunOnce, HasHeard, HasMet, HasSentAll, IsRunOver, fresh, opening};
+ghost use Rattle.a429_callers.specs.OneRun.{AreShown, CanPublish, EndsRunOnce, HasHeard, HasMetTwo, HasSentAll, IsRunOver, fresh, opening};
 
 use a429_board::{Board, Planner, Watcher};
 use a429_equipment::Equipment;
@@ -67,7 +67,7 @@ pub fn meet(
     requires first { first.old.at ≡ transmit.old.transmitter.at }
     requires second { second.old.at ≡ transmit.old.transmitter.at }
     requires apart { first.old.number ≢ second.old.number }
-    ensures { HasMet transmit.old transmit.new first.old second.old planner.old.list }
+    ensures { HasMetTwo transmit.old transmit.new first.old second.old planner.old.list }
 {
     let _one = first.number();
     let _other = second.number();

@@ -13,7 +13,7 @@ use Rattle.a429_cert.specs.Spelling.{Heading, Listing, Bounding, when, says_more
 use Rattle.a429_cert.specs.Reading.{output_line}
 use Rattle.a429_cert.specs.Lines.{lines_of, line_at}
 use Rattle.a429_cert.specs.Faults.{group_fault, output_fault, hold_of, says_other_rate, same_limit, says_other_hold, frame, is_listed, shares, has_bad_place, output_faults, first_no, group_faults, bound_fault, bound_holds, demand, buses_of}
-use Rattle.a429_cert.specs.Checked.{Stated, AreApart, EachPair}
+use Rattle.a429_cert.specs.Checked.{Stated, CellsAreApart, EachPair}
 use Rattle.a429_cert.proofs.DuePlans.{IsCheckedAsDue, IsPlacedAsDue}
 use Rattle.a429_cert.proofs.LineLaws.{group_again, output_again, bound_again}
 use Rattle.a429_cert.proofs.CheckedPlans.{HeadingHolds, ListingHolds, same_bytes, buses_said}
@@ -69,15 +69,15 @@ small_rest : (o p : ℕ) → o < p → o % p ≡ o
 small_rest o p lt = mod-eq_of_lt lt
 
 -- offsets that are equal modulo the smaller period meet at the offset of the greater one
-meet_here : (k l : Listing) → k.offset < k.period → l.offset < l.period → l.bus ≡ k.bus → l.offset % l.period ≡ k.offset % l.period → AreApart k l → ⊥
+meet_here : (k l : Listing) → k.offset < k.period → l.offset < l.period → l.bus ≡ k.bus → l.offset % l.period ≡ k.offset % l.period → CellsAreApart k l → ⊥
 meet_here k l small-k small-l bus same apart =
     apart k.bus k.offset (record { on_bus = refl; at_offset = small_rest k.offset k.period small-k }) (record { on_bus = sym bus; at_offset = sym same ∙ small_rest l.offset l.period small-l })
 
-meet_there : (k l : Listing) → k.offset < k.period → l.offset < l.period → l.bus ≡ k.bus → l.offset % k.period ≡ k.offset % k.period → AreApart k l → ⊥
+meet_there : (k l : Listing) → k.offset < k.period → l.offset < l.period → l.bus ≡ k.bus → l.offset % k.period ≡ k.offset % k.period → CellsAreApart k l → ⊥
 meet_there k l small-k small-l bus same apart =
     apart k.bus l.offset (record { on_bus = refl; at_offset = same ∙ small_rest k.offset k.period small-k }) (record { on_bus = sym bus; at_offset = small_rest l.offset l.period small-l })
 
-pub apart_passes : (k l : Listing) → k.offset < k.period → l.offset < l.period → AreApart k l → shares l k ≡ false
+pub apart_passes : (k l : Listing) → k.offset < k.period → l.offset < l.period → CellsAreApart k l → shares l k ≡ false
 apart_passes k l small-k small-l apart =
     false_unless (shares l k) (λ t.
     let p = and_parts _ _ t in
@@ -133,7 +133,7 @@ new_again : (earlier : List Listing) (l : Listing) → AllByRecursion (λ k. k.s
 new_again [] l h = refl
 new_again (k ∷ ks) l h = rw (differ_again k.source l.source h.0, new_again ks l h.1) refl
 
-alone_again : (version : ℕ) (g : DueGroup) (buses : ℕ) (earlier : List Listing) (l : Listing) → AllByRecursion (IsPlacedAsDue version g buses) earlier → IsPlacedAsDue version g buses l → AllByRecursion (λ k. AreApart k l) earlier → list_any (shares l) earlier ≡ false
+alone_again : (version : ℕ) (g : DueGroup) (buses : ℕ) (earlier : List Listing) (l : Listing) → AllByRecursion (IsPlacedAsDue version g buses) earlier → IsPlacedAsDue version g buses l → AllByRecursion (λ k. CellsAreApart k l) earlier → list_any (shares l) earlier ≡ false
 alone_again version g buses [] l placed pl h = refl
 alone_again version g buses (k ∷ ks) l placed pl h = either_false (shares l k) (list_any (shares l) ks) (apart_passes k l placed.0.offset pl.offset h.0) (alone_again version g buses ks l placed.1 pl h.1)
 
@@ -142,14 +142,14 @@ placed_push version g buses [] y h p = (p, tt)
 placed_push version g buses (x ∷ xs) y h p = (h.0, placed_push version g buses xs y h.1 p)
 
 pub each_holds : (version : ℕ) (g : DueGroup) (buses : ℕ) (earlier todo : List Listing) → AllByRecursion (IsPlacedAsDue version g buses) earlier → AllByRecursion (IsPlacedAsDue version g buses) todo
-    → EachPair (λ k l. k.source ≢ l.source) (earlier ++ todo) → EachPair AreApart (earlier ++ todo) → EachHolds version g buses earlier todo
+    → EachPair (λ k l. k.source ≢ l.source) (earlier ++ todo) → EachPair CellsAreApart (earlier ++ todo) → EachHolds version g buses earlier todo
 each_holds version g buses earlier [] pe pt once apart = tt
 each_holds version g buses earlier (l ∷ ls) pe pt once apart =
     let regrouped : (earlier ++ l ∷ []) ++ ls ≡ earlier ++ l ∷ ls = append_assoc earlier (l ∷ []) ls in (
       record {
         placed = pt.0;
         new = new_again earlier l (pair_before (λ k l. k.source ≢ l.source) earlier l ls once);
-        alone = alone_again version g buses earlier l pe pt.0 (pair_before AreApart earlier l ls apart);
+        alone = alone_again version g buses earlier l pe pt.0 (pair_before CellsAreApart earlier l ls apart);
       },
       each_holds version g buses (earlier ++ l ∷ []) ls (placed_push version g buses earlier l pe pt.0) pt.1 (rw regrouped once) (rw regrouped apart),
     )

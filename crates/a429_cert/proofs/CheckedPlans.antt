@@ -16,7 +16,7 @@ use Rattle.a429_cert.specs.Spelling.{Heading, Listing, Bounding, says_more, said
 use Rattle.a429_cert.specs.Reading.{group_line, output_line, bound_line}
 use Rattle.a429_cert.specs.Lines.{line_at, lines_of, lines_of_groups}
 use Rattle.a429_cert.specs.Faults.{first_reason, of_form, group_fault, output_fault, output_faults, bound_fault, bound_holds, group_faults, groups_faults, end_fault, faults, plan_fault, rate_fault, rate_faults, first_no, frame, demand, period_of, hold_of, says_other_rate, same_limit, says_other_hold, is_listed, shares, has_bad_place, buses_of}
-use Rattle.a429_cert.specs.Checked.{Stated, Fills, AreApart, EachPair}
+use Rattle.a429_cert.specs.Checked.{Stated, Fills, CellsAreApart, EachPair}
 use Rattle.a429_cert.proofs.DuePlans.{IsPlacedAsDue, PeriodsNest, StatesAsDue, StateAsDue}
 use Rattle.a429_cert.proofs.LineLaws.{group_takes, output_takes}
 use Rattle.a429_cert.proofs.Walk.{listed_more}
@@ -150,7 +150,7 @@ new_among (k ∷ ks) l e =
 pub record ListingsHold (version : ℕ) (g : DueGroup) (buses : ℕ) (ls : List Listing) : Type 0 where
   pub placed : AllByRecursion (IsPlacedAsDue version g buses) ls
   pub once : EachPair (λ k l. k.source ≢ l.source) ls
-  pub apart : EachPair AreApart ls
+  pub apart : EachPair CellsAreApart ls
 
 -- ---- cells
 
@@ -170,7 +170,7 @@ tied k l bus slot m c d m-is e f pl pk at-k at-l h =
     ap (λ (n : ℕ). n % m) (sym at-l.at_offset) ∙ residue slot m l.period c e pl ∙ sym (residue slot m k.period d f pk) ∙ ap (λ (n : ℕ). n % m) at-k.at_offset in
     share_from l.bus k.bus (l.offset % min l.period k.period) (k.offset % min l.period k.period) same-bus (rw m-is at same-rest) h
 
-pub apart_one : (version : ℕ) (g : DueGroup) (buses : ℕ) (k l : Listing) → PeriodsNest g → IsPlacedAsDue version g buses k → IsPlacedAsDue version g buses l → shares l k ≡ false → AreApart k l
+pub apart_one : (version : ℕ) (g : DueGroup) (buses : ℕ) (k l : Listing) → PeriodsNest g → IsPlacedAsDue version g buses k → IsPlacedAsDue version g buses l → shares l k ≡ false → CellsAreApart k l
 apart_one version g buses k l nest pk pl h bus slot at-k at-l =
     let k-pos : 0 < k.period = omega (arith, pk.offset) in
     let l-pos : 0 < l.period = omega (arith, pl.offset) in
@@ -187,7 +187,7 @@ apart_one version g buses k l nest pk pl h bus slot at-k at-l =
           tied k l bus slot l.period 1 n.0 m-is one n.1 l-pos k-pos at-k at-l h
     ]
 
-apart_among : (version : ℕ) (g : DueGroup) (buses : ℕ) (earlier : List Listing) (l : Listing) → PeriodsNest g → AllByRecursion (IsPlacedAsDue version g buses) earlier → IsPlacedAsDue version g buses l → list_any (shares l) earlier ≡ false → AllByRecursion (λ k. AreApart k l) earlier
+apart_among : (version : ℕ) (g : DueGroup) (buses : ℕ) (earlier : List Listing) (l : Listing) → PeriodsNest g → AllByRecursion (IsPlacedAsDue version g buses) earlier → IsPlacedAsDue version g buses l → list_any (shares l) earlier ≡ false → AllByRecursion (λ k. CellsAreApart k l) earlier
 apart_among version g buses [] l nest placed pl e = tt
 apart_among version g buses (k ∷ ks) l nest placed pl e =
     let p = neither _ _ e in
@@ -197,7 +197,7 @@ listing_more : (version : ℕ) (g : DueGroup) (buses : ℕ) (ls : List Listing) 
 listing_more version g buses ls l nest h one = record {
   placed = all_push (IsPlacedAsDue version g buses) ls l h.placed one.placed;
   once = pair_push (λ k l. k.source ≢ l.source) ls l h.once (new_among ls l one.new);
-  apart = pair_push AreApart ls l h.apart (apart_among version g buses ls l nest h.placed one.placed one.alone);
+  apart = pair_push CellsAreApart ls l h.apart (apart_among version g buses ls l nest h.placed one.placed one.alone);
 }
 
 pub listings_hold : (version : ℕ) (g : DueGroup) (buses number j n : ℕ) (lines : List (List ℕ)) → PeriodsNest g → ListingsHold version g buses (filter_map (output_line version) (take j lines)) → length (filter_map (output_line version) (take j lines)) ≡ j

@@ -6,7 +6,7 @@ use Rattle.a429_cert.specs.Spelling.{Listing, said_in}
 use Rattle.a429_cert.specs.Reading.{group_line, output_line, bound_line}
 use Rattle.a429_cert.specs.Lines.{line_at}
 use Rattle.a429_cert.specs.Faults.{demand, period_of, hold_of, frame}
-use Rattle.a429_cert.specs.Checked.{Stated, AreApart, EachPair}
+use Rattle.a429_cert.specs.Checked.{Stated, CellsAreApart, EachPair}
 
 -- the line lists an output of the group with its grid period, within the frame, and in version 2 with its hold
 pub record IsPlacedAsDue (version : ℕ) (g : DueGroup) (buses : ℕ) (l : Listing) : Type 0 where
@@ -25,7 +25,7 @@ pub record IsCheckedAsDue (version : ℕ) (g : DueGroup) (s : Stated) : Type 0 w
   pub count : length s.outputs ≡ length g.outputs.items
   pub placed : AllByRecursion (IsPlacedAsDue version g s.heading.buses) s.outputs
   pub once : EachPair (λ k l. k.source ≢ l.source) s.outputs
-  pub apart : EachPair AreApart s.outputs
+  pub apart : EachPair CellsAreApart s.outputs
   pub above : (s.heading.buses - 1) * s.heading.frame < demand g
   pub within : demand g ≤ s.heading.buses * s.heading.frame
 

@@ -12,7 +12,7 @@ use Rattle.a429_cert.specs.declared.due.DueOutput.{DueOutput}
 use Rattle.a429_cert.specs.declared.due.DueGroup.{DueGroup}
 use Rattle.a429_cert.specs.declared.judging.NoVerdict.{NoVerdict}
 use Rattle.a429_cert.specs.declared.judging.NoVerdict.TheVariants as judge
-use Rattle.a429_cert.specs.Due.{IsDueOutput, IsDueGroup, AreFit}
+use Rattle.a429_cert.specs.Due.{IsDueOutput, IsDueGroup, OutputsAreFit}
 use Rattle.a429_cert.specs.Judged.{IsNoVerdict, IsGroupUnfit}
 use Rattle.a429_slots.proofs.Planning.{rated_at}
 
@@ -37,14 +37,14 @@ fits_of e rate [] (o ∷ os) h = absurd h
 fits_of e rate (r ∷ rs) [] h = absurd h
 fits_of e rate (r ∷ rs) (o ∷ os) h = (fit_of e rate r o h.0, fits_of e rate rs os h.1)
 
-pub all_fit : (e : TableRecord) (rated : List (ℕ × List OutputRow)) (gs : List DueGroup) → AllZip (IsDueGroup e) rated gs → AllByRecursion AreFit rated
+pub all_fit : (e : TableRecord) (rated : List (ℕ × List OutputRow)) (gs : List DueGroup) → AllZip (IsDueGroup e) rated gs → AllByRecursion OutputsAreFit rated
 all_fit e [] [] h = tt
 all_fit e [] (g ∷ gs) h = absurd h
 all_fit e (r ∷ rs) [] h = absurd h
 all_fit e (r ∷ rs) (g ∷ gs) h = (fits_of e r.0 r.1 g.outputs.items h.0.outputs, all_fit e rs gs h.1)
 
 -- the fault of a group, as that of the table
-pub fault_in : (e : TableRecord) (rate g : ℕ) (none : NoVerdict) → option_map (λ row. row.rate) (slice_get e.groups g) ≡ Some rate → AllByRecursion AreFit (take g (rated_outputs e))
+pub fault_in : (e : TableRecord) (rate g : ℕ) (none : NoVerdict) → option_map (λ row. row.rate) (slice_get e.groups g) ≡ Some rate → AllByRecursion OutputsAreFit (take g (rated_outputs e))
     → IsGroupUnfit e rate g none → IsNoVerdict e none
 fault_in e rate g (judge.Unfit group o) rated earlier fault =
     let (same, found) = fault in
@@ -54,6 +54,6 @@ fault_in e rate g (judge.Unfit group o) rated earlier fault =
       rows = rows;
       there = ap (slice_get (rated_outputs e)) same ∙ rated_at e g rate rows rated there;
       unfit = unfit;
-      earlier = subst (λ (k : ℕ). AllByRecursion AreFit (take k (rated_outputs e))) (sym same) earlier;
+      earlier = subst (λ (k : ℕ). AllByRecursion OutputsAreFit (take k (rated_outputs e))) (sym same) earlier;
     }
 fault_in e rate g judge.NoMemory rated earlier fault = tt

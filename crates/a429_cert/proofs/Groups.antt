@@ -10,7 +10,7 @@ use Rattle.a429_cert.specs.declared.stops.CheckStop.{CheckStop}
 use Rattle.a429_cert.specs.declared.stops.CheckStop.TheVariants as stops
 use Rattle.a429_cert.specs.declared.due.DueGroup.{DueGroup}
 use Rattle.a429_cert.specs.Lines.{lines_of, line_at}
-use Rattle.a429_cert.specs.Faults.{group_fault, output_faults, bound_fault, group_faults, groups_faults, end_fault, first_no, buses_of, Stops, Gives, due}
+use Rattle.a429_cert.specs.Faults.{group_fault, output_faults, bound_fault, group_faults, groups_faults, end_fault, first_no, buses_of, Stops, EndsCheckBy, due}
 use Rattle.a429_cert.proofs.Walk.{line_from}
 
 -- ---- the first of two lists
@@ -32,8 +32,8 @@ stops_front n xs ys (stops.Refused a) h = end_front n xs ys a h
 pub stops_along : (o p : Option No) (s : CheckStop) → o ≡ p → Stops s p → Stops s o
 stops_along o p s e h = subst (λ (x : Option No). Stops s x) (sym e) h
 
-pub gives_along : (o p : Option No) (r : Result (Unit {0}) CheckStop) → o ≡ p → Gives r p → Gives r o
-gives_along o p r e h = subst (λ (x : Option No). Gives r x) (sym e) h
+pub gives_along : (o p : Option No) (r : Result (Unit {0}) CheckStop) → o ≡ p → EndsCheckBy r p → EndsCheckBy r o
+gives_along o p r e h = subst (λ (x : Option No). EndsCheckBy r x) (sym e) h
 
 -- ---- a line that was numbered
 
@@ -45,7 +45,7 @@ passes (Err q) x o a P e f h = absurd cc
 
 pub last_gives : (r : Result (Unit {0}) Reason) (s : Result (Unit {0}) CheckStop) (o : Option Reason) (n : ℕ)
     → MatchResult r (λ y. s ≡ Ok y) (λ q. s ≡ Err (stops.Refused (record { reason = q; line = n }))) → MatchResult r (λ _. o ≡ None) (λ q. o ≡ Some q)
-    → Gives s (first_no n (o ∷ []))
+    → EndsCheckBy s (first_no n (o ∷ []))
 last_gives (Ok y) s o n e f = rw (e, f) refl
 last_gives (Err q) s o n e f = rw (e, f) refl
 
@@ -68,16 +68,16 @@ last_line lines rest left n e f = rw (f, e, drop-drop n 1 lines) (line_from line
 
 pub group_passes : (version : ℕ) (g : DueGroup) (lines rest : List (List ℕ)) (line last : List ℕ) (number buses : ℕ) (r : Result (Unit {0}) CheckStop) → line ≡ line_at lines 0 → rest ≡ drop 1 lines → group_fault version g line ≡ None → buses ≡ buses_of version line
     → first_no (number + 1) (output_faults version g buses rest 0 (length g.outputs.items)) ≡ None → last ≡ line_at lines (length g.outputs.items + 1)
-    → Gives r (first_no (number + length g.outputs.items + 1) (bound_fault g buses last ∷ [])) → Gives r (first_no number (group_faults version g lines))
+    → EndsCheckBy r (first_no (number + length g.outputs.items + 1) (bound_fault g buses last ∷ [])) → EndsCheckBy r (first_no number (group_faults version g lines))
 group_passes version g lines rest line last number buses r at-line at-rest fine states outs at-last h =
     let none : group_fault version g (line_at lines 0) ≡ None = rw (← at-line) fine in
     let here : buses ≡ buses_of version (line_at lines 0) = states ∙ ap (buses_of version) at-line in
     let B = buses_of version (line_at lines 0) in
     let passed : first_no (number + 1) (output_faults version g (buses_of version (line_at lines 0)) (drop 1 lines) 0 (length g.outputs.items)) ≡ None = rw (← here, ← at-rest) outs in
-    let ended : Gives r (first_no (number + length g.outputs.items + 1) (bound_fault g (buses_of version (line_at lines 0)) (line_at lines (length g.outputs.items + 1)) ∷ [])) = rw (← here, ← at-last) h in
+    let ended : EndsCheckBy r (first_no (number + length g.outputs.items + 1) (bound_fault g (buses_of version (line_at lines 0)) (line_at lines (length g.outputs.items + 1)) ∷ [])) = rw (← here, ← at-last) h in
     let count : number + 1 + length (output_faults version g (buses_of version (line_at lines 0)) (drop 1 lines) 0 (length g.outputs.items)) ≡ number + length g.outputs.items + 1 = omega (arith, length-output_faults version g (buses_of version (line_at lines 0)) (drop 1 lines) 0 (length g.outputs.items)) in
     rw none (gives_along _ _ r (pass_front (number + 1) (output_faults version g (buses_of version (line_at lines 0)) (drop 1 lines) 0 (length g.outputs.items)) (bound_fault g (buses_of version (line_at lines 0)) (line_at lines (length g.outputs.items + 1)) ∷ []) passed)
-    (subst (λ (k : ℕ). Gives r (first_no k (bound_fault g (buses_of version (line_at lines 0)) (line_at lines (length g.outputs.items + 1)) ∷ []))) (sym count) ended))
+    (subst (λ (k : ℕ). EndsCheckBy r (first_no k (bound_fault g (buses_of version (line_at lines 0)) (line_at lines (length g.outputs.items + 1)) ∷ []))) (sym count) ended))
 
 -- ---- behind the last line
 

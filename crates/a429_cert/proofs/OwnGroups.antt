@@ -30,7 +30,7 @@ use Rattle.a429_slots.specs.Planned.{HasPeriod, IsServed, IsPlannedFor, asked_by
 use Rattle.a429_cert.specs.declared.due.DueGroup.{DueGroup}
 use Rattle.a429_cert.specs.Due.{IsDueOutput}
 use Rattle.a429_cert.specs.Spelling.{IsWord, IsShort, IsShortLimit, is_break, said_in, FitsListing}
-use Rattle.a429_cert.specs.Checked.{AreApart, EachPair}
+use Rattle.a429_cert.specs.Checked.{CellsAreApart, EachPair}
 use Rattle.a429_cert.proofs.DuePlans.{IsPlacedAsDue}
 use Rattle.a429_cert.specs.PlanText.{source_name, listing_of, stated_of}
 use Rattle.a429_cert.proofs.Again.{FitsStated, StatesBound}
@@ -167,16 +167,16 @@ bus_within e rate rows t law p some k below known =
 -- ---- the listings
 
 apart_cells : (version : ℕ) (t : SlotTable) (i j : ℕ) (sources : List SourceRow) → StandsJustAt t i (placed_at t i).place.bus (placed_at t i).place.offset (2 ^ (placed_at t i).place.period)
-    → StandsJustAt t j (placed_at t j).place.bus (placed_at t j).place.offset (2 ^ (placed_at t j).place.period) → i ≢ j → AreApart (listing_of version sources t i) (listing_of version sources t j)
+    → StandsJustAt t j (placed_at t j).place.bus (placed_at t j).place.offset (2 ^ (placed_at t j).place.period) → i ≢ j → CellsAreApart (listing_of version sources t i) (listing_of version sources t j)
 apart_cells version t i j sources at-i at-j other bus slot fills-i fills-j =
     let here : cell_at t bus slot ≡ Some i = (at-i.cells bus slot).1 (fills-i.on_bus, fills-i.at_offset) in
     let there : cell_at t bus slot ≡ Some j = (at-j.cells bus slot).1 (fills-j.on_bus, fills-j.at_offset) in
     other cc
 
-own_apart : (e : TableRecord) (row : GroupRow) (rows : List OutputRow) (t : SlotTable) (g : DueGroup) → IsOwnGroup e row rows t g → EachPair AreApart (stated_of e.version e.sources row t).outputs
+own_apart : (e : TableRecord) (row : GroupRow) (rows : List OutputRow) (t : SlotTable) (g : DueGroup) → IsOwnGroup e row rows t g → EachPair CellsAreApart (stated_of e.version e.sources row t).outputs
 own_apart e row rows t g o =
     let moved = order_moved e row.rate rows t o.planned in
-    each_pair AreApart (listing_of e.version e.sources t) (length (outputs_of t)) (order_of t) (order_below (length (outputs_of t)) (order_of t) moved) (order_once (length (outputs_of t)) (order_of t) moved)
+    each_pair CellsAreApart (listing_of e.version e.sources t) (length (outputs_of t)) (order_of t) (order_below (length (outputs_of t)) (order_of t) moved) (order_once (length (outputs_of t)) (order_of t) moved)
     (λ i j low-i low-j other.
     apart_cells e.version t i j e.sources (o.planned.periodic i low-i) (o.planned.periodic j low-j) other)
 

@@ -25,8 +25,8 @@ pub record Fills (l : Listing) (bus slot : ℕ) : Type 0 where
   pub at_offset : slot % l.period ≡ l.offset
 
 -- no cell has both outputs
-abbrev pub AreApart : Listing → Listing → Type 0
-AreApart k l = (bus slot : ℕ) → Fills k bus slot → Fills l bus slot → ⊥
+abbrev pub CellsAreApart : Listing → Listing → Type 0
+CellsAreApart k l = (bus slot : ℕ) → Fills k bus slot → Fills l bus slot → ⊥
 
 -- R holds of each element and each later one
 abbrev pub EachPair : (Listing → Listing → Type 0) → List Listing → Type 0
@@ -67,7 +67,7 @@ pub record IsChecked (e : TableRecord) (group : GroupRow) (rows : List OutputRow
   pub count : length s.outputs ≡ length rows
   pub placed : AllByRecursion (IsPlaced e group.rate rows s.heading.buses) s.outputs
   pub once : EachPair (λ k l. k.source ≢ l.source) s.outputs
-  pub apart : EachPair AreApart s.outputs
+  pub apart : EachPair CellsAreApart s.outputs
   pub above : (s.heading.buses - 1) * s.heading.frame < stated_demand s
   pub within : stated_demand s ≤ s.heading.buses * s.heading.frame
   pub bound : s.bound ≡ record { demand = stated_demand s; full_buses = s.heading.buses - 1; frame = s.heading.frame }

@@ -39,8 +39,8 @@ pub record IsDue (e : TableRecord) (t : DueTable) : Type 0 where
   pub groups : AllZip (IsDueGroup e) (rated_outputs e) t.groups.items
 
 -- the interval of each output admits a grid period at the rate beside them
-abbrev pub AreFit : ℕ × List OutputRow → Type 0
-AreFit rated = AllByRecursion (IsFit rated.0) rated.1
+abbrev pub OutputsAreFit : ℕ × List OutputRow → Type 0
+OutputsAreFit rated = AllByRecursion (IsFit rated.0) rated.1
 
 -- output o of group g is the first in table order whose interval admits no grid period at the rate of its group
 pub record IsFirstUnfitOf (e : TableRecord) (g o : ℕ) : Type 0 where
@@ -48,4 +48,4 @@ pub record IsFirstUnfitOf (e : TableRecord) (g o : ℕ) : Type 0 where
   pub rows : List OutputRow
   pub there : slice_get (rated_outputs e) g ≡ Some (rate, rows)
   pub unfit : IsFirstUnfit rate rows o
-  pub earlier : AllByRecursion AreFit (take g (rated_outputs e))
+  pub earlier : AllByRecursion OutputsAreFit (take g (rated_outputs e))

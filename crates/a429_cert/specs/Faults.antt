@@ -179,9 +179,9 @@ Stops stops.Memory answer = Unit {0}
 Stops (stops.Refused refusal) answer = answer ≡ Some refusal
 
 -- what ended a check is its answer, unless memory ran out
-abbrev pub Gives : {A : Type 0} → Result A CheckStop → Option No → Type 0
-Gives (Ok x) answer = answer ≡ None
-Gives (Err stop) answer = Stops stop answer
+abbrev pub EndsCheckBy : {A : Type 0} → Result A CheckStop → Option No → Type 0
+EndsCheckBy (Ok x) answer = answer ≡ None
+EndsCheckBy (Err stop) answer = Stops stop answer
 
 -- an answer is the reason against a line, where there is one
 abbrev pub GivesReason : {A : Type 0} → Result A Reason → Option Reason → Type 0

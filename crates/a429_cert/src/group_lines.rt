@@ -4,7 +4,7 @@ ghost use Rattle.std.specs.Prelude.{◌≡◌, ◌≤◌, ◌<◌, ◌+◌, ◌^
 ghost use Rattle.std.specs.List.{sum_by};
 ghost use Rattle.a429_cert.specs.Views.{bounding};
 ghost use Rattle.a429_cert.specs.Lines.{lines_of};
-ghost use Rattle.a429_cert.specs.Faults.{frame, says_other_rate, group_fault, bound_fault, HasPeriods, Gives, GivesReason, IsModest, group_faults, first_no, buses_of, bound_holds};
+ghost use Rattle.a429_cert.specs.Faults.{frame, says_other_rate, group_fault, bound_fault, HasPeriods, EndsCheckBy, GivesReason, IsModest, group_faults, first_no, buses_of, bound_holds};
 
 use crate::due::DueGroup;
 use crate::line::{BoundLine, GroupLine, bound_line, group_line};
@@ -114,7 +114,7 @@ pub fn check_group(
 ) -> Result<(), CheckStop>
     requires modest { IsModest group.now }
     requires fits { number + length group.now.outputs.items + 2 < 2 ^ 64 }
-    ensures answer { Gives result (first_no number (group_faults version group.now (lines_of lines.old.rest.now))) }
+    ensures answer { EndsCheckBy result (first_no number (group_faults version group.now (lines_of lines.old.rest.now))) }
     ensures rest { OnOk result (lines_of lines.new.rest.now ≡ drop (length group.now.outputs.items + 2) (lines_of lines.old.rest.now)) }
 {
     let buses = with_line_number(number, checked_group(version, group, lines.next_line()))?.buses;

@@ -6,7 +6,7 @@ ghost use Rattle.std.specs.List.{list_any};
 ghost use Rattle.a429_cert.specs.Views.{listing};
 ghost use Rattle.a429_cert.specs.Reading.{output_line};
 ghost use Rattle.a429_cert.specs.Lines.{lines_of};
-ghost use Rattle.a429_cert.specs.Faults.{output_of, shares, same_limit, says_other_hold, output_fault, is_listed, HasPeriods, Gives, GivesReason, all_output_faults, first_no};
+ghost use Rattle.a429_cert.specs.Faults.{output_of, shares, same_limit, says_other_hold, output_fault, is_listed, HasPeriods, EndsCheckBy, GivesReason, all_output_faults, first_no};
 
 use crate::due::{DueGroup, DueOutput};
 use crate::line::{OutputLine, output_line};
@@ -118,7 +118,7 @@ pub fn check_outputs(
 ) -> Result<(), CheckStop>
     requires periods { HasPeriods group.now }
     requires fits { number + length group.now.outputs.items < 2 ^ 64 }
-    ensures answer { Gives result (first_no number (all_output_faults version group.now buses (lines_of lines.old.rest.now))) }
+    ensures answer { EndsCheckBy result (first_no number (all_output_faults version group.now buses (lines_of lines.old.rest.now))) }
     ensures rest { OnOk result (lines_of lines.new.rest.now ≡ drop (length group.now.outputs.items) (lines_of lines.old.rest.now)) }
 {
     let mut earlier = Vec::new(alloc);

@@ -2,7 +2,7 @@
 
 ghost use Rattle.std.specs.Prelude.{◌≤◌, ◌<◌, ◌^◌, Some, None, All};
 ghost use Rattle.a429_cert.specs.Lines.{lines_of};
-ghost use Rattle.a429_cert.specs.Faults.{rate_fault, plan_fault, end_fault, Gives, GivesReason, IsModest, groups_faults, first_no, faults, due};
+ghost use Rattle.a429_cert.specs.Faults.{rate_fault, plan_fault, end_fault, EndsCheckBy, GivesReason, IsModest, groups_faults, first_no, faults, due};
 
 use crate::due::{DueGroup, DueTable};
 use crate::group_lines::check_group;
@@ -57,7 +57,7 @@ fn check_groups(
     requires modest { All IsModest groups.now }
     requires head { first ≤ 3 }
     requires fits { due groups.now < 2 ^ 63 }
-    ensures { Gives result (first_no first (groups_faults version groups.now (lines_of lines.old.rest.now))) }
+    ensures { EndsCheckBy result (first_no first (groups_faults version groups.now (lines_of lines.old.rest.now))) }
 {
     let mut number = first;
     for group in groups {
@@ -71,7 +71,7 @@ fn check_groups(
 pub fn check_lines(alloc: Global, table: &DueTable, text: &[u8]) -> Result<(), CheckStop>
     requires modest { All IsModest table.now.groups.items }
     requires fits { due table.now.groups.items < 2 ^ 63 }
-    ensures { Gives result (first_no 1 (faults table.now (lines_of text.now))) }
+    ensures { EndsCheckBy result (first_no 1 (faults table.now (lines_of text.now))) }
 {
     let mut lines = Lines::of(text);
     with_line_number(1, checked_plan(table.version, lines.next_line()))?;

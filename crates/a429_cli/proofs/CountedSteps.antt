@@ -5,7 +5,7 @@ use Rattle.std.specs.Option.{option_map_or}
 use Rattle.std.proofs.lemmas.Bool.{cases_eq}
 use Rattle.std.proofs.lemmas.List.{get_or-set_other, get_or-set_same, length-set, length-take}
 use Rattle.std.proofs.lemmas.Option.{slice_get-get_or}
-use Rattle.a429_equipment.specs.Arrivals.{AreApart}
+use Rattle.a429_equipment.specs.Arrivals.{SourcesAreApart}
 use Rattle.a429_equipment.specs.Limits.{count_bits}
 use Rattle.a429_equipment.specs.declared.rows.SourceRow.{SourceRow}
 use Rattle.a429_slots.specs.Events.{Event, Arrive}
@@ -53,7 +53,7 @@ accepted_is q past s i words is =
     ap (λ (E : List Event). length (accepted_by count_bits (opening_of q) i E)) (history_more past s) ∙ ap (λ (ws : List ℕ). length ws) is
 
 -- the word of this step is accepted, and the number of that is no greater than 64 bits can say
-pub accepted_more : (q : Proposed) (past : List Step) (s : Step) (i : ℕ) → AreApart q.station.sources → answer_after q past s ≡ Accepted i
+pub accepted_more : (q : Proposed) (past : List Step) (s : Step) (i : ℕ) → SourcesAreApart q.station.sources → answer_after q past s ≡ Accepted i
     → accepted_count q (past ++ s ∷ []) i ≡ min (accepted_count q past i + 1) (2 ^ 64 - 1)
 accepted_more q past s i apart is = elim (one_by_one count_bits (opening_of q) (history_of past) i (event_of s) apart) [
   | inl W ↦
@@ -64,7 +64,7 @@ accepted_more q past s i apart is = elim (one_by_one count_bits (opening_of q) (
   | inr N ↦ absurd (N.other is)
 ]
 
-pub accepted_same : (q : Proposed) (past : List Step) (s : Step) (i : ℕ) → AreApart q.station.sources → (answer_after q past s ≡ Accepted i → ⊥)
+pub accepted_same : (q : Proposed) (past : List Step) (s : Step) (i : ℕ) → SourcesAreApart q.station.sources → (answer_after q past s ≡ Accepted i → ⊥)
     → accepted_count q (past ++ s ∷ []) i ≡ accepted_count q past i
 accepted_same q past s i apart other = elim (one_by_one count_bits (opening_of q) (history_of past) i (event_of s) apart) [
   | inl W ↦ absurd (other W.answered)
@@ -72,7 +72,7 @@ accepted_same q past s i apart other = elim (one_by_one count_bits (opening_of q
 ]
 
 -- no word comes in
-pub accepted_kept : (q : Proposed) (past : List Step) (s : Step) (i : ℕ) → AreApart q.station.sources → ((r raw : ℕ) → event_of s ≡ Arrive r raw → ⊥)
+pub accepted_kept : (q : Proposed) (past : List Step) (s : Step) (i : ℕ) → SourcesAreApart q.station.sources → ((r raw : ℕ) → event_of s ≡ Arrive r raw → ⊥)
     → accepted_count q (past ++ s ∷ []) i ≡ accepted_count q past i
 accepted_kept q past s i apart none = elim (one_by_one count_bits (opening_of q) (history_of past) i (event_of s) apart) [
   | inl W ↦ absurd (none W.receiver W.word W.event)
@@ -80,7 +80,7 @@ accepted_kept q past s i apart none = elim (one_by_one count_bits (opening_of q)
 ]
 
 -- the counts after an answer to a word
-pub counted_at : (q : Proposed) (past : List Step) (w : LogWord) (counts : List ℕ) (a : Answer) → AreApart q.station.sources → a ≡ answer_after q past (Comes w)
+pub counted_at : (q : Proposed) (past : List Step) (w : LogWord) (counts : List ℕ) (a : Answer) → SourcesAreApart q.station.sources → a ≡ answer_after q past (Comes w)
     → length counts ≡ length q.station.sources → ((i : ℕ) → get_or counts i 0 ≡ accepted_count q past i) → (i : ℕ) → get_or (counted counts a) i 0 ≡ accepted_count q (past ++ Comes w ∷ []) i
 counted_at q past w counts (Accepted source) apart is many before i =
     let within : source < length counts = omega (arith, many, accepted_within q past w source (sym is)) in

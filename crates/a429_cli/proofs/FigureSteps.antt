@@ -5,14 +5,14 @@ use Rattle.std.specs.Option.{option_map_or}
 use Rattle.std.proofs.lemmas.Bool.{cases_eq, ne_eqb}
 use Rattle.std.proofs.lemmas.Option.{none-some, slice_get_within}
 use Rattle.a429_word.proofs.Lists.{get_set_other, get_set_same}
-use Rattle.a429_equipment.specs.Arrivals.{AreApart}
+use Rattle.a429_equipment.specs.Arrivals.{SourcesAreApart}
 use Rattle.a429_slots.specs.Events.{Arrive}
 use Rattle.a429_slots.specs.Proposed.{Proposed}
 use Rattle.a429_slots.specs.Tables.{Placed, cell_at, frame_of, outputs_of, placed_at}
 use Rattle.a429_slots.specs.declared.answers.Answer.{Answer}
 use Rattle.a429_slots.specs.declared.answers.Answer.TheVariants.{Accepted, Sent, Changed, Published, Refused}
 use Rattle.a429_cli.specs.Simulating.{Step, Asks, Comes, Turns, answer_after, event_of, turn_after}
-use Rattle.a429_cli.specs.SimulationRuns.{GoesOn, StandsAfter}
+use Rattle.a429_cli.specs.SimulationRuns.{RunGoesOn, StandsAfter}
 use Rattle.a429_cli.specs.Summary.{is_output_at, send_after, send_by, sends_of}
 use Rattle.a429_cli.specs.SummaryRuns.{CountsSteps, HasFigures, counted, figures_after, figures_at, figures_of, groups_after, outputs_after}
 use Rattle.a429_cli.specs.Timeline.{rate_of, table_of}
@@ -107,7 +107,7 @@ no_send q h k past g t (Refused why) none = refl
 -- ---- the figures one step later
 
 -- nothing is accepted, and nothing is sent
-figures_kept : (q : Proposed) (past : List Step) (step : Step) (s : Summary) → AreApart q.station.sources → ((r raw : ℕ) → event_of step ≡ Arrive r raw → ⊥)
+figures_kept : (q : Proposed) (past : List Step) (step : Step) (s : Summary) → SourcesAreApart q.station.sources → ((r raw : ℕ) → event_of step ≡ Arrive r raw → ⊥)
     → ((g o : ℕ) → send_by q g o past step (answer_after q past step) ≡ []) → HasFigures q past s → HasFigures q (past ++ step ∷ []) s
 figures_kept q past step s apart none quiet F = record {
   many = F.many;
@@ -116,7 +116,7 @@ figures_kept q past step s apart none quiet F = record {
       ∙ ap (λ (l : List OutputSend). option_map (λ _. figures_of (rate_of q g) l) (slice_get (outputs_of (table_of q g)) o)) (sym (sends_kept q g o past step (quiet g o)));
 }
 
-pub figures_word : (q : Proposed) (past : List Step) (w : LogWord) (a : Answer) (s u : Summary) → AreApart q.station.sources → a ≡ answer_after q past (Comes w)
+pub figures_word : (q : Proposed) (past : List Step) (w : LogWord) (a : Answer) (s u : Summary) → SourcesAreApart q.station.sources → a ≡ answer_after q past (Comes w)
     → u.words.items ≡ counted s.words.items a → u.groups.items ≡ s.groups.items → HasFigures q past s → HasFigures q (past ++ Comes w ∷ []) u
 figures_word q past w a s u apart is words groups F = record {
   many = ap length words ∙ (counted_many s.words.items a ∙ F.many);
@@ -126,13 +126,13 @@ figures_word q past w a s u apart is words groups F = record {
 }
 
 -- a cell without a word
-pub figures_quiet : (q : Proposed) (past : List Step) (g t : ℕ) (s : Summary) → AreApart q.station.sources
+pub figures_quiet : (q : Proposed) (past : List Step) (g t : ℕ) (s : Summary) → SourcesAreApart q.station.sources
     → ((bus slot raw : ℕ) → answer_after q past (Asks g t) ≡ Sent bus slot (Some raw) → ⊥) → HasFigures q past s → HasFigures q (past ++ Asks g t ∷ []) s
 figures_quiet q past g t s apart none F =
     figures_kept q past (Asks g t) s apart (λ r raw is. cc) (λ h k. no_send q h k past g t (answer_after q past (Asks g t)) none) F
 
 -- a cell where no output stands
-pub figures_nowhere : (q : Proposed) (past : List Step) (g t bus slot raw : ℕ) (s : Summary) → AreApart q.station.sources
+pub figures_nowhere : (q : Proposed) (past : List Step) (g t bus slot raw : ℕ) (s : Summary) → SourcesAreApart q.station.sources
     → answer_after q past (Asks g t) ≡ Sent bus slot (Some raw) → cell_at (table_of q g) bus slot ≡ None → HasFigures q past s → HasFigures q (past ++ Asks g t ∷ []) s
 figures_nowhere q past g t bus slot raw s apart is nowhere F =
     figures_kept q past (Asks g t) s apart (λ r raw is. cc)
@@ -182,7 +182,7 @@ module _ (q : Proposed) (past : List Step) (g t bus slot raw o : ℕ) (p : Place
       by (inl group) (inr apart) = other (λ _ e. apart e)
       by (inr apart) output = other (λ e _. apart e)
 
-  pub figures_sent : (s u : Summary) → AreApart q.station.sources → u.words.items ≡ s.words.items → u.groups.items ≡ groups_after s.groups.items g o (rate_of q g) own_word
+  pub figures_sent : (s u : Summary) → SourcesAreApart q.station.sources → u.words.items ≡ s.words.items → u.groups.items ≡ groups_after s.groups.items g o (rate_of q g) own_word
       → HasFigures q past s → HasFigures q (past ++ Asks g t ∷ []) u
   figures_sent s u apart words groups F = record {
     many = ap length words ∙ F.many;
@@ -201,10 +201,10 @@ counts_then q xs ys a b c s t u first later = λ past S F.
     let (end, all) = later (past ++ xs) stands figures in
     (subst (λ (p : List Step). StandsAfter q p c) (append_assoc past xs ys) end, subst (λ (p : List Step). HasFigures q p u) (append_assoc past xs ys) all)
 
-turn_figures : (q : Proposed) (past : List Step) (g : ℕ) (over : Bool) (s : Summary) → AreApart q.station.sources → HasFigures q past s
+turn_figures : (q : Proposed) (past : List Step) (g : ℕ) (over : Bool) (s : Summary) → SourcesAreApart q.station.sources → HasFigures q past s
     → HasFigures q (past ++ (if over then Turns g ∷ [] else [])) s
 turn_figures q past g true s apart F = figures_kept q past (Turns g) s apart (λ r raw e. cc) (λ h k. refl) F
 turn_figures q past g false s apart F = subst (λ (p : List Step). HasFigures q p s) (sym (append-nil past)) F
 
-pub counts_turn : (q : Proposed) (g t : ℕ) (a b : Run) (s : Summary) → GoesOn a (turn_after q g t) b → CountsSteps q (turn_after q g t) a b s s
+pub counts_turn : (q : Proposed) (g t : ℕ) (a b : Run) (s : Summary) → RunGoesOn a (turn_after q g t) b → CountsSteps q (turn_after q g t) a b s s
 counts_turn q g t a b s goes = λ past S F. (goes q past S, turn_figures q past g ((t + 1) % frame_of (table_of q g) == 0) s S.state.apart F)

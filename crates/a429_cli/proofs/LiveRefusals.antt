@@ -16,7 +16,7 @@ use Rattle.a429_workers.specs.declared.receiving.ReceiveFault.TheVariants as rec
 use Rattle.a429_workers.specs.declared.sending.SendFault.{SendFault}
 use Rattle.a429_workers.specs.declared.sending.SendFault.TheVariants as send
 use Rattle.a429_station.specs.Course.{RunAsk, asked}
-use Rattle.a429_station.specs.Faults.{EndsGroup, EndsLine, HasStopped, IsFirst, IsLiveFault, first_fault}
+use Rattle.a429_station.specs.Faults.{EndsGroup, EndsLine, HasStopped, IsFirstFault, IsLiveFault, first_fault}
 use Rattle.a429_station.specs.declared.faults.LiveFault.{LiveFault}
 use Rattle.a429_station.specs.declared.faults.LiveFault.TheVariants as live
 use Rattle.a429_station.proofs.Stopping.{HasFault, first_found, shut_somewhere}
@@ -86,7 +86,7 @@ module _ {B : Type 0} (idle : Type 0) (steps : Memory → SourceAnswer → Memor
   stopped_too_much : Stopped live.TooMuch → HasTooMuch t arrivals
   stopped_too_much S = by (first_fault S.heard) (first_fault S.sent) refl S.first
     where
-      by : (x : Option ReceiveFault) (y : Option SendFault) → first_fault S.heard ≡ x → IsFirst x y live.TooMuch → HasTooMuch t arrivals
+      by : (x : Option ReceiveFault) (y : Option SendFault) → first_fault S.heard ≡ x → IsFirstFault x y live.TooMuch → HasTooMuch t arrivals
       by (Some (receive.TooMuch raw totals)) y heard h = gave_more raw totals (first_found (EndsLine source gate) (lines_of arrivals (length t.receivers)) S.heard (receive.TooMuch raw totals) S.lines heard)
       by (Some receive.Source) y heard h = absurd (cc h)
       by (Some receive.Gate) y heard h = absurd (cc h)
@@ -98,7 +98,7 @@ module _ {B : Type 0} (idle : Type 0) (steps : Memory → SourceAnswer → Memor
   stopped_source : Stopped live.Source → ⊥
   stopped_source S = by (first_fault S.heard) (first_fault S.sent) refl S.first
     where
-      by : (x : Option ReceiveFault) (y : Option SendFault) → first_fault S.heard ≡ x → IsFirst x y live.Source → ⊥
+      by : (x : Option ReceiveFault) (y : Option SendFault) → first_fault S.heard ≡ x → IsFirstFault x y live.Source → ⊥
       by (Some receive.Source) y heard h = no_source (first_found (EndsLine source gate) (lines_of arrivals (length t.receivers)) S.heard receive.Source S.lines heard)
       by (Some (receive.TooMuch raw totals)) y heard h = absurd (cc h)
       by (Some receive.Gate) y heard h = absurd (cc h)
@@ -110,7 +110,7 @@ module _ {B : Type 0} (idle : Type 0) (steps : Memory → SourceAnswer → Memor
   stopped_sink : Stopped live.Sink → ⊥
   stopped_sink S = by (first_fault S.heard) (first_fault S.sent) refl S.first
     where
-      by : (x : Option ReceiveFault) (y : Option SendFault) → first_fault S.sent ≡ y → IsFirst x y live.Sink → ⊥
+      by : (x : Option ReceiveFault) (y : Option SendFault) → first_fault S.sent ≡ y → IsFirstFault x y live.Sink → ⊥
       by (Some receive.Source) y sent h = absurd (cc h)
       by (Some (receive.TooMuch raw totals)) y sent h = absurd (cc h)
       by (Some receive.Gate) y sent h = absurd (cc h)

@@ -1,29 +1,28 @@
 -- The source of a word that a group sends, by one plan from slot 0.
-use Rattle.std.proofs.Common.{◌≡◌, ◌∙◌, ◌+◌, ◌*◌, ◌%◌, ◌^◌, ◌<◌, ◌≤◌, ℕ, Bool, true, false, inl, inr, List, [], ◌∷◌, ◌++◌, length, get_or, map, refl, sym, ap, subst, arith}
-use Rattle.std.specs.Prelude.{Option, Some, None, filter_map, if◌then◌else◌, nat_lt, option_and_then, option_map, slice_get, take, unwrap_or}
+use Rattle.std.proofs.Common.{◌≡◌, ◌∙◌, ◌+◌, ◌*◌, ℕ, inl, inr, List, [], ◌∷◌, ◌++◌, length, refl, sym, ap, subst, arith}
+use Rattle.std.specs.Prelude.{Option, Some, None, filter_map, nat_lt, option_and_then, option_map, slice_get, take, unwrap_or}
 use Rattle.std.specs.Option.{option_map_or}
 use Rattle.std.proofs.lemmas.Bool.{cases_Bool}
 use Rattle.std.proofs.lemmas.List.Elements.{filter_map-append}
-use Rattle.std.proofs.lemmas.Option.{get_or_from_slice_get, none-some, same_Some, slice_get_within}
+use Rattle.std.proofs.lemmas.Option.{none-some, same_Some}
 use Rattle.a429_word.proofs.Lists.{get_within, none_cut}
 use Rattle.a429_slots.specs.Events.{Event}
 use Rattle.a429_slots.specs.FrameStates.{FrameState, due_of, frame_state_of, next_cell}
 use Rattle.a429_slots.specs.History.{Current, Opening, OpensWith, current, last_of, newest_table, numbers_left, proposal_for, published}
-use Rattle.a429_slots.specs.Planned.{IsPlanOf, IsPlannedAt, IsPlannedFor, asked_by, asked_of, rated_outputs}
+use Rattle.a429_slots.specs.Planned.{IsPlanOf, IsPlannedAt, rated_outputs}
 use Rattle.a429_slots.specs.Proposed.{Proposed}
-use Rattle.a429_slots.specs.Tables.{Placed, SlotTable, cell_at, frame_of, groups_of, output_in, outputs_of, placed_at, source_at}
+use Rattle.a429_slots.specs.Tables.{Placed, SlotTable, frame_of, groups_of, output_in, source_at}
 use Rattle.a429_slots.specs.TakenFrames.{is_taken_after}
 use Rattle.a429_slots.specs.declared.senders.Due.{Due}
 use Rattle.a429_slots.proofs.Histories.{by_ends, new_frame, same_frame}
 use Rattle.a429_slots.proofs.SpacedTables.{row_of}
-use Rattle.a429_slots.specs.declared.answers.Answer.{Answer}
 use Rattle.a429_slots.specs.declared.answers.Answer.TheVariants.{Sent}
 use Rattle.a429_core.specs.MachineStates.{MachineState}
 use Rattle.a429_core.specs.MachineSteps.{after_asked, asked_cell, cell_asked, cell_sent, placed_cell, sent_in, sent_of, word_at}
 use Rattle.a429_core.specs.declared.sends.SentCell.{SentCell}
 use Rattle.a429_core.proofs.ComingRound.{comes_round}
 use Rattle.a429_cli.specs.Simulating.{Step, Asks, Comes, Turns, history_of, opening_of, source_in}
-use Rattle.a429_cli.specs.SimulationRuns.{HasGroup, StandsAfter}
+use Rattle.a429_cli.specs.SimulationRuns.{HasPlannedGroup, StandsAfter}
 use Rattle.a429_cli.specs.Timeline.{table_of}
 use Rattle.a429_cli.specs.declared.simulate.machine.Run.{Run}
 use Rattle.a429_cli.proofs.SimulatedSteps.{table_at}
@@ -159,7 +158,7 @@ whole_frames o g p opens begins =
     ])
 
 -- the source is that of the plan's output in the cell
-pub sent_source : (q : Proposed) (past : List Step) (r : Run) (g : ℕ) (s : SentCell) → IsPlanOf q.station q.plan → HasGroup q g → StandsAfter q past r → cell_sent r.state g ≡ Some s
+pub sent_source : (q : Proposed) (past : List Step) (r : Run) (g : ℕ) (s : SentCell) → IsPlanOf q.station q.plan → HasPlannedGroup q g → StandsAfter q past r → cell_sent r.state g ≡ Some s
     → s.source ≡ source_in q g s.bus s.slot
 sent_source q past r g s planned known S sent =
     let o = opening_of q in

@@ -18,8 +18,8 @@ use Rattle.a429_console.specs.declared.refusals.CommandRefusal.{CommandRefusal}
 use Rattle.a429_console.specs.declared.refusals.CommandRefusal.TheVariants as refused
 use Rattle.a429_station.specs.Resubmitting.{Running}
 use Rattle.a429_cli.specs.Resubmitted.{AreAnswers, is_refused}
-use Rattle.a429_cli.specs.declared.live.control.Answer.{Answer}
-use Rattle.a429_cli.specs.declared.live.control.Answer.TheVariants as answer
+use Rattle.a429_cli.specs.declared.live.control.SubmitAnswer.{SubmitAnswer}
+use Rattle.a429_cli.specs.declared.live.control.SubmitAnswer.TheVariants as answer
 use Rattle.a429_cli.proofs.Resubmits.{stays_station}
 
 -- what a table states is one
@@ -49,7 +49,7 @@ pub of_station : (t : TableRecord) (table : List ℕ) (u : TableRecord) → IsTa
 of_station t table u (q, is, same) reads = subst (λ (e : TableRecord). same_station t e ≡ true) (one_station table q u is reads) same
 
 -- no answer to tables that a station takes is a refusal
-pub none_refused : PlansHaveNoFault → (v w : Running) (tables : List (List ℕ)) (answers : List Answer) → AreAnswers v tables answers w → AllByRecursion (IsTakenBy v.station) tables → list_any is_refused answers ≡ false
+pub none_refused : PlansHaveNoFault → (v w : Running) (tables : List (List ℕ)) (answers : List SubmitAnswer) → AreAnswers v tables answers w → AllByRecursion (IsTakenBy v.station) tables → list_any is_refused answers ≡ false
 none_refused law v w [] [] all taken = refl
 none_refused law v w [] (a ∷ answers) all taken = absurd all
 none_refused law v w (table ∷ tables) [] all taken = absurd all

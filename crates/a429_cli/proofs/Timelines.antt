@@ -8,7 +8,7 @@ use Rattle.std.proofs.lemmas.List.Elements.{filter_map-append}
 use Rattle.a429_word.proofs.Lists.{all_push, range_next}
 use Rattle.a429_slots.specs.Proposed.{Proposed}
 use Rattle.a429_grid.specs.Grid.{slot_time}
-use Rattle.a429_cli.specs.Timeline.{AllPrecede, AreInOrder, HasHappened, IsTimeline, Precedes, instant_of, rate_of, slot_of, slots_by, word_of}
+use Rattle.a429_cli.specs.Timeline.{AllPrecede, MomentsAreInOrder, HasHappened, IsTimeline, Precedes, instant_of, rate_of, slot_of, slots_by, word_of}
 use Rattle.a429_cli.specs.declared.simulate.log.LogWord.{LogWord}
 use Rattle.a429_cli.specs.declared.simulate.moments.Moment.{Moment}
 use Rattle.a429_cli.specs.declared.simulate.moments.Moment.TheVariants.{Word, Slot}
@@ -62,7 +62,7 @@ all_weaker : (q : Proposed) (M : List Moment) (a b : Moment) → ((m : Moment) �
 all_weaker q [] a b more all = tt
 all_weaker q (m ∷ M) a b more all = (more m all.0, all_weaker q M a b more all.1)
 
-in_order_push : (q : Proposed) (M : List Moment) (m : Moment) → AreInOrder q M → AllPrecede q M m → AreInOrder q (M ++ m ∷ [])
+in_order_push : (q : Proposed) (M : List Moment) (m : Moment) → MomentsAreInOrder q M → AllPrecede q M m → MomentsAreInOrder q (M ++ m ∷ [])
 in_order_push q [] m order all = (tt, tt)
 in_order_push q (x ∷ M) m order all = (all_push (Precedes q x) M m order.0 all.0, in_order_push q M m order.1 all.1)
 

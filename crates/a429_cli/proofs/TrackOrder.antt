@@ -14,7 +14,7 @@ use Rattle.a429_grid.specs.Grid.{slot_time}
 use Rattle.a429_slots.specs.Proposed.{Proposed}
 use Rattle.a429_cli.specs.SimulationLog.{AreInTime}
 use Rattle.a429_cli.specs.Timeline.{HasHappened, IsTimeline, Precedes, rate_of, slots_by}
-use Rattle.a429_cli.specs.Tracks.{AreTracks, ComesFirst, GoesBefore, GroupIsAfter, IsAfter, IsLeast, IsNoLater, IsTimelineAt, IsTrack, advanced, next_at}
+use Rattle.a429_cli.specs.Tracks.{AreTracks, ComesFirst, GoesBefore, GroupIsAfter, IsAfter, IsNextTrack, IsNoLater, IsTimelineAt, IsTrack, advanced, next_at}
 use Rattle.a429_cli.specs.declared.simulate.log.LogWord.{LogWord}
 use Rattle.a429_cli.specs.declared.simulate.moments.Moment.{Moment}
 use Rattle.a429_cli.specs.declared.simulate.moments.Moment.TheVariants.{Word, Slot}
@@ -39,7 +39,7 @@ no_later_than a r b s c t some first later =
 same_track : (tracks : List Track) (n h : ℕ) (x y : Track) → slice_get tracks n ≡ Some x → slice_get tracks h ≡ Some y → h ≡ n → x ≡ y
 same_track tracks n h x y at there e = same_Some x y (sym at ∙ (ap (slice_get tracks) (sym e) ∙ there))
 
-pub least_done : (tracks : List Track) (n : ℕ) (x : Track) (first : Option ℕ) → slice_get tracks n ≡ Some x → x.slots ≤ x.next → IsLeast tracks n first → IsLeast tracks (n + 1) first
+pub least_done : (tracks : List Track) (n : ℕ) (x : Track) (first : Option ℕ) → slice_get tracks n ≡ Some x → x.slots ≤ x.next → IsNextTrack tracks n first → IsNextTrack tracks (n + 1) first
 least_done tracks n x None at done L = λ h y below there. elim (cases_lt h n) [
   | inl less ↦ L h y less there
   | inr past ↦ let e : h ≡ n = omega arith in subst (λ (z : Track). z.slots ≤ z.next) (same_track tracks n h x y at there e) done
@@ -59,7 +59,7 @@ least_done tracks n x (Some g) at done (within, b, here, live, all) = (
 )
 
 pub least_kept : (tracks : List Track) (n g : ℕ) (x : Track) → slice_get tracks n ≡ Some x → ((y : Track) → slice_get tracks g ≡ Some y → y.next * x.rate ≤ x.next * y.rate)
-    → IsLeast tracks n (Some g) → IsLeast tracks (n + 1) (Some g)
+    → IsNextTrack tracks n (Some g) → IsNextTrack tracks (n + 1) (Some g)
 least_kept tracks n g x at later (within, b, here, live, all) = (
   omega (arith, within),
   b,
@@ -79,7 +79,7 @@ itself tracks n h x y at there e =
     let own : IsNoLater x n x n = record { no_later = omega arith; ranked = λ same. omega arith } in
     subst (λ (k : ℕ). IsNoLater x n y k) (sym e) (subst (λ (z : Track). IsNoLater x n z n) (same_track tracks n h x y at there e) own)
 
-pub least_only : (tracks : List Track) (n : ℕ) (x : Track) → slice_get tracks n ≡ Some x → x.next < x.slots → IsLeast tracks n None → IsLeast tracks (n + 1) (Some n)
+pub least_only : (tracks : List Track) (n : ℕ) (x : Track) → slice_get tracks n ≡ Some x → x.next < x.slots → IsNextTrack tracks n None → IsNextTrack tracks (n + 1) (Some n)
 least_only tracks n x at live L = (
   omega arith,
   x,
@@ -92,7 +92,7 @@ least_only tracks n x at live L = (
 )
 
 pub least_new : (tracks : List Track) (n g : ℕ) (x : Track) → OfEach IsTrack tracks → slice_get tracks n ≡ Some x → x.next < x.slots
-    → ((y : Track) → slice_get tracks g ≡ Some y → x.next * y.rate < y.next * x.rate) → IsLeast tracks n (Some g) → IsLeast tracks (n + 1) (Some n)
+    → ((y : Track) → slice_get tracks g ≡ Some y → x.next * y.rate < y.next * x.rate) → IsNextTrack tracks n (Some g) → IsNextTrack tracks (n + 1) (Some n)
 least_new tracks n g x sound at live before (within, b, here, open_, all) = (
   omega arith,
   x,
@@ -108,12 +108,12 @@ least_new tracks n g x sound at live before (within, b, here, open_, all) = (
 
 -- by what a comparison with the first one says
 pub least_better : (tracks : List Track) (n : ℕ) (x : Track) (first : Option ℕ) (is : Bool) → OfEach IsTrack tracks → slice_get tracks n ≡ Some x → x.next < x.slots
-    → GoesBefore tracks x first is → is ≡ true → IsLeast tracks n first → IsLeast tracks (n + 1) (Some n)
+    → GoesBefore tracks x first is → is ≡ true → IsNextTrack tracks n first → IsNextTrack tracks (n + 1) (Some n)
 least_better tracks n x None is sound at live before yes_ L = least_only tracks n x at live L
 least_better tracks n x (Some g) is sound at live before yes_ L = least_new tracks n g x sound at live (λ y there. (before y there).0 yes_) L
 
 pub least_worse : (tracks : List Track) (n : ℕ) (x : Track) (first : Option ℕ) (is : Bool) → slice_get tracks n ≡ Some x → GoesBefore tracks x first is → is ≡ false
-    → IsLeast tracks n first → IsLeast tracks (n + 1) first
+    → IsNextTrack tracks n first → IsNextTrack tracks (n + 1) first
 least_worse tracks n x None is at before no_ L = absurd (cc (before, no_))
 least_worse tracks n x (Some g) is at before no_ L = least_kept tracks n g x at (λ y there. elim (cases_lt (x.next * y.rate) (y.next * x.rate)) [
   | inl less ↦ let yes_ : is ≡ true = (before y there).1 less in absurd (cc (yes_, no_))
@@ -129,7 +129,7 @@ left_if b slots next says no_ = elim (cases_lt next slots) [
 pub done_if : (b : Bool) (slots next : ℕ) → IsTrue b ↔ (slots ≤ next) → b ≡ true → slots ≤ next
 done_if b slots next says yes_ = says.0 yes_
 
-pub least_within : (tracks : List Track) (n g : ℕ) → IsLeast tracks n (Some g) → g < n
+pub least_within : (tracks : List Track) (n g : ℕ) → IsNextTrack tracks n (Some g) → g < n
 least_within tracks n g L = L.0
 
 -- ---- places in lists
@@ -250,14 +250,14 @@ advanced_many tracks g x at =
 -- ---- moments
 
 -- the next slot of each group begins no earlier than a word that the first of them waits for
-all_wait : (tracks : List Track) (group : Option ℕ) (time : ℕ) → IsLeast tracks (length tracks) group → GroupIsAfter tracks time group → OfEach IsTrack tracks
+all_wait : (tracks : List Track) (group : Option ℕ) (time : ℕ) → IsNextTrack tracks (length tracks) group → GroupIsAfter tracks time group → OfEach IsTrack tracks
     → (g : ℕ) (y : Track) → slice_get tracks g ≡ Some y → y.next < y.slots → IsAfter time y
 all_wait tracks None time L after sound g y at left = absurd (omega (arith, L g y (slice_get_within tracks g y at) at, left))
 all_wait tracks (Some b) time (within, x, here, live, all) after sound g y at left =
     no_later_than time slot_time x.next x.rate y.next y.rate (omega (arith, (sound b x here).some_rate)) (after x here) (all g y (slice_get_within tracks g y at) at left).no_later
 
 pub word_taken : (q : Proposed) (words : List LogWord) (last : ℕ) (M : List Moment) (old new : Timeline) (group : Option ℕ) (w : LogWord) → IsTimelineAt q words last M old
-    → IsLeast old.tracks.items (length old.tracks.items) group → OfEach IsTrack old.tracks.items → ComesFirst old.words.items old.at old.tracks.items group (Some w)
+    → IsNextTrack old.tracks.items (length old.tracks.items) group → OfEach IsTrack old.tracks.items → ComesFirst old.words.items old.at old.tracks.items group (Some w)
     → new.words.items ≡ old.words.items → new.tracks.items ≡ old.tracks.items → new.at ≡ old.at + 1 → IsTimelineAt q words last (M ++ Word w ∷ []) new
 word_taken q words last M old new group w T L sound (here, after) same_words same_tracks one =
     let ts = old.tracks.items in
@@ -278,7 +278,7 @@ word_taken q words last M old new group w T L sound (here, after) same_words sam
     }
 
 pub slot_taken : (q : Proposed) (words : List LogWord) (last : ℕ) (M : List Moment) (old new : Timeline) (g : ℕ) → IsTimelineAt q words last M old
-    → IsLeast old.tracks.items (length old.tracks.items) (Some g) → ComesFirst old.words.items old.at old.tracks.items (Some g) None
+    → IsNextTrack old.tracks.items (length old.tracks.items) (Some g) → ComesFirst old.words.items old.at old.tracks.items (Some g) None
     → new.words.items ≡ old.words.items → new.tracks.items ≡ advanced old.tracks.items g → new.at ≡ old.at
     → IsTimelineAt q words last (M ++ Slot g (next_at old.tracks.items g) ∷ []) new
 slot_taken q words last M old new g T (within, x, here, live, all) no_word same_words after same_at =
@@ -309,7 +309,7 @@ slot_taken q words last M old new g T (within, x, here, live, all) no_word same_
     }
 
 pub none_taken : (q : Proposed) (words : List LogWord) (last : ℕ) (M : List Moment) (old : Timeline) → IsTimelineAt q words last M old
-    → IsLeast old.tracks.items (length old.tracks.items) None → ComesFirst old.words.items old.at old.tracks.items None None → IsTimeline q words last M
+    → IsNextTrack old.tracks.items (length old.tracks.items) None → ComesFirst old.words.items old.at old.tracks.items None None → IsTimeline q words last M
 none_taken q words last M old T L no_word =
     let ts = old.tracks.items in
     all_happened q words last M (drop old.at words) (next_at ts) T.happened

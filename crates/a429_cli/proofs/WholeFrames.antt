@@ -22,10 +22,10 @@ use Rattle.a429_workers.specs.declared.sending.SendTotals.{SendTotals}
 use Rattle.a429_word.proofs.Lists.{all_at, all_beginning, all_push}
 use Rattle.a429_workers.proofs.Calling.{due_is}
 use Rattle.a429_workers.proofs.Order.{seen_on}
-use Rattle.a429_cli.specs.LiveReplies.{AreSentWhole, HasTableOf, IsSentWhole, IsTableOf}
+use Rattle.a429_cli.specs.LiveReplies.{AreSentWhole, HasTableOf, IsSentWhole, IsSlotTableOf}
 use Rattle.a429_cli.specs.Resubmitted.{AreAnswers}
-use Rattle.a429_cli.specs.declared.live.control.Answer.{Answer}
-use Rattle.a429_cli.specs.declared.live.control.Answer.TheVariants as answer
+use Rattle.a429_cli.specs.declared.live.control.SubmitAnswer.{SubmitAnswer}
+use Rattle.a429_cli.specs.declared.live.control.SubmitAnswer.TheVariants as answer
 
 -- ---- one cell, one frame
 
@@ -132,7 +132,7 @@ module _ (t : TableRecord) (g : ℕ) (R : SlotTable → Type 0) where
   abbrev Given : PlanTable → Type 0
   Given x = (p : SlotTable) → slice_get (groups_of x) g ≡ Some p → R p
 
-  all_given : (v w : Running) (tables : List (List ℕ)) (answers : List Answer) → v.station ≡ t → ((p : SlotTable) → HasTableOf t g p tables → R p) → AreAnswers v tables answers w
+  all_given : (v w : Running) (tables : List (List ℕ)) (answers : List SubmitAnswer) → v.station ≡ t → ((p : SlotTable) → HasTableOf t g p tables → R p) → AreAnswers v tables answers w
       → AllByRecursion Given v.planner.list → AllByRecursion Given w.planner.list
   all_given v w [] [] here each is all = subst (λ (x : Running). AllByRecursion Given x.planner.list) (sym is) all
   all_given v w [] (a ∷ answers) here each is all = absurd is
@@ -151,17 +151,17 @@ module _ (t : TableRecord) (g : ℕ) (R : SlotTable → Type 0) where
 -- ---- a group of a run
 
 whole_by : (frames : ℕ) (first : SlotTable) (taken : List SlotTable) (t : TableRecord) (q : PlanTable) (further : List (List ℕ)) (g : ℕ) (totals : SendTotals) (calls : List Call) (end : FrameState)
-    → slice_get (groups_of q) g ≡ Some first → AreWhole frames calls end → length taken ≡ count_by is_taken calls → AllByRecursion (IsTableOf t q further g) taken
+    → slice_get (groups_of q) g ≡ Some first → AreWhole frames calls end → length taken ≡ count_by is_taken calls → AllByRecursion (IsSlotTableOf t q further g) taken
     → totals.cells ≡ length (sent_in calls) → length (sent_in calls) + 0 + cells_of end.table ≡ cells_of first + sum_by cells_of taken + end.sent
     → IsSentWhole t q further frames g totals
 whole_by zero first taken t q further g totals calls end opens whole many fit cells all = cells ∙ ap (λ (cs : List Call). length (sent_in cs)) whole
 whole_by (suc n) first taken t q further g totals calls end opens whole many fit cells all = (first, opens, taken, many ∙ whole.0, fit, omega (arith, cells, all, whole.1))
 
 sent_whole : {B : Type 0} (taken : B → Option (List Sent)) (frames : ℕ) (t : TableRecord) (c : Course) (further : List (List ℕ)) (g : ℕ) (before after : B) (totals : SendTotals)
-    → AllByRecursion (Given t g (IsTableOf t c.opened further g)) (c.opened ∷ map (λ (q : Proposed). q.plan) c.later) → IsSentIn taken frames t c g before after totals → IsSentWhole t c.opened further frames g totals
+    → AllByRecursion (Given t g (IsSlotTableOf t c.opened further g)) (c.opened ∷ map (λ (q : Proposed). q.plan) c.later) → IsSentIn taken frames t c g before after totals → IsSentWhole t c.opened further frames g totals
 sent_whole taken frames t c further g before after totals given S =
     let start = before_calls c.opened S.table 0 in
-    let R = IsTableOf t c.opened further g in
+    let R = IsSlotTableOf t c.opened further g in
     let rest = meetings t c in
     let own : R S.table = inl S.works.opens in
     let seen = all_beginning (Given t g R) (state_after g S.table start (S.calls ++ rest)).seen (c.opened ∷ map (λ (q : Proposed). q.plan) c.later) S.works.seen given in
@@ -176,12 +176,12 @@ all_of P Q each (x ∷ xs) [] zs all = absurd all
 all_of P Q each (x ∷ xs) (y ∷ ys) [] all = absurd all
 all_of P Q each (x ∷ xs) (y ∷ ys) (z ∷ zs) (one, all) = (each 0 x y z one, all_of (λ k. P (suc k)) (λ k. Q (suc k)) (λ k. each (suc k)) xs ys zs all)
 
-pub all_sent_whole : {B : Type 0} (taken : B → Option (List Sent)) (frames : ℕ) (t : TableRecord) (c : Course) (further : List (List ℕ)) (answers : List Answer) (before after : List B) (totals : List SendTotals)
+pub all_sent_whole : {B : Type 0} (taken : B → Option (List Sent)) (frames : ℕ) (t : TableRecord) (c : Course) (further : List (List ℕ)) (answers : List SubmitAnswer) (before after : List B) (totals : List SendTotals)
     (did : Running → Running → Type 0) (D : IsDoneBetween did t c.opened c.later) → IsPlanOf t c.opened → AreAnswers D.begin further answers D.end → AllOfThree (IsSentIn taken frames t c) before after totals
     → AreSentWhole t frames further totals
 all_sent_whole taken frames t c further answers before after totals did D planned answered sent =
-    let begins : (g : ℕ) → AllByRecursion (Given t g (IsTableOf t c.opened further g)) D.begin.planner.list = λ g.
-    subst (AllByRecursion (Given t g (IsTableOf t c.opened further g))) (sym D.begun.first) (λ p is. inl (subst (λ (x : PlanTable). slice_get (groups_of x) g ≡ Some p) D.opens is), tt) in
-    let given : (g : ℕ) → AllByRecursion (Given t g (IsTableOf t c.opened further g)) (c.opened ∷ map (λ (q : Proposed). q.plan) c.later) = λ g.
-    subst (AllByRecursion (Given t g (IsTableOf t c.opened further g))) D.list (all_given t g (IsTableOf t c.opened further g) D.begin D.end further answers D.station (λ p has. inr has) answered (begins g)) in
+    let begins : (g : ℕ) → AllByRecursion (Given t g (IsSlotTableOf t c.opened further g)) D.begin.planner.list = λ g.
+    subst (AllByRecursion (Given t g (IsSlotTableOf t c.opened further g))) (sym D.begun.first) (λ p is. inl (subst (λ (x : PlanTable). slice_get (groups_of x) g ≡ Some p) D.opens is), tt) in
+    let given : (g : ℕ) → AllByRecursion (Given t g (IsSlotTableOf t c.opened further g)) (c.opened ∷ map (λ (q : Proposed). q.plan) c.later) = λ g.
+    subst (AllByRecursion (Given t g (IsSlotTableOf t c.opened further g))) D.list (all_given t g (IsSlotTableOf t c.opened further g) D.begin D.end further answers D.station (λ p has. inr has) answered (begins g)) in
     (c.opened, planned, all_of (IsSentIn taken frames t c) (IsSentWhole t c.opened further frames) (λ g b a x S. sent_whole taken frames t c further g b a x (given g) S) before after totals sent)

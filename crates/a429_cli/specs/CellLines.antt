@@ -7,7 +7,7 @@ use Rattle.a429_slots.specs.Planned.{IsPlanOf}
 use Rattle.a429_slots.specs.Proposed.{Proposed}
 use Rattle.a429_console.specs.Names.{name_at, naming_of}
 use Rattle.a429_cli.specs.Simulating.{Step, Asks, line_after, sent_line, separator}
-use Rattle.a429_cli.specs.SimulationRuns.{HasGroup, StandsAfter}
+use Rattle.a429_cli.specs.SimulationRuns.{HasPlannedGroup, StandsAfter}
 use Rattle.a429_cli.specs.Timeline.{rate_of}
 use Rattle.a429_cli.specs.declared.simulate.lines.SentWord.{SentWord}
 use Rattle.a429_cli.specs.declared.simulate.machine.Run.{Run}
@@ -35,5 +35,5 @@ word_line q csv g t (Some s) = sent_line q csv g t s.bus s.raw s.source s.heard
 -- whatever steps the machine has taken, a group sends this word in its next cell, or none
 abbrev pub SendsWord : Run → ℕ → Option SentWord → Type 0
 SendsWord r g sent =
-    (q : Proposed) (csv : Bool) (past : List Step) (t : ℕ) → IsPlanOf q.station q.plan → HasGroup q g → StandsAfter q past r
+    (q : Proposed) (csv : Bool) (past : List Step) (t : ℕ) → IsPlanOf q.station q.plan → HasPlannedGroup q g → StandsAfter q past r
     → word_line q csv g t sent ≡ line_after q csv past (Asks g t)

@@ -88,8 +88,8 @@ abbrev pub GivesNumbered : Proposed → Option ℕ → Picture → Result (Vec �
 GivesNumbered q number picture result = MatchResult result (λ text. IsPicture picture.is_page q number picture.form text.items) (OrMemory (IsTooHigh q number picture))
 
 -- the image of the plan of a proposal, or why there is none
-abbrev pub GivesImage : Proposed → Option (List ℕ) → Picture → Result (Vec ℕ Global) CommandRefusal → Type 0
-GivesImage q group picture result = MatchResult result (λ text. IsImage q group picture text.items) (OrMemory (IsUndrawn q group picture))
+abbrev pub GivesNamedImage : Proposed → Option (List ℕ) → Picture → Result (Vec ℕ Global) CommandRefusal → Type 0
+GivesNamedImage q group picture result = MatchResult result (λ text. IsImage q group picture text.items) (OrMemory (IsUndrawn q group picture))
 
 -- the same, or that it is too high, or that memory was refused
 abbrev pub GivesPicture : Proposed → Option ℕ → Picture → Result (Vec ℕ Global) DrawingFault → Type 0

@@ -19,9 +19,9 @@ use Rattle.a429_cli.specs.declared.replay.script.ScriptEvent.{ScriptEvent}
 use Rattle.a429_cli.specs.declared.replay.script.ScriptEvent.TheVariants.{Arrive, Cell, Frame, Publish}
 
 -- the number of a further table that is published fits 40 bits
-abbrev pub IsShort : ScriptEvent → Type 0
-IsShort (Publish n) = n < 2 ^ 40
-IsShort _ = ⊤
+abbrev pub IsShortEvent : ScriptEvent → Type 0
+IsShortEvent (Publish n) = n < 2 ^ 40
+IsShortEvent _ = ⊤
 
 -- the raw word of a kept event, of which the low half comes first
 abbrev pub raw_of : KeptEvent → ℕ
@@ -53,7 +53,7 @@ IsWordLine text raw rest = (digits : List ℕ) × (text ≡ digits ++ 10 ∷ res
 
 -- an event beside so many further tables
 abbrev pub CanBeKept : ℕ → ScriptEvent → Type 0
-CanBeKept further e = HasTable further e × IsShort e
+CanBeKept further e = HasTable further e × IsShortEvent e
 
 -- the first line of a text states an event that publishes no table, whatever their number, and this rest follows the line
 pub record StartsWithEvent (names : Naming) (text : List ℕ) (event : ScriptEvent) (rest : List ℕ) : Type 0 where

@@ -42,19 +42,19 @@ IsByteRefusal bytes (refused.LineByte place) = first_bad_byte bytes ≡ Some pla
 IsByteRefusal bytes _ = ⊥
 
 -- these are the bytes of the file, and none of the filters is refused
-abbrev pub IsRead : (List ℕ → Option (List ℕ)) → List ℕ → List (List ℕ) → List ℕ → Type 0
-IsRead file name filters bytes = (readable (file name) ≡ Some bytes) × (first_bad_filter 0 filters ≡ None)
+abbrev pub AreLineBytes : (List ℕ → Option (List ℕ)) → List ℕ → List (List ℕ) → List ℕ → Type 0
+AreLineBytes file name filters bytes = (readable (file name) ≡ Some bytes) × (first_bad_filter 0 filters ≡ None)
 
 -- why nothing is told of a line: the file, then a filter, then a byte
 abbrev pub IsLinesRefusal : (List ℕ → Option (List ℕ)) → List ℕ → List (List ℕ) → CommandRefusal → Type 0
 IsLinesRefusal file name filters refusal =
     IsFileRefusal file name refusal
     ⊎ ((bytes : List ℕ) × (readable (file name) ≡ Some bytes) × IsFilterRefusal filters refusal)
-    ⊎ ((bytes : List ℕ) × IsRead file name filters bytes × IsByteRefusal bytes refusal)
+    ⊎ ((bytes : List ℕ) × AreLineBytes file name filters bytes × IsByteRefusal bytes refusal)
 
 -- a line that was read: it has the bytes of the file, each a symbol or skipped, and the list of the filters
 abbrev pub IsLineOf : (List ℕ → Option (List ℕ)) → List ℕ → List (List ℕ) → Line → Type 0
-IsLineOf file name filters l = IsRead file name filters l.bytes.items × (first_bad_byte l.bytes.items ≡ None) × (l.filters ≡ filter_list filters)
+IsLineOf file name filters l = AreLineBytes file name filters l.bytes.items × (first_bad_byte l.bytes.items ≡ None) × (l.filters ≡ filter_list filters)
 
 -- what reading a line file gives: the line, or why nothing is told of it
 abbrev pub IsLineReading : (List ℕ → Option (List ℕ)) → List ℕ → List (List ℕ) → Result Line CommandRefusal → Type 0
@@ -87,7 +87,7 @@ IsLineTold l status bytes = IsTold l.filters (symbols_of l.bytes.items) status b
 abbrev pub IsLinesReply : (List ℕ → Option (List ℕ)) → List ℕ → List (List ℕ) → ℕ → List ℕ → Type 0
 IsLinesReply file name filters status bytes =
     ((refusal : CommandRefusal) × OrMemory (IsLinesRefusal file name filters) refusal × (status ≡ 1) × (bytes ≡ refusal_line refusal ++ 10 ∷ []))
-    ⊎ ((content : List ℕ) × IsRead file name filters content × (first_bad_byte content ≡ None) × IsTold (filter_list filters) (symbols_of content) status bytes)
+    ⊎ ((content : List ℕ) × AreLineBytes file name filters content × (first_bad_byte content ≡ None) × IsTold (filter_list filters) (symbols_of content) status bytes)
 
 -- what `lines` answers of the files of a reader: the files are those that give what the reader answered in the call
 abbrev pub HasToldLines : {S X : Type 0} → (S → List ℕ → Result (List ℕ) FileFault → S → Type 0) → (X → Option (List ℕ)) → List ℕ → List (List ℕ) → S → S → X → X → Result ℕ OutputFault → Type 0

@@ -80,8 +80,8 @@ IsRunRefusal t arrivals frames refused.TooMuch = (1000000 < frames) ⊎ HasTooMu
 IsRunRefusal t arrivals frames _ = ⊥
 
 -- from these bytes a run began, and did not come to its end
-abbrev pub IsRunFault : LiveFiles → ℕ → CommandRefusal → Type 0
-IsRunFault i frames refusal = (q : Proposed) × (arrivals : List Arrival) × IsLiveStart i q arrivals × IsRunRefusal q.station arrivals frames refusal
+abbrev pub IsLiveRunFault : LiveFiles → ℕ → CommandRefusal → Type 0
+IsLiveRunFault i frames refusal = (q : Proposed) × (arrivals : List Arrival) × IsLiveStart i q arrivals × IsRunRefusal q.station arrivals frames refusal
 
 -- the refusal that tells of a fault of a run; its plan was made before, so where it cannot be made again memory was refused
 abbrev pub refusal_of : LiveFault → CommandRefusal
@@ -97,7 +97,7 @@ refusal_of live.NoMemory = refused.Memory
 abbrev pub IsLiveRefusal : (List ℕ → Option (List ℕ)) → LiveAsk → CommandRefusal → Type 0
 IsLiveRefusal file r refusal =
     IsFirstUnread file (r.table ∷ r.words ∷ r.further) refusal
-    ⊎ ((i : LiveFiles) × AreLiveFiles file r i × (IsNoLiveStart i refusal ⊎ IsRunFault i r.frames refusal))
+    ⊎ ((i : LiveFiles) × AreLiveFiles file r i × (IsNoLiveStart i refusal ⊎ IsLiveRunFault i r.frames refusal))
 
 -- ---- the report
 
@@ -159,14 +159,14 @@ HasTableOf t g p (table ∷ tables) =
     ((q : Proposed) × IsProposedBy table q × (same_station t q.station ≡ true) × (slice_get (groups_of q.plan) g ≡ Some p)) ⊎ HasTableOf t g p tables
 
 -- the slot table of group g by the plan of the station, or by that of a further table
-abbrev pub IsTableOf : TableRecord → PlanTable → List (List ℕ) → ℕ → SlotTable → Type 0
-IsTableOf t plan further g p = (slice_get (groups_of plan) g ≡ Some p) ⊎ HasTableOf t g p further
+abbrev pub IsSlotTableOf : TableRecord → PlanTable → List (List ℕ) → ℕ → SlotTable → Type 0
+IsSlotTableOf t plan further g p = (slice_get (groups_of plan) g ≡ Some p) ⊎ HasTableOf t g p further
 
 -- group g sent so many frames, whole: the first by the plan of the station, each later one by it or by that of a further table
 abbrev pub IsSentWhole : TableRecord → PlanTable → List (List ℕ) → ℕ → ℕ → SendTotals → Type 0
 IsSentWhole t plan further zero g sent = sent.cells ≡ 0
 IsSentWhole t plan further (suc n) g sent =
-    (first : SlotTable) × (slice_get (groups_of plan) g ≡ Some first) × (later : List SlotTable) × (length later ≡ n) × AllByRecursion (IsTableOf t plan further g) later
+    (first : SlotTable) × (slice_get (groups_of plan) g ≡ Some first) × (later : List SlotTable) × (length later ≡ n) × AllByRecursion (IsSlotTableOf t plan further g) later
     × (sent.cells ≡ cells_of first + sum_by cells_of later)
 
 -- so did each group
@@ -174,7 +174,7 @@ abbrev pub AreSentWhole : TableRecord → ℕ → List (List ℕ) → List SendT
 AreSentWhole t frames further sent = (plan : PlanTable) × IsPlanOf t plan × AllNumbered (IsSentWhole t plan further frames) sent
 
 -- a run of the station with these words for so many frames, at most a million, with further tables: totals for each receiver, and for each group
-pub record HasRun (t : TableRecord) (arrivals : List Arrival) (frames : ℕ) (further : List (List ℕ)) (totals : List ReceiveTotals) (sent : List SendTotals) : Type 0 where
+pub record HasLiveRun (t : TableRecord) (arrivals : List Arrival) (frames : ℕ) (further : List (List ℕ)) (totals : List ReceiveTotals) (sent : List SendTotals) : Type 0 where
   pub few : frames ≤ 1000000
   pub heard : AllNumbered (IsHeard t arrivals) totals
   pub receivers : length totals ≡ length t.receivers
@@ -183,7 +183,7 @@ pub record HasRun (t : TableRecord) (arrivals : List Arrival) (frames : ℕ) (fu
 
 -- the report of a run of the station with these words for so many frames, with further tables
 abbrev pub IsRunReport : TableRecord → List Arrival → ℕ → List (List ℕ) → List ℕ → Type 0
-IsRunReport t arrivals frames further bytes = (totals : List ReceiveTotals) × (sent : List SendTotals) × HasRun t arrivals frames further totals sent × IsReport t further totals sent bytes
+IsRunReport t arrivals frames further bytes = (totals : List ReceiveTotals) × (sent : List SendTotals) × HasLiveRun t arrivals frames further totals sent × IsReport t further totals sent bytes
 
 -- the report of a run of the station of the table in the file, with the words of the other
 abbrev pub IsReportOf : (List ℕ → Option (List ℕ)) → LiveAsk → List ℕ → Type 0

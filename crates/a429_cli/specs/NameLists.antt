@@ -8,12 +8,12 @@ abbrev pub IsPlain : List ℕ → Type 0
 IsPlain text = (cut 10 text ≡ None) × (cut 32 text ≡ None)
 
 -- the name of a number is the first of its spelling, and plain
-abbrev pub IsFirst : List (List ℕ) → ℕ → Type 0
-IsFirst names number = (number_named names (name_at names number) ≡ Some number) × IsPlain (name_at names number)
+abbrev pub IsFirstPlain : List (List ℕ) → ℕ → Type 0
+IsFirstPlain names number = (number_named names (name_at names number) ≡ Some number) × IsPlain (name_at names number)
 
 -- this is so of each number below n
 abbrev pub AreFirst : List (List ℕ) → ℕ → Type 0
-AreFirst names n = (number : ℕ) → number < n → IsFirst names number
+AreFirst names n = (number : ℕ) → number < n → IsFirstPlain names number
 
 -- a text begins with the plain name of a number, after which this byte and this rest stand
 pub record BeginsWithName (names : List (List ℕ)) (end : ℕ) (text : List ℕ) (number : ℕ) (rest : List ℕ) : Type 0 where

@@ -72,13 +72,13 @@ abbrev pub IsVerdictOf : (List ℕ → Option (List ℕ)) → List ℕ → List 
 IsVerdictOf file name plan v = (table : List ℕ) × (text : List ℕ) × AreRead file (name ∷ plan ∷ []) (table ∷ text ∷ []) × IsVerdictOnBytes table text v
 
 -- why there is none: a file, or the table
-abbrev pub IsNoVerdict : (List ℕ → Option (List ℕ)) → List ℕ → List ℕ → CommandRefusal → Type 0
-IsNoVerdict file name plan refusal =
+abbrev pub IsNoCheck : (List ℕ → Option (List ℕ)) → List ℕ → List ℕ → CommandRefusal → Type 0
+IsNoCheck file name plan refusal =
     IsFirstUnread file (name ∷ plan ∷ []) refusal ⊎ ((table : List ℕ) × (text : List ℕ) × AreRead file (name ∷ plan ∷ []) (table ∷ text ∷ []) × IsUnjudged table refusal)
 
 -- what judging the text in a file by the table in another gives: the verdict, or why there is none
 abbrev pub IsJudging : (List ℕ → Option (List ℕ)) → List ℕ → List ℕ → Result Verdict CommandRefusal → Type 0
-IsJudging file name plan result = MatchResult result (IsVerdictOf file name plan) (OrMemory (IsNoVerdict file name plan))
+IsJudging file name plan result = MatchResult result (IsVerdictOf file name plan) (OrMemory (IsNoCheck file name plan))
 
 -- 0 where the text shows the fewest buses
 abbrev pub verdict_status : Verdict → ℕ
@@ -92,7 +92,7 @@ IsVerdictReply v status bytes = (status ≡ verdict_status v) × (bytes ≡ verd
 -- what is written of a table and a text in files, and the status: the line of a refusal, or of the verdict
 abbrev pub IsCheckReply : (List ℕ → Option (List ℕ)) → List ℕ → List ℕ → ℕ → List ℕ → Type 0
 IsCheckReply file name plan status bytes =
-    ((refusal : CommandRefusal) × OrMemory (IsNoVerdict file name plan) refusal × (status ≡ 1) × (bytes ≡ refusal_line refusal ++ 10 ∷ []))
+    ((refusal : CommandRefusal) × OrMemory (IsNoCheck file name plan) refusal × (status ≡ 1) × (bytes ≡ refusal_line refusal ++ 10 ∷ []))
     ⊎ ((v : Verdict) × IsVerdictOf file name plan v × IsVerdictReply v status bytes)
 
 -- what `check` answers of the files of a reader: the files are those that give what the reader answered in the call

@@ -10,9 +10,9 @@ use Rattle.a429_console.specs.Tables.{IsProposedBy, IsTableRefusal}
 use Rattle.a429_console.specs.declared.refusals.CommandRefusal.{CommandRefusal}
 use Rattle.a429_console.specs.declared.refusals.CommandRefusal.TheVariants as refused
 use Rattle.a429_cli.specs.SimulationLog.{AreInTime, IsLogFault, log_words}
-use Rattle.a429_cli.specs.Timeline.{IsBegun, IsTimeline, SendsTooMuch, end_of}
+use Rattle.a429_cli.specs.Timeline.{TimelineIsBegun, IsTimeline, SendsTooMuch, end_of}
 use Rattle.a429_cli.specs.Simulating.{steps_of, text_of}
-use Rattle.a429_cli.specs.SimulationRuns.{HasNames, StandsAfter}
+use Rattle.a429_cli.specs.SimulationRuns.{HasStationNames, StandsAfter}
 use Rattle.a429_cli.specs.Summary.{summary_text}
 use Rattle.a429_cli.specs.Tracks.{HasTracks, IsTimelineAt, IsTrack}
 use Rattle.a429_cli.specs.declared.simulate.Beginning.{Beginning}
@@ -72,7 +72,7 @@ IsPrinted q words last csv bytes = (moments : List Moment) × IsTimeline q words
 -- the lines of the first steps of a timeline were printed
 abbrev pub IsPrintedInPart : Proposed → List LogWord → ℕ → Bool → List ℕ → Type 0
 IsPrintedInPart q words last csv bytes =
-    (moments : List Moment) × (n : ℕ) × IsBegun q words last moments × (bytes ≡ heading csv ++ text_of q csv (take n (steps_of q moments)))
+    (moments : List Moment) × (n : ℕ) × TimelineIsBegun q words last moments × (bytes ≡ heading csv ++ text_of q csv (take n (steps_of q moments)))
 
 -- what a simulation that began writes, and its status: all lines, or the first ones and then that memory was refused
 abbrev pub IsPrinting : Proposed → List LogWord → ℕ → Bool → ℕ → List ℕ → Type 0
@@ -109,7 +109,7 @@ IsSimulationReading file table log result =
 
 -- a station of a table's bytes, with its names
 abbrev pub IsStationOf : List ℕ → Station → Type 0
-IsStationOf table s = IsProposedBy table s.proposal × HasNames s.names s.proposal
+IsStationOf table s = IsProposedBy table s.proposal × HasStationNames s.names s.proposal
 
 -- a timeline where nothing has happened, with a machine to which nothing has happened
 pub record IsBegin (q : Proposed) (words : List LogWord) (last : ℕ) (b : Beginning) : Type 0 where
@@ -126,12 +126,12 @@ IsBeginningOf q words last result = MatchResult result (IsBegin q words last) (O
 pub record IsPreparedFor (i : SimulationFiles) (until : Option ℕ) (s : Simulation) : Type 0 where
   pub words : List LogWord
   pub simulated : IsSimulated i s.station.proposal words
-  pub names : HasNames s.station.names s.station.proposal
+  pub names : HasStationNames s.station.names s.station.proposal
   pub begin : IsBegin s.station.proposal words (end_of s.station.proposal words until) s.beginning
 
 -- it has the names of its station, its groups and its words in time
-pub record IsReady (s : Simulation) : Type 0 where
-  pub names : HasNames s.station.names s.station.proposal
+pub record SimulationIsReady (s : Simulation) : Type 0 where
+  pub names : HasStationNames s.station.names s.station.proposal
   pub tracks : HasTracks s.station.proposal s.beginning.timeline.tracks.items
   pub sound : OfEach IsTrack s.beginning.timeline.tracks.items
   pub in_time : AreInTime s.beginning.timeline.words.items

@@ -11,7 +11,7 @@ use Rattle.a429_console.specs.Outputs.{AppendsPending}
 use Rattle.a429_console.specs.declared.refusals.CommandRefusal.{CommandRefusal}
 use Rattle.a429_console.specs.declared.refusals.CommandRefusal.TheVariants as refused
 use Rattle.a429_cli.specs.Simulating.{Step, answer_after, heard_at, history_of, opening_of, steps_of, text_after, text_of}
-use Rattle.a429_cli.specs.Timeline.{IsBegun, IsTimeline}
+use Rattle.a429_cli.specs.Timeline.{TimelineIsBegun, IsTimeline}
 use Rattle.a429_cli.specs.Tracks.{IsTimelineAt}
 use Rattle.a429_cli.specs.declared.simulate.log.LogWord.{LogWord}
 use Rattle.a429_cli.specs.declared.simulate.moments.Timeline.{Timeline}
@@ -20,8 +20,8 @@ use Rattle.a429_cli.specs.declared.simulate.moments.Moment.{Moment}
 use Rattle.a429_cli.specs.declared.simulate.moments.Moment.TheVariants.{Word, Slot}
 
 -- the names are those of the station
-abbrev pub HasNames : Naming → Proposed → Type 0
-HasNames names q = names ≡ naming_of q.station
+abbrev pub HasStationNames : Naming → Proposed → Type 0
+HasStationNames names q = names ≡ naming_of q.station
 
 -- the machine has taken these steps, and the times are those of the last accepted words
 pub record StandsAfter (q : Proposed) (past : List Step) (r : Run) : Type 0 where
@@ -34,8 +34,8 @@ abbrev pub IsAnswerTo : Run → Step → Answer → Type 0
 IsAnswerTo r step given = (q : Proposed) (past : List Step) → StandsAfter q past r → given ≡ answer_after q past step
 
 -- whatever steps the machine had taken, now it has taken these after them
-abbrev pub GoesOn : Run → List Step → Run → Type 0
-GoesOn old steps new = (q : Proposed) (past : List Step) → StandsAfter q past old → StandsAfter q (past ++ steps) new
+abbrev pub RunGoesOn : Run → List Step → Run → Type 0
+RunGoesOn old steps new = (q : Proposed) (past : List Step) → StandsAfter q past old → StandsAfter q (past ++ steps) new
 
 -- the time of an accepted word is noted for its source
 abbrev pub noted : List ℕ → Answer → ℕ → List ℕ
@@ -65,19 +65,19 @@ abbrev pub Plays : {T E : Type 0} → Proposed → Bool → List Step → Run �
 Plays q csv steps old new before after result = MatchResult result (λ _. TakesSteps q csv steps old new before after) (λ _. TakesFirst q csv steps old before after)
 
 -- the station and its plan have this group
-abbrev pub HasGroup : Proposed → ℕ → Type 0
-HasGroup q g = (g < length q.station.groups) × (g < length (groups_of q.plan))
+abbrev pub HasPlannedGroup : Proposed → ℕ → Type 0
+HasPlannedGroup q g = (g < length q.station.groups) × (g < length (groups_of q.plan))
 
 -- a slot is of a group of the station, and 64 bits can count its microseconds
-abbrev pub IsWithin : Proposed → Moment → Type 0
-IsWithin q (Word w) = ⊤
-IsWithin q (Slot g t) = HasGroup q g × (t < 8192000000)
+abbrev pub IsWithinRun : Proposed → Moment → Type 0
+IsWithinRun q (Word w) = ⊤
+IsWithinRun q (Slot g t) = HasPlannedGroup q g × (t < 8192000000)
 
 -- these lines were printed by a simulation to its end, or where memory was refused those of the first steps
 abbrev pub ArePrinted : Proposed → List LogWord → ℕ → Bool → Bool → List ℕ → Type 0
 ArePrinted q words last csv true bytes = (moments : List Moment) × IsTimeline q words last moments × (bytes ≡ text_of q csv (steps_of q moments))
 ArePrinted q words last csv false bytes =
-    (moments : List Moment) × (n : ℕ) × IsBegun q words last moments × (bytes ≡ text_of q csv (take n (steps_of q moments)))
+    (moments : List Moment) × (n : ℕ) × TimelineIsBegun q words last moments × (bytes ≡ text_of q csv (take n (steps_of q moments)))
 
 -- a timeline where nothing has happened is played on a station to which nothing has happened: the lines are put out, or appended to those that are
 -- yet to be; the answer says whether memory sufficed

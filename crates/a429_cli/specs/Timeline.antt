@@ -47,9 +47,9 @@ abbrev pub AllPrecede : Proposed → List Moment → Moment → Type 0
 AllPrecede q moments later = AllByRecursion (λ m. Precedes q m later) moments
 
 -- each moment precedes all that come after it
-abbrev pub AreInOrder : Proposed → List Moment → Type 0
-AreInOrder q [] = ⊤
-AreInOrder q (m ∷ moments) = AllByRecursion (Precedes q m) moments × AreInOrder q moments
+abbrev pub MomentsAreInOrder : Proposed → List Moment → Type 0
+MomentsAreInOrder q [] = ⊤
+MomentsAreInOrder q (m ∷ moments) = AllByRecursion (Precedes q m) moments × MomentsAreInOrder q moments
 
 -- ---- which moments there are
 
@@ -73,19 +73,19 @@ pub record HasHappened (q : Proposed) (words : List LogWord) (last : ℕ) (momen
   pub words_are : filter_map word_of moments ++ left ≡ words
   pub slots_are : (g : ℕ) → filter_map (slot_of g) moments ≡ range_with_len 0 (next g)
   pub few : (g : ℕ) → next g ≤ slots_by q last g
-  pub in_order : AreInOrder q moments
+  pub in_order : MomentsAreInOrder q moments
   pub before_words : (w : LogWord) (ws : List LogWord) → left ≡ w ∷ ws → AllPrecede q moments (Word w)
   pub before_slots : (g : ℕ) → next g < slots_by q last g → AllPrecede q moments (Slot g (next g))
 
 -- these moments have happened, and there may be more
-abbrev pub IsBegun : Proposed → List LogWord → ℕ → List Moment → Type 0
-IsBegun q words last moments = (left : List LogWord) × (next : ℕ → ℕ) × HasHappened q words last moments left next
+abbrev pub TimelineIsBegun : Proposed → List LogWord → ℕ → List Moment → Type 0
+TimelineIsBegun q words last moments = (left : List LogWord) × (next : ℕ → ℕ) × HasHappened q words last moments left next
 
 -- The timeline: the words of the log in order, and of each group all slots that begin at the last time or before, in turn, all in the order of time.
 pub record IsTimeline (q : Proposed) (words : List LogWord) (last : ℕ) (moments : List Moment) : Type 0 where
   pub words_are : filter_map word_of moments ≡ words
   pub slots_are : (g : ℕ) → filter_map (slot_of g) moments ≡ range_with_len 0 (slots_by q last g)
-  pub in_order : AreInOrder q moments
+  pub in_order : MomentsAreInOrder q moments
 
 -- ---- how long it is
 

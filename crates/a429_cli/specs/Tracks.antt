@@ -44,9 +44,9 @@ GoesBefore tracks x None is = IsTrue is
 GoesBefore tracks x (Some g) is = (y : Track) → slice_get tracks g ≡ Some y → IsTrue is ↔ (x.next * y.rate < y.next * x.rate)
 
 -- among the first n groups, this is the one whose next slot is first
-abbrev pub IsLeast : List Track → ℕ → Option ℕ → Type 0
-IsLeast tracks n None = (h : ℕ) (y : Track) → h < n → slice_get tracks h ≡ Some y → y.slots ≤ y.next
-IsLeast tracks n (Some g) =
+abbrev pub IsNextTrack : List Track → ℕ → Option ℕ → Type 0
+IsNextTrack tracks n None = (h : ℕ) (y : Track) → h < n → slice_get tracks h ≡ Some y → y.slots ≤ y.next
+IsNextTrack tracks n (Some g) =
     (g < n) × (x : Track) × (slice_get tracks g ≡ Some x) × (x.next < x.slots)
     × ((h : ℕ) (y : Track) → h < n → slice_get tracks h ≡ Some y → y.next < y.slots → IsNoLater x g y h)
 
@@ -88,14 +88,14 @@ TakesMoment old new result =
     → MatchOption result (IsTimeline q words last moments) (λ m. IsTimelineAt q words last (moments ++ m ∷ []) new)
 
 -- a slot is of a group of the station, and 64 bits can count its microseconds
-abbrev pub IsKnown : List Track → Moment → Type 0
-IsKnown tracks (Word w) = ⊤
-IsKnown tracks (Slot g t) = (g < length tracks) × (t < 8192000000)
+abbrev pub IsKnownMoment : List Track → Moment → Type 0
+IsKnownMoment tracks (Word w) = ⊤
+IsKnownMoment tracks (Slot g t) = (g < length tracks) × (t < 8192000000)
 
 -- how many slots begin at this time or before, unless they are more than a million frames
-abbrev pub IsCounted : ℕ → ℕ → ℕ → Option ℕ → Type 0
-IsCounted rate frame last None = 1000000 * frame < last * rate / slot_time + 1
-IsCounted rate frame last (Some slots) = (slots ≡ last * rate / slot_time + 1) × (slots ≤ 8192000000)
+abbrev pub SlotsAreCounted : ℕ → ℕ → ℕ → Option ℕ → Type 0
+SlotsAreCounted rate frame last None = 1000000 * frame < last * rate / slot_time + 1
+SlotsAreCounted rate frame last (Some slots) = (slots ≡ last * rate / slot_time + 1) × (slots ≤ 8192000000)
 
 -- the first n groups, each before its first slot
 pub record AreCountedTo (q : Proposed) (last n : ℕ) (tracks : List Track) : Type 0 where

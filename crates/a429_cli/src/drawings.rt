@@ -3,7 +3,7 @@ ghost use Rattle.std.specs.Prelude.{◌≡◌, ◌≤◌, ◌<◌, IfOk, IfSome,
 ghost use Rattle.std.specs.Option.{option_copied};
 ghost use Rattle.a429_console.specs.Readings.{HasRead};
 ghost use Rattle.a429_console.specs.Outputs.{CountsFault};
-ghost use Rattle.a429_cli.specs.Drawings.{GivesGroup, GivesImage, GivesNumbered, GivesPicture, HasDrawn, IsDrawing, group_numbered, refusal_of};
+ghost use Rattle.a429_cli.specs.Drawings.{GivesGroup, GivesNamedImage, GivesNumbered, GivesPicture, HasDrawn, IsDrawing, group_numbered, refusal_of};
 ghost use Rattle.a429_slots.specs.Tables.{groups_of};
 
 use a429_console::arguments::requests::DrawRequest;
@@ -124,7 +124,7 @@ fn image_of(
     group: Option<&str>,
     picture: Picture,
 ) -> Result<Vec<u8>, CommandRefusal>
-    ensures { GivesImage proposal.now (option_copied group.entry) picture result }
+    ensures { GivesNamedImage proposal.now (option_copied group.entry) picture result }
 {
     let _plan = proposal.plan();
     let number = group_asked(alloc, proposal.equipment().groups(), group)?;

@@ -3,7 +3,7 @@ ghost use Rattle.std.specs.Prelude.{◌≡◌, map, string_bytes, IfOk};
 ghost use Rattle.a429_console.specs.Ends.{IsMemoryRefused, writing};
 ghost use Rattle.a429_console.specs.Files.{texts_of};
 ghost use Rattle.a429_console.specs.Readings.{HasReadFrom};
-ghost use Rattle.a429_cli.specs.ProgramRuns.{HasRun, IsCommandDone, IsDoneOrRefused, IsLiveDone, is_live};
+ghost use Rattle.a429_cli.specs.ProgramRuns.{HasRunProgram, IsCommandDone, IsDoneOrRefused, IsLiveDone, is_live};
 
 use crate::commands::command;
 use crate::live::commands::command_live;
@@ -133,7 +133,7 @@ pub fn run_program<
     V: Output,
     P: Progress + Sync,
 >(rt: &R, arguments: &A, hints: &H, files: &mut F, out: &mut O, err: &mut V, progress: &P) -> u8
-    ensures { HasRun (A.gives arguments.now) (A.ends arguments.now) (record { tells = F.tells files.old; file = F.file files.old })
+    ensures { HasRunProgram (A.gives arguments.now) (A.ends arguments.now) (record { tells = F.tells files.old; file = F.file files.old })
         (λ Says. HasReadFrom F.answers Says files.old)
         (writing O.contents O.failures O.is_flushed out.old out.new) (writing V.contents V.failures V.is_flushed err.old err.new) result }
 {

@@ -7,8 +7,8 @@ ghost use Rattle.a429_console.specs.RefusalText.{OrMemory};
 ghost use Rattle.a429_console.specs.Replying.{HasReplied};
 ghost use Rattle.a429_console.specs.Tables.{IsTableRefusal};
 ghost use Rattle.a429_cli.specs.SimulationLog.{AreInTime};
-ghost use Rattle.a429_cli.specs.SimulationReplies.{HasPrinted, HasSummary, IsBeginningOf, IsPreparedFor, IsReady, IsSimulation, IsSimulationReading, IsStationOf, IsUnsimulated, files_of, heading};
-ghost use Rattle.a429_cli.specs.SimulationRuns.{HasNames};
+ghost use Rattle.a429_cli.specs.SimulationReplies.{HasPrinted, HasSummary, IsBeginningOf, IsPreparedFor, SimulationIsReady, IsSimulation, IsSimulationReading, IsStationOf, IsUnsimulated, files_of, heading};
+ghost use Rattle.a429_cli.specs.SimulationRuns.{HasStationNames};
 ghost use Rattle.a429_cli.specs.Timeline.{end_of};
 ghost use Rattle.a429_cli.specs.Tracks.{HasTracks, IsTrack};
 
@@ -175,7 +175,7 @@ fn play_words<O: Output>(
     beginning: Beginning,
     out: &mut O,
 ) -> Result<u8, OutputFault>
-    requires names { HasNames setting.now.names.now setting.now.proposal.now }
+    requires names { HasStationNames setting.now.names.now setting.now.proposal.now }
     requires tracks { HasTracks setting.now.proposal.now beginning.timeline.tracks.items }
     requires sound { OfEach IsTrack beginning.timeline.tracks.items }
     requires in_time { AreInTime beginning.timeline.words.items }
@@ -203,7 +203,7 @@ fn print_lines<O: Output>(
     csv: bool,
     out: &mut O,
 ) -> Result<u8, OutputFault>
-    requires { IsReady simulation }
+    requires { SimulationIsReady simulation }
     ensures printed { HasPrinted simulation.station.proposal false csv simulation.beginning
         (O.contents out.old) (O.contents out.new) result }
     ensures status { IfOk result (λ status. status ≤ 1) }
@@ -248,7 +248,7 @@ fn print_summary<O: Output>(
     csv: bool,
     out: &mut O,
 ) -> Result<u8, OutputFault>
-    requires { IsReady simulation.old }
+    requires { SimulationIsReady simulation.old }
     ensures printed { HasPrinted simulation.old.station.proposal true csv simulation.old.beginning
         (O.contents out.old) (O.contents out.new) result }
     ensures status { IfOk result (λ status. status ≤ 1) }
@@ -269,7 +269,7 @@ fn print_simulation<O: Output>(
     form: SimulationForm,
     out: &mut O,
 ) -> Result<u8, OutputFault>
-    requires { IsReady simulation }
+    requires { SimulationIsReady simulation }
     ensures printed { HasPrinted simulation.station.proposal form.summary form.csv simulation.beginning
         (O.contents out.old) (O.contents out.new) result }
     ensures status { IfOk result (λ status. status ≤ 1) }

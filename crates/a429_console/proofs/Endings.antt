@@ -2,7 +2,7 @@
 use Rattle.std.proofs.Common.{◌≡◌, ◌≤◌, ◌<◌, Bool, ap, ◌∙◌, ◌++◌, [], ◌+◌, ◌-◌, ◌^◌, ℕ, List, append-nil, arith, sym, subst}
 use Rattle.std.specs.Prelude.{Option, Result, Ok, Err, IfOk, OnOk, min}
 use Rattle.std.specs.Io.KnownBytes.{Appends}
-use Rattle.a429_console.specs.Outputs.{FailedCalls, HasFailedBy, IsCounted, IsPut, NoneFailed}
+use Rattle.a429_console.specs.Outputs.{FailedCalls, HasFailedBy, FailureIsCounted, IsPut, NoneFailed}
 use Rattle.a429_console.specs.declared.output.OutputFault.{OutputFault}
 
 -- a text was put whole
@@ -21,14 +21,14 @@ refused_is_few (Ok status) is = omega (arith, is)
 refused_is_few (Err e) is = tt
 
 -- a call that failed was counted
-pub failure_shows : (fault : OutputFault) (old new : FailedCalls) → IsCounted fault old new → NoneFailed old new → ⊥
+pub failure_shows : (fault : OutputFault) (old new : FailedCalls) → FailureIsCounted fault old new → NoneFailed old new → ⊥
 failure_shows fault old new counted none =
     let same : new.count ≡ old.count = none.1 in
     let more : new.count ≡ min (old.count + 1) (2 ^ 64 - 1) = counted.0 in
     let few : old.count < 2 ^ 64 - 1 = none.0 in
     omega (arith, same, more, few)
 
-pub counted_once : (fault : OutputFault) (old new : FailedCalls) → IsCounted fault old new → new.count ≤ old.count + 1
+pub counted_once : (fault : OutputFault) (old new : FailedCalls) → FailureIsCounted fault old new → new.count ≤ old.count + 1
 counted_once fault old new counted =
     let more : new.count ≡ min (old.count + 1) (2 ^ 64 - 1) = counted.0 in
     omega (arith, more)

@@ -8,8 +8,8 @@ AreFrom gives k [] = ⊤
 AreFrom gives k (word ∷ words) = gives k word × AreFrom gives (k + 1) words
 
 -- these are all words that follow the path of the program, which is at place 0: each was answered at its place, and behind the last that there is none
-abbrev pub AreGiven : (ℕ → List ℕ → Type 0) → (ℕ → Type 0) → List (List ℕ) → Type 0
-AreGiven gives ends words = AreFrom gives 1 words × ends (length words + 1)
+abbrev pub AreAllWords : (ℕ → List ℕ → Type 0) → (ℕ → Type 0) → List (List ℕ) → Type 0
+AreAllWords gives ends words = AreFrom gives 1 words × ends (length words + 1)
 
 -- a word that follows the path of the program is no UTF-8
 abbrev pub HasNoText : (ℕ → List ℕ → Type 0) → Type 0

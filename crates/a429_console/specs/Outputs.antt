@@ -18,12 +18,12 @@ is_closing fault.Closed = true
 is_closing fault.Failed = false
 
 -- a call failed so, and is counted; at the last value of 64 bits the count stays
-abbrev pub IsCounted : OutputFault → FailedCalls → FailedCalls → Type 0
-IsCounted fault old new = (new.count ≡ min (old.count + 1) (2 ^ 64 - 1)) × (new.is_closed ≡ is_closing fault)
+abbrev pub FailureIsCounted : OutputFault → FailedCalls → FailedCalls → Type 0
+FailureIsCounted fault old new = (new.count ≡ min (old.count + 1) (2 ^ 64 - 1)) × (new.is_closed ≡ is_closing fault)
 
 -- a call that fails is counted, and no other
 abbrev pub CountsFault : {X : Type 0} → Result X OutputFault → FailedCalls → FailedCalls → Type 0
-CountsFault result old new = MatchResult result (λ _. new ≡ old) (λ fault. IsCounted fault old new)
+CountsFault result old new = MatchResult result (λ _. new ≡ old) (λ fault. FailureIsCounted fault old new)
 
 -- no call failed, where the count could still tell it
 abbrev pub NoneFailed : FailedCalls → FailedCalls → Type 0
@@ -31,7 +31,7 @@ NoneFailed old new = (old.count < 2 ^ 64 - 1) × (new.count ≡ old.count)
 
 -- a call failed
 abbrev pub HasFailed : FailedCalls → FailedCalls → Type 0
-HasFailed old new = (fault : OutputFault) × IsCounted fault old new
+HasFailed old new = (fault : OutputFault) × FailureIsCounted fault old new
 
 -- a call failed, which found that the reader has closed the output, or another cause
 abbrev pub HasFailedBy : Bool → FailedCalls → FailedCalls → Type 0

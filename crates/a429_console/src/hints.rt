@@ -80,28 +80,28 @@ impl SeenLine {
 
 /// What a text looks like that is given as a table.
 #[derive(Clone, Copy, PartialEq, Eq)]
-pub enum Looks {
+pub enum TableLook {
     PlanText,
     Script,
     Log,
     Other,
 }
 
-impl Looks {
+impl TableLook {
     /// By the first word of the text, or its last line.
-    pub fn of(text: &[u8]) -> Looks {
+    pub fn of(text: &[u8]) -> TableLook {
         let first_words: [&[u8]; 4] = [b"arrive ", b"cell ", b"frame ", b"publish "];
         if text.starts_with(b"plan ") {
-            Looks::PlanText
+            TableLook::PlanText
         } else if first_words.iter().any(|word| text.starts_with(word)) {
-            Looks::Script
+            TableLook::Script
         } else if last_stated(text)
             .first()
             .is_some_and(|byte| byte.is_ascii_digit())
         {
-            Looks::Log
+            TableLook::Log
         } else {
-            Looks::Other
+            TableLook::Other
         }
     }
 }
@@ -110,7 +110,7 @@ impl Looks {
 #[derive(Drop)]
 pub struct SeenTable {
     /// What it looks like.
-    pub looks: Looks,
+    pub looks: TableLook,
     /// What it was read as.
     pub document: Option<RefusedTable>,
     /// Its equipment, if it has no plan.
@@ -121,7 +121,7 @@ impl SeenTable {
     /// Nothing yet.
     pub fn nothing() -> SeenTable {
         SeenTable {
-            looks: Looks::Other,
+            looks: TableLook::Other,
             document: None,
             equipment: None,
         }

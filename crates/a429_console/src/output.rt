@@ -1,7 +1,7 @@
 //! Where the lines of a command go.
 ghost use Rattle.std.specs.Prelude.{◌≡◌, ◌<◌, List, ℕ, Bool, Option, Err, OnOk, IsErr, IsTrue};
 ghost use Rattle.std.specs.Io.KnownBytes.{Appends, Keeps};
-ghost use Rattle.a429_console.specs.Outputs.{CountsFault, FailedCalls, IsCounted, calls_of};
+ghost use Rattle.a429_console.specs.Outputs.{CountsFault, FailedCalls, FailureIsCounted, calls_of};
 
 pub mod endings;
 pub mod from_end;
@@ -93,7 +93,8 @@ impl<W: Flushing> CountedWriter<W> {
     /// Counts a call that failed.
     fn fail(&mut self, fault: OutputFault) -> Result<(), OutputFault>
         ensures fault { result ≡ Err fault }
-        ensures counted { IsCounted fault (calls_of self.old.failures self.old.is_closed) (calls_of self.new.failures self.new.is_closed) }
+        ensures counted { FailureIsCounted fault (calls_of self.old.failures self.old.is_closed)
+            (calls_of self.new.failures self.new.is_closed) }
         ensures writer { self.new.writer ≡ self.old.writer }
     {
         self.failures = self.failures.saturating_add(1);

@@ -11,7 +11,7 @@ use Rattle.a429_word.specs.Bits.{has_odd_parity}
 use Rattle.a429_equipment.specs.declared.rows.SourceRow.{SourceRow}
 use Rattle.a429_equipment.specs.declared.arrivals.ArrivalRefusal.{ArrivalRefusal}
 use Rattle.a429_equipment.specs.declared.arrivals.ArrivalRefusal.TheVariants as arrival
-use Rattle.a429_equipment.specs.Arrivals.{AreApart, passes_at, is_for, sorted}
+use Rattle.a429_equipment.specs.Arrivals.{SourcesAreApart, passes_at, is_for, sorted}
 use Rattle.a429_equipment.specs.SameStation.{same_station}
 use Rattle.a429_slots.specs.Tables.{SlotTable, groups_of}
 use Rattle.a429_slots.specs.Proposed.{Proposed}
@@ -134,7 +134,7 @@ own_word C o E r raw j s H =
     ]
 
 -- a word for one source is for no other
-other_word : (C : ℕ) (o : Opening) (E : List Event) (r raw i j : ℕ) (s : SourceRow) → AreApart o.proposal.station.sources → IsFor o r raw j s → (j ≡ i → ⊥) → Does C o E i (Arrive r raw) (source_answer C o E (Ok j))
+other_word : (C : ℕ) (o : Opening) (E : List Event) (r raw i j : ℕ) (s : SourceRow) → SourcesAreApart o.proposal.station.sources → IsFor o r raw j s → (j ≡ i → ⊥) → Does C o E i (Arrive r raw) (source_answer C o E (Ok j))
 unfolding Does
 other_word C o E r raw i j s apart H differs = inr (record {
   other = λ is. by_limit (nat_lt (length (accepted_by C o j E)) (2 ^ C - 1)) is;
@@ -160,7 +160,7 @@ found_at r raw j o h odd passes = elim (slice_get_cases o.proposal.station.sourc
       absurd (omega arith)
 ]
 
-position_does : (C : ℕ) (o : Opening) (E : List Event) (i r raw : ℕ) → AreApart o.proposal.station.sources → has_odd_parity raw ≡ true → passes_at o.proposal.station r raw ≡ true
+position_does : (C : ℕ) (o : Opening) (E : List Event) (i r raw : ℕ) → SourcesAreApart o.proposal.station.sources → has_odd_parity raw ≡ true → passes_at o.proposal.station r raw ≡ true
     → (x : Option ℕ) → position (is_for r raw) o.proposal.station.sources ≡ x → Does C o E i (Arrive r raw) (source_answer C o E (option_map_or (λ j. Ok j) x (Err arrival.NoSource)))
 position_does C o E i r raw apart odd passes None h =
     quiet C o E i (Arrive r raw) (source_answer C o E (Err arrival.NoSource)) refl (λ s there. word_unheard o s r raw (none_passes (is_for r raw) o.proposal.station.sources h i s there))
@@ -171,7 +171,7 @@ position_does C o E i r raw apart odd passes (Some j) h =
       | inr differs ↦ other_word C o E r raw i j H.0 apart H.1 differs
     ]
 
-sorted_does : (C : ℕ) (o : Opening) (E : List Event) (i r raw : ℕ) → AreApart o.proposal.station.sources → Does C o E i (Arrive r raw) (source_answer C o E (sorted o.proposal.station r raw))
+sorted_does : (C : ℕ) (o : Opening) (E : List Event) (i r raw : ℕ) → SourcesAreApart o.proposal.station.sources → Does C o E i (Arrive r raw) (source_answer C o E (sorted o.proposal.station r raw))
 sorted_does C o E i r raw apart = elim (cases_Bool (has_odd_parity raw)) [
   | inl odd ↦ elim (cases_Bool (passes_at o.proposal.station r raw)) [
     | inl passes ↦
@@ -189,7 +189,7 @@ sorted_does C o E i r raw apart = elim (cases_Bool (has_odd_parity raw)) [
       (quiet C o E i (Arrive r raw) (source_answer C o E (Err arrival.Parity)) refl (λ s there. word_even o s r raw even))
 ]
 
-arrive_does : (C : ℕ) (o : Opening) (E : List Event) (i r raw : ℕ) → AreApart o.proposal.station.sources → Does C o E i (Arrive r raw) (answer C o E (Arrive r raw))
+arrive_does : (C : ℕ) (o : Opening) (E : List Event) (i r raw : ℕ) → SourcesAreApart o.proposal.station.sources → Does C o E i (Arrive r raw) (answer C o E (Arrive r raw))
 arrive_does C o E i r raw apart =
     let t = o.proposal.station in
     elim (cases_lt r (length t.receivers)) [
@@ -201,13 +201,13 @@ arrive_does C o E i r raw apart =
           subst (Does C o E i (Arrive r raw)) (sym is) (quiet C o E i (Arrive r raw) (Refused NoSuch) refl (λ s there. word_filtered o s r raw (nobody_hears t r raw ge)))
     ]
 
-pub does : (C : ℕ) (o : Opening) (E : List Event) (i : ℕ) (e : Event) → AreApart o.proposal.station.sources → Does C o E i e (answer C o E e)
+pub does : (C : ℕ) (o : Opening) (E : List Event) (i : ℕ) (e : Event) → SourcesAreApart o.proposal.station.sources → Does C o E i e (answer C o E e)
 does C o E i (Arrive r raw) apart = arrive_does C o E i r raw apart
 does C o E i (Cell g) apart = quiet C o E i (Cell g) (answer C o E (Cell g)) (cell_accepts_none C o E g) (λ s there. refl)
 does C o E i (Frame g) apart = quiet C o E i (Frame g) (answer C o E (Frame g)) (frame_accepts_none C o E g) (λ s there. refl)
 does C o E i (Publish q) apart = quiet C o E i (Publish q) (answer C o E (Publish q)) (publish_accepts_none C o E q) (λ s there. refl)
 
-pub one_by_one : (C : ℕ) (o : Opening) (E : List Event) (source : ℕ) (e : Event) → AreApart o.proposal.station.sources → AddsWord C o E source e ⊎ AddsNone C o E source e
+pub one_by_one : (C : ℕ) (o : Opening) (E : List Event) (source : ℕ) (e : Event) → SourcesAreApart o.proposal.station.sources → AddsWord C o E source e ⊎ AddsNone C o E source e
 unfolding Does
 one_by_one C o E source e apart = elim (does C o E source e apart) [
   | inl G ↦ inl (record { receiver = G.receiver; word = G.word; event = G.event; answered = G.answered; more = G.more })
@@ -254,12 +254,12 @@ latest_next C o i E e before (inr S) w h =
     }
 
 -- along a history, the newest event first
-latest_along : (C : ℕ) (o : Opening) (i : ℕ) → AreApart o.proposal.station.sources → (past : List Event) → LastIsLatest C o i (reverse past)
+latest_along : (C : ℕ) (o : Opening) (i : ℕ) → SourcesAreApart o.proposal.station.sources → (past : List Event) → LastIsLatest C o i (reverse past)
 unfolding LastIsLatest
 latest_along C o i apart [] = λ w h. absurd (none-some w (sym (ap (λ (ws : List ℕ). last_of ws) (first_words C o i)) ∙ h))
 latest_along C o i apart (e ∷ past) =
     subst (LastIsLatest C o i) (sym (reverse-append (e ∷ []) past)) (latest_next C o i (reverse past) e (latest_along C o i apart past) (does C o (reverse past) i e apart))
 
-pub last_is_latest : (C : ℕ) (o : Opening) (i : ℕ) (E : List Event) (w : ℕ) → AreApart o.proposal.station.sources → last_of (accepted_by C o i E) ≡ Some w → IsLatest C o E i w
+pub last_is_latest : (C : ℕ) (o : Opening) (i : ℕ) (E : List Event) (w : ℕ) → SourcesAreApart o.proposal.station.sources → last_of (accepted_by C o i E) ≡ Some w → IsLatest C o E i w
 unfolding LastIsLatest
 last_is_latest C o i E w apart h = subst (LastIsLatest C o i) (reverse-reverse E) (latest_along C o i apart (reverse E)) w h

@@ -17,7 +17,7 @@ use Rattle.a429_slots.specs.Spacing.{IsOutputCell, IsSentWithin}
 use Rattle.a429_slots.proofs.Answered.{event_at}
 use Rattle.a429_slots.proofs.Histories.{new_frame, take_following}
 use Rattle.a429_core.specs.Histories.{history_of}
-use Rattle.a429_core.specs.Spaced.{AreSpaced, IsAnswered}
+use Rattle.a429_core.specs.Spaced.{AreSpaced, CellIsAnswered}
 use Rattle.a429_core.specs.Latency.{Changes, Clock, EachOutput, GoesOut, GoesOutWithin, HasCell, HasOutput, IsAcceptedBefore, IsPlannedHistory, IsUnheld, KeepsTime, MaySend, Passes, SendsOne, move_of, next_on, next_slot_on, period_of, wait_of}
 use Rattle.a429_core.proofs.SpacedWords.{answered_by, word_of}
 use Rattle.a429_core.proofs.Passing.{goes}
@@ -119,12 +119,12 @@ module _ (o : Opening) (g : ℕ) (p : SlotTable) (E : List Event) (spaced : AreS
 
 module _ (law : AreSpaced) (C : ℕ) (o : Opening) (g : ℕ) (p : SlotTable) (E : List Event) (H : IsPlannedHistory (history_of o g p E)) (spaced : AreSpacedTables o g p E) where
   -- the last word of the source where one was sent
-  last_at : (j source slot w : ℕ) (x : Placed) → IsAnswered C (history_of o g p E) j x slot (Some w) → x.source ≡ source → last_of (accepted_by C o source (take j E)) ≡ Some w
+  last_at : (j source slot w : ℕ) (x : Placed) → CellIsAnswered C (history_of o g p E) j x slot (Some w) → x.source ≡ source → last_of (accepted_by C o source (take j E)) ≡ Some w
   last_at j source slot w x A same =
       ap (λ (z : ℕ). last_of (accepted_by C o z (take j E))) (sym same) ∙ last_sent _ (last_of (accepted_by C o x.source (take j E))) w (word_of C o g p E j x slot (Some w) H.opens A)
 
   -- A cell of a source that holds no words, after one in which a word was sent: it is close to none sent before, so by then one is sent.
-  pub sent_by : (j k source end q slot w : ℕ) (x : Placed) → k ≤ length E → IsAnswered C (history_of o g p E) j x slot (Some w) → x.source ≡ source → (R : HasCell (history_of o g p E) (j + 1) k source end) → IsUnheld q R.output
+  pub sent_by : (j k source end q slot w : ℕ) (x : Placed) → k ≤ length E → CellIsAnswered C (history_of o g p E) j x slot (Some w) → x.source ≡ source → (R : HasCell (history_of o g p E) (j + 1) k source end) → IsUnheld q R.output
       → ((W : IsSentWithin C o g p E R.place R.output R.slot) → W.place < j + 1 → ⊥) → SendsOne C (history_of o g p E) (j + 1) k source end
   sent_by j k source end q slot w x few A same R free far =
       let before : R.place < k = R.before in
@@ -155,14 +155,14 @@ module _ (law : AreSpaced) (C : ℕ) (o : Opening) (g : ℕ) (p : SlotTable) (E 
       ]
 
   -- a cell that is so many slots after the one in which a word was sent is close to none before
-  pub far_from : (j l q slot s w : ℕ) (x y : Placed) → IsAnswered C (history_of o g p E) j x slot (Some w) → IsUnheld q y → slot + q ≤ s → (W : IsSentWithin C o g p E l y s) → W.place < j + 1 → ⊥
+  pub far_from : (j l q slot s w : ℕ) (x y : Placed) → CellIsAnswered C (history_of o g p E) j x slot (Some w) → IsUnheld q y → slot + q ≤ s → (W : IsSentWithin C o g p E l y s) → W.place < j + 1 → ⊥
   far_from j l q slot s w x y A free far W past =
       let close : s < W.at + y.limits.spacing = W.close in
       let spacing : y.limits.spacing ≤ q = free.spacing in
       omega (arith, close, spacing, far, no_later o g p E W.place j W.earlier x W.at slot H.opens (omega (arith, past)) W.sends.cell A.cell)
 
   pub sends_across : (j c k source : ℕ) (old new : SlotPlace) (x : Placed) (slot w q span : ℕ) → Changes (history_of o g p E) j k source (move_of c old new) → EachOutput (history_of o g p E) j k source (IsUnheld q)
-      → IsAnswered C (history_of o g p E) j x slot (Some w) → x.source ≡ source → period_of old + period_of new ≤ span → q + period_of new ≤ span → slot + span ≤ next_slot_on (history_of o g p E) k new.bus
+      → CellIsAnswered C (history_of o g p E) j x slot (Some w) → x.source ≡ source → period_of old + period_of new ≤ span → q + period_of new ≤ span → slot + span ≤ next_slot_on (history_of o g p E) k new.bus
       → SendsOne C (history_of o g p E) (j + 1) k source (slot + span)
   sends_across j c k source old new x slot w q span K free A same both wide passes =
       let before : c < k = K.before in

@@ -5,7 +5,7 @@ use Rattle.std.specs.Option.{option_map_or}
 use Rattle.std.proofs.lemmas.Bool.{cases_lt, lt-ltb, le-ltb}
 use Rattle.std.proofs.lemmas.Option.{none-some, same_Some}
 use Rattle.a429_word.proofs.Lists.{in_frame}
-use Rattle.a429_equipment.specs.Arrivals.{AreApart}
+use Rattle.a429_equipment.specs.Arrivals.{SourcesAreApart}
 use Rattle.a429_slots.specs.Tables.{Placed, SlotTable, groups_of, outputs_of, frame_of, buses_of, cells_of, cell_at, output_in, source_of, source_at}
 use Rattle.a429_slots.specs.Events.{Event, Cell}
 use Rattle.a429_slots.specs.History.{Opening, Current, AnsweredCell, current, accepted_by, last_of, cells_since, answered_cells, answered_cell, is_held, is_too_close, word_sent}
@@ -50,7 +50,7 @@ comes_from C o E earlier slot (Some out) word h =
     let b = is_held earlier out.source out.limits.hold (length (accepted_by C o out.source E)) || is_too_close earlier slot out.source out.limits.spacing in
     record { output = out; stands = refl; last = last_where_sent b (last_of (accepted_by C o out.source E)) word h }
 
-carried : (C : ℕ) (o : Opening) (E : List Event) (g : ℕ) (earlier : List AnsweredCell) (f : Current) (bus slot word : ℕ) → AreApart o.proposal.station.sources → cell_answer C o E g earlier f ≡ Sent bus slot (Some word)
+carried : (C : ℕ) (o : Opening) (E : List Event) (g : ℕ) (earlier : List AnsweredCell) (f : Current) (bus slot word : ℕ) → SourcesAreApart o.proposal.station.sources → cell_answer C o E g earlier f ≡ Sent bus slot (Some word)
     → CarriesLatest C o E f bus slot word
 carried C o E g earlier f bus slot word apart h =
     let k = cells_since g f in
@@ -78,7 +78,7 @@ carried C o E g earlier f bus slot word apart h =
           absurd (none-some (bus, slot, Some word) (ap sent_in (sym none ∙ h)))
     ]
 
-pub carries_latest : (C : ℕ) (o : Opening) (E : List Event) (g : ℕ) (p : SlotTable) (bus slot word : ℕ) → AreApart o.proposal.station.sources → slice_get (groups_of o.proposal.plan) g ≡ Some p
+pub carries_latest : (C : ℕ) (o : Opening) (E : List Event) (g : ℕ) (p : SlotTable) (bus slot word : ℕ) → SourcesAreApart o.proposal.station.sources → slice_get (groups_of o.proposal.plan) g ≡ Some p
     → answer C o E (Cell g) ≡ Sent bus slot (Some word) → CarriesLatest C o E (current o g p E) bus slot word
 carries_latest C o E g p bus slot word apart there h =
     carried C o E g (answered_cells C o g p E) (current o g p E) bus slot word apart

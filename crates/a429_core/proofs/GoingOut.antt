@@ -18,7 +18,7 @@ use Rattle.a429_slots.specs.declared.answers.Answer.TheVariants.{Sent}
 use Rattle.a429_slots.proofs.Answered.{some_place}
 use Rattle.a429_slots.proofs.SamePlan.{is_at}
 use Rattle.a429_core.specs.Histories.{history_of}
-use Rattle.a429_core.specs.Spaced.{AreSpaced, IsAnswered, is_held_at, last_word_at}
+use Rattle.a429_core.specs.Spaced.{AreSpaced, CellIsAnswered, is_held_at, last_word_at}
 use Rattle.a429_core.specs.Latency.{AnswersOn, Clock, EachOutput, GoesOut, GoesOutWithin, HasCell, HasOutput, IsAcceptedAt, IsAcceptedBefore, IsEmptiedFirst, IsFresh, IsPlannedHistory, KeepsOutput, KeepsTime, MaySend, Passes, next_slot_on, period_of, wait_of}
 use Rattle.a429_core.proofs.SpacedWords.{answer_is, answered_by, emptied, sends_last}
 use Rattle.a429_core.proofs.Passing.{next_after}
@@ -111,8 +111,8 @@ module _ (law : AreSpaced) (C : ℕ) (o : Opening) (g : ℕ) (p : SlotTable) (E 
     | inr none ↦ inr (free_where_unsent x.limits.hold (times_sent (answered_cells C o g p (take l E)) x.source (count_at C o E x.source l)) may.hold none)
   ]
 
-  pub sends_latest : (l n : ℕ) (x : Placed) (s : ℕ) → IsOutputCell o g p E l x s → is_held_at C (history_of o g p E) l x ≡ false → (IsTooClose C o g p E l x s → ⊥) → (L : HasLatest C o (take l E) x.source n) → IsAnswered C (history_of o g p E) l x s (Some L.word)
-  sends_latest l n x s I free far L = subst (λ (w : Option ℕ). IsAnswered C (history_of o g p E) l x s w) L.last (sends_last C o g p E l x s H.opens I free far)
+  pub sends_latest : (l n : ℕ) (x : Placed) (s : ℕ) → IsOutputCell o g p E l x s → is_held_at C (history_of o g p E) l x ≡ false → (IsTooClose C o g p E l x s → ⊥) → (L : HasLatest C o (take l E) x.source n) → CellIsAnswered C (history_of o g p E) l x s (Some L.word)
+  sends_latest l n x s I free far L = subst (λ (w : Option ℕ). CellIsAnswered C (history_of o g p E) l x s w) L.last (sends_last C o g p E l x s H.opens I free far)
 
   -- a word of the source that was sent since is the latest
   sent_since : (i k source end : ℕ) → k ≤ length E → IsAcceptedAt C o E i source → (a : ℕ) (y : Placed) (v w : ℕ) → i ≤ a → a < k → Sends C o g p E a y v w → y.source ≡ source → v < end → GoesOut C (history_of o g p E) i k source end
@@ -195,7 +195,7 @@ module _ (law : AreSpaced) (C : ℕ) (o : Opening) (g : ℕ) (p : SlotTable) (E 
 
   -- so an output's cells are full, from the second on for which it stays
   pub full : (j k source : ℕ) (at : SlotPlace) (x now : Placed) (s t : ℕ) → j < k → KeepsOutput (history_of o g p E) j (k + 1) source at → IsOutputCell o g p E j x s → x.source ≡ source → IsOutputCell o g p E k now t → now.source ≡ source
-      → is_held_at C (history_of o g p E) k now ≡ false → IsAnswered C (history_of o g p E) k now t (last_word_at C (history_of o g p E) k now)
+      → is_held_at C (history_of o g p E) k now ≡ false → CellIsAnswered C (history_of o g p E) k now t (last_word_at C (history_of o g p E) k now)
   full j k source at x now s t after keeps J own K same free =
       let below : k < length E = slice_get_within E k (Cell g) K.asked in
       sends_last C o g p E k now t H.opens K free (λ close.
@@ -267,7 +267,7 @@ module _ (law : AreSpaced) (C : ℕ) (o : Opening) (g : ℕ) (p : SlotTable) (E 
                 fresh = subst (λ (z : ℕ). IsFresh C o (take R.place E) z L.word i) R.same L.fresh;
               })
               | inl close ↦
-                  let empty : IsAnswered C (history_of o g p E) R.place R.output R.slot None = record {
+                  let empty : CellIsAnswered C (history_of o g p E) R.place R.output R.slot None = record {
                     cell = R.cell;
                     answered = answer_is C o g p E R.place R.output R.slot H.opens R.cell
                         ∙ ap (λ (w : Option ℕ). Sent R.cell.cell.0 R.slot w) (emptied_where_close (is_held_at C (history_of o g p E) R.place R.output) near (last_of (accepted_by C o R.output.source (take R.place E))) free close);

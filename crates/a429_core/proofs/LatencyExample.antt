@@ -6,7 +6,7 @@ use Rattle.std.proofs.lemmas.List.Sorted.{IsPermutation-refl}
 use Rattle.std.proofs.lemmas.Bool.{cases_eq, eq-eqb, ne_eqb}
 use Rattle.std.proofs.lemmas.Option.{none-some, same_Some}
 use Rattle.a429_word.specs.Bits.{ones_from, number_from, reversed_from}
-use Rattle.a429_equipment.specs.Arrivals.{AreApart}
+use Rattle.a429_equipment.specs.Arrivals.{SourcesAreApart}
 use Rattle.a429_equipment.specs.Sound.{HaveOwnSources}
 use Rattle.a429_equipment.specs.declared.rows.OutputRow.{OutputRow}
 use Rattle.a429_slots.specs.Tables.{Placed, cell_at, demands_of, outputs_of, placed_at}
@@ -99,7 +99,7 @@ planned = record {
 
 -- ---- the history is planned
 
-apart : AreApart station.sources
+apart : SourcesAreApart station.sources
 apart r raw zero zero s t x b h k = refl
 apart r raw zero (suc j) s t x b h k = absurd (none-some t b)
 apart r raw (suc i) j s t x b h k = absurd (none-some s x)

@@ -4,7 +4,7 @@ use Rattle.std.specs.Prelude.{Some}
 use Rattle.std.specs.List.{AllByRecursion}
 use Rattle.std.proofs.lemmas.List.{length-append, length-take-le}
 use Rattle.a429_word.proofs.Lists.{all_push}
-use Rattle.a429_equipment.specs.Arrivals.{AreApart}
+use Rattle.a429_equipment.specs.Arrivals.{SourcesAreApart}
 use Rattle.a429_equipment.proofs.Cutting.{last_push}
 use Rattle.a429_slots.specs.Events.{Event, Arrive}
 use Rattle.a429_slots.specs.History.{Opening, accepted_by, last_of}
@@ -75,7 +75,7 @@ first C o E source e accepted (inl G) = HasLatest-grown C o E source (length E) 
 first C o E source e accepted (inr S) = absurd (S.other accepted)
 
 -- it stays so
-lasts_by : (C : ℕ) (o : Opening) (E : List Event) (source n i d : ℕ) → AreApart o.proposal.station.sources → n ≤ i → d + i ≤ length E → HasLatest C o (take i E) source n → HasLatest C o (take (d + i) E) source n
+lasts_by : (C : ℕ) (o : Opening) (E : List Event) (source n i d : ℕ) → SourcesAreApart o.proposal.station.sources → n ≤ i → d + i ≤ length E → HasLatest C o (take i E) source n → HasLatest C o (take (d + i) E) source n
 lasts_by C o E source n i zero apart low few H =
     let same : zero + i ≡ i = omega arith in
     subst (λ (k : ℕ). HasLatest C o (take k E) source n) (sym same) H
@@ -87,13 +87,13 @@ lasts_by C o E source n i (suc d) apart low few H =
     let after = next C o (take (d + i) E) source n e (omega (arith, long, low)) before (does C o (take (d + i) E) source e apart) in
     subst (λ (k : ℕ). HasLatest C o (take k E) source n) (sym on) (subst (λ (F : List Event). HasLatest C o F source n) (sym (take_following E (d + i) e there)) after)
 
-lasts : (C : ℕ) (o : Opening) (E : List Event) (source n i k : ℕ) → AreApart o.proposal.station.sources → n ≤ i → i ≤ k → k ≤ length E → HasLatest C o (take i E) source n → HasLatest C o (take k E) source n
+lasts : (C : ℕ) (o : Opening) (E : List Event) (source n i k : ℕ) → SourcesAreApart o.proposal.station.sources → n ≤ i → i ≤ k → k ≤ length E → HasLatest C o (take i E) source n → HasLatest C o (take k E) source n
 lasts C o E source n i k apart low after few H =
     let rest : (k - i) + i ≡ k = omega (arith, after) in
     subst (λ (m : ℕ). HasLatest C o (take m E) source n) rest (lasts_by C o E source n i (k - i) apart low (omega (arith, few, rest)) H)
 
 -- from where a word is accepted
-pub latest_since : (C : ℕ) (o : Opening) (E : List Event) (source i k : ℕ) → AreApart o.proposal.station.sources → IsAcceptedAt C o E i source → i < k → k ≤ length E → HasLatest C o (take k E) source i
+pub latest_since : (C : ℕ) (o : Opening) (E : List Event) (source i k : ℕ) → SourcesAreApart o.proposal.station.sources → IsAcceptedAt C o E i source → i < k → k ≤ length E → HasLatest C o (take k E) source i
 latest_since C o E source i k apart A after few =
     let long : length (take i E) ≡ i = length-take-le i E (omega (arith, after, few)) in
     let e = Arrive A.receiver A.word in
@@ -102,7 +102,7 @@ latest_since C o E source i k apart A after few =
     lasts C o E source i (suc i) k apart (omega arith) (omega (arith, after)) few here
 
 -- from where there is one
-pub latest_after : (C : ℕ) (o : Opening) (E : List Event) (source i k w : ℕ) → AreApart o.proposal.station.sources → last_of (accepted_by C o source (take i E)) ≡ Some w → i ≤ k → k ≤ length E → HasLatest C o (take k E) source 0
+pub latest_after : (C : ℕ) (o : Opening) (E : List Event) (source i k w : ℕ) → SourcesAreApart o.proposal.station.sources → last_of (accepted_by C o source (take i E)) ≡ Some w → i ≤ k → k ≤ length E → HasLatest C o (take k E) source 0
 latest_after C o E source i k w apart last after few =
     lasts C o E source 0 i k apart (omega arith) after few
     (record { word = w; last = last; fresh = record { latest = last_is_latest C o source (take i E) w apart last; since = omega arith } })
@@ -123,7 +123,7 @@ count_more C o E source e accepted (inr S) = absurd (S.other accepted)
 abbrev pub count_at : ℕ → Opening → List Event → ℕ → ℕ → ℕ
 count_at C o E source k = length (accepted_by C o source (take k E))
 
-count_by_steps : (C : ℕ) (o : Opening) (E : List Event) (source i d : ℕ) → AreApart o.proposal.station.sources → d + i ≤ length E → count_at C o E source i ≤ count_at C o E source (d + i)
+count_by_steps : (C : ℕ) (o : Opening) (E : List Event) (source i d : ℕ) → SourcesAreApart o.proposal.station.sources → d + i ≤ length E → count_at C o E source i ≤ count_at C o E source (d + i)
 count_by_steps C o E source i zero apart few =
     let same : zero + i ≡ i = omega arith in
     subst (λ (k : ℕ). count_at C o E source i ≤ count_at C o E source k) (sym same) (omega arith)
@@ -136,13 +136,13 @@ count_by_steps C o E source i (suc d) apart few =
     subst (λ (k : ℕ). count_at C o E source i ≤ count_at C o E source k) (sym on) (omega (arith, before, more, is))
 
 -- their number does not go back
-pub count_grows : (C : ℕ) (o : Opening) (E : List Event) (source i k : ℕ) → AreApart o.proposal.station.sources → i ≤ k → k ≤ length E → count_at C o E source i ≤ count_at C o E source k
+pub count_grows : (C : ℕ) (o : Opening) (E : List Event) (source i k : ℕ) → SourcesAreApart o.proposal.station.sources → i ≤ k → k ≤ length E → count_at C o E source i ≤ count_at C o E source k
 count_grows C o E source i k apart after few =
     let rest : (k - i) + i ≡ k = omega (arith, after) in
     subst (λ (m : ℕ). count_at C o E source i ≤ count_at C o E source m) rest (count_by_steps C o E source i (k - i) apart (omega (arith, few, rest)))
 
 -- and after a word is accepted it is more
-pub count_above : (C : ℕ) (o : Opening) (E : List Event) (source i k : ℕ) → AreApart o.proposal.station.sources → IsAcceptedAt C o E i source → i < k → k ≤ length E → count_at C o E source i < count_at C o E source k
+pub count_above : (C : ℕ) (o : Opening) (E : List Event) (source i k : ℕ) → SourcesAreApart o.proposal.station.sources → IsAcceptedAt C o E i source → i < k → k ≤ length E → count_at C o E source i < count_at C o E source k
 count_above C o E source i k apart A after few =
     let e = Arrive A.receiver A.word in
     let one = count_more C o (take i E) source e A.accepted (does C o (take i E) source e apart) in

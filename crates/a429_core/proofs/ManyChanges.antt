@@ -15,7 +15,7 @@ use Rattle.a429_slots.proofs.Answered.{event_at}
 use Rattle.a429_slots.proofs.Histories.{new_frame, same_frame, take_following}
 use Rattle.a429_slots.proofs.Following.{frame_at_place}
 use Rattle.a429_core.specs.Histories.{history_of}
-use Rattle.a429_core.specs.Spaced.{AreSpaced, IsAnswered}
+use Rattle.a429_core.specs.Spaced.{AreSpaced, CellIsAnswered}
 use Rattle.a429_core.specs.Latency.{AnswersOn, ChangesOften, Clock, EachOutput, GoesOut, GoesOutWithin, HasCell, HasOutput, HasOutputWithin, IsAcceptedBefore, IsPlannedHistory, IsUnheld, KeepsOutput, KeepsSource, KeepsTime, MaySend, SendsOne, next_slot_on, period_of, wait_of}
 use Rattle.a429_core.proofs.Passing.{goes}
 use Rattle.a429_core.proofs.Rounds.{AreSpacedTables, HasCellFrom, cell_here, comes_round, fewer, later_on, same_place, set_of, sooner}
@@ -263,7 +263,7 @@ module _ (law : AreSpaced) (C : ℕ) (o : Opening) (g : ℕ) (p : SlotTable) (E 
       let G = out_often i k source most q n A P may short wide in
       record { out = G; soon = ends_in_time law C o g p E H spaced 0 i bus slot (next_slot_on (history_of o g p E) i P.first.at.bus) n G.cell.slot clock before near G.cell.high T }
 
-  pub sends_often : (j k source most : ℕ) (x : Placed) (slot w q span : ℕ) → ChangesOften (history_of o g p E) j k source most span → EachOutput (history_of o g p E) j k source (IsUnheld q) → IsAnswered C (history_of o g p E) j x slot (Some w) → x.source ≡ source
+  pub sends_often : (j k source most : ℕ) (x : Placed) (slot w q span : ℕ) → ChangesOften (history_of o g p E) j k source most span → EachOutput (history_of o g p E) j k source (IsUnheld q) → CellIsAnswered C (history_of o g p E) j x slot (Some w) → x.source ≡ source
       → 2 * most ≤ span → q + 2 * most ≤ span + 1 → SendsOne C (history_of o g p E) (j + 1) k source (slot + span)
   sends_often j k source most x slot w q span P free A same short wide =
       let few : k ≤ length E = P.few in

@@ -6,7 +6,7 @@ use Rattle.std.proofs.lemmas.List.{map-append, length-map}
 use Rattle.std.proofs.lemmas.Option.{same_Some, none-some}
 use Rattle.std.proofs.lemmas.Bool.{ltb-true, and_parts}
 use Rattle.a429_word.proofs.Lists.{and_false, take_next, none_cut}
-use Rattle.a429_equipment.specs.Arrivals.{AreApart}
+use Rattle.a429_equipment.specs.Arrivals.{SourcesAreApart}
 use Rattle.a429_slots.specs.Tables.{SlotTable, groups_of, frame_of, cells_of}
 use Rattle.a429_slots.specs.Proposed.{Proposed}
 use Rattle.a429_slots.specs.History.{Opening, accepted_in, current, last_of, numbers_left}
@@ -17,7 +17,7 @@ use Rattle.a429_core.proofs.Places.{map_same}
 use Rattle.a429_core.specs.declared.sources.Kept.{Kept}
 use Rattle.a429_slots.specs.FrameStates.{FrameState, all_fit, begun, frame_state_of}
 use Rattle.a429_slots.proofs.Remembering.{AreRecalled}
-use Rattle.a429_core.specs.MachineStates.{MachineState, StandsForHistory, IsWhole, kept_of, recent_at}
+use Rattle.a429_core.specs.MachineStates.{MachineState, StandsForHistory, HasTableForEach, kept_of, recent_at}
 
 -- ---- frames that fit
 
@@ -77,7 +77,7 @@ nothing_sent C first q rs law are g p there i s known = record {
   in_frame = omega arith;
 }
 
-pub stands_at_first : (C first : ℕ) (q : Proposed) (ks : List Kept) (ss : List FrameState) (rs : List (List Recent)) → AreRecalled → AreApart q.station.sources → IsWhole q → q.plan.number ≡ 0
+pub stands_at_first : (C first : ℕ) (q : Proposed) (ks : List Kept) (ss : List FrameState) (rs : List (List Recent)) → AreRecalled → SourcesAreApart q.station.sources → HasTableForEach q → q.plan.number ≡ 0
     → ks ≡ replicate (length q.station.sources) unheard → ss ≡ map (begun first) (groups_of q.plan)
     → rs ≡ replicate (length (groups_of q.plan)) (replicate (length q.station.sources) never)
     → StandsForHistory C (record { proposal = q; first = first }) [] (opened q ks ss rs)

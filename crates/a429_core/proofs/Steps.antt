@@ -12,7 +12,7 @@ use Rattle.a429_equipment.specs.declared.rows.SourceRow.{SourceRow}
 use Rattle.a429_equipment.specs.declared.arrivals.ArrivalRefusal.{ArrivalRefusal}
 use Rattle.a429_equipment.specs.declared.arrivals.ArrivalRefusal.TheVariants as arrival
 use Rattle.a429_equipment.specs.TableRecord.{TableRecord}
-use Rattle.a429_equipment.specs.Arrivals.{AreApart, passes_at, is_for, sorted}
+use Rattle.a429_equipment.specs.Arrivals.{SourcesAreApart, passes_at, is_for, sorted}
 use Rattle.a429_equipment.specs.SameStation.{same_station, all_agree, same_receiver, same_source, same_group}
 use Rattle.a429_slots.specs.Tables.{SlotTable, PlanTable, groups_of}
 use Rattle.a429_slots.specs.Proposed.{Proposed}
@@ -25,7 +25,7 @@ use Rattle.a429_slots.specs.declared.answers.Refusal.TheVariants.{NoSuch, CountS
 use Rattle.a429_slots.specs.Answers
 use Rattle.a429_slots.specs.Answers.{answer, answers, source_answer}
 use Rattle.a429_slots.specs.FrameStates.{FrameState, frame_state_of}
-use Rattle.a429_core.specs.MachineStates.{MachineState, StandsForHistory, IsWhole, IsWholeEvent, kept_of, recent_at}
+use Rattle.a429_core.specs.MachineStates.{MachineState, StandsForHistory, HasTableForEach, IsWholeEvent, kept_of, recent_at}
 use Rattle.a429_core.specs.MachineSteps.{count_at, kept_at, put_word, arrived, framed, frame_at, frame_asked}
 use Rattle.a429_core.proofs.Places.{inside, outside, first_passes, map_same}
 use Rattle.a429_core.proofs.Words.{words_in, accepted_none, accepted_some, accepted_full, kept_none, kept_some, kept_full, word_accepted, word_even, word_filtered, word_unheard, nobody_hears}
@@ -79,7 +79,7 @@ frame_step C o E k v S (Some p) h =
 -- ---- arrivals
 
 -- a word for one source is for no other
-other_unheard : (o : Opening) (r raw i : ℕ) (s : SourceRow) → AreApart o.proposal.station.sources → slice_get o.proposal.station.sources i ≡ Some s → is_for r raw s ≡ true →
+other_unheard : (o : Opening) (r raw i : ℕ) (s : SourceRow) → SourcesAreApart o.proposal.station.sources → slice_get o.proposal.station.sources i ≡ Some s → is_for r raw s ≡ true →
     (j : ℕ) (t : SourceRow) → slice_get o.proposal.station.sources j ≡ Some t → (i ≡ j → ⊥) → is_for r raw t ≡ false
 other_unheard o r raw i s apart hs heard j t ht n = elim (cases_Bool (is_for r raw t)) [
   | inl hit ↦ absurd (n (apart r raw i j s t hs ht heard hit))
@@ -116,7 +116,7 @@ put_step C o E r raw i v s S hs heard came room =
     ])
 
 -- the count is spent
-spent : (C : ℕ) (o : Opening) (E : List Event) (r raw i : ℕ) (s : SourceRow) → AreApart o.proposal.station.sources → slice_get o.proposal.station.sources i ≡ Some s → is_for r raw s ≡ true
+spent : (C : ℕ) (o : Opening) (E : List Event) (r raw i : ℕ) (s : SourceRow) → SourcesAreApart o.proposal.station.sources → slice_get o.proposal.station.sources i ≡ Some s → is_for r raw s ≡ true
     → words_in o s (Arrive r raw ∷ []) ≡ raw ∷ [] → 2 ^ C - 1 ≤ length (accepted_in C o s E) → NoneCame C o E (Arrive r raw)
 spent C o E r raw i s apart hs heard came full = record {
   same = λ j t ht. elim (cases_eq i j) [
@@ -217,7 +217,7 @@ same_count a b h =
     let groups = (and_parts (all_agree same_source a.sources b.sources) (all_agree same_group a.groups b.groups) more).1 in
     eqb-true (length a.groups) (length b.groups) (and_parts (length a.groups == length b.groups) _ groups).0
 
-publish_step : (C : ℕ) (o : Opening) (E : List Event) (q : Proposed) (v : MachineState) → IsWhole q → StandsForHistory C o E v → Stepped C o E (Publish q) v
+publish_step : (C : ℕ) (o : Opening) (E : List Event) (q : Proposed) (v : MachineState) → HasTableForEach q → StandsForHistory C o E v → Stepped C o E (Publish q) v
 publish_step C o E q v whole S =
     let e = Publish q in
     let none : NoneCame C o E (Publish q) = record { same = λ i s x. accepted_none C o s E (Publish q) refl } in

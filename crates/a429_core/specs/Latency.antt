@@ -1,6 +1,6 @@
 -- How long an accepted word waits until it goes out, in slots of its group: its latency. A place is how many events come before it.
 use Rattle.std.specs.Prelude.{◌≡◌, ◌⊎◌, ◌+◌, ◌*◌, ◌<◌, ◌≤◌, ◌/◌, ◌%◌, ◌^◌, ℕ, false, IsTrue, List, Some, None, if◌then◌else◌, nat_lt, length, take, slice_get}
-use Rattle.a429_equipment.specs.Arrivals.{AreApart}
+use Rattle.a429_equipment.specs.Arrivals.{SourcesAreApart}
 use Rattle.a429_slots.specs.declared.group_plan.SlotPlace.{SlotPlace}
 use Rattle.a429_slots.specs.Tables.{Placed, SlotTable, outputs_of, buses_of}
 use Rattle.a429_slots.specs.Events.{Event, Arrive, Cell}
@@ -12,7 +12,7 @@ use Rattle.a429_slots.specs.declared.answers.Answer.TheVariants.{Accepted}
 use Rattle.a429_slots.specs.Answers.{answer}
 use Rattle.a429_core.specs.Histories.{GroupHistory, HasOpeningTable, HasOwnPlans, IsCellAt, current_at, number_of_plan}
 use Rattle.a429_core.specs.Sends.{IsLatest}
-use Rattle.a429_core.specs.Spaced.{IsAnswered, IsFirstCell, is_held_at, last_word_at}
+use Rattle.a429_core.specs.Spaced.{CellIsAnswered, IsFirstCell, is_held_at, last_word_at}
 
 -- ---- slots that pass
 
@@ -125,20 +125,20 @@ pub record IsFresh (C : ℕ) (o : Opening) (E : List Event) (source word i : ℕ
 pub record GoesOut (C : ℕ) (E : GroupHistory) (i k source end : ℕ) : Type 0 where
   pub cell : HasCell E i k source end
   pub word : ℕ
-  pub sent : IsAnswered C E cell.place cell.output cell.slot (Some word)
+  pub sent : CellIsAnswered C E cell.place cell.output cell.slot (Some word)
   pub fresh : IsFresh C E.opening (take cell.place E.events) source word i
 
 -- from place i on and before place k, in a slot before `end`, the group sends a word of the source
 pub record SendsOne (C : ℕ) (E : GroupHistory) (i k source end : ℕ) : Type 0 where
   pub cell : HasCell E i k source end
   pub word : ℕ
-  pub sent : IsAnswered C E cell.place cell.output cell.slot (Some word)
+  pub sent : CellIsAnswered C E cell.place cell.output cell.slot (Some word)
 
 -- the cell that comes is without a word, as a word of the source was sent within the least spacing: it is the first of its source since the
 -- plan came into force
 pub record IsEmptiedFirst (C : ℕ) (E : GroupHistory) (i k source end : ℕ) : Type 0 where
   pub cell : HasCell E i k source end
-  pub empty : IsAnswered C E cell.place cell.output cell.slot None
+  pub empty : CellIsAnswered C E cell.place cell.output cell.slot None
   pub only : IsFirstCell C E cell.place cell.output cell.slot
 
 -- times of the places of a history, where each slot lasts as long as any other and slot n begins n slots after time 0
@@ -170,7 +170,7 @@ pub record GoesOutWithin (C : ℕ) (E : GroupHistory) (wait : Wait) (clock : Clo
 
 -- a history of a group: its station's sources are apart, and each plan is that of its own table
 pub record IsPlannedHistory (E : GroupHistory) : Type 0 where
-  pub apart : AreApart E.opening.proposal.station.sources
+  pub apart : SourcesAreApart E.opening.proposal.station.sources
   pub opens : HasOpeningTable E
   pub own : HasOwnPlans E
 
@@ -243,7 +243,7 @@ StayingCellsAreFull =
     (C : ℕ) (E : GroupHistory) (j k source : ℕ) (at : SlotPlace) (x now : Placed) (s t : ℕ)
     → IsPlannedHistory E → j < k → KeepsOutput E j (k + 1) source at
     → IsCellAt E j x s → x.source ≡ source → IsCellAt E k now t → now.source ≡ source
-    → is_held_at C E k now ≡ false → IsAnswered C E k now t (last_word_at C E k now)
+    → is_held_at C E k now ≡ false → CellIsAnswered C E k now t (last_word_at C E k now)
 
 -- where one plan follows another, and both have an output of one source, its cells go on within fewer slots than both periods together
 abbrev pub CellsRecurAcrossAChange : Type 0
@@ -312,7 +312,7 @@ abbrev pub SendsRecurAcrossAChange : Type 0
 SendsRecurAcrossAChange =
     (C : ℕ) (E : GroupHistory) (j c k source : ℕ) (old new : SlotPlace) (x : Placed) (slot w q span : ℕ)
     → IsPlannedHistory E → Changes E j k source (move_of c old new) → EachOutput E j k source (IsUnheld q)
-    → IsAnswered C E j x slot (Some w) → x.source ≡ source
+    → CellIsAnswered C E j x slot (Some w) → x.source ≡ source
     → period_of old + period_of new ≤ span → q + period_of new ≤ span → slot + span ≤ next_slot_on E k new.bus
     → SendsOne C E (j + 1) k source (slot + span)
 
@@ -343,7 +343,7 @@ abbrev pub SendsRecurAcrossChanges : Type 0
 SendsRecurAcrossChanges =
     (C : ℕ) (E : GroupHistory) (j k source most : ℕ) (x : Placed) (slot w q span : ℕ)
     → IsPlannedHistory E → ChangesOften E j k source most span → EachOutput E j k source (IsUnheld q)
-    → IsAnswered C E j x slot (Some w) → x.source ≡ source → 2 * most ≤ span → q + 2 * most ≤ span + 1
+    → CellIsAnswered C E j x slot (Some w) → x.source ≡ source → 2 * most ≤ span → q + 2 * most ≤ span + 1
     → SendsOne C E (j + 1) k source (slot + span)
 
 -- and a word that is accepted goes out, or a later one of the source, within fewer slots than that

@@ -2,7 +2,7 @@
 use Rattle.std.specs.Prelude.{◌≡◌, ◌≤◌, ◌+◌, ◌-◌, ◌/◌, ◌^◌, ◌++◌, ℕ, List, Option, Some, Result, Ok, ⊤, length, slice_get, option_and_then, option_map}
 use Rattle.a429_equipment.specs.declared.rows.SourceRow.{SourceRow}
 use Rattle.a429_equipment.specs.TableRecord.{TableRecord}
-use Rattle.a429_equipment.specs.Arrivals.{AreApart}
+use Rattle.a429_equipment.specs.Arrivals.{SourcesAreApart}
 use Rattle.a429_slots.specs.Tables.{SlotTable, PlanTable, groups_of, frame_of, buses_of}
 use Rattle.a429_slots.specs.Recalling.{Recent, Recalls}
 use Rattle.a429_slots.specs.Proposed.{Proposed}
@@ -25,14 +25,14 @@ pub record MachineState : Type 0 where
 -- ---- the histories that a state stands for
 
 -- a proposal has a slot table for each group
-abbrev pub IsWhole : Proposed → Type 0
-IsWhole q = length (groups_of q.plan) ≡ length q.station.groups
+abbrev pub HasTableForEach : Proposed → Type 0
+HasTableForEach q = length (groups_of q.plan) ≡ length q.station.groups
 
 abbrev pub IsWholeEvent : Event → Type 0
 IsWholeEvent (Arrive r raw) = ⊤
 IsWholeEvent (Cell g) = ⊤
 IsWholeEvent (Frame g) = ⊤
-IsWholeEvent (Publish q) = IsWhole q
+IsWholeEvent (Publish q) = HasTableForEach q
 
 -- what is kept of a source's accepted words
 abbrev pub kept_of : List ℕ → Kept
@@ -54,8 +54,8 @@ pub record Remembers (C : ℕ) (o : Opening) (E : List Event) (g : ℕ) (p : Slo
 
 -- this is what is kept of the history E from this opening
 pub record StandsForHistory (C : ℕ) (o : Opening) (E : List Event) (v : MachineState) : Type 0 where
-  pub apart : AreApart o.proposal.station.sources
-  pub whole : IsWhole o.proposal
+  pub apart : SourcesAreApart o.proposal.station.sources
+  pub whole : HasTableForEach o.proposal
   pub station : v.station ≡ o.proposal.station
   pub sources : (i : ℕ) → slice_get v.sources i ≡ option_map (λ s. kept_of (accepted_in C o s E)) (slice_get o.proposal.station.sources i)
   pub groups : (g : ℕ) → slice_get v.groups g ≡ option_map (λ p. frame_state_of g (current o g p E)) (slice_get (groups_of o.proposal.plan) g)

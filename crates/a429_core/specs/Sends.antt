@@ -1,7 +1,7 @@
 -- What the answers of a history come to: which cells of a frame are answered, and where the words in them come from.
 use Rattle.std.specs.Prelude.{◌≡◌, ◌↔◌, ◌⊎◌, ◌+◌, ◌<◌, ◌++◌, ◌∷◌, [], ℕ, List, Some, None, IsTrue, map, filter, take, replicate, count_by, flat_map}
 use Rattle.std.specs.List.{AllByRecursion, range_with_len, zip}
-use Rattle.a429_equipment.specs.Arrivals.{AreApart}
+use Rattle.a429_equipment.specs.Arrivals.{SourcesAreApart}
 use Rattle.a429_slots.specs.Tables.{SlotTable, cells_of, frame_of, buses_of, source_at}
 use Rattle.a429_slots.specs.Events.{Event, Arrive, Cell, Frame}
 use Rattle.a429_slots.specs.History.{Opening, OpensWith, Current, accepted_by, current, is_cell, newest_number}
@@ -79,13 +79,13 @@ pub record AddsNone (C : ℕ) (o : Opening) (E : List Event) (source : ℕ) (e :
 -- a source accepts just the words of the arrivals that are answered so, one by one
 abbrev pub WordsAreAcceptedOneByOne : Type 0
 WordsAreAcceptedOneByOne =
-    (C : ℕ) (o : Opening) (E : List Event) (source : ℕ) (e : Event) → AreApart o.proposal.station.sources → AddsWord C o E source e ⊎ AddsNone C o E source e
+    (C : ℕ) (o : Opening) (E : List Event) (source : ℕ) (e : Event) → SourcesAreApart o.proposal.station.sources → AddsWord C o E source e ⊎ AddsNone C o E source e
 
 -- a word that is sent is the latest that was accepted for the source of the output that stands in its slot
 abbrev pub SentWordsWereAccepted : Type 0
 SentWordsWereAccepted =
     (C : ℕ) (o : Opening) (E : List Event) (g : ℕ) (p : SlotTable) (bus slot word : ℕ)
-    → AreApart o.proposal.station.sources → OpensWith o g p
+    → SourcesAreApart o.proposal.station.sources → OpensWith o g p
     → answer C o E (Cell g) ≡ Sent bus slot (Some word) → CarriesLatest C o E (current o g p E) bus slot word
 
 -- from where a frame begins, and as long as none is taken, its cells are answered in turn, the words set aside

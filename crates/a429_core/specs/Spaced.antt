@@ -9,7 +9,7 @@ use Rattle.a429_slots.specs.Answers.{answer}
 use Rattle.a429_core.specs.Histories.{GroupHistory, HasOpeningTable, IsCellAt, IsSpacedAt, number_of_plan}
 
 -- at place k of the history the group is asked for a cell, this output stands there, and the answer has this word, or none
-pub record IsAnswered (C : ℕ) (E : GroupHistory) (k : ℕ) (output : Placed) (slot : ℕ) (word : Option ℕ) : Type 0 where
+pub record CellIsAnswered (C : ℕ) (E : GroupHistory) (k : ℕ) (output : Placed) (slot : ℕ) (word : Option ℕ) : Type 0 where
   pub cell : IsCellAt E k output slot
   pub answered : answer C E.opening (take k E.events) (Cell E.group) ≡ Sent cell.cell.0 slot word
 
@@ -31,7 +31,7 @@ pub record IsFirstCell (C : ℕ) (E : GroupHistory) (k : ℕ) (output : Placed) 
   pub earlier : Placed
   pub at : ℕ
   pub word : ℕ
-  pub sent : IsAnswered C E place earlier at (Some word)
+  pub sent : CellIsAnswered C E place earlier at (Some word)
   pub same : earlier.source ≡ output.source
   pub close : slot < at + output.limits.spacing
   pub first : (i : ℕ) (x : Placed) (s : ℕ) → i < k → IsCellAt E i x s → x.source ≡ output.source → ¬ (number_of_plan E i ≡ number_of_plan E k)
@@ -49,13 +49,13 @@ pub record AreSpaced : Type 0 where
 abbrev pub SentWordsAreApart : Type 0
 SentWordsAreApart =
     (C : ℕ) (E : GroupHistory) (j k : ℕ) (earlier now : Placed) (u t w x : ℕ) → HasOpeningTable E → j < k
-    → IsAnswered C E j earlier u (Some w) → IsAnswered C E k now t (Some x) → earlier.source ≡ now.source → u + now.limits.spacing ≤ t
+    → CellIsAnswered C E j earlier u (Some w) → CellIsAnswered C E k now t (Some x) → earlier.source ≡ now.source → u + now.limits.spacing ≤ t
 
 -- a word that was accepted and is not held is missing only in the first cell of its output since the plan came into force
 abbrev pub OnlyFirstCellsAreEmpty : Type 0
 OnlyFirstCellsAreEmpty =
     (C : ℕ) (E : GroupHistory) (k : ℕ) (now : Placed) (t word : ℕ) → HasOpeningTable E
-    → IsSpacedAt E k → IsAnswered C E k now t None → last_word_at C E k now ≡ Some word
+    → IsSpacedAt E k → CellIsAnswered C E k now t None → last_word_at C E k now ≡ Some word
     → is_held_at C E k now ≡ false → IsFirstCell C E k now t
 
 -- by one plan each later cell of a source has its last accepted word, unless that is held
@@ -63,11 +63,11 @@ abbrev pub LaterCellsAreFull : Type 0
 LaterCellsAreFull =
     (C : ℕ) (E : GroupHistory) (i k : ℕ) (x now : Placed) (s t : ℕ) → HasOpeningTable E
     → IsSpacedAt E k → i < k → IsCellAt E i x s → x.source ≡ now.source → number_of_plan E i ≡ number_of_plan E k
-    → IsCellAt E k now t → is_held_at C E k now ≡ false → IsAnswered C E k now t (last_word_at C E k now)
+    → IsCellAt E k now t → is_held_at C E k now ≡ false → CellIsAnswered C E k now t (last_word_at C E k now)
 
 -- by the opening plan every cell has the last accepted word of its source, unless that is held
 abbrev pub OpeningCellsAreFull : Type 0
 OpeningCellsAreFull =
     (C : ℕ) (E : GroupHistory) (k : ℕ) (now : Placed) (t : ℕ) → HasOpeningTable E
     → IsSpacedAt E k → IsCellAt E k now t → number_of_plan E k ≡ E.opening.proposal.plan.number
-    → is_held_at C E k now ≡ false → IsAnswered C E k now t (last_word_at C E k now)
+    → is_held_at C E k now ≡ false → CellIsAnswered C E k now t (last_word_at C E k now)

@@ -18,7 +18,7 @@ mod sources;
 mod state;
 
 pub use a429_equipment::COUNT_BITS;
-pub use a429_slots::{Answer, Refusal};
+pub use a429_slots::{Answer, OpenFault, Refusal};
 pub use events::Event;
 pub use sends::SentCell;
-pub use state::{OpenFault, State, StationState};
+pub use state::{State, StationState};

@@ -6,7 +6,7 @@ ghost use Rattle.a429_slots.specs.Answers.{answer};
 ghost use Rattle.a429_core.specs.Happened.{event_of};
 ghost use Rattle.a429_slots.specs.declared.answers.Refusal.{Refusal as Why};
 ghost use Rattle.a429_slots.specs.FrameStates.{begun, all_fit};
-ghost use Rattle.a429_core.specs.MachineStates.{AnswerEvents, AnswersEvent, GoesOnByEvents, StandsForHistory, IsWhole, IsWholeEvent};
+ghost use Rattle.a429_core.specs.MachineStates.{AnswerEvents, AnswersEvent, GoesOnByEvents, StandsForHistory, HasTableForEach, IsWholeEvent};
 ghost use Rattle.a429_core.specs.MachineSteps.{word_at, arrived, cell_asked, cell_sent, frame_asked, publish_asked, asked_cell, after_asked, frame_at, stepped};
 
 use crate::events::Event;
@@ -14,33 +14,10 @@ use crate::sends::{SentCell, send_word, sends_of};
 use crate::sources::{Kept, keep};
 use a429_equipment::{COUNT_BITS, Equipment};
 use a429_slots::laws::sends_are_recalled;
-use a429_slots::{Answer, Due, GroupSends, OUTPUTS, Plan, Proposal, Refusal, Sender};
+use a429_slots::{Answer, Due, GroupSends, OUTPUTS, OpenFault, Plan, Proposal, Refusal, Sender};
 use a429_word::Word;
 use std::alloc::{AllocError, Global};
 use std::marker::Model;
-use thiserror::Error;
-
-/// Why no state is opened.
-#[derive(Debug, Drop, PartialEq, Error)]
-pub enum OpenFault {
-    /// The first frame of some group has slots that cannot be counted in 64 bits.
-    #[error("slots spent")]
-    SlotsSpent,
-    /// Memory was refused.
-    #[error("out of memory")]
-    NoMemory,
-}
-
-impl From<AllocError> for OpenFault {
-    ghost use Rattle.std.specs.Prelude.{◌≡◌};
-    ghost use Rattle.a429_core.specs.declared.state.OpenFault.TheVariants as fault;
-
-    ghost from_gives = { λ _ e. e ≡ fault.NoMemory };
-
-    fn from(_error: AllocError) -> OpenFault {
-        OpenFault::NoMemory
-    }
-}
 
 /// The state of a station as the program keeps it.
 pub type StationState = State<COUNT_BITS>;
@@ -265,7 +242,7 @@ impl<const C: u32> State<C> {
     pub fn publish(&mut self, proposal: Proposal<OUTPUTS>) -> Answer
         ensures answer { result ≡ (publish_asked self.old proposal).0 }
         ensures after { self.new ≡ (publish_asked self.old proposal).1 }
-        ensures whole { IsWhole proposal }
+        ensures whole { HasTableForEach proposal }
     {
         let station = proposal.equipment();
         if !self.equipment.same_station(station) {

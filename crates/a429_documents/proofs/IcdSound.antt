@@ -8,7 +8,7 @@ use Rattle.std.proofs.lemmas.List.{length-map}
 use Rattle.std.proofs.lemmas.Option.{same_Some, slice_get_within}
 use Rattle.a429_word.specs.Bits.{label_of, sdi_of}
 use Rattle.a429_word.proofs.Lists.{all_at, all_mapped, get_within}
-use Rattle.a429_equipment.specs.Arrivals.{AreApart, is_for}
+use Rattle.a429_equipment.specs.Arrivals.{SourcesAreApart, is_for}
 use Rattle.a429_equipment.specs.NameForm.{is_name}
 use Rattle.a429_equipment.specs.Sound.{HaveOwn, HaveOwnSources, IsGroupRow, IsHold, IsInterval, IsReceiverRow, IsSound, IsSourceRow}
 use Rattle.a429_equipment.specs.TableRecord.{TableRecord}
@@ -121,7 +121,7 @@ module _ (e : TableRecord) (sound : IsSound e) (plain : AllByRecursion (λ recei
         and_from (Y.source.receiver == Y.source.receiver) (Y.source.label == label_of raw && option_map_or (λ k. k == sdi_of raw) Y.source.sdi true) (eq-eqb Y.source.receiver Y.source.receiver refl) (sym same ∙ parts.1),
       )
 
-  are_apart : AreApart (map (source_stated rows) (firsts Sources rows))
+  are_apart : SourcesAreApart (map (source_stated rows) (firsts Sources rows))
   are_apart r raw i j s u at_s at_u for_s for_u =
       let x = mapped_at (source_stated rows) (firsts Sources rows) i s at_s in
       let y = mapped_at (source_stated rows) (firsts Sources rows) j u at_u in

@@ -7,7 +7,7 @@ use Rattle.std.proofs.lemmas.Bool.{eqb-true, and_parts, and_from, cases_lt, lt-l
 use Rattle.std.proofs.lemmas.Option.{none-some, same_Some, cond_some, slice_get-get_or}
 use lib.Seq.{take-length}
 use Rattle.a429_equipment.specs.declared.loads.Load.{Load}
-use Rattle.a429_equipment.specs.Agreement.{words_of, last_of, load_after, IsCut, Cuts, reach, least_cut, same_word, is_load, next_cut, last_cut}
+use Rattle.a429_equipment.specs.Agreement.{words_of, last_of, load_after, IsCutOfLoad, Cuts, reach, least_cut, same_word, is_load, next_cut, last_cut}
 
 pub words_append : (s : ℕ) (A B : List (ℕ × ℕ)) → words_of s (A ++ B) ≡ words_of s A ++ words_of s B
 words_append s A B =
@@ -113,7 +113,7 @@ is_the_load l m source h =
 is_load_itself : (l m : Load) → l ≡ m → is_load l m ≡ true
 is_load_itself l m is = subst (λ (x : Load). is_load l x ≡ true) is (and_from (eqb l.count l.count) (same_word l.word l.word) (eq-eqb l.count l.count refl) (same_word_itself l.word))
 
-found_step : (b : Bool) (A : List (ℕ × ℕ)) (before : ℕ) (l : Load) (cut : ℕ) → before ≤ length A → next_cut b A before l ≡ Some cut → IsCut b A before l cut × (cut ≤ length A)
+found_step : (b : Bool) (A : List (ℕ × ℕ)) (before : ℕ) (l : Load) (cut : ℕ) → before ≤ length A → next_cut b A before l ≡ Some cut → IsCutOfLoad b A before l cut × (cut ≤ length A)
 found_step false A before l cut le e = let same : before ≡ cut = same_Some before cut e in (same, omega (arith, same))
 found_step true A before l cut le e =
     let least = least_cut A before l in
@@ -132,7 +132,7 @@ found mine A before (l ∷ ls) last le e = go (λ cut within f. found mine A cut
     go rest None n e = absurd (none-some last e)
     go rest (Some cut) n e = let step = found_step (mine l.source) A before l cut le n in (cut, step.0, rest cut step.1 e)
 
-least_step : (b : Bool) (A : List (ℕ × ℕ)) (before from : ℕ) (l : Load) (cut : ℕ) → from ≤ before → before ≤ length A → IsCut b A before l cut
+least_step : (b : Bool) (A : List (ℕ × ℕ)) (before from : ℕ) (l : Load) (cut : ℕ) → from ≤ before → before ≤ length A → IsCutOfLoad b A before l cut
     → (least : ℕ) × (next_cut b A from l ≡ Some least) × (least ≤ cut) × (cut ≤ length A)
 least_step false A before from l cut le within h = (from, refl, omega (arith, h), omega (arith, h))
 least_step true A before from l cut le within h =

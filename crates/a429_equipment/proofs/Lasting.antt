@@ -4,11 +4,11 @@ use Rattle.std.specs.List.{AllByRecursion}
 use Rattle.std.proofs.lemmas.List.{take-append-le}
 use Rattle.a429_equipment.specs.declared.loads.Load.{Load}
 use Rattle.a429_equipment.specs.TableRecord.{TableRecord}
-use Rattle.a429_equipment.specs.Agreement.{is_of, load_after, IsCut, Cuts, Agrees}
+use Rattle.a429_equipment.specs.Agreement.{is_of, load_after, IsCutOfLoad, Cuts, Agrees}
 
 -- ---- more accepted words
 
-pub cut_more : (b : Bool) (A more : List (ℕ × ℕ)) (before : ℕ) (l : Load) (cut : ℕ) → IsCut b A before l cut → IsCut b (A ++ more) before l cut
+pub cut_more : (b : Bool) (A more : List (ℕ × ℕ)) (before : ℕ) (l : Load) (cut : ℕ) → IsCutOfLoad b A before l cut → IsCutOfLoad b (A ++ more) before l cut
 cut_more true A more before l cut h =
     let same : take cut (A ++ more) ≡ take cut A = take-append-le cut A more h.1 in
     (h.0, omega (arith, h.1, length-append A more), h.2 ∙ ap (load_after l.source) (sym same))
@@ -23,12 +23,12 @@ agrees_more t r A more loads h = (h.0, cuts_more (is_of t r) A more 0 loads h.0 
 
 -- ---- part of the loads
 
-pub cut_after : (b : Bool) (A : List (ℕ × ℕ)) (before : ℕ) (l : Load) (cut : ℕ) → IsCut b A before l cut → before ≤ cut
+pub cut_after : (b : Bool) (A : List (ℕ × ℕ)) (before : ℕ) (l : Load) (cut : ℕ) → IsCutOfLoad b A before l cut → before ≤ cut
 cut_after true A before l cut h = h.0
 cut_after false A before l cut h = omega (arith, h)
 
 -- a load that has a cut from here on has one from an earlier place on, and it is no later
-cut_from : (b : Bool) (A : List (ℕ × ℕ)) (from before : ℕ) (l : Load) (cut : ℕ) → from ≤ before → IsCut b A before l cut → (c : ℕ) × IsCut b A from l c × (c ≤ cut)
+cut_from : (b : Bool) (A : List (ℕ × ℕ)) (from before : ℕ) (l : Load) (cut : ℕ) → from ≤ before → IsCutOfLoad b A before l cut → (c : ℕ) × IsCutOfLoad b A from l c × (c ≤ cut)
 cut_from true A from before l cut le h = let low : from ≤ cut = omega (arith, le, h.0) in (cut, (low, h.1, h.2), omega arith)
 cut_from false A from before l cut le h = (from, refl, omega (arith, le, h))
 
@@ -58,7 +58,7 @@ agrees_part t r A before loads later h =
 
 cuts_beside : (mine : ℕ → Bool) (A : List (ℕ × ℕ)) (before : ℕ) (loads others : List Load) (last : ℕ) → AllByRecursion (λ l. mine l.source ≡ false) others → Cuts mine A before loads last → Cuts mine A before (loads ++ others) last
 cuts_beside mine A before [] [] last none h = h
-cuts_beside mine A before [] (l ∷ others) last none h = (before, subst (λ (b : Bool). IsCut b A before l before) (sym none.0) refl, cuts_beside mine A before [] others last none.1 h)
+cuts_beside mine A before [] (l ∷ others) last none h = (before, subst (λ (b : Bool). IsCutOfLoad b A before l before) (sym none.0) refl, cuts_beside mine A before [] others last none.1 h)
 cuts_beside mine A before (l ∷ loads) others last none h = (h.0, h.1, cuts_beside mine A h.0 loads others last none h.2)
 
 pub agrees_beside : (t : TableRecord) (r : ℕ) (A : List (ℕ × ℕ)) (loads others : List Load) → AllByRecursion (λ l. is_of t r l.source ≡ false) others → Agrees t r A loads → Agrees t r A (loads ++ others)

@@ -40,14 +40,14 @@ CountsNoLess loads l = AllByRecursion (λ m. m.source ≡ l.source → m.count �
 
 -- The cut of a load is the length of a prefix of what the receiver accepted, after which the load was made; it is not before the cut of the
 -- load before. A load of another receiver's source leaves the cut where it was.
-abbrev pub IsCut : Bool → List (ℕ × ℕ) → ℕ → Load → ℕ → Type 0
-IsCut true A before l cut = (before ≤ cut) × (cut ≤ length A) × (l ≡ load_after l.source (take cut A))
-IsCut false A before l cut = before ≡ cut
+abbrev pub IsCutOfLoad : Bool → List (ℕ × ℕ) → ℕ → Load → ℕ → Type 0
+IsCutOfLoad true A before l cut = (before ≤ cut) × (cut ≤ length A) × (l ≡ load_after l.source (take cut A))
+IsCutOfLoad false A before l cut = before ≡ cut
 
 -- each load has its cut, from the cut `before` on; `last` is the last of them
 abbrev pub Cuts : (ℕ → Bool) → List (ℕ × ℕ) → ℕ → List Load → ℕ → Type 0
 Cuts mine A before [] last = before ≡ last
-Cuts mine A before (l ∷ ls) last = (cut : ℕ) × IsCut (mine l.source) A before l cut × Cuts mine A cut ls last
+Cuts mine A before (l ∷ ls) last = (cut : ℕ) × IsCutOfLoad (mine l.source) A before l cut × Cuts mine A cut ls last
 
 -- the loads agree with what receiver r accepted, by cuts of which this is the last
 abbrev pub AgreesTo : TableRecord → ℕ → List (ℕ × ℕ) → List Load → ℕ → Type 0

@@ -17,8 +17,8 @@ abbrev pub is_for : ℕ → ℕ → SourceRow → Bool
 is_for r raw s = s.receiver == r && (s.label == label_of raw && option_map_or (λ k. k == sdi_of raw) s.sdi true)
 
 -- no word of a receiver is for two sources
-abbrev pub AreApart : List SourceRow → Type 0
-AreApart sources = (r raw i j : ℕ) (s t : SourceRow) → slice_get sources i ≡ Some s → slice_get sources j ≡ Some t
+abbrev pub SourcesAreApart : List SourceRow → Type 0
+SourcesAreApart sources = (r raw i j : ℕ) (s t : SourceRow) → slice_get sources i ≡ Some s → slice_get sources j ≡ Some t
     → IsTrue (is_for r raw s) → IsTrue (is_for r raw t) → i ≡ j
 
 -- the number of the source that the word is for, or the first cause that there is none

@@ -31,6 +31,6 @@ with_words places number s sdi =
     else places
 
 -- the places have the words of one more source, but those that an earlier source has
-abbrev pub AreGiven : List (Option ℕ) → List (Option ℕ) → ℕ → SourceRow → Type 0
-AreGiven before after number s =
+abbrev pub GainSource : List (Option ℕ) → List (Option ℕ) → ℕ → SourceRow → Type 0
+GainSource before after number s =
     (r label sdi : ℕ) → label < 256 → sdi < 4 → entry_at after r label sdi ≡ given_at before number s r label sdi

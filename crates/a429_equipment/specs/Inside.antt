@@ -10,6 +10,6 @@ abbrev pub record_inside : Inside → TableRecord
 record_inside e = record_of e.rows
 
 -- the record is sound, and the index is that of its sources
-pub record IsWhole (e : Inside) : Type 0 where
+pub record IsSoundInside (e : Inside) : Type 0 where
   pub sound : IsSound (record_inside e)
   pub index : IsIndex e.index.places.items (length e.rows.receivers.items) e.rows.sources.items

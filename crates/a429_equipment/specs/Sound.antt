@@ -8,7 +8,7 @@ use Rattle.a429_equipment.specs.declared.rows.SourceRow.{SourceRow}
 use Rattle.a429_equipment.specs.declared.rows.GroupRow.{GroupRow}
 use Rattle.a429_equipment.specs.declared.rows.OutputRow.{OutputRow}
 use Rattle.a429_equipment.specs.TableRecord.{TableRecord}
-use Rattle.a429_equipment.specs.Arrivals.{AreApart}
+use Rattle.a429_equipment.specs.Arrivals.{SourcesAreApart}
 use Rattle.a429_equipment.specs.Limits.{most_sends}
 use Rattle.a429_equipment.specs.NameForm.{is_name}
 
@@ -74,7 +74,7 @@ pub record IsSound (t : TableRecord) : Type 0 where
   pub intervals : AllByRecursion (AllByRecursion IsInterval) t.outputs
   pub holds : AllByRecursion (AllByRecursion IsHold) t.outputs
   pub no_holds : t.version ≡ 1 → HaveNoHolds t.outputs
-  pub apart : AreApart t.sources
+  pub apart : SourcesAreApart t.sources
   pub own_receivers : HaveOwn (λ r. r.name) t.receivers
   pub own_names : HaveOwn (λ s. s.name) t.sources
   pub own_groups : HaveOwn (λ g. g.name) t.groups

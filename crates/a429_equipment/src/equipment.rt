@@ -22,11 +22,11 @@ impl Model for Equipment {
 
     ghost Value = { TableRecord };
 
-    ghost use Rattle.a429_equipment.specs.Inside.{record_inside, IsWhole};
+    ghost use Rattle.a429_equipment.specs.Inside.{record_inside, IsSoundInside};
 
     ghost view = { record_inside };
 
-    ghost invariant = { IsWhole };
+    ghost invariant = { IsSoundInside };
 }
 
 impl Equipment {

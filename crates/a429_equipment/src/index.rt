@@ -1,7 +1,7 @@
 //! The source that a word is for, looked up by the word's receiver, label and SDI.
 
 ghost use Rattle.std.specs.Prelude.{◌≡◌, ◌<◌, ◌≤◌, ◌+◌, ◌*◌, All, length, IfOk};
-ghost use Rattle.a429_equipment.specs.Index.{AreGiven, IsIndex, entry_at, place, with_words};
+ghost use Rattle.a429_equipment.specs.Index.{GainSource, IsIndex, entry_at, place, with_words};
 
 use crate::rows::{ReceiverRow, SourceRow};
 use a429_word::{Label, Sdi};
@@ -92,7 +92,7 @@ fn note_source(places: &mut Vec<Option<u8>>, number: u8, source: &SourceRow)
     requires few { source.now.receiver < 16 }
     requires known { 1024 * source.now.receiver + 1024 ≤ length places.old.items }
     ensures size { length places.new.items ≡ length places.old.items }
-    ensures given { AreGiven places.old.items places.new.items number source.now }
+    ensures given { GainSource places.old.items places.new.items number source.now }
 {
     for sdi in 0..4 {
         note_words(places, number, source, Sdi::new(sdi));

@@ -5,8 +5,8 @@ use Rattle.a429_filter.specs.declared.passing.Passing.{Passing}
 use Rattle.a429_filter.specs.Filters.{passes, set_passes}
 
 -- the table tells of each label whether the set passes it
-abbrev pub Tells : Passing → Option (List Filter) → Type 0
-Tells p set = (label : ℕ) → label < 256 → slice_index_or p.labels label false ≡ set_passes set label
+abbrev pub TellsPassing : Passing → Option (List Filter) → Type 0
+TellsPassing p set = (label : ℕ) → label < 256 → slice_index_or p.labels label false ≡ set_passes set label
 
 -- those that passed before, and those that the filter passes
 abbrev pub PassesMore : Passing → Filter → Passing → Type 0

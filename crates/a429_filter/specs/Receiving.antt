@@ -35,8 +35,8 @@ AsksLast steps before (Err Failed) after = (fault : SourceFault) × steps before
 AsksLast steps before (Err Skipped) after = before ≡ after
 
 -- In the call the source was asked for each word that it gave, and behind them for its end or its failure, where that is the answer.
-abbrev pub AsksFor : {L : Type 0} → (L → List ℕ) → (L → SourceAnswer → L → Type 0) → L → SourceAnswer → L → Type 0
-AsksFor {L} given steps before answer after =
+abbrev pub HasAskedSource : {L : Type 0} → (L → List ℕ) → (L → SourceAnswer → L → Type 0) → L → SourceAnswer → L → Type 0
+HasAskedSource {L} given steps before answer after =
     (taken : List ℕ) × (behind : L) × (given after ≡ given before ++ taken)
     × FoldsTo steps before (map (λ raw. Ok (Some raw)) taken) behind × AsksLast steps behind answer after
 

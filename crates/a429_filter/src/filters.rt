@@ -69,13 +69,13 @@ pub struct FilterSet {
 impl Model for FilterSet {
     ghost use Rattle.std.specs.Prelude.{◌≤◌, List, Option, Some, None, take, if◌then◌else◌};
     ghost use Rattle.a429_filter.specs.declared.filters.Filter.{Filter};
-    ghost use Rattle.a429_filter.specs.Passing.{Tells};
+    ghost use Rattle.a429_filter.specs.Passing.{TellsPassing};
 
     ghost Value = { Option (List Filter) };
 
     ghost view = { λ s. if s.listed then Some (take s.len s.filters) else None };
 
-    ghost invariant = { λ s. (s.len ≤ 32) × Tells s.passing (if s.listed then Some (take s.len s.filters) else None) };
+    ghost invariant = { λ s. (s.len ≤ 32) × TellsPassing s.passing (if s.listed then Some (take s.len s.filters) else None) };
 }
 
 impl FilterSet {

@@ -1,6 +1,6 @@
 //! The words of a line that a receiver is for.
 ghost use Rattle.std.specs.Prelude.{◌≡◌, [], Ok, Some, None, if◌then◌else◌};
-ghost use Rattle.a429_filter.specs.Receiving.{AsksFor, ReceivesFrom, accepts, failures_since};
+ghost use Rattle.a429_filter.specs.Receiving.{HasAskedSource, ReceivesFrom, accepts, failures_since};
 ghost use Rattle.a429_filter.specs.Sources.{is_end, list_or_none};
 
 use crate::filters::FilterSet;
@@ -52,7 +52,7 @@ impl<L: LineSource> Socket<L> {
     /// `Skipped` just where 65536 words were refused in it; then the words taken stay taken, and the next call goes on.
     pub fn recv(&mut self) -> Result<Option<Word>, SourceFault>
         ensures received { ReceivesFrom L.given L.left self.old.source self.new.source self.old.filters result }
-        ensures asked { AsksFor L.given L.steps self.old.source result self.new.source }
+        ensures asked { HasAskedSource L.given L.steps self.old.source result self.new.source }
         ensures ended { L.ended self.new.source ≡ is_end result }
         ensures all { result ≡ Ok None → list_or_none (L.left self.new.source) ≡ [] }
         ensures failed { L.failed self.new.source ≡ failures_since (L.failed self.old.source) result }

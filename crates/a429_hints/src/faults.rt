@@ -4,7 +4,7 @@ use crate::about::About;
 use crate::keys::{form, is_faulty, kilobits};
 use crate::nearest::Nearest;
 use crate::plans::TOLD;
-use crate::rows::{Row, Shown, rows_at, short_text, text_at};
+use crate::rows::{FoundValue, TableRow, rows_at, short_text, text_at};
 use crate::twins::twin_of;
 use a429_equipment::TableVersion;
 use a429_filter::Filter;
@@ -55,7 +55,7 @@ fn tell_places<V: Write>(
 ) -> io::Result<()> {
     let places = places_of(alloc, root, kind)?;
     for place in places.iter().take(TOLD) {
-        if let Some(row) = Row::at(root, *place) {
+        if let Some(row) = TableRow::at(root, *place) {
             tell_row(alloc, about, kind, row, err)?;
         }
     }
@@ -69,7 +69,7 @@ fn tell_row<V: Write>(
     alloc: Global,
     about: About,
     kind: FaultKind,
-    row: Row,
+    row: TableRow,
     err: &mut V,
 ) -> io::Result<()> {
     match kind {
@@ -98,7 +98,7 @@ fn tell_twin<V: Write>(
     about: About,
     kind: FaultKind,
     what: &str,
-    row: Row,
+    row: TableRow,
     err: &mut V,
 ) -> io::Result<()> {
     match twin_of(row, kind) {
@@ -108,9 +108,14 @@ fn tell_twin<V: Write>(
 }
 
 /// Tells of each value of a row that has a fault of its own.
-fn tell_values<V: Write>(about: About, kind: FaultKind, row: Row, err: &mut V) -> io::Result<()> {
+fn tell_values<V: Write>(
+    about: About,
+    kind: FaultKind,
+    row: TableRow,
+    err: &mut V,
+) -> io::Result<()> {
     if !row.value.is_table() {
-        let found = Shown(Some(row.value));
+        let found = FoundValue(Some(row.value));
         return writeln!(err, "{about}: {row} is {found}; it is to be a table");
     }
     for column in columns_of(version_of(row.root), row.place) {
@@ -129,7 +134,7 @@ fn tell_values<V: Write>(about: About, kind: FaultKind, row: Row, err: &mut V) -
 fn tell_value<V: Write>(
     about: About,
     column: &Column,
-    row: Row,
+    row: TableRow,
     found: Option<&Value>,
     err: &mut V,
 ) -> io::Result<()> {
@@ -141,7 +146,7 @@ fn tell_value<V: Write>(
             "{about}: {row}: `{text}` is an integer; it is to be {form}"
         );
     }
-    let found_text = Shown(found);
+    let found_text = FoundValue(found);
     match (text, kilobits(found)) {
         ("rate", Some(rate)) => writeln!(
             err,
@@ -155,7 +160,7 @@ fn tell_value<V: Write>(
 }
 
 /// Tells which end of an interval has a fault.
-fn tell_interval<V: Write>(about: About, row: Row, err: &mut V) -> io::Result<()> {
+fn tell_interval<V: Write>(about: About, row: TableRow, err: &mut V) -> io::Result<()> {
     let (Some(Value::Integer(min_us)), Some(Value::Integer(max_us))) = (
         row.value.get("min_us"),
         row.value.get("max_us"),
@@ -185,7 +190,7 @@ fn tell_interval<V: Write>(about: About, row: Row, err: &mut V) -> io::Result<()
 }
 
 /// Tells where the version of a table is, if it has come into one of its rows.
-fn tell_late_version<V: Write>(about: About, row: Row, err: &mut V) -> io::Result<()> {
+fn tell_late_version<V: Write>(about: About, row: TableRow, err: &mut V) -> io::Result<()> {
     for key in ["receiver", "source", "group"] {
         for value in rows_at(row.root, key) {
             if value.get("version").is_some() {
@@ -200,10 +205,15 @@ fn tell_late_version<V: Write>(about: About, row: Row, err: &mut V) -> io::Resul
 }
 
 /// Tells of the first filter of a receiver that is no text, or not of its form.
-fn tell_filter<V: Write>(about: About, kind: FaultKind, row: Row, err: &mut V) -> io::Result<()> {
+fn tell_filter<V: Write>(
+    about: About,
+    kind: FaultKind,
+    row: TableRow,
+    err: &mut V,
+) -> io::Result<()> {
     for (number, filter) in rows_at(row.value, "filters").iter().enumerate() {
         if is_faulty_filter(kind, filter) {
-            let found = Shown(Some(filter));
+            let found = FoundValue(Some(filter));
             return writeln!(
                 err,
                 "{about}: {row}: filter {number} is {found}; it is to be a text LLL/MMM, label and mask, each three octal digits from 000 to 377"
@@ -227,7 +237,7 @@ fn is_faulty_filter(kind: FaultKind, filter: &Value) -> bool {
 fn tell_unknown_keys<V: Write>(
     alloc: Global,
     about: About,
-    row: Row,
+    row: TableRow,
     err: &mut V,
 ) -> io::Result<()> {
     let Value::Table(table) = row.value else {
@@ -246,7 +256,7 @@ fn tell_unknown_key<V: Write>(
     alloc: Global,
     about: About,
     version: TableVersion,
-    row: Row,
+    row: TableRow,
     key: &str,
     err: &mut V,
 ) -> io::Result<()> {
@@ -300,7 +310,7 @@ fn has_key(version: TableVersion, place: TablePlace, text: &str) -> bool {
 fn tell_unknown_name<V: Write>(
     alloc: Global,
     about: About,
-    row: Row,
+    row: TableRow,
     err: &mut V,
 ) -> io::Result<()> {
     let key = match row.place {

@@ -7,15 +7,15 @@ use toml::Value;
 
 /// A table within the equipment table.
 #[derive(Clone, Copy)]
-pub struct Row<'a> {
+pub struct TableRow<'a> {
     pub root: &'a Value,
     pub place: TablePlace,
     pub value: &'a Value,
 }
 
-impl<'a> Row<'a> {
+impl<'a> TableRow<'a> {
     /// The row of a place; none where there is no such row.
-    pub fn at(root: &'a Value, place: TablePlace) -> Option<Row<'a>> {
+    pub fn at(root: &'a Value, place: TablePlace) -> Option<TableRow<'a>> {
         let value = match place {
             TablePlace::Root => root,
             TablePlace::Receiver(row) => rows_at(root, "receiver").get(row)?,
@@ -26,11 +26,11 @@ impl<'a> Row<'a> {
                 rows_at(group, "output").get(row)?
             }
         };
-        Some(Row { root, place, value })
+        Some(TableRow { root, place, value })
     }
 }
 
-impl fmt::Display for Row<'_> {
+impl fmt::Display for TableRow<'_> {
     /// The place as the refusal has it, and the name, or of an output that of its source: `source 3 "alt"`.
     fn fmt<W: fmt::Write>(&self, f: &mut fmt::Formatter<W>) -> fmt::Result {
         let place = self.place;
@@ -39,7 +39,7 @@ impl fmt::Display for Row<'_> {
             _ => self.value.get("name"),
         };
         match name {
-            Some(Value::String(_)) => write!(f, "{place} {}", Shown(name)),
+            Some(Value::String(_)) => write!(f, "{place} {}", FoundValue(name)),
             _ => write!(f, "{place}"),
         }
     }
@@ -47,9 +47,9 @@ impl fmt::Display for Row<'_> {
 
 /// What stands at a place: a single value as a table has it, or what else it is.
 #[derive(Clone, Copy)]
-pub struct Shown<'a>(pub Option<&'a Value>);
+pub struct FoundValue<'a>(pub Option<&'a Value>);
 
-impl fmt::Display for Shown<'_> {
+impl fmt::Display for FoundValue<'_> {
     fn fmt<W: fmt::Write>(&self, f: &mut fmt::Formatter<W>) -> fmt::Result {
         match self.0 {
             Some(Value::String(text)) => write!(f, "{:?}", short_text(text.as_str()).as_str()),

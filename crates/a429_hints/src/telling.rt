@@ -14,7 +14,7 @@ use crate::scripts::{tell_script_line, tell_words_line};
 use crate::words::{tell_even_word, tell_filter, tell_line_byte, tell_word_text};
 use a429_console::arguments::requests::{CommandRequest, Request};
 use a429_console::files::reading::printable_name;
-use a429_console::hints::{FurtherCause, FurtherFault, Hints, Looks, Seen, SeenTable};
+use a429_console::hints::{FurtherCause, FurtherFault, Hints, Seen, SeenTable, TableLook};
 use a429_console::refusals::CommandRefusal;
 use a429_table::FaultKind;
 use std::alloc::Global;
@@ -248,10 +248,10 @@ fn tell_order<V: Write>(
         return Ok(());
     }
     let looks = match table.looks {
-        Looks::PlanText => "the text of a plan",
-        Looks::Script => "a script",
-        Looks::Log => "a log",
-        Looks::Other => return Ok(()),
+        TableLook::PlanText => "the text of a plan",
+        TableLook::Script => "a script",
+        TableLook::Log => "a log",
+        TableLook::Other => return Ok(()),
     };
     writeln!(
         err,

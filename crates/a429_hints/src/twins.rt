@@ -1,17 +1,17 @@
 //! Rows that clash with an earlier one of their array.
 
-use crate::rows::{Row, rows_at, text_at};
+use crate::rows::{TableRow, rows_at, text_at};
 use a429_table::{FaultKind, TablePlace};
 use toml::Value;
 
 /// The first earlier row of the same array with which a row clashes, by a fault of this kind.
-pub fn twin_of(row: Row<'_>, kind: FaultKind) -> Option<Row<'_>> {
+pub fn twin_of(row: TableRow<'_>, kind: FaultKind) -> Option<TableRow<'_>> {
     for number in 0..usize::MAX {
         let place = place_of_row(row.place, number);
         if place == row.place {
             return None;
         }
-        let earlier = Row::at(row.root, place)?;
+        let earlier = TableRow::at(row.root, place)?;
         if are_twins(row.root, kind, earlier.value, row.value) {
             return Some(earlier);
         }

@@ -8,7 +8,7 @@ use Rattle.a429_word.proofs.Lists.{clash}
 use Rattle.a429_line.specs.declared.found.Symbol.{Symbol}
 use Rattle.a429_line.specs.declared.found.Symbol.TheVariants.{Hi, Null, Lo}
 use Rattle.a429_line.specs.Reports.{Run, runs_from, runs, gap_after, first_piece, later_pieces}
-use Rattle.a429_line.specs.Cuts.{is_bit, are_bits, stretch, AreApart, AreEnded, goes_on, IsCut}
+use Rattle.a429_line.specs.Cuts.{is_bit, are_bits, stretch, RunsAreApart, AreEnded, goes_on, IsCut}
 
 -- each piece behind its Null
 abbrev behind : List (List Symbol) → List Symbol
@@ -76,7 +76,7 @@ gaps_from gap (s ∷ p) [] h = (h, tt)
 gaps_from gap [] (next ∷ later) h = gaps_from (gap + 1) next later (omega arith)
 gaps_from gap (s ∷ p) (next ∷ later) h = (h, gaps_from 1 next later (omega arith))
 
-apart_from : (gap : ℕ) (p : List Symbol) (later : List (List Symbol)) → AreApart (runs_from gap p later)
+apart_from : (gap : ℕ) (p : List Symbol) (later : List (List Symbol)) → RunsAreApart (runs_from gap p later)
 unfolding runs_from
 apart_from gap [] [] = tt
 apart_from gap (s ∷ p) [] = tt
@@ -202,7 +202,7 @@ tail_more : (more : List Run) (nulls : ℕ) → AllByRecursion (λ run. 1 ≤ ru
 tail_more [] nulls h = nulls_more nulls
 tail_more (next ∷ more) nulls h = sym (gap_more next.gap next.symbols (flat_map stretch more) (replicate nulls Null) h.0)
 
-apart_more : (more : List Run) → AllByRecursion (λ run. 1 ≤ run.gap) more → AreApart more
+apart_more : (more : List Run) → AllByRecursion (λ run. 1 ≤ run.gap) more → RunsAreApart more
 apart_more [] h = tt
 apart_more (next ∷ more) h = h.1
 
@@ -211,7 +211,7 @@ line_more run more nulls =
     append_assoc (stretch run) (flat_map stretch more) (replicate nulls Null)
     ∙ append_assoc (replicate run.gap Null) run.symbols (line_of more nulls)
 
-only_from : (all : List Run) (nulls : ℕ) → AllByRecursion (λ run. IsTrue (are_bits run.symbols)) all → AreApart all → AreEnded all nulls → all ≡ runs_after 0 (line_of all nulls)
+only_from : (all : List Run) (nulls : ℕ) → AllByRecursion (λ run. IsTrue (are_bits run.symbols)) all → RunsAreApart all → AreEnded all nulls → all ≡ runs_after 0 (line_of all nulls)
 only_from [] nulls b a e = sym (ap (λ (x : List Symbol). runs_after 0 x) (sym (append-nil (replicate nulls Null))) ∙ nulls_before 0 nulls [] ∙ none_left (0 + nulls))
 only_from (run ∷ more) nulls b a e =
     let tail = line_of more nulls in

@@ -21,9 +21,9 @@ abbrev pub stretch : Run → List Symbol
 stretch run = replicate run.gap Null ++ run.symbols
 
 -- a Null stands between two runs
-abbrev pub AreApart : List Run → Type 0
-AreApart [] = ⊤
-AreApart (run ∷ more) = AllByRecursion (λ next. 1 ≤ next.gap) more
+abbrev pub RunsAreApart : List Run → Type 0
+RunsAreApart [] = ⊤
+RunsAreApart (run ∷ more) = AllByRecursion (λ next. 1 ≤ next.gap) more
 
 -- something stands behind: a further run, or Nulls
 abbrev pub goes_on : List Run → ℕ → Bool
@@ -39,5 +39,5 @@ AreEnded (run ∷ more) nulls = (run.ended ≡ goes_on more nulls) × AreEnded m
 pub record IsCut (x : List Symbol) (all : List Run) (nulls : ℕ) : Type 0 where
   pub whole : x ≡ flat_map stretch all ++ replicate nulls Null
   pub bits : AllByRecursion (λ run. IsTrue (are_bits run.symbols)) all
-  pub apart : AreApart all
+  pub apart : RunsAreApart all
   pub ended : AreEnded all nulls

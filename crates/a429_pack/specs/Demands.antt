@@ -29,7 +29,7 @@ abbrev pub AreFit : List Demand → Type 0
 AreFit demands = (i : ℕ) → i < length demands → IsSome (demand_at demands i).period
 
 -- output i is the first that has none
-pub record IsFirstUnfit (demands : List Demand) (i : ℕ) : Type 0 where
+pub record IsFirstUnfitDemand (demands : List Demand) (i : ℕ) : Type 0 where
   pub there : i < length demands
   pub unfit : (demand_at demands i).period ≡ None
   pub earlier : (j : ℕ) → j < i → IsSome (demand_at demands j).period

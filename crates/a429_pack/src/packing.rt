@@ -4,7 +4,7 @@ ghost use Rattle.std.specs.List.{All};
 ghost use Rattle.std.specs.Int.{div_ceil};
 ghost use Rattle.a429_pack.specs.Demands.{AreFit, IsLayoutOrder, demand_at, exponents_of, frame_of, period_of};
 ghost use Rattle.a429_pack.specs.Entries.{AreInOrder, demands_of, entries_from, inputs_of};
-ghost use Rattle.a429_pack.specs.Faults.{IsFaultOf};
+ghost use Rattle.a429_pack.specs.Faults.{IsPackFaultOf};
 ghost use Rattle.a429_pack.specs.Demanded.{AreFewestBuses};
 ghost use Rattle.a429_pack.specs.Kept.{padded};
 
@@ -31,7 +31,7 @@ fn sdi_number(sdi: Option<Sdi>) -> Option<u8>
 fn entries(alloc: Global, demands: &[Demand]) -> Result<Vec<Entry>, PackFault>
     ensures entries { IfOk result (λ v. v.items ≡ entries_from 0 demands.now) }
     ensures fit { IfOk result (λ _. AreFit demands.now) }
-    ensures fault { IfErr result (IsFaultOf demands.now) }
+    ensures fault { IfErr result (IsPackFaultOf demands.now) }
 {
     let mut entries = Vec::new(alloc);
     for (input, demand) in demands.iter().enumerate() {
@@ -50,7 +50,7 @@ fn entries(alloc: Global, demands: &[Demand]) -> Result<Vec<Entry>, PackFault>
 
 /// The outputs of a group in layout order, or the first one that is unfit.
 fn sorted_entries(alloc: Global, demands: &[Demand]) -> Result<Vec<Entry>, PackFault>
-    ensures { MatchResult result (λ v. AreInOrder demands.now v.items) (IsFaultOf demands.now) }
+    ensures { MatchResult result (λ v. AreInOrder demands.now v.items) (IsPackFaultOf demands.now) }
 {
     let mut sorted = entries(alloc, demands)?;
     sorted.sort_unstable();
@@ -162,7 +162,7 @@ pub fn pack<const N: usize>(alloc: Global, demands: &[Demand]) -> Result<Packed<
     ensures demands { IfOk result (λ p. p.demands ≡ map (λ i. 2 ^ p.frame / period_of (demand_at demands.now i)) p.inputs) }
     ensures fewest { IfOk result (λ p. AreFewestBuses (exponents_of demands.now) p.buses) }
     ensures few { IfOk result (λ p. p.buses ≤ 16) }
-    ensures fault { IfErr result (IsFaultOf demands.now) }
+    ensures fault { IfErr result (IsPackFaultOf demands.now) }
 {
     let entries = sorted_entries(alloc, demands)?;
     let frame = greatest_period(demands);

@@ -140,7 +140,7 @@ planned n rate sources rows ds l t m = record {
   few_slots = let one : 0 < 2 = omega arith in pow-le-pow_right {n = 2} one {i = t.frame} {j = 13} m.sound.frame;
 }
 
-pub group_fault : (rate : ℕ) (sources : List SourceRow) (rows : List OutputRow) (ds : List Demand) (fault : PackFault) → AllZip (IsAsked rate sources) rows ds → faults.IsFaultOf ds fault → IsGroupFault rate rows fault
+pub group_fault : (rate : ℕ) (sources : List SourceRow) (rows : List OutputRow) (ds : List Demand) (fault : PackFault) → AllZip (IsAsked rate sources) rows ds → faults.IsPackFaultOf ds fault → IsGroupFault rate rows fault
 group_fault rate sources rows ds (pack.Unfit o) asked first = first_unfit rate sources rows ds o asked first
 group_fault rate sources rows ds (pack.TooManyBuses needed) asked many = (fewest_for rate sources rows ds needed asked many.0 many.2, many.1)
 group_fault rate sources rows ds pack.NoMemory asked none = tt

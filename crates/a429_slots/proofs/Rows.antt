@@ -56,7 +56,7 @@ fit_before rate sources (r ∷ rows) (d ∷ ds) (suc o) few asked some = (
   fit_before rate sources rows ds o (omega arith) asked.1 (λ j less. some (suc j) (omega arith)),
 )
 
-pub first_unfit : (rate : ℕ) (sources : List SourceRow) (rows : List OutputRow) (ds : List Demand) (o : ℕ) → AllZip (IsAsked rate sources) rows ds → pack.IsFirstUnfit ds o → IsFirstUnfit rate rows o
+pub first_unfit : (rate : ℕ) (sources : List SourceRow) (rows : List OutputRow) (ds : List Demand) (o : ℕ) → AllZip (IsAsked rate sources) rows ds → pack.IsFirstUnfitDemand ds o → IsFirstUnfit rate rows o
 first_unfit rate sources rows ds o asked first =
     let same : length ds ≡ length rows = AllZip-long (IsAsked rate sources) rows ds asked in
     let below : o < length rows = omega (arith, first.there) in

@@ -12,7 +12,7 @@ use Rattle.a429_word.proofs.Lists.{clash, range_next}
 use Rattle.a429_slots.specs.Tables.{SlotTable, frame_of, cells_of}
 use Rattle.a429_slots.specs.Events.{Event, Arrive, Cell, Frame, Publish}
 use Rattle.a429_slots.specs.History.{Opening, Current, current, is_cell, is_frame, is_over, has_room, next_frame, cells_since, last_of, newest_number, newest_table}
-use Rattle.a429_slots.specs.TakenFrames.{taken_before, last_taken, table_in_force, events_since, IsTakenAt, AreTaken, is_taken_after, is_taken_at, IsFrameAt}
+use Rattle.a429_slots.specs.TakenFrames.{taken_before, last_taken, table_in_force, events_since, IsTakenAt, AreTakenFrames, is_taken_after, is_taken_at, IsFrameAt}
 use Rattle.a429_slots.proofs.Histories.{take_following, goes_on, cells_next, same_frame, new_frame}
 use Rattle.a429_equipment.proofs.Cutting.{last_push}
 
@@ -165,7 +165,7 @@ Agrees-is_taken_at o g p E k within R = refl
 pub frame_at : (o : Opening) (g : ℕ) (p : SlotTable) (E : List Event) (k : ℕ) → k ≤ length E → IsFrameAt o g p E (is_taken_at o g p E) k (current o g p (take k E))
 frame_at o g p E k within = (reached o g p E (is_taken_at o g p E) (Agrees-is_taken_at o g p E) k within).frame
 
-pub are_taken : (o : Opening) (g : ℕ) (p : SlotTable) (E : List Event) → AreTaken o g p E (is_taken_at o g p E)
+pub are_taken : (o : Opening) (g : ℕ) (p : SlotTable) (E : List Event) → AreTakenFrames o g p E (is_taken_at o g p E)
 are_taken o g p E k within =
     let R = reached o g p E (is_taken_at o g p E) (Agrees-is_taken_at o g p E) k (omega (arith, within)) in
     (sentence o g p E (is_taken_at o g p E) k R, from_sentence o g p E (is_taken_at o g p E) k R)
@@ -176,11 +176,11 @@ same_test true b f h = sym (f refl)
 same_test false true f h = h refl
 same_test false false f h = refl
 
-agrees : (o : Opening) (g : ℕ) (p : SlotTable) (E : List Event) (T : ℕ → Bool) → AreTaken o g p E T → Agrees o g p E T
+agrees : (o : Opening) (g : ℕ) (p : SlotTable) (E : List Event) (T : ℕ → Bool) → AreTakenFrames o g p E T → Agrees o g p E T
 unfolding Agrees
 agrees o g p E T taken k within R =
     same_test (T k) (is_taken_at o g p E k) (λ h. from_sentence o g p E T k R ((taken k within).0 h)) (λ h. (taken k within).1 (sentence o g p E T k R h))
 
-pub no_other : (o : Opening) (g : ℕ) (p : SlotTable) (E : List Event) (T : ℕ → Bool) → AreTaken o g p E T → (k : ℕ) → k < length E → T k ≡ is_taken_at o g p E k
+pub no_other : (o : Opening) (g : ℕ) (p : SlotTable) (E : List Event) (T : ℕ → Bool) → AreTakenFrames o g p E T → (k : ℕ) → k < length E → T k ≡ is_taken_at o g p E k
 unfolding Agrees
 no_other o g p E T taken k within = agrees o g p E T taken k within (reached o g p E T (agrees o g p E T taken) k (omega (arith, within)))

@@ -40,8 +40,8 @@ pub record IsTakenAt (o : Opening) (g : ℕ) (p : SlotTable) (E : List Event) (T
   pub room : first_slot o g p E T k + frame_of (table_in_force o g p E T k) + frame_of (newest_table o g p (take k E)) ≤ 2 ^ 64 - 1
 
 -- T has just the taken Frames of the history
-abbrev pub AreTaken : Opening → ℕ → SlotTable → List Event → (ℕ → Bool) → Type 0
-AreTaken o g p E T = (k : ℕ) → k < length E → IsTrue (T k) ↔ IsTakenAt o g p E T k
+abbrev pub AreTakenFrames : Opening → ℕ → SlotTable → List Event → (ℕ → Bool) → Type 0
+AreTakenFrames o g p E T = (k : ℕ) → k < length E → IsTrue (T k) ↔ IsTakenAt o g p E T k
 
 -- ---- the same by the frame that the group is in
 
@@ -56,7 +56,7 @@ is_taken_at o g p E k = option_map_or (is_taken_after o g p (take k E)) (slice_g
 -- no other places of a history than these have its taken Frames
 abbrev pub TakenFramesAreUnique : Type 0
 TakenFramesAreUnique =
-    (o : Opening) (g : ℕ) (p : SlotTable) (E : List Event) (T : ℕ → Bool) → AreTaken o g p E T
+    (o : Opening) (g : ℕ) (p : SlotTable) (E : List Event) (T : ℕ → Bool) → AreTakenFrames o g p E T
     → (k : ℕ) → k < length E → T k ≡ is_taken_at o g p E k
 
 -- the frame that the group is in at place k

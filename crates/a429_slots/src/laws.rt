@@ -8,7 +8,7 @@ ghost use Rattle.a429_slots.specs.OnePlan.{FaultsAreUnique, PlansAreUnique, Plan
 ghost use Rattle.a429_slots.specs.Events.{Event};
 ghost use Rattle.a429_slots.specs.History.{Opening, OpensWith};
 ghost use Rattle.a429_slots.specs.Recalling.{Recalls, RecentCountsSends, RecentDecides, RecentPassesOtherCells, never};
-ghost use Rattle.a429_slots.specs.TakenFrames.{AreTaken, FramesFollowTakenOnes, HasOpeningOrPublished, IsOpeningPlan, IsPublishedPlan, LeavesFrame, TakenFramesAreUnique, is_taken_after, is_taken_at};
+ghost use Rattle.a429_slots.specs.TakenFrames.{AreTakenFrames, FramesFollowTakenOnes, HasOpeningOrPublished, IsOpeningPlan, IsPublishedPlan, LeavesFrame, TakenFramesAreUnique, is_taken_after, is_taken_at};
 
 use a429_pack::laws::{
     fewest_by_demand, layout_orders_are_unique, none_is_above_the_greatest, orders_name_each_once,
@@ -32,7 +32,7 @@ pub fn plans_are_unique()
 /// newest at the last taken Frame, or the opening one; a frame's first slot is the opening's and the slots
 /// of every frame that the group has left.
 pub fn frames_are_taken()
-    ensures taken { (o : Opening) (g : ℕ) (p : SlotTable) (E : List Event) → AreTaken o g p E (is_taken_at o g p E) }
+    ensures taken { (o : Opening) (g : ℕ) (p : SlotTable) (E : List Event) → AreTakenFrames o g p E (is_taken_at o g p E) }
     ensures only { TakenFramesAreUnique }
 {}
 

@@ -16,7 +16,7 @@ use Rattle.a429_slots.specs.Proposed.{Proposed}
 use Rattle.a429_filter.specs.declared.sources.LineSource as LineSource
 use Rattle.a429_values.specs.Ends as ends
 use Rattle.a429_board.specs.Lists.{Watched}
-use Rattle.a429_workers.specs.Receives.{AreTaken, Gives, after_words, answers_to, totals_of}
+use Rattle.a429_workers.specs.Receives.{LineWordsAreTaken, Gives, after_words, answers_to, totals_of}
 use Rattle.a429_workers.specs.Runs.{ArePublished, IsWired, plans_of}
 use Rattle.a429_workers.specs.Gates.{GatePoints, IsGatedGroup, Listening, listening, points_of}
 use Rattle.a429_workers.specs.Sends.{AreSent, Sending, sending, sent_in}
@@ -29,7 +29,7 @@ use Rattle.a429_workers.specs.declared.receiving.ReceiveFault.TheVariants as rec
 use Rattle.a429_workers.specs.declared.sending.SendTotals.{SendTotals}
 use Rattle.a429_workers.specs.declared.sending.SendFault.{SendFault}
 use Rattle.a429_station.specs.Course.{Course, IsHeardIn, IsSentIn, RunAsk, fresh, heard_in, meeting}
-use Rattle.a429_station.specs.Faults.{EndsGroup, EndsLine, GaveTooMuch, HasStopped, IsFirst, first_fault, of_receiver}
+use Rattle.a429_station.specs.Faults.{EndsGroup, EndsLine, GaveTooMuch, HasStopped, IsFirstFault, first_fault, of_receiver}
 use Rattle.a429_station.specs.Numbered.{AllNumbered, AllOfTwo}
 use Rattle.a429_station.specs.Resubmitting.{GoesOn, IsBegun, IsDoneBetween, IsLed, Running, opening}
 use Rattle.a429_station.specs.Working.{Emitting, HasEmitted, HasReceived, IsJoined, IsOver, IsReady, IsReceiverAt, emitting, meeting_of}
@@ -45,13 +45,13 @@ use Rattle.a429_station.proofs.Plans.{plan_small}
 
 -- ---- one receiver
 
-pub receiver_stays : (at : ends.Place) (k : ℕ) (words : List ℕ) (answer : Result ReceiveTotals ReceiveFault) (old new : ends.ReceiverEnd) → AreTaken words answer old new → old ≡ fresh at k → IsReceiverAt at k new
+pub receiver_stays : (at : ends.Place) (k : ℕ) (words : List ℕ) (answer : Result ReceiveTotals ReceiveFault) (old new : ends.ReceiverEnd) → LineWordsAreTaken words answer old new → old ≡ fresh at k → IsReceiverAt at k new
 receiver_stays at k words (Ok totals) old new h is = (ap (λ (r : ends.ReceiverEnd). r.at) (h.0) ∙ ap (λ (r : ends.ReceiverEnd). r.at) is, ap (λ (r : ends.ReceiverEnd). r.number) (h.0) ∙ ap (λ (r : ends.ReceiverEnd). r.number) is)
 receiver_stays at k words (Err receive.Source) old new h is = (ap (λ (r : ends.ReceiverEnd). r.at) (h.0) ∙ ap (λ (r : ends.ReceiverEnd). r.at) is, ap (λ (r : ends.ReceiverEnd). r.number) (h.0) ∙ ap (λ (r : ends.ReceiverEnd). r.number) is)
 receiver_stays at k words (Err (receive.TooMuch raw totals)) old new h is = (ap (λ (r : ends.ReceiverEnd). r.at) h.taken ∙ ap (λ (r : ends.ReceiverEnd). r.at) is, ap (λ (r : ends.ReceiverEnd). r.number) h.taken ∙ ap (λ (r : ends.ReceiverEnd). r.number) is)
 receiver_stays at k words (Err receive.Gate) old new h is = (ap (λ (r : ends.ReceiverEnd). r.at) (h.1) ∙ ap (λ (r : ends.ReceiverEnd). r.at) is, ap (λ (r : ends.ReceiverEnd). r.number) (h.1) ∙ ap (λ (r : ends.ReceiverEnd). r.number) is)
 
-gave_too_much : (words : List ℕ) (answer : Result ReceiveTotals ReceiveFault) (old new : ends.ReceiverEnd) → AreTaken words answer old new → GaveTooMuch words answer
+gave_too_much : (words : List ℕ) (answer : Result ReceiveTotals ReceiveFault) (old new : ends.ReceiverEnd) → LineWordsAreTaken words answer old new → GaveTooMuch words answer
 gave_too_much words (Ok totals) old new h = tt
 gave_too_much words (Err receive.Source) old new h = tt
 gave_too_much words (Err receive.Gate) old new h = tt
@@ -221,18 +221,18 @@ group_ended sink gate g frames v w answer E =
 -- ---- the first fault
 
 -- where no worker has a fault
-pub want_of_memory : (x : Option ReceiveFault) (y : Option SendFault) (fault : LiveFault) → x ≡ None → y ≡ None → fault ≡ NoMemory → IsFirst x y fault
-want_of_memory x y fault well none is = subst (λ (z : Option ReceiveFault). IsFirst z y fault) (sym well) (subst (λ (z : Option SendFault). IsFirst None z fault) (sym none) is)
+pub want_of_memory : (x : Option ReceiveFault) (y : Option SendFault) (fault : LiveFault) → x ≡ None → y ≡ None → fault ≡ NoMemory → IsFirstFault x y fault
+want_of_memory x y fault well none is = subst (λ (z : Option ReceiveFault). IsFirstFault z y fault) (sym well) (subst (λ (z : Option SendFault). IsFirstFault None z fault) (sym none) is)
 
 -- so it is where what receivers did is gathered
-pub unheard : (x : Option ReceiveFault) (y : Option SendFault) (fault e : LiveFault) → x ≡ None → y ≡ None → (fault ≡ NoMemory) ⊎ (Some fault ≡ option_map of_receiver x) → e ≡ fault → IsFirst x y e
+pub unheard : (x : Option ReceiveFault) (y : Option SendFault) (fault e : LiveFault) → x ≡ None → y ≡ None → (fault ≡ NoMemory) ⊎ (Some fault ≡ option_map of_receiver x) → e ≡ fault → IsFirstFault x y e
 unheard x y fault e well none (inl want) is = want_of_memory x y e well none (is ∙ want)
 unheard x y fault e well none (inr why) is = absurd (none-some fault (sym (why ∙ ap (option_map of_receiver) well)))
 
 -- and what groups did
-pub untold : (x : Option ReceiveFault) (y z : Option SendFault) (fault e : LiveFault) → x ≡ None → y ≡ None → z ≡ y → (fault ≡ NoMemory) ⊎ IsFirst None z fault → e ≡ fault → IsFirst x y e
+pub untold : (x : Option ReceiveFault) (y z : Option SendFault) (fault e : LiveFault) → x ≡ None → y ≡ None → z ≡ y → (fault ≡ NoMemory) ⊎ IsFirstFault None z fault → e ≡ fault → IsFirstFault x y e
 untold x y z fault e well none same (inl want) is = want_of_memory x y e well none (is ∙ want)
-untold x y z fault e well none same (inr first) is = want_of_memory x y e well none (is ∙ subst (λ (w : Option SendFault). IsFirst None w fault) (same ∙ none) first)
+untold x y z fault e well none same (inr first) is = want_of_memory x y e well none (is ∙ subst (λ (w : Option SendFault). IsFirstFault None w fault) (same ∙ none) first)
 
 -- ---- all workers
 
@@ -249,7 +249,7 @@ module _ {L B G : Type 0} (source : LineSource.Ghosts L) (sink : BusSink.Ghosts 
   pub all_stopped : (at : G) (ask : RunAsk L B) (ws : List (ReceiverWorker L G)) (ds : List (Received L)) (vs : List (GroupWorker B G sink gate)) (es : List (Emitted B)) (fault : LiveFault)
       → AllZip HasHeard ws ds → AllNumbered (λ k w. (w.number ≡ k) × (w.gate.now ≡ at)) ws → map (λ w. w.line) ws ≡ ask.sources
       → AllZip HasPut vs es → AllNumbered (λ k v. (v.number ≡ k) × (v.gate.now ≡ at)) vs → map (λ v. v.sink) vs ≡ ask.sinks
-      → IsFirst (first_fault (map (λ d. d.answer) ds)) (first_fault (map (λ e. e.answer) es)) fault → HasStopped source sink (points_of gate at) ask fault
+      → IsFirstFault (first_fault (map (λ d. d.answer) ds)) (first_fault (map (λ e. e.answer) es)) fault → HasStopped source sink (points_of gate at) ask fault
   all_stopped at ask ws ds vs es fault heard places lines sent also sinks first =
       let here = points_of gate at in
       record {

@@ -14,7 +14,7 @@ use Rattle.a429_workers.specs.declared.sending.SendFault.{SendFault}
 use Rattle.a429_workers.specs.declared.sending.SendFault.TheVariants as send
 use Rattle.a429_workers.specs.Gates.{GatePoints, point_after_cell, point_after_word, point_before_cell, point_before_word}
 use Rattle.a429_station.specs.Course.{RunAsk}
-use Rattle.a429_station.specs.Faults.{CanStart, EndsGroup, EndsLine, HasStopped, IsFirst, IsLiveFault, IsRunFault, first_fault, of_receiver}
+use Rattle.a429_station.specs.Faults.{CanStart, EndsGroup, EndsLine, HasStopped, IsFirstFault, IsLiveFault, IsRunFault, first_fault, of_receiver}
 use Rattle.a429_station.specs.Numbered.{AllOfTwo}
 use Rattle.a429_station.specs.declared.faults.LiveFault.{LiveFault}
 use Rattle.a429_station.specs.declared.faults.LiveFault.TheVariants.{Plan, TooMuch, Join, Source, Gate, Sink, NoMemory}
@@ -37,15 +37,15 @@ pub first_goes_on : {D A E : Type 0} (f : D → Result A E) (d : D) (before rest
 first_goes_on f d before rest all next well so_far = sym (first_later (f d) (map f rest) well) ∙ first_of_all f d before rest all next so_far
 
 -- the fault of a group, or want of memory if it ended well
-group_here : (r : Result SendTotals SendFault) (rs : List (Result SendTotals SendFault)) (fault : LiveFault) → IsFirst None (first_fault (r ∷ [])) fault → (fault ≡ NoMemory) ⊎ IsFirst None (first_fault (r ∷ rs)) fault
+group_here : (r : Result SendTotals SendFault) (rs : List (Result SendTotals SendFault)) (fault : LiveFault) → IsFirstFault None (first_fault (r ∷ [])) fault → (fault ≡ NoMemory) ⊎ IsFirstFault None (first_fault (r ∷ rs)) fault
 group_here (Ok totals) rs fault is = inl is
 group_here (Err why) rs fault is = inr is
 
 pub group_stops : {D : Type 0} (f : D → Result SendTotals SendFault) (d : D) (before rest : List D) (all : Option SendFault) (fault e : LiveFault) → before ≡ d ∷ rest → first_fault (map f before) ≡ all
-    → IsFirst None (first_fault (f d ∷ [])) fault → e ≡ fault → (e ≡ NoMemory) ⊎ IsFirst None all e
+    → IsFirstFault None (first_fault (f d ∷ [])) fault → e ≡ fault → (e ≡ NoMemory) ⊎ IsFirstFault None all e
 group_stops f d before rest all fault e next so_far stop is =
-    subst (λ (x : LiveFault). (x ≡ NoMemory) ⊎ IsFirst None all x) (sym is)
-    (subst (λ (w : Option SendFault). (fault ≡ NoMemory) ⊎ IsFirst None w fault) (first_of_all f d before rest all next so_far) (group_here (f d) (map f rest) fault stop))
+    subst (λ (x : LiveFault). (x ≡ NoMemory) ⊎ IsFirstFault None all x) (sym is)
+    (subst (λ (w : Option SendFault). (fault ≡ NoMemory) ⊎ IsFirstFault None w fault) (first_of_all f d before rest all next so_far) (group_here (f d) (map f rest) fault stop))
 
 -- the same of a receiver
 receiver_here : (r : Result ReceiveTotals ReceiveFault) (rs : List (Result ReceiveTotals ReceiveFault)) (fault : LiveFault) → (fault ≡ NoMemory) ⊎ (Some fault ≡ option_map of_receiver (first_fault (r ∷ [])))
@@ -96,7 +96,7 @@ module _ {L B : Type 0} (source : LineSource.Ghosts L) (sink : BusSink.Ghosts B)
   pub shut_somewhere : HasStopped source sink gate ask Gate → (at : Point) × gate.shuts at
   shut_somewhere S = by (first_fault S.heard) (first_fault S.sent) refl refl S.first
     where
-      by : (x : Option ReceiveFault) (y : Option SendFault) → first_fault S.heard ≡ x → first_fault S.sent ≡ y → IsFirst x y Gate → (at : Point) × gate.shuts at
+      by : (x : Option ReceiveFault) (y : Option SendFault) → first_fault S.heard ≡ x → first_fault S.sent ≡ y → IsFirstFault x y Gate → (at : Point) × gate.shuts at
       by (Some receive.Gate) y heard sent h = of_line (first_found (EndsLine source gate) ask.sources S.heard receive.Gate S.lines heard)
       by (Some receive.Source) y heard sent h = absurd (cc h)
       by (Some (receive.TooMuch raw totals)) y heard sent h = absurd (cc h)
@@ -108,7 +108,7 @@ module _ {L B : Type 0} (source : LineSource.Ghosts L) (sink : BusSink.Ghosts B)
 -- ---- of a run
 
 -- no worker ends with a fault of a plan
-never_plan : (why : PlanFault) (x : Option ReceiveFault) (y : Option SendFault) → IsFirst x y (Plan why) → ⊥
+never_plan : (why : PlanFault) (x : Option ReceiveFault) (y : Option SendFault) → IsFirstFault x y (Plan why) → ⊥
 never_plan why (Some receive.Source) y h = absurd (cc h)
 never_plan why (Some receive.Gate) y h = absurd (cc h)
 never_plan why (Some (receive.TooMuch raw totals)) y h = absurd (cc h)

@@ -42,10 +42,10 @@ first_fault (Ok done ∷ answers) = first_fault answers
 first_fault (Err fault ∷ answers) = Some fault
 
 -- the fault is that of the first receiver that has one, or else of the first group, or else want of memory
-abbrev pub IsFirst : Option ReceiveFault → Option SendFault → LiveFault → Type 0
-IsFirst (Some why) groups fault = fault ≡ of_receiver why
-IsFirst None (Some why) fault = IsOfGroup why fault
-IsFirst None None fault = fault ≡ live.NoMemory
+abbrev pub IsFirstFault : Option ReceiveFault → Option SendFault → LiveFault → Type 0
+IsFirstFault (Some why) groups fault = fault ≡ of_receiver why
+IsFirstFault None (Some why) fault = IsOfGroup why fault
+IsFirstFault None None fault = fault ≡ live.NoMemory
 
 -- the line gave a word after a million, where that is why its receiver's loop ended
 abbrev pub GaveTooMuch : List ℕ → Result ReceiveTotals ReceiveFault → Type 0
@@ -89,7 +89,7 @@ pub record HasStopped {L B : Type 0} (source : LineSource.Ghosts L) (sink : BusS
   pub sent : List (Result SendTotals SendFault)
   pub lines : AllOfTwo (EndsLine source gate) ask.sources heard
   pub groups : AllOfTwo (EndsGroup sink gate) ask.sinks sent
-  pub first : IsFirst (first_fault heard) (first_fault sent) fault
+  pub first : IsFirstFault (first_fault heard) (first_fault sent) fault
 
 -- why a run has no report: memory was refused while the run was idle, before its control began; or a thread could not be started or taken in; or all
 -- loops ended, and it is the first fault

@@ -36,7 +36,7 @@ AreJoined t list receivers sent = AllByRecursion (λ d. IsJoined t list receiver
 
 -- What the workers did, all of which ended well, with their devices. The transmitters of all groups were told all plans that were published, and then
 -- met the receivers; and the control ended well too.
-pub record IsReportOf {L B : Type 0} (t : TableRecord) (list : List PlanTable) (done : Ended (Received L) (Emitted B)) (report : Report L B) : Type 0 where
+pub record ReportsAllEnds {L B : Type 0} (t : TableRecord) (list : List PlanTable) (done : Ended (Received L) (Emitted B)) (report : Report L B) : Type 0 where
   pub receivers : map (λ x. Ok x) report.receivers.items ≡ map (λ d. d.answer) done.first.items
   pub groups : map (λ x. Ok x) report.groups.items ≡ map (λ d. d.answer) done.second.items
   pub sources : report.sources.items ≡ map (λ d. d.line) done.first.items

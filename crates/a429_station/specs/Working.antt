@@ -10,7 +10,7 @@ use Rattle.a429_slots.specs.Tables.{PlanTable}
 use Rattle.a429_board.specs.Lists.{Planning, beginner}
 use Rattle.a429_workers.specs.Calls.{Call, Meets}
 use Rattle.a429_workers.specs.Gates.{AreGated, GatePoints, Listening}
-use Rattle.a429_workers.specs.Receives.{AreTaken, Gives, source_failures}
+use Rattle.a429_workers.specs.Receives.{LineWordsAreTaken, Gives, source_failures}
 use Rattle.a429_workers.specs.Sends.{AreSent, sending, sink_failures}
 use Rattle.a429_workers.specs.Transmitting.{Transmitting, BeginsWith, GoesOnByCalls}
 use Rattle.a429_workers.specs.declared.sinks.BusSink as BusSink
@@ -27,7 +27,7 @@ use Rattle.a429_workers.specs.declared.sending.SendFault.TheVariants.{Change}
 pub record HasReceived {L : Type 0} (source : LineSource.Ghosts L) (gate : GatePoints) (r : ℕ) (old new : Listening L) (answer : Result ReceiveTotals ReceiveFault) : Type 0 where
   pub words : List ℕ
   pub gave : Gives source.given source.left old.line words new.line
-  pub taken : AreTaken words answer old.receiver new.receiver
+  pub taken : LineWordsAreTaken words answer old.receiver new.receiver
   pub gated : AreGated gate r words answer old.receiver new.receiver
   pub at_end : OnOk answer (source.ended new.line ≡ true)
   pub failures : source.failed new.line ≡ source_failures (source.failed old.line) answer

@@ -1,9 +1,9 @@
 //! What a station did, from what its workers did.
 ghost use Rattle.std.specs.Prelude.{◌≡◌, ◌⊎◌, ◌++◌, ◌∷◌, [], Ok, None, Some, IfOk, IfErr, IsTrue, OnOk, is_ok, map, option_map};
 ghost use Rattle.std.specs.List.{AllByRecursion};
-ghost use Rattle.a429_station.specs.Faults.{IsFirst, first_fault, of_receiver};
+ghost use Rattle.a429_station.specs.Faults.{IsFirstFault, first_fault, of_receiver};
 ghost use Rattle.a429_station.specs.Numbered.{AllNumbered};
-ghost use Rattle.a429_station.specs.Workers.{AreJoined, IsReportOf, groups_fault, receivers_fault};
+ghost use Rattle.a429_station.specs.Workers.{AreJoined, ReportsAllEnds, groups_fault, receivers_fault};
 ghost use Rattle.a429_station.specs.Working.{HasMet, IsJoined, IsOver, IsReceiverAt};
 ghost use Rattle.a429_station.specs.declared.faults.LiveFault.TheVariants.{NoMemory};
 
@@ -99,7 +99,7 @@ fn check_group_ends<R: Wait, B: Drop>(
     ensures station { station.new ≡ station.old }
     ensures same { OnOk result (sent.new.items ≡ sent.old.items) }
     ensures ended { OnOk result (groups_fault sent.old.items ≡ None) }
-    ensures fault { IfErr result (IsFirst None (groups_fault sent.old.items)) }
+    ensures fault { IfErr result (IsFirstFault None (groups_fault sent.old.items)) }
 {
     let _at = hub;
     for place in 0..sent.len() {
@@ -127,7 +127,7 @@ fn check_all_ends<R: Wait, L: Drop, B: Drop>(
     ensures receivers { OnOk result (receivers_fault received.now.items ≡ None) }
     ensures groups { OnOk result (groups_fault sent.old.items ≡ None) }
     ensures control { OnOk result (IsTrue (is_ok answer)) }
-    ensures fault { IfErr result (IsFirst (receivers_fault received.now.items) (groups_fault sent.old.items)) }
+    ensures fault { IfErr result (IsFirstFault (receivers_fault received.now.items) (groups_fault sent.old.items)) }
 {
     check_receiver_ends(received)?;
     check_group_ends(hub, station, sent)?;
@@ -206,7 +206,7 @@ fn report_group<R: Wait, B: Drop>(
     ensures ended { OnOk result (first_fault (done.answer ∷ []) ≡ None) }
     ensures totals { OnOk result (map (λ t. Ok t) told.new.totals.items ≡ map (λ t. Ok t) told.old.totals.items ++ done.answer ∷ []) }
     ensures sinks { OnOk result (told.new.sinks.items ≡ told.old.sinks.items ++ done.sink ∷ []) }
-    ensures fault { IfErr result (IsFirst None (first_fault (done.answer ∷ []))) }
+    ensures fault { IfErr result (IsFirstFault None (first_fault (done.answer ∷ []))) }
 {
     let _at = hub;
     let Emitted {
@@ -238,7 +238,7 @@ fn report_groups<R: Wait, B: Drop>(
     ensures totals { IfOk result (λ r. map (λ t. Ok t) r.totals.items ≡ map (λ d. d.answer) sent.items) }
     ensures sinks { IfOk result (λ r. r.sinks.items ≡ map (λ d. d.sink) sent.items) }
     ensures joined { OnOk result (AreJoined hub.now.station station.old.planner.list receivers.old sent.items) }
-    ensures fault { IfErr result (λ f. (f ≡ NoMemory) ⊎ IsFirst None (groups_fault sent.items) f) }
+    ensures fault { IfErr result (λ f. (f ≡ NoMemory) ⊎ IsFirstFault None (groups_fault sent.items) f) }
 {
     let mut told = Told {
         totals: Vec::new(alloc),
@@ -275,8 +275,8 @@ pub(crate) fn report_all<R: Wait, L: Drop, B: Drop>(
 ) -> Result<Report<L, B>, LiveFault>
     requires receivers { AllNumbered (λ r d. IsReceiverAt hub.now r d.receiver) done.first.items }
     requires groups { AllByRecursion (λ d. IsOver hub.now station.old.planner d.transmit d.answer) done.second.items }
-    ensures reported { IfOk result (IsReportOf hub.now.station station.old.planner.list done) }
-    ensures fault { IfErr result (IsFirst (receivers_fault done.first.items) (groups_fault done.second.items)) }
+    ensures reported { IfOk result (ReportsAllEnds hub.now.station station.old.planner.list done) }
+    ensures fault { IfErr result (IsFirstFault (receivers_fault done.first.items) (groups_fault done.second.items)) }
 {
     let Ended {
         first,

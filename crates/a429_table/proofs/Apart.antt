@@ -22,7 +22,7 @@ use Rattle.a429_table.specs.Walk.{earlier, numbered}
 use Rattle.a429_table.specs.Faults.{stands, is_sdi, is_within, sdi_of, sdi_at, sdis_meet, sources_meet, repeats_source}
 use Rattle.a429_table.specs.Least.{StandsAtNone}
 use Rattle.a429_table.specs.Stated.{natural, source_row}
-use Rattle.a429_equipment.specs.Arrivals.{is_for, AreApart}
+use Rattle.a429_equipment.specs.Arrivals.{is_for, SourcesAreApart}
 use Rattle.a429_table.proofs.SoundValues.{natural-pos, within}
 use Rattle.a429_table.proofs.Absence.{row_holds}
 use Rattle.a429_table.proofs.Places.{one_name}
@@ -125,7 +125,7 @@ apart_below root good none r raw i j s t e f for_s for_t below =
     both_ways (sources_meet a b) (never_meet root i j a b none below at_a at_b) met
 
 pub are_apart : (root : Data) → AllByRecursion (IsSource root) (rows_at (codes "source") root) → StandsAtNone root (numbered Sources (rows_at (codes "source") root)) DuplicateSource
-    → AreApart (map (source_row root) (rows_at (codes "source") root))
+    → SourcesAreApart (map (source_row root) (rows_at (codes "source") root))
 are_apart root good none r raw i j s t e f for_s for_t =
     ⊎_elim (λ same. same)
     (⊎_elim (λ below. absurd (apart_below root good none r raw i j s t e f for_s for_t below)) (λ above. absurd (apart_below root good none r raw j i t s f e for_t for_s above)))

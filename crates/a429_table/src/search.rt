@@ -97,6 +97,43 @@ fn first_fault(index: &TableIndex<'_>, stops: &[Stop]) -> Option<(FaultKind, Tab
     first_of_kinds(index, stops, &KINDS)
 }
 
+/// Adds the place of a stop, if a fault of this kind is there.
+fn push_place(
+    places: &mut Vec<TablePlace>,
+    index: &TableIndex<'_>,
+    kind: FaultKind,
+    stop: &Stop,
+) -> Result<(), AllocError> {
+    if stands(index, kind, stop) {
+        places.push(stop.place)?;
+    }
+    Ok(())
+}
+
+/// The places of the stops at which a fault of this kind is.
+fn places_among(
+    alloc: Global,
+    index: &TableIndex<'_>,
+    kind: FaultKind,
+    stops: &[Stop],
+) -> Result<Vec<TablePlace>, AllocError> {
+    let mut places = Vec::new(alloc);
+    for stop in stops {
+        push_place(&mut places, index, kind, stop)?;
+    }
+    Ok(places)
+}
+
+/// The places of a table with a fault of this kind.
+fn places_in(
+    alloc: Global,
+    index: &TableIndex<'_>,
+    kind: FaultKind,
+) -> Result<Vec<TablePlace>, AllocError> {
+    let stops = walk(alloc, index.root)?;
+    places_among(alloc, index, kind, &stops)
+}
+
 /// All places of a root table with a fault of this kind, in walk order: for a hint, so it has no clause. The error is that
 /// memory was refused.
 pub fn places_of(
@@ -105,14 +142,7 @@ pub fn places_of(
     kind: FaultKind,
 ) -> Result<Vec<TablePlace>, AllocError> {
     let index = TableIndex::of(alloc, root)?;
-    let stops = walk(alloc, root)?;
-    let mut places = Vec::new(alloc);
-    for stop in &stops {
-        if stands(&index, kind, stop) {
-            places.push(stop.place)?;
-        }
-    }
-    Ok(places)
+    places_in(alloc, &index, kind)
 }
 
 /// The first fault of a table.

@@ -12,7 +12,7 @@ use Rattle.a429_equipment.specs.declared.rows.SourceRow.{SourceRow}
 use Rattle.a429_equipment.specs.TableRecord.{TableRecord}
 use Rattle.a429_equipment.specs.Arrivals.{sorted}
 use Rattle.a429_equipment.specs.Receiving.{AreAccepted, with_word, accepted_after}
-use Rattle.a429_equipment.specs.Agreement.{Agrees, AgreesToTheEnd, Cuts, IsCut, is_of, words_of}
+use Rattle.a429_equipment.specs.Agreement.{Agrees, AgreesToTheEnd, Cuts, IsCutOfLoad, is_of, words_of}
 use Rattle.a429_slots.specs.Tables.{Placed, PlanTable, SlotTable, output_in}
 use Rattle.a429_slots.specs.History.{AnsweredCell}
 use Rattle.a429_board.specs.Lists.{Planning}
@@ -22,7 +22,7 @@ use Rattle.a429_workers.specs.Sends.{sent_in}
 use Rattle.a429_workers.specs.Transmitting.{GoesOnByCalls, HasMade, IsKnownPlan, IsSameGroup, Outset, StandsForCalls, Transmitting, met}
 use Rattle.a429_workers.specs.declared.cells.Sent.{Sent}
 use Rattle.a429_uses.specs.Listening.{HasListened}
-use Rattle.a429_uses.specs.Stations.{HasGivenWord, HasSentCells, IsGiven, IsReady, TookGivenWords}
+use Rattle.a429_uses.specs.Stations.{HasWordOfLine, HasSentCells, IsWordOfLine, EndsAreReady, TookWordsOfLine}
 
 -- ---- words that came in
 
@@ -51,7 +51,7 @@ all_accepted : (P : ℕ → Type 0) (limit : ℕ) (t : TableRecord) (r : ℕ) (A
 all_accepted P limit t r A [] all each = all
 all_accepted P limit t r A (raw ∷ raws) all each = all_accepted P limit t r (with_word limit A raw (sorted t r raw)) raws (added P limit A raw (sorted t r raw) all each.0) each.1
 
-all_given : (t : TableRecord) (given : List ℕ) (A : List (ℕ × ℕ)) → AreAccepted t 0 A → AllByRecursion (λ e. Contains given e.1) A → AllByRecursion (λ e. IsGiven t given e.1) A
+all_given : (t : TableRecord) (given : List ℕ) (A : List (ℕ × ℕ)) → AreAccepted t 0 A → AllByRecursion (λ e. Contains given e.1) A → AllByRecursion (λ e. IsWordOfLine t given e.1) A
 all_given t given [] valid came = tt
 all_given t given (e ∷ A) valid came = (
   record { source = e.0; row = valid.0.row; there = valid.0.there; accepted = valid.0.accepts; gave = came.0 },
@@ -76,7 +76,7 @@ loads_told : (P : ℕ → Type 0) (mine : ℕ → Bool) (A : List (ℕ × ℕ)) 
     → Cuts mine A before loads last → AllByRecursion (λ l. l.source < sources) loads → AllByRecursion (λ e. P e.1) A → AllByRecursion (LoadIs P) loads
 loads_told P mine A before last sources [] own h known all = tt
 loads_told P mine A before last sources (l ∷ ls) own h known all =
-    let c : IsCut true A before l h.0 = subst (λ (b : Bool). IsCut b A before l h.0) (own l.source known.0) h.1 in (
+    let c : IsCutOfLoad true A before l h.0 = subst (λ (b : Bool). IsCutOfLoad b A before l h.0) (own l.source known.0) h.1 in (
       λ w is. all_at P (words_of l.source (take h.0 A)) (length (words_of l.source (take h.0 A)) - 1) w (all_words P l.source h.0 A all) (sym (ap (λ (m : Load). m.word) c.2) ∙ is),
       loads_told P mine A h.0 last sources ls own h.2 known.1 all,
     )
@@ -125,9 +125,9 @@ module _ (t : TableRecord) (one : length t.receivers ≡ 1) (received : (i : ℕ
   -- of lawful calls whose loads agree with what the receiver accepted of the words of its line
   cells_given : (g : ℕ) (p : SlotTable) (s : GroupState) (calls more : List Call) (limit : ℕ) (before words : List ℕ) (A : List (ℕ × ℕ)) → A ≡ accepted_after limit t 0 [] words → AreAccepted t 0 A
       → AreLawful g p s (calls ++ more) → AllByRecursion (λ l. l.source < length t.sources) (loads_of (calls ++ more)) → Agrees t 0 A (loads_of (calls ++ more))
-      → AllByRecursion (HasGivenWord t (before ++ words)) (sent_in calls)
+      → AllByRecursion (HasWordOfLine t (before ++ words)) (sent_in calls)
   cells_given g p s calls more limit before words A is valid lawful known agrees =
-      let P : ℕ → Type 0 = IsGiven t (before ++ words) in
+      let P : ℕ → Type 0 = IsWordOfLine t (before ++ words) in
       let came : AllByRecursion (λ e. Contains (before ++ words) e.1) A =
       subst (AllByRecursion (λ (e : ℕ × ℕ). Contains (before ++ words) e.1)) (sym is) (all_accepted (Contains (before ++ words)) limit t 0 [] words tt (given_each before words)) in
       cells_told P g p s calls more lawful
@@ -139,10 +139,10 @@ module _ (t : TableRecord) (one : length t.receivers ≡ 1) (received : (i : ℕ
   -- the group sent cells, and then was told what was published and met the receiver
   pub took_given : {L : Type 0} (given : L → List ℕ) (line rest : L) (before after : Option (List Sent)) (receiver heard : ReceiverEnd) (begun sent told done : Transmitting) (planner : Planning)
       (list : List PlanTable) (loads : List Load)
-      → IsReady t receiver begun planner → HasListened given line receiver rest heard → HasSentCells begun sent before after → IsSameGroup begun sent → AllByRecursion (IsKnownPlan t) list
+      → EndsAreReady t receiver begun planner → HasListened given line receiver rest heard → HasSentCells begun sent before after → IsSameGroup begun sent → AllByRecursion (IsKnownPlan t) list
       → told ≡ record sent { watcher = record sent.watcher { list = list } } → GoesOnByCalls sent [] told → done ≡ met told heard → GoesOnByCalls told (Meets loads ∷ []) done
       → AgreesToTheEnd told.transmitter.at.station heard.number heard.accepted done.transmitter.loads → AreAccepted heard.at.station heard.number heard.accepted
-      → TookGivenWords t (given rest) before after
+      → TookWordsOfLine t (given rest) before after
   took_given given line rest before after receiver heard begun sent told done planner list loads R H S same plans is_told goes_told is_done goes_done agrees valid =
       let o : Outset = R.begun.outset in
       let calls : List Call = S.calls in
@@ -170,7 +170,7 @@ module _ (t : TableRecord) (one : length t.receivers ≡ 1) (received : (i : ℕ
       record {
         cells = sent_in calls;
         took = S.sent.took;
-        words = subst (λ (ws : List ℕ). AllByRecursion (HasGivenWord t ws) (sent_in calls)) (sym H.gave) (
+        words = subst (λ (ws : List ℕ). AllByRecursion (HasWordOfLine t ws) (sent_in calls)) (sym H.gave) (
             cells_given o.group o.table (before_calls o.opened o.table o.first) calls more receiver.limit (given line) H.words heard.accepted accepted right made.lawful
             (subst (λ (u : TableRecord). AllByRecursion (λ (l : Load). l.source < length u.sources) (loads_of (calls ++ more))) at_done made.known)
             (subst (Agrees t 0 heard.accepted) all agreed));

@@ -10,14 +10,14 @@ use Rattle.a429_board.specs.Lists.{Planning, Watched, beginner}
 use Rattle.a429_values.specs.Ends.{ReceiverEnd, TransmitterEnd}
 use Rattle.a429_workers.specs.Transmitting.{BeginsWith, IsKnownPlan, Transmitting}
 use Rattle.a429_workers.proofs.Known.{plan_known}
-use Rattle.a429_uses.specs.Stations.{AreFresh, IsBegun, IsReady}
+use Rattle.a429_uses.specs.Stations.{AreFresh, GroupIsBegun, EndsAreReady}
 
 first_of : {X : Type 0} (xs : List X) → 0 < length xs → (x : X) × (slice_get xs 0 ≡ Some x)
 first_of [] some = absurd (omega (arith, some))
 first_of (x ∷ xs) some = (x, refl)
 
 pub begun : (end : TransmitterEnd) (p : Planning) (w : Watched) (v : Transmitting) → w ≡ beginner p → end.number ≡ 0 → end.loads ≡ [] → 0 < length (groups_of p.last)
-    → BeginsWith end w 0 v → v.frame.sent ≡ 0 → v.transmitter ≡ end → v.watcher ≡ w → IsBegun end p v
+    → BeginsWith end w 0 v → v.frame.sent ≡ 0 → v.transmitter ≡ end → v.watcher ≡ w → GroupIsBegun end p v
 begun end p w v is number none some begins first values watcher =
     let same : groups_of w.opened ≡ groups_of p.last = ap (λ (x : Watched). groups_of x.opened) is in
     let found = first_of (groups_of w.opened) (omega (arith, some, ap (λ (xs : List SlotTable). length xs) same)) in
@@ -31,7 +31,7 @@ begun end p w v is number none some begins first values watcher =
     }
 
 pub ready : (t : TableRecord) (receiver : ReceiverEnd) (end : TransmitterEnd) (p : Planning) (plan : PlanTable) (v : Transmitting) → IsSound t → IsPlanOf t plan → p.list ≡ plan ∷ [] → AreFresh t receiver end
-    → IsBegun end p v → IsReady t receiver v p
+    → GroupIsBegun end p v → EndsAreReady t receiver v p
 ready t receiver end p plan v sound planned list fresh begun = record {
   transmitter = end;
   fresh = fresh;

@@ -7,7 +7,7 @@ use Rattle.a429_word.specs.Hexadecimal.{hex, raw_word}
 use Rattle.a429_filter.specs.declared.sources.SourceFault.{SourceFault}
 use Rattle.a429_equipment.specs.TableRecord.{TableRecord}
 use Rattle.a429_workers.specs.declared.cells.Sent.{Sent}
-use Rattle.a429_uses.specs.Stations.{HasGivenWord}
+use Rattle.a429_uses.specs.Stations.{HasWordOfLine}
 
 -- A word that is given is that of the next line of the text: eight hexadecimal digits and a line feed, which are read, and nothing else is. The end
 -- is that of the text. It says so of readers that tell what they have left.
@@ -33,8 +33,8 @@ abbrev pub sent_lines : List Sent → List ℕ
 sent_lines cells = flat_map sent_line cells
 
 -- writers of this kind tell what they took
-abbrev pub Tells : {W : Type 0} → (W → Option (List ℕ)) → Type 0
-Tells {W = W} contents = (w : W) → (text : List ℕ) × (contents w ≡ Some text)
+abbrev pub TellsTaken : {W : Type 0} → (W → Option (List ℕ)) → Type 0
+TellsTaken {W = W} contents = (w : W) → (text : List ℕ) × (contents w ≡ Some text)
 
 -- the text, as long as nothing failed
 abbrev pub sure_text : Option (List ℕ) → ℕ → Option (List ℕ)
@@ -45,4 +45,4 @@ sure_text text (suc failures) = None
 pub record PrintedGivenWords (t : TableRecord) (given : List ℕ) (text : Option (List ℕ)) (failures : ℕ) : Type 0 where
   pub cells : List Sent
   pub printed : failures ≡ 0 → text ≡ Some (sent_lines cells)
-  pub words : AllByRecursion (HasGivenWord t given) cells
+  pub words : AllByRecursion (HasWordOfLine t given) cells

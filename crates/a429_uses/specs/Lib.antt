@@ -3,3 +3,4 @@ pub mod Stations
 pub mod Devices
 pub mod Listening
 pub mod Calls
+pub mod OpenPoints

@@ -14,7 +14,7 @@ use Rattle.a429_workers.specs.declared.cells.Sent.{Sent}
 -- ---- where words come from
 
 -- a source of the table accepts the word at the receiver, by its parity, its label, its SDI and the filters, and the line gave it
-pub record IsGiven (t : TableRecord) (given : List ℕ) (w : ℕ) : Type 0 where
+pub record IsWordOfLine (t : TableRecord) (given : List ℕ) (w : ℕ) : Type 0 where
   pub source : ℕ
   pub row : SourceRow
   pub there : slice_get t.sources source ≡ Some row
@@ -22,14 +22,14 @@ pub record IsGiven (t : TableRecord) (given : List ℕ) (w : ℕ) : Type 0 where
   pub gave : Contains given w
 
 -- the cell is empty, or its word was given
-abbrev pub HasGivenWord : TableRecord → List ℕ → Sent → Type 0
-HasGivenWord t given s = (w : ℕ) → s.word ≡ Some w → IsGiven t given w
+abbrev pub HasWordOfLine : TableRecord → List ℕ → Sent → Type 0
+HasWordOfLine t given s = (w : ℕ) → s.word ≡ Some w → IsWordOfLine t given w
 
 -- the bus took cells, and each word in them was given
-pub record TookGivenWords (t : TableRecord) (given : List ℕ) (before after : Option (List Sent)) : Type 0 where
+pub record TookWordsOfLine (t : TableRecord) (given : List ℕ) (before after : Option (List Sent)) : Type 0 where
   pub cells : List Sent
   pub took : after ≡ with_cells before cells
-  pub words : AllByRecursion (HasGivenWord t given) cells
+  pub words : AllByRecursion (HasWordOfLine t given) cells
 
 -- ---- the ends, before anything was done
 
@@ -43,7 +43,7 @@ pub record AreFresh (t : TableRecord) (receiver : ReceiverEnd) (transmitter : Tr
   pub nothing_loaded : transmitter.loads ≡ []
 
 -- the group was asked for no cell yet; it has these ends of the current values and of a board
-pub record IsBegun (transmitter : TransmitterEnd) (planner : Planning) (group : Transmitting) : Type 0 where
+pub record GroupIsBegun (transmitter : TransmitterEnd) (planner : Planning) (group : Transmitting) : Type 0 where
   pub outset : Outset
   pub nothing_loaded : outset.before ≡ []
   pub begins : StandsForCalls outset [] group
@@ -52,10 +52,10 @@ pub record IsBegun (transmitter : TransmitterEnd) (planner : Planning) (group : 
   pub watcher : group.watcher ≡ beginner planner
 
 -- all ends of a station of this table; the plans of its board send sources of the table alone
-pub record IsReady (t : TableRecord) (receiver : ReceiverEnd) (group : Transmitting) (planner : Planning) : Type 0 where
+pub record EndsAreReady (t : TableRecord) (receiver : ReceiverEnd) (group : Transmitting) (planner : Planning) : Type 0 where
   pub transmitter : TransmitterEnd
   pub fresh : AreFresh t receiver transmitter
-  pub begun : IsBegun transmitter planner group
+  pub begun : GroupIsBegun transmitter planner group
   pub plans : AllByRecursion (IsKnownPlan t) planner.list
 
 -- ---- what a group did

@@ -4,7 +4,7 @@ ghost use Rattle.std.specs.Coded.{→_prop};
 ghost use Rattle.std.proofs.Props.{props};
 ghost use Rattle.a429_uses.specs.Histories.{items_of};
 ghost use Rattle.std.specs.Io.KnownBytes.{Appends};
-ghost use Rattle.a429_uses.specs.Devices.{Tells, sent_line, sent_lines, sure_text, word_line};
+ghost use Rattle.a429_uses.specs.Devices.{TellsTaken, sent_line, sent_lines, sure_text, word_line};
 
 use crate::history::History;
 use a429_word::Word;
@@ -38,7 +38,7 @@ pub struct PrintBus<W: Write + Drop> {
     out: W,
     taken: History<Sent>,
     failures: u64,
-    ghost printed: { Tells W.contents → sure_text (W.contents out) failures ≡ sure_text (Some (sent_lines (items_of taken))) failures } by { →_prop (Prim.hlevel props) },
+    ghost printed: { TellsTaken W.contents → sure_text (W.contents out) failures ≡ sure_text (Some (sent_lines (items_of taken))) failures } by { →_prop (Prim.hlevel props) },
 }
 
 impl<W: Write + Drop> PrintBus<W> {

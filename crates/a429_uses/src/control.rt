@@ -40,12 +40,12 @@ pub fn publish<R: Wait>(
 
 /// A further table, and who is told that its plan was published.
 #[derive(Drop)]
-pub struct Control<'a> {
+pub struct PublishControl<'a> {
     pub table: &'a [u8],
     pub marks: &'a Marks,
 }
 
-impl<'a> Control<'a> {
+impl<'a> PublishControl<'a> {
     /// Publishes the plan of its table, as `publish` does.
     pub fn run<R: Wait>(
         &self,

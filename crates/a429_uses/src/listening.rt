@@ -8,7 +8,7 @@ use a429_workers::{Gate, Point};
 
 /// How many words of a line a receiver accepted, and how many it refused, as far as 64 bits count.
 #[derive(Clone, Copy)]
-pub struct Heard {
+pub struct LineCount {
     pub accepted: u64,
     pub refused: u64,
 }
@@ -18,7 +18,7 @@ pub struct Heard {
 fn hear<L: LineSource>(
     line: &mut L,
     receiver: &mut Receiver,
-    heard: &mut Heard,
+    heard: &mut LineCount,
 ) -> Result<bool, SourceFault>
     ensures listened { HasListened L.given line.old receiver.old line.new receiver.new }
     ensures same { IsSameReceiver receiver.old receiver.new }
@@ -41,12 +41,12 @@ pub fn listen<L: LineSource, G: Gate>(
     line: &mut L,
     receiver: &mut Receiver,
     gate: &G,
-) -> anyhow::Result<Heard>
+) -> anyhow::Result<LineCount>
     ensures listened { HasListened L.given line.old receiver.old line.new receiver.new }
     ensures same { IsSameReceiver receiver.old receiver.new }
 {
     let number = receiver.number();
-    let mut heard = Heard {
+    let mut heard = LineCount {
         accepted: 0,
         refused: 0,
     };

@@ -13,7 +13,7 @@
 //! |---|---|---|
 //! | `line.rt` | `HexLine`: a line whose words come as text | your receiver |
 //! | `bus.rt` | `PrintBus`: a bus that prints words | your transmitter |
-//! | `control.rt` | `Control`: what runs beside the station, here `publish` | what publishes your tables |
+//! | `control.rt` | `PublishControl`: what runs beside the station, here `publish` | what publishes your tables |
 //! | `pacing.rt` | `LateStart`: when the group begins | `OpenGate` of `a429_workers` |
 //! | `station.rt` | `run_station`, `run_printing`: threads, and what is proved of them | as it is |
 //! | `listening.rt` | `listen`: a receiver and its line, of any length | as it is |
@@ -35,7 +35,7 @@ mod started;
 mod station;
 
 use crate::bus::PrintBus;
-use crate::control::Control;
+use crate::control::PublishControl;
 use crate::line::HexLine;
 use crate::pacing::{LateStart, Marks};
 use crate::showing::{show_alone, show_done, show_started};
@@ -98,7 +98,7 @@ fn main(rt: HostRuntime) -> anyhow::Result<ExitCode> {
         words: request.words,
         marks: &marks,
     };
-    let control = Control {
+    let control = PublishControl {
         table: &request.next,
         marks: &marks,
     };

@@ -5,15 +5,15 @@ ghost use Rattle.a429_slots.specs.Planned.{IsPlanOf};
 ghost use Rattle.a429_board.specs.Lists.{beginner};
 ghost use Rattle.a429_workers.specs.Receives.{IsSameReceiver};
 ghost use Rattle.a429_workers.specs.Transmitting.{IsKnownPlan, IsSameGroup};
-ghost use Rattle.a429_uses.specs.Devices.{PrintedGivenWords, Tells};
+ghost use Rattle.a429_uses.specs.Devices.{PrintedGivenWords, TellsTaken};
 ghost use Rattle.a429_uses.specs.Histories.{items_of};
 ghost use Rattle.a429_uses.specs.Listening.{HasListened};
-ghost use Rattle.a429_uses.specs.Stations.{AreFresh, HasSentCells, IsBegun, IsReady, TookGivenWords};
+ghost use Rattle.a429_uses.specs.Stations.{AreFresh, HasSentCells, GroupIsBegun, EndsAreReady, TookWordsOfLine};
 
 use crate::bus::PrintBus;
-use crate::control::Control;
+use crate::control::PublishControl;
 use crate::line::HexLine;
-use crate::listening::{Heard, listen};
+use crate::listening::{LineCount, listen};
 use a429_board::{Board, Planner, Watcher};
 use a429_equipment::laws::numbers_in_range;
 use a429_equipment::{COUNT_BITS, Equipment, SOURCES};
@@ -30,7 +30,7 @@ use std::thread::{Threads, join_mut};
 /// What the threads of a station answered.
 #[derive(Drop)]
 pub struct Done {
-    pub heard: anyhow::Result<Heard>,
+    pub heard: anyhow::Result<LineCount>,
     pub sent: Result<SendTotals, SendFault>,
     pub published: anyhow::Result<u64>,
 }
@@ -66,7 +66,7 @@ fn open_group(
     requires number { (transmitter.number ≡ 0) × (transmitter.loads ≡ []) }
     requires group { 0 < length planner.now.last.groups }
     requires watchers { All (λ w. w ≡ beginner planner.now) watchers.old.items }
-    ensures { IfOk result (IsBegun transmitter planner.now) }
+    ensures { IfOk result (GroupIsBegun transmitter planner.now) }
 {
     let Some(watcher) = one_of(watchers, planner) else {
         bail!("a watcher is wanted");
@@ -85,7 +85,7 @@ struct Ends {
 fn open_station<R: Wait>(rt: &R, alloc: Global, equipment: &Equipment) -> anyhow::Result<Ends>
     requires receiver { 0 < length equipment.now.receivers }
     requires group { 0 < length equipment.now.groups }
-    ensures { IfOk result (λ ends. IsReady equipment.now ends.receiver ends.transmit ends.planner) }
+    ensures { IfOk result (λ ends. EndsAreReady equipment.now ends.receiver ends.transmit ends.planner) }
 {
     let _sound = equipment.rate();
     let plan = plan(alloc, equipment)?;
@@ -127,8 +127,8 @@ fn listen_and_publish<R: Threads + Wait + Sync, L: LineSource + Send, G: Gate + 
     receiver: &mut Receiver,
     gate: &G,
     planner: &mut Planner,
-    control: &Control<'_>,
-) -> (anyhow::Result<Heard>, anyhow::Result<u64>)
+    control: &PublishControl<'_>,
+) -> (anyhow::Result<LineCount>, anyhow::Result<u64>)
     requires plans { AllByRecursion (IsKnownPlan station.now) planner.old.list }
     ensures listened { HasListened L.given line.old receiver.old line.new receiver.new }
     ensures same { IsSameReceiver receiver.old receiver.new }
@@ -154,7 +154,7 @@ fn run_threads<R: Threads + Wait + Sync, L: LineSource + Send, B: BusSink + Send
     bus: &mut B,
     frames: u32,
     gate: &G,
-    control: &Control<'_>,
+    control: &PublishControl<'_>,
     ends: &mut Ends,
 ) -> Done
     requires begins { ends.old.transmit.frame.sent ≡ 0 }
@@ -204,11 +204,11 @@ pub fn run_station<
     bus: &mut B,
     frames: u32,
     gate: &G,
-    control: &Control<'_>,
+    control: &PublishControl<'_>,
 ) -> anyhow::Result<Done>
     requires receiver { length equipment.now.receivers ≡ 1 }
     requires group { 0 < length equipment.now.groups }
-    ensures given { TookGivenWords equipment.now (L.given line.new) (B.taken bus.old) (B.taken bus.new) }
+    ensures given { TookWordsOfLine equipment.now (L.given line.new) (B.taken bus.old) (B.taken bus.new) }
 {
     numbers_in_range(equipment);
     let mut ends = open_station(rt, alloc, equipment)?;
@@ -245,12 +245,12 @@ pub fn run_printing<
     bus: &mut PrintBus<W>,
     frames: u32,
     gate: &G,
-    control: &Control<'_>,
+    control: &PublishControl<'_>,
 ) -> anyhow::Result<Done>
     requires receiver { length equipment.now.receivers ≡ 1 }
     requires group { 0 < length equipment.now.groups }
     requires begin { items_of bus.old.taken ≡ [] }
-    ensures printed { Tells W.contents
+    ensures printed { TellsTaken W.contents
         → PrintedGivenWords equipment.now (items_of line.new.given) (W.contents bus.new.out) bus.new.failures }
 {
     run_station(rt, alloc, equipment, line, bus, frames, gate, control)

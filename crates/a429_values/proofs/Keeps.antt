@@ -17,12 +17,12 @@ use Rattle.a429_word.specs.Bits.{number_from}
 use Rattle.a429_equipment.specs.declared.loads.Load.{Load}
 use Rattle.a429_equipment.specs.declared.rows.SourceRow.{SourceRow}
 use Rattle.a429_equipment.specs.TableRecord.{TableRecord}
-use Rattle.a429_equipment.specs.Agreement.{words_of, load_after, is_of, IsCut, Agrees, AgreesTo}
+use Rattle.a429_equipment.specs.Agreement.{words_of, load_after, is_of, IsCutOfLoad, Agrees, AgreesTo}
 use Rattle.a429_equipment.specs.Receiving.{IsAccepted, AreAccepted}
 use Rattle.a429_values.specs.declared.view.View.{View}
 use Rattle.a429_values.specs.Words.{IsCounted}
 use Rattle.a429_values.specs.Views.{spent, desk, dealt, dealt_transmitter, receiver, transmitter, both_of, transmitting, receiving, with_accepted, with_load, found_by, seen, CanMeet}
-use Rattle.a429_values.specs.Rule.{number_of, JustAt, IsDesk, IsReceiver, IsTransmitter, Fits, Kept}
+use Rattle.a429_values.specs.Rule.{number_of, JustAt, IsDesk, IsReceiver, IsTransmitter, Fits, KeepsRule}
 use Rattle.a429_values.proofs.Counted.{load_same, load_other, of_row, load_counted, is_of_row, is_of_yes, row_at}
 use Rattle.a429_values.proofs.Cutting.{cuts_longer, cuts_within, none_above}
 use Rattle.a429_values.proofs.Seating.{at_end, one_seat, just_set, just_more, just_new, just_gone, just_moved, just_none, reseat, reseated}
@@ -103,11 +103,11 @@ module _ (t : TableRecord) (seat sender : ℕ → Option ℕ) (acc : ℕ → Lis
       let l : Load = load_after s (acc row.receiver) in
       let same : l ≡ load_after s es = ap (λ (r : ℕ). load_after s (acc r)) (is_of_row t q s row there is) in
       let cut : l ≡ load_after s (take (length es) es) = same ∙ ap (load_after s) (sym (take-length es)) in
-      let P : Bool → Type 0 = λ c. IsCut c es h.0 l (length es) in
+      let P : Bool → Type 0 = λ c. IsCutOfLoad c es h.0 l (length es) in
       (length es, cuts_longer (is_of t q) es 0 ls h.0 l (length es) h.1 (subst P (sym is) (cuts_within (is_of t q) es 0 ls h.0 zero-le h.1, le_refl (length es), cut)), (λ _. (refl, same)))
   one_more q s row ls there h false is =
       let l : Load = load_after s (acc row.receiver) in
-      let P : Bool → Type 0 = λ c. IsCut c (acc q) h.0 l h.0 in
+      let P : Bool → Type 0 = λ c. IsCutOfLoad c (acc q) h.0 l h.0 in
       (h.0, cuts_longer (is_of t q) (acc q) 0 ls h.0 l h.0 h.1 (subst P (sym is) refl), (λ on. absurd (cc)))
 
 -- every view but one fits as it did
@@ -118,7 +118,7 @@ each_set F views id w others mine j u e = ⊎_elim (λ (x : (j ≡ id) × (w ≡
 each_more : (F : View → Type 0) (views : List View) (w : View) → ((j : ℕ) (u : View) → get_elem? views j ≡ some u → F u) → F w → (j : ℕ) (u : View) → get_elem? (views ++ w ∷ []) j ≡ some u → F u
 each_more F views w old new j u e = ⊎_elim (λ (x : get_elem? views j ≡ some u). old j u x) (λ (x : (j ≡ length views) × (w ≡ u)). subst F x.1 new) (at_end views w u j e)
 
-pub opens : (t : TableRecord) (words : List ℕ) → length t.sources ≤ length words → ((s : ℕ) → get_or words s 0 ≡ 0) → Kept t words (desk t ∷ [])
+pub opens : (t : TableRecord) (words : List ℕ) → length t.sources ≤ length words → ((s : ℕ) → get_or words s 0 ≡ 0) → KeepsRule t words (desk t ∷ [])
 opens t words long zeros = record {
   seat = λ _. None;
   sender = λ _. None;
@@ -137,7 +137,7 @@ opens t words long zeros = record {
 
 module _ {S : Type 0} (t : TableRecord) where
   abbrev Rule : State S View → Type 0
-  Rule s = Kept t s.words s.views
+  Rule s = KeepsRule t s.words s.views
 
   pub stores : (slots id : ℕ) (me : Me S View) (s n bits raw : ℕ) → me.0.receives ≡ true → IsAccepted t me.0.number (s, raw) → s < length t.sources → n ≡ length (words_of s me.0.accepted) + 1 → bits ≡ number_from 9 23 raw
       → Allows Rule slots id me s (λ _. n * 8388608 + bits) (λ _ w. (w.0 ≡ with_accepted me.0 (s, raw)) × (w.1 ≡ me.1))
@@ -196,7 +196,7 @@ module _ {S : Type 0} (t : TableRecord) where
       let st : v.station ≡ t = f.station.2 sends in
       let more : (q : ℕ) → (last : ℕ) × AgreesTo t q (k.accepted q) (v.loads ++ l ∷ []) last × (is_of t q s ≡ true → (last ≡ length (k.accepted q)) × (l ≡ load_after s (k.accepted q))) =
       λ q. one_more t k.seat k.sender k.accepted q s row.0 v.loads row.1 (f.transmits sends q) (is_of t q s) refl in
-      let P : List ℕ → Type 0 = λ ws. Kept t ws (set state.views id (with_load v l)) in (
+      let P : List ℕ → Type 0 = λ ws. KeepsRule t ws (set state.views id (with_load v l)) in (
         with_load v l,
         keeps,
         tt,
@@ -239,7 +239,7 @@ module _ {S : Type 0} (t : TableRecord) where
   looks slots id me s state k homes here fits =
       let v : View = me.0 in
       let f = k.each id v here in
-      let P : List ℕ → Type 0 = λ ws. Kept t ws (set state.views id v) in (
+      let P : List ℕ → Type 0 = λ ws. KeepsRule t ws (set state.views id v) in (
         v,
         keeps,
         tt,

@@ -11,7 +11,7 @@ use Rattle.a429_equipment.specs.declared.rows.SourceRow.{SourceRow}
 use Rattle.a429_equipment.specs.TableRecord.{TableRecord}
 use Rattle.a429_equipment.specs.Agreement.{is_of, load_after, AgreesTo, AgreesToTheEnd}
 use Rattle.a429_values.specs.declared.view.View.{View}
-use Rattle.a429_values.specs.Views.{with_load, Found}
+use Rattle.a429_values.specs.Views.{with_load, HasFound}
 use Rattle.std.proofs.lemmas.Option.{slice_get-get_or}
 use Rattle.a429_values.proofs.Counted.{is_of_inside}
 
@@ -40,7 +40,7 @@ pub record Turn (t : TableRecord) (v0 : View) (n : ℕ) (v : View) : Type 0 wher
   pub view : v ≡ record v0 { loads = v0.loads ++ loads_below t v0.number v0.accepted n }
   pub agrees : MetBelow t v0.number v0.accepted v.loads n
 
-pub turn_this : (t : TableRecord) (v0 v v' : View) (n number : ℕ) → v0.station ≡ t → v0.receives ≡ true → v0.transmits ≡ true → Turn t v0 n v → is_of t v0.number n ≡ true → Found v n number v' → Turn t v0 (suc n) v'
+pub turn_this : (t : TableRecord) (v0 v v' : View) (n number : ℕ) → v0.station ≡ t → v0.receives ≡ true → v0.transmits ≡ true → Turn t v0 n v → is_of t v0.number n ≡ true → HasFound v n number v' → Turn t v0 (suc n) v'
 turn_this t v0 v v' n number st on sends turn is found =
     let A = v0.accepted in
     let f = found.agrees (ap (λ (u : View). u.receives) turn.view ∙ on) (ap (λ (u : View). u.transmits) turn.view ∙ sends) in

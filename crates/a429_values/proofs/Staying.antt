@@ -6,7 +6,7 @@ use Rattle.std.proofs.lemmas.Bool.{cases_eq, cases_lt}
 use Rattle.std.proofs.lemmas.List.{take-append-le}
 use Rattle.a429_equipment.specs.declared.loads.Load.{Load}
 use Rattle.a429_equipment.specs.TableRecord.{TableRecord}
-use Rattle.a429_equipment.specs.Agreement.{words_of, load_after, is_of, loads_of_all, IsCut, Cuts, AgreesTo}
+use Rattle.a429_equipment.specs.Agreement.{words_of, load_after, is_of, loads_of_all, IsCutOfLoad, Cuts, AgreesTo}
 use Rattle.a429_equipment.specs.Receiving.{IsAccepted, AreAccepted}
 use Rattle.a429_values.specs.Later.{StaysWhole}
 use Rattle.a429_values.proofs.Counted.{of_row, is_of_yes, is_of_row, is_of_not, is_of_inside, row_at}
@@ -26,9 +26,9 @@ loaded t r B A zero a from to h s low high own = absurd (omega arith)
 loaded t r B A (suc n) a from to h s low high own =
     go (is_of t r a) refl h (λ mid below g. loaded t r B A n (a + 1) mid to g s below (omega arith) own)
   where
-    here : (mid : ℕ) → IsCut (is_of t r a) B from (load_after a A) mid → mid ≤ to → is_of t r a ≡ true → a ≡ s → LoadedAt B A s to
+    here : (mid : ℕ) → IsCutOfLoad (is_of t r a) B from (load_after a A) mid → mid ≤ to → is_of t r a ≡ true → a ≡ s → LoadedAt B A s to
     here mid c up is at =
-        let d : IsCut true B from (load_after a A) mid = subst (λ (b : Bool). IsCut b B from (load_after a A) mid) is c in
+        let d : IsCutOfLoad true B from (load_after a A) mid = subst (λ (b : Bool). IsCutOfLoad b B from (load_after a A) mid) is c in
         record { cut = mid; low = up; count = subst (λ (k : ℕ). length (words_of k A) ≡ length (words_of k (take mid B))) at (ap (λ (l : Load). l.count) d.2) }
 
     go : (b : Bool) → is_of t r a ≡ b → Cuts (is_of t r) B from (map (λ s. load_after s A) (cond b (a ∷ filter (is_of t r) (range_with_len (a + 1) n)) (filter (is_of t r) (range_with_len (a + 1) n)))) to
@@ -95,7 +95,7 @@ others t r q A B (s ∷ ss) from to ne ls h = go (is_of t r s) refl (λ ls h. ot
     go true is rest =
         let row = row_at t s (is_of_inside t r s is) in
         let away : is_of t q s ≡ false = is_of_not t q s row.0 row.1 (λ e. ne (sym e ∙ is_of_row t r s row.0 row.1 is)) in
-        let one : Cuts (is_of t q) B from (ls ++ load_after s A ∷ []) to = cuts_longer (is_of t q) B from ls to (load_after s A) to h (subst (λ (c : Bool). IsCut c B to (load_after s A) to) (sym away) refl) in
+        let one : Cuts (is_of t q) B from (ls ++ load_after s A ∷ []) to = cuts_longer (is_of t q) B from ls to (load_after s A) to h (subst (λ (c : Bool). IsCutOfLoad c B to (load_after s A) to) (sym away) refl) in
         subst (λ (x : List Load). Cuts (is_of t q) B from x to) (append_assoc ls (load_after s A ∷ []) (map (λ s. load_after s A) (filter (is_of t r) ss))) (rest (ls ++ load_after s A ∷ []) one)
 
 pub meets_others : (t : TableRecord) (r : ℕ) (A : List (ℕ × ℕ)) (ls : List Load) → (q last : ℕ) (B : List (ℕ × ℕ)) → q ≢ r → AgreesTo t q B ls last → AgreesTo t q B (ls ++ loads_of_all t r A) last

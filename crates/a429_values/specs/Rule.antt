@@ -48,7 +48,7 @@ pub record Fits (t : TableRecord) (seat sender : ℕ → Option ℕ) (accepted :
   -- a transmitter's loads agree with the list of each receiver
   pub transmits : v.transmits ≡ true → (r : ℕ) → Agrees t r (accepted r) v.loads
 
-pub record Kept (t : TableRecord) (words : List ℕ) (views : List View) : Type 0 where
+pub record KeepsRule (t : TableRecord) (words : List ℕ) (views : List View) : Type 0 where
   pub seat : ℕ → Option ℕ
   pub sender : ℕ → Option ℕ
   pub accepted : ℕ → List (ℕ × ℕ)

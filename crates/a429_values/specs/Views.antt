@@ -80,8 +80,8 @@ abbrev pub CanMeet : View → View → Type 0
 CanMeet v w = (v.transmits ≡ true) × (v.receives ≡ false) × (w.receives ≡ true) × (w.transmits ≡ false)
 
 -- a receiver of this station
-abbrev pub IsReceiverOf : View → TableRecord → Type 0
-IsReceiverOf v t = (v.receives ≡ true) × (v.station ≡ t)
+abbrev pub ReceivesFor : View → TableRecord → Type 0
+ReceivesFor v t = (v.receives ≡ true) × (v.station ≡ t)
 
 -- the next word that the source accepts is its `count`th, and 41 bits can count it
 abbrev pub IsNextCount : View → ℕ → ℕ → Type 0
@@ -91,7 +91,7 @@ IsNextCount v source count = (count ≡ length (words_of source v.accepted) + 1)
 
 -- a load that found the number, and no earlier one of its source found more words. The loads agree with the list of the receiver whose seat
 -- this is too, and it is the load after all of that list where its source is one of that receiver's
-pub record Found (v : View) (s number : ℕ) (w : View) : Type 0 where
+pub record HasFound (v : View) (s number : ℕ) (w : View) : Type 0 where
   pub load : Load
   pub view : w ≡ with_load v load
   pub tells : (row : SourceRow) → slice_get v.station.sources s ≡ Some row → Tells s row.label number load
@@ -102,7 +102,7 @@ pub record Found (v : View) (s number : ℕ) (w : View) : Type 0 where
 module _ {S : Type 0} where
   -- a store of a word changes the view as its play says
   abbrev pub found_by : Step S → Me S View → ℕ → Me S View → Type 0
-  found_by s v number w = Found v.0 s.word number w.0 × (w.1 ≡ v.1)
+  found_by s v number w = HasFound v.0 s.word number w.0 × (w.1 ≡ v.1)
 
   -- nothing changes; who is receiver and transmitter learns that its lists agree
   abbrev pub seen : Step S → Me S View → ℕ → Me S View → Type 0

@@ -1,7 +1,7 @@
 //! The desk, which gives the ends of a hub out.
 ghost use Rattle.std.specs.Prelude.{◌≡◌, ◌==◌, ◌++◌, ◌∷◌, [], ◌<◌, ◌-◌, ◌^◌, ◌↔◌, length, true, IfOk, OnErr, IsErrOf, IsTrue};
 ghost use Rattle.std.specs.List.{list_any};
-ghost use Rattle.a429_values.specs.Seats.{IsAt, SitsAt, Stays};
+ghost use Rattle.a429_values.specs.Seats.{IsSeatOf, SitsAt, Stays};
 ghost use Rattle.a429_values.specs.Views.{CanDeal, CanDealTransmitter, Deals, DealsTransmitter};
 
 use crate::hub::Hub;
@@ -26,7 +26,7 @@ pub struct Desk {
 impl Model for Desk {
     ghost use Rattle.std.specs.Prelude.{◌≡◌};
     ghost use Rattle.a429_values.specs.Ends.{Dealing, IsDealing};
-    ghost use Rattle.a429_values.specs.Seats.{IsAt};
+    ghost use Rattle.a429_values.specs.Seats.{IsSeatOf};
 
     ghost Value = { Dealing };
 
@@ -36,7 +36,7 @@ impl Model for Desk {
       transmitters = d.transmitters.items;
     } };
 
-    ghost invariant = { λ d. IsAt d.seat.table_id d.seat × IsDealing d.seat.me.0 d.receivers.items d.transmitters.items };
+    ghost invariant = { λ d. IsSeatOf d.seat.table_id d.seat × IsDealing d.seat.me.0 d.receivers.items d.transmitters.items };
 }
 
 /// Why a receiver or a transmitter is not given out.
@@ -64,7 +64,7 @@ impl From<AllocError> for HubFault {
 impl Desk {
     /// The desk with this seat, which has given nothing out.
     pub(crate) fn of_seat(alloc: Global, seat: HubSeat) -> Desk
-        requires seat { IsAt seat.table_id seat }
+        requires seat { IsSeatOf seat.table_id seat }
         requires view { (seat.me.0.deals ≡ true) × (seat.me.0.given ≡ []) × (seat.me.0.sent ≡ []) }
         ensures { result ≡ record { at = record { hub = seat.table_id; station = seat.me.0.station }; receivers = []; transmitters = [] } }
     {

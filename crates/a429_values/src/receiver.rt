@@ -2,8 +2,8 @@
 ghost use Rattle.std.specs.Prelude.{◌≡◌, ◌∷◌, []};
 ghost use Rattle.a429_equipment.specs.Receiving.{accepted_after, AreAccepted, IsAccepted, IsReceived};
 ghost use Rattle.a429_values.specs.Ends.{accept_answer, with_answer};
-ghost use Rattle.a429_values.specs.Seats.{HasWordOf, IsAt, Stays};
-ghost use Rattle.a429_values.specs.Views.{with_accepted, IsReceiverOf, IsNextCount};
+ghost use Rattle.a429_values.specs.Seats.{HasWordOf, IsSeatOf, Stays};
+ghost use Rattle.a429_values.specs.Views.{with_accepted, ReceivesFor, IsNextCount};
 
 use crate::shared_words::{Chosen, HubSeat, SharedWords};
 use crate::steps::accept_step;
@@ -84,9 +84,9 @@ fn store_as<N: Chosen>(
     word: Word,
 )
     requires number { word ≡ N.number }
-    requires seat { IsAt shared_words.now.shared.table_id seat.old }
+    requires seat { IsSeatOf shared_words.now.shared.table_id seat.old }
     requires source { HasWordOf shared_words.now.shared.table_id shared_words.now.shared.key.value source }
-    requires view { IsReceiverOf seat.old.me.0 shared_words.now.shared.key.value }
+    requires view { ReceivesFor seat.old.me.0 shared_words.now.shared.key.value }
     requires word { IsAccepted shared_words.now.shared.key.value seat.old.me.0.number (source, word) }
     requires count { IsNextCount seat.old.me.0 source count }
     ensures seat { Stays seat.old seat.new }
@@ -97,9 +97,9 @@ fn store_as<N: Chosen>(
 
 /// Stores an accepted word, the source's `count`th, by one step.
 fn store(shared_words: &SharedWords, seat: &mut HubSeat, source: usize, count: u64, word: Word)
-    requires seat { IsAt shared_words.now.shared.table_id seat.old }
+    requires seat { IsSeatOf shared_words.now.shared.table_id seat.old }
     requires source { HasWordOf shared_words.now.shared.table_id shared_words.now.shared.key.value source }
-    requires view { IsReceiverOf seat.old.me.0 shared_words.now.shared.key.value }
+    requires view { ReceivesFor seat.old.me.0 shared_words.now.shared.key.value }
     requires word { IsAccepted shared_words.now.shared.key.value seat.old.me.0.number (source, word) }
     requires count { IsNextCount seat.old.me.0 source count }
     ensures seat { Stays seat.old seat.new }

@@ -10,10 +10,10 @@ use std::snapshot::Snapshot;
 pub struct Latest;
 
 impl TableRule<(), View, Snapshot<Equipment>> for Latest {
-    ghost use Rattle.a429_values.specs.Rule.{Kept};
+    ghost use Rattle.a429_values.specs.Rule.{KeepsRule};
     ghost use Rattle.a429_values.specs.Views.{desk};
 
-    ghost holds = { λ key s. Kept key.value s.words s.views };
+    ghost holds = { λ key s. KeepsRule key.value s.words s.views };
 
     ghost first = { λ key. desk key.value };
 }

@@ -3,8 +3,8 @@ ghost use Rattle.std.specs.Prelude.{◌≡◌, ◌<◌, ◌^◌, true};
 ghost use Rattle.a429_word.specs.Bits.{number_from};
 ghost use Rattle.a429_equipment.specs.Agreement.{Agrees};
 ghost use Rattle.a429_equipment.specs.Receiving.{IsAccepted};
-ghost use Rattle.a429_values.specs.Views.{with_accepted, both_of, transmitting, receiving, Found, CanDeal, CanDealTransmitter, CanMeet, Deals, DealsTransmitter, IsReceiverOf, IsNextCount};
-ghost use Rattle.a429_values.specs.Seats.{HasWordOf, IsAt, SitsAt, Stays};
+ghost use Rattle.a429_values.specs.Views.{with_accepted, both_of, transmitting, receiving, HasFound, CanDeal, CanDealTransmitter, CanMeet, Deals, DealsTransmitter, ReceivesFor, IsNextCount};
+ghost use Rattle.a429_values.specs.Seats.{HasWordOf, IsSeatOf, SitsAt, Stays};
 
 use crate::shared_words::{
     Accepts, Chosen, HubSeat, Loads, Looks, Meets, NewReceiver, NewTransmitter, SharedWords,
@@ -21,9 +21,9 @@ pub fn accept_step<N: Chosen>(
     count: u64,
     bits: u32,
 )
-    requires seat { IsAt shared_words.now.shared.table_id seat.old }
+    requires seat { IsSeatOf shared_words.now.shared.table_id seat.old }
     requires source { HasWordOf shared_words.now.shared.table_id shared_words.now.shared.key.value source }
-    requires view { IsReceiverOf seat.old.me.0 shared_words.now.shared.key.value }
+    requires view { ReceivesFor seat.old.me.0 shared_words.now.shared.key.value }
     requires word { IsAccepted shared_words.now.shared.key.value seat.old.me.0.number (source, N.number) }
     requires bits { bits ≡ number_from 9 23 N.number }
     requires small { bits < 2 ^ 23 }
@@ -38,11 +38,11 @@ pub fn accept_step<N: Chosen>(
 
 /// The one load of a source's word.
 pub fn load_step(shared_words: &SharedWords, seat: &mut HubSeat, source: usize) -> u64
-    requires seat { IsAt shared_words.now.shared.table_id seat.old }
+    requires seat { IsSeatOf shared_words.now.shared.table_id seat.old }
     requires source { HasWordOf shared_words.now.shared.table_id shared_words.now.shared.key.value source }
     requires view { (seat.old.me.0.transmits ≡ true) × (seat.old.me.0.station ≡ shared_words.now.shared.key.value) }
     ensures seat { Stays seat.old seat.new }
-    ensures found { Found seat.old.me.0 source result seat.new.me.0 }
+    ensures found { HasFound seat.old.me.0 source result seat.new.me.0 }
 {
     shared_words.shared.load::<Loads>(seat, source)
 }
@@ -81,7 +81,7 @@ pub fn transmitter_step<N: Chosen>(shared_words: &SharedWords, seat: &mut HubSea
 /// The transmitter's seat takes in the receiver's.
 pub fn join_step(shared_words: &SharedWords, seat: &mut HubSeat, other: HubSeat)
     requires seat { SitsAt shared_words.now.shared.table_id seat.old }
-    requires other { IsAt shared_words.now.shared.table_id other }
+    requires other { IsSeatOf shared_words.now.shared.table_id other }
     requires view { CanMeet seat.old.me.0 other.me.0 }
     ensures seat { Stays seat.old seat.new }
     ensures view { seat.new.me.0 ≡ both_of seat.old.me.0 other.me.0 }

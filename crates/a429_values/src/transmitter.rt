@@ -4,7 +4,7 @@ ghost use Rattle.a429_equipment.specs.declared.loads.Load.{Load};
 ghost use Rattle.a429_equipment.specs.Agreement.{loads_of_all, AgreesToTheEnd, CountsNoLess};
 ghost use Rattle.a429_values.specs.Ends.{with_loads};
 ghost use Rattle.a429_values.specs.Later.{OthersStayAgreed, StaysWhole};
-ghost use Rattle.a429_values.specs.Seats.{IsAt, Stays};
+ghost use Rattle.a429_values.specs.Seats.{IsSeatOf, Stays};
 ghost use Rattle.a429_values.specs.Views.{with_loads_of};
 ghost use Rattle.a429_values.specs.Words.{Tells, load_of};
 
@@ -31,14 +31,14 @@ pub struct Transmitter {
 impl Model for Transmitter {
     ghost use Rattle.std.specs.Arc.{arc_value};
     ghost use Rattle.a429_values.specs.Ends.{TransmitterEnd, IsSending};
-    ghost use Rattle.a429_values.specs.Seats.{IsAt};
+    ghost use Rattle.a429_values.specs.Seats.{IsSeatOf};
     ghost use Rattle.a429_values.specs.Wires.{place_of};
 
     ghost Value = { TransmitterEnd };
 
     ghost view = { λ t. record { at = place_of (arc_value t.wired); number = t.number; loads = t.seat.me.0.loads } };
 
-    ghost invariant = { λ t. IsAt (place_of (arc_value t.wired)).hub t.seat × IsSending (place_of (arc_value t.wired)) t.number t.seat.me.0 };
+    ghost invariant = { λ t. IsSeatOf (place_of (arc_value t.wired)).hub t.seat × IsSending (place_of (arc_value t.wired)) t.number t.seat.me.0 };
 }
 
 /// What a number of the table says of a source whose words have this label: how many words it accepted and
@@ -58,7 +58,7 @@ fn word_in(label: Label, number: u64) -> Option<(u64, Word)>
 
 /// Loads each source of the receiver that the seat is too.
 fn load_all(wired: &Wired, seat: &mut HubSeat, number: usize)
-    requires seat { IsAt wired.now.shared_words.shared.table_id seat.old }
+    requires seat { IsSeatOf wired.now.shared_words.shared.table_id seat.old }
     requires view { (seat.old.me.0.transmits ≡ true) × (seat.old.me.0.receives ≡ true) × (seat.old.me.0.station ≡ wired.now.equipment) }
     requires number { seat.old.me.0.number ≡ number }
     ensures seat { Stays seat.old seat.new }

@@ -16,7 +16,7 @@ use Rattle.a429_slots.proofs.Remembering.{AreRecalled}
 use Rattle.a429_values.specs.Ends as ends
 use Rattle.a429_values.specs.Words.{load_of}
 use Rattle.a429_workers.specs.Calls.{Call, Asks, Carried, GroupState, IsAnswered, word_of}
-use Rattle.a429_workers.specs.Transmitting.{Transmitting, Outset, IsSameGroup, IsKnownTable, IsReached, Remembers, HasMade, IsDone, IsLoaded, cell_call, led_by, loads_since, sent_by}
+use Rattle.a429_workers.specs.Transmitting.{Transmitting, Outset, IsSameGroup, IsKnownTable, IsReached, RemembersLoads, HasMade, IsDone, IsLoaded, cell_call, led_by, loads_since, sent_by}
 use Rattle.a429_workers.proofs.Calling.{one_more, none_due, reached_cell, reached_own, same_table, slot_after}
 use Rattle.a429_workers.proofs.Lists.{all_get}
 
@@ -31,7 +31,7 @@ fewer ls more all l is h =
 
 -- a cell that sent no word of the source
 remembers_other : AreRecalled → (ls more all : List Load) (s : GroupState) (i : ℕ) (x : Option Recent) (c : AnsweredCell) → all ≡ ls ++ more → has_sent i c ≡ false
-    → Remembers ls s i x → Remembers all (with_cell s c) i x
+    → RemembersLoads ls s i x → RemembersLoads all (with_cell s c) i x
 remembers_other law ls more all s i x c is unsent R = record {
   recent = R.recent;
   there = R.there;
@@ -41,7 +41,7 @@ remembers_other law ls more all s i x c is unsent R = record {
 }
 
 -- a cell without an output
-remembers_empty : (ls : List Load) (s : GroupState) (i : ℕ) (x : Option Recent) → Remembers ls s i x → Remembers ls (record s { frame = after_cell s.frame; earlier = s.earlier ++ [] }) i x
+remembers_empty : (ls : List Load) (s : GroupState) (i : ℕ) (x : Option Recent) → RemembersLoads ls s i x → RemembersLoads ls (record s { frame = after_cell s.frame; earlier = s.earlier ++ [] }) i x
 remembers_empty ls s i x R = record {
   recent = R.recent;
   there = R.there;
@@ -51,9 +51,9 @@ remembers_empty ls s i x R = record {
 }
 
 -- the cell that sent the word which the load found
-remembers_sent : AreRecalled → (ls all : List Load) (s : GroupState) (i slot n u : ℕ) (x y : Option Recent) (cell : ℕ × ℕ) → all ≡ ls ++ load_of i (Some (n, u)) ∷ [] → (R : Remembers ls s i x)
+remembers_sent : AreRecalled → (ls all : List Load) (s : GroupState) (i slot n u : ℕ) (x y : Option Recent) (cell : ℕ × ℕ) → all ≡ ls ++ load_of i (Some (n, u)) ∷ [] → (R : RemembersLoads ls s i x)
     → R.recent.count ≤ n → next_cell s.frame ≡ Some cell → slot ≡ s.frame.first + cell.1 → y ≡ Some (sent_again R.recent slot n)
-    → Remembers all (with_cell s (record { slot = slot; source = i; count = n; word = Some u })) i y
+    → RemembersLoads all (with_cell s (record { slot = slot; source = i; count = n; word = Some u })) i y
 remembers_sent law ls all s i slot n u x y cell is R most due at there = record {
   recent = sent_again R.recent slot n;
   there = there;
@@ -81,10 +81,10 @@ cell_of slot i found word = record { slot = slot; source = i; count = (load_of i
 -- what goes out for an output is lawful, and what is kept then is kept on
 record IsWord (ls all : List Load) (s : GroupState) (o : Placed) (slot n : ℕ) (found : Option (ℕ × ℕ)) (x : Option ℕ × List Recent) : Type 0 where
   pub word : x.0 ≡ word_of s.earlier slot (Some o) (Some (load_of o.source found))
-  pub sends : (i : ℕ) → i < n → Remembers all (with_cell s (cell_of slot o.source found x.0)) i (slice_get x.1 i)
+  pub sends : (i : ℕ) → i < n → RemembersLoads all (with_cell s (cell_of slot o.source found x.0)) i (slice_get x.1 i)
 
 word_is : AreRecalled → (ls all : List Load) (rs : List Recent) (s : GroupState) (o : Placed) (slot n : ℕ) (cell : ℕ × ℕ) (found : Option (ℕ × ℕ)) → all ≡ ls ++ load_of o.source found ∷ []
-    → CountsNoLess ls (load_of o.source found) → next_cell s.frame ≡ Some cell → slot ≡ s.frame.first + cell.1 → o.source < n → ((i : ℕ) → i < n → Remembers ls s i (slice_get rs i))
+    → CountsNoLess ls (load_of o.source found) → next_cell s.frame ≡ Some cell → slot ≡ s.frame.first + cell.1 → o.source < n → ((i : ℕ) → i < n → RemembersLoads ls s i (slice_get rs i))
     → IsWord ls all s o slot n found (sent_by rs slot (due_of o) found)
 word_is law ls all rs s o slot n cell None is least due at low kept = record {
   word = sym (either_none (is_held s.earlier o.source o.limits.hold 0 || is_too_close s.earlier slot o.source o.limits.spacing));
@@ -109,13 +109,13 @@ word_is law ls all rs s o slot n cell (Some f) is least due at low kept =
           ap (λ (zs : List Recent). slice_get zs o.source) set ∙ (get_set_same rs o.source new (slice_get_within rs o.source r R.there) ∙ ap (λ (z : Recent). Some z) made) in
           record {
             word = word ∙ sym (told ∙ rw yes' refl);
-            sends = λ i in_n. subst (λ (w : Option ℕ). Remembers all (with_cell s (cell_of slot o.source (Some f) w)) i (slice_get (source_after rs slot f.0 (due_of o)) i)) (sym word) (elim (cases_eq o.source i) [
-              | inl same ↦ subst (λ (j : ℕ). Remembers all (with_cell s (cell_of slot o.source (Some f) (Some f.1))) j (slice_get (source_after rs slot f.0 (due_of o)) j)) same
+            sends = λ i in_n. subst (λ (w : Option ℕ). RemembersLoads all (with_cell s (cell_of slot o.source (Some f) w)) i (slice_get (source_after rs slot f.0 (due_of o)) i)) (sym word) (elim (cases_eq o.source i) [
+              | inl same ↦ subst (λ (j : ℕ). RemembersLoads all (with_cell s (cell_of slot o.source (Some f) (Some f.1))) j (slice_get (source_after rs slot f.0 (due_of o)) j)) same
                   (remembers_sent law ls all s o.source slot f.0 f.1 (slice_get rs o.source) (slice_get (source_after rs slot f.0 (due_of o)) o.source) cell is R most due at there)
               | inr other ↦
                   let beside : slice_get (source_after rs slot f.0 (due_of o)) i ≡ slice_get rs i =
                   ap (λ (zs : List Recent). slice_get zs i) set ∙ get_set_other rs o.source i new (λ e. other (sym e)) in
-                  subst (Remembers all (with_cell s (cell_of slot o.source (Some f) (Some f.1))) i) (sym beside)
+                  subst (RemembersLoads all (with_cell s (cell_of slot o.source (Some f) (Some f.1))) i) (sym beside)
                   (remembers_other law ls (load_of o.source (Some f) ∷ []) all s i (slice_get rs i) (cell_of slot o.source (Some f) (Some f.1)) is (ne_eqb o.source i other) (kept i in_n))
             ]);
           }
@@ -124,8 +124,8 @@ word_is law ls all rs s o slot n cell (Some f) is least due at low kept =
           let made : new ≡ r = rw no' refl in
           record {
             word = word ∙ sym (told ∙ rw no' refl);
-            sends = λ i in_n. subst (λ (w : Option ℕ). Remembers all (with_cell s (cell_of slot o.source (Some f) w)) i (slice_get (source_after rs slot f.0 (due_of o)) i)) (sym word)
-                (subst (Remembers all (with_cell s (cell_of slot o.source (Some f) None)) i) (sym (elim (cases_eq o.source i) [
+            sends = λ i in_n. subst (λ (w : Option ℕ). RemembersLoads all (with_cell s (cell_of slot o.source (Some f) w)) i (slice_get (source_after rs slot f.0 (due_of o)) i)) (sym word)
+                (subst (RemembersLoads all (with_cell s (cell_of slot o.source (Some f) None)) i) (sym (elim (cases_eq o.source i) [
                   | inl same ↦ subst (λ (j : ℕ). slice_get (source_after rs slot f.0 (due_of o)) j ≡ slice_get rs j) same
                       (ap (λ (zs : List Recent). slice_get zs o.source) set ∙ (get_set_same rs o.source new (slice_get_within rs o.source r R.there) ∙ (ap (λ (z : Recent). Some z) made ∙ sym R.there)))
                   | inr other ↦ ap (λ (zs : List Recent). slice_get zs i) set ∙ get_set_other rs o.source i new (λ e. other (sym e))
@@ -224,7 +224,7 @@ output_cell law b calls v cell o word t sends due there low hub group L M =
         number = M.at.number;
         seen = M.at.seen;
         sources = subst (λ (x : ends.Place). IsKnownTable x.station (after_cell v.frame).table) (sym hub) (subst (IsKnownTable v.transmitter.at.station) (sym (same_table v.frame)) M.at.sources);
-        sends = λ i in_n. subst (λ (k : ℕ). Remembers t.loads (with_cell s (record { slot = slot; source = k; count = l.count; word = word })) i (slice_get sends i)) (sym own)
+        sends = λ i in_n. subst (λ (k : ℕ). RemembersLoads t.loads (with_cell s (record { slot = slot; source = k; count = l.count; word = word })) i (slice_get sends i)) (sym own)
             (V.sends i (subst (λ (x : ends.Place). i < length x.station.sources) hub in_n));
       };
     })

@@ -15,7 +15,7 @@ use Rattle.a429_slots.proofs.Remembering.{AreRecalled}
 use Rattle.a429_values.specs.Ends as ends
 use Rattle.a429_board.specs.Lists.{Watched}
 use Rattle.a429_workers.specs.Calls.{Call, Turns, Meets, Takes, StaysMid, StaysSpent, GroupState, number_of, table_of, turn}
-use Rattle.a429_workers.specs.Transmitting.{Transmitting, Outset, IsSameGroup, IsKnownPlan, IsKnownTable, IsReached, Remembers, HasMade, led_by, loads_since}
+use Rattle.a429_workers.specs.Transmitting.{Transmitting, Outset, IsSameGroup, IsKnownPlan, IsKnownTable, IsReached, RemembersLoads, HasMade, led_by, loads_since}
 use Rattle.a429_workers.proofs.Calling.{AreKnown, one_more, reached_turn}
 
 -- ---- plans
@@ -26,7 +26,7 @@ first_known t plans q P all = (all_beginning (IsKnownPlan t) (q ∷ []) plans P 
 -- ---- changes
 
 -- what is kept goes on where neither loads nor earlier cells change
-kept_by : (ls : List Load) (s r : GroupState) (i : ℕ) (x : Option Recent) → r.earlier ≡ s.earlier → ((slot : ℕ) → IsReached s.frame slot → IsReached r.frame slot) → Remembers ls s i x → Remembers ls r i x
+kept_by : (ls : List Load) (s r : GroupState) (i : ℕ) (x : Option Recent) → r.earlier ≡ s.earlier → ((slot : ℕ) → IsReached s.frame slot → IsReached r.frame slot) → RemembersLoads ls s i x → RemembersLoads ls r i x
 kept_by ls s r i x same on R = record {
   recent = R.recent;
   there = R.there;

@@ -9,7 +9,7 @@ use Rattle.std.proofs.lemmas.Bool.{cases_eq, eq-eqb, ne_eqb}
 use mathlib.Core.List.{IsPrefix}
 use Rattle.a429_word.proofs.Lists.{all_parts, prefix_on, prefix_self, get_within}
 use Rattle.a429_equipment.specs.declared.loads.Load.{Load}
-use Rattle.a429_equipment.specs.Agreement.{IsCut, Cuts, is_of, words_of}
+use Rattle.a429_equipment.specs.Agreement.{IsCutOfLoad, Cuts, is_of, words_of}
 use Rattle.a429_slots.specs.Tables.{SlotTable, PlanTable, cells_of}
 use Rattle.a429_slots.specs.Proposed.{Proposed}
 use Rattle.a429_slots.specs.Events.{Event, Arrive, Cell, Frame, Publish}
@@ -20,7 +20,7 @@ use Rattle.a429_slots.specs.declared.answers.Answer.TheVariants.{Accepted, Sent,
 use Rattle.a429_slots.specs.declared.answers.Refusal.TheVariants.{FrameEnd}
 use Rattle.a429_slots.specs.Answers.{answer, answers}
 use Rattle.a429_workers.specs.Calls.{Call, Carried, Turn, Asks, Turns, Meets, Takes, StaysMid, StaysSpent, GroupState, AreLawful, turn, after_turn, after, state_after, before_calls, loads_in, loads_of}
-use Rattle.a429_workers.specs.Runs.{HasCellPlace, HavePlace, IsWorking, HasRun, answered, is_sending, comes_to, is_publish, event_of, turn_answer}
+use Rattle.a429_workers.specs.Runs.{HasCellPlace, HavePlace, IsWorking, CallsAreOneRun, answered, is_sending, comes_to, is_publish, event_of, turn_answer}
 use Rattle.a429_workers.proofs.Counting.{IsCounted, all_join, counted_along, counted_on}
 use Rattle.a429_workers.proofs.Lists.{drop_next, newly_seen}
 use Rattle.a429_workers.proofs.Steps.{Below, Given, IsAt, IsLatest, bump, accepted_here, arrival_answer, arrival_step, publish_answer_is, publish_step, end_answer, end_step, cell_answer_is, cell_step, turn_step}
@@ -304,7 +304,7 @@ module _ (C : ℕ) (o : Opening) (g : ℕ) (p : SlotTable) (later : List Propose
       let mine : is_of t r l.source ≡ true = rw (there, eq-eqb r r refl) refl in
       let agrees = On.agree r lt in
       let n = agrees.1.0 in
-      let shown : IsCut true (heard r) (cut r) l n = subst (λ b. IsCut b (heard r) (cut r) l n) mine agrees.1.1 in
+      let shown : IsCutOfLoad true (heard r) (cut r) l n = subst (λ b. IsCutOfLoad b (heard r) (cut r) l n) mine agrees.1.1 in
       up_to n r E cut s rest calls shown.0 shown.1 On.at (λ F to B M P.
       let words : accepted_by C o l.source F ≡ words_of l.source (take n (heard r)) =
       accepted_here C o g p later heard W F to s rest l.source r row B there refl ∙ ap (λ (m : ℕ). words_of l.source (take m (heard r))) M.here in
@@ -319,7 +319,7 @@ module _ (C : ℕ) (o : Opening) (g : ℕ) (p : SlotTable) (later : List Propose
           | inr ne ↦
               let theirs = On.agree q less in
               let off : is_of t q l.source ≡ false = rw (there, ne_eqb r q ne) refl in
-              let stays : IsCut false (heard q) (cut q) l theirs.1.0 = subst (λ b. IsCut b (heard q) (cut q) l theirs.1.0) off theirs.1.1 in
+              let stays : IsCutOfLoad false (heard q) (cut q) l theirs.1.0 = subst (λ b. IsCutOfLoad b (heard q) (cut q) l theirs.1.0) off theirs.1.1 in
               subst (λ (m : ℕ). (last : ℕ) × Cuts (is_of t q) (heard q) m ls last) (sym (M.others q ne ∙ stays)) (theirs.0, theirs.1.2)
         ];
       }) latest P)
@@ -439,7 +439,7 @@ IsAt-before_calls C o g p later heard =
     let none : min 0 (cells_of p) ≡ 0 = omega arith in
     record { arrivals = λ r. refl; seen = refl; left = refl; frame = rw none refl; earlier = refl }
 
-pub has_run : (C : ℕ) (o : Opening) (g : ℕ) (p : SlotTable) (later : List Proposed) (calls : List Call) (heard : ℕ → List (ℕ × ℕ)) → Below o.proposal.station → IsWorking C o g p later calls heard → HasRun C o g later calls heard
+pub has_run : (C : ℕ) (o : Opening) (g : ℕ) (p : SlotTable) (later : List Proposed) (calls : List Call) (heard : ℕ → List (ℕ × ℕ)) → Below o.proposal.station → IsWorking C o g p later calls heard → CallsAreOneRun C o g later calls heard
 has_run C o g p later calls heard below H =
     let W : Given C o g p later heard = record { below = below; known = H.wired.received; opens = H.opens; plans = H.published; accepted = H.accepted } in
     let first = before_calls o.proposal.plan p o.first in

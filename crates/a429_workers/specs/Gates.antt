@@ -1,7 +1,7 @@
 -- What the loops of receivers and groups do at their gate: the points that they pass, in order, and the one at which it ended them.
 use Rattle.std.specs.Prelude.{◌≡◌, ◌+◌, ◌<◌, ◌⊎◌, ◌∷◌, [], ℕ, List, Result, Ok, Err, length, take}
 use Rattle.a429_values.specs.Ends.{ReceiverEnd}
-use Rattle.a429_workers.specs.Receives.{AreTaken, Gives, after_words}
+use Rattle.a429_workers.specs.Receives.{LineWordsAreTaken, Gives, after_words}
 use Rattle.a429_filter.specs.declared.sources.LineSource as LineSource
 use Rattle.a429_workers.specs.declared.gates.Gate as Gate
 use Rattle.a429_workers.specs.declared.gates.Point.{Point}
@@ -85,7 +85,7 @@ listening line receiver = record { line = line; receiver = receiver }
 pub record HasTaken {L : Type 0} (source : LineSource.Ghosts L) (gate : GatePoints) (r : ℕ) (old new : Listening L) (answer : Result ReceiveTotals ReceiveFault) : Type 0 where
   pub words : List ℕ
   pub gave : Gives source.given source.left old.line words new.line
-  pub taken : AreTaken words answer old.receiver new.receiver
+  pub taken : LineWordsAreTaken words answer old.receiver new.receiver
   pub gated : AreGated gate r words answer old.receiver new.receiver
 
 -- the gate ended the loop of receiver r before word n, which the receiver did not take, or after it

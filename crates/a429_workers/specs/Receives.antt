@@ -99,11 +99,11 @@ pub record IsHandedBack (given : List ℕ) (raw : ℕ) (totals : ReceiveTotals) 
 
 -- The line gave these words: the receiver took them, all of them where the line ended or failed, all but the last, which is handed back, where they
 -- were too many, and all or all but the last where the gate ended the loop.
-abbrev pub AreTaken : List ℕ → Result ReceiveTotals ReceiveFault → ReceiverEnd → ReceiverEnd → Type 0
-AreTaken given (Ok totals) old new = (new ≡ after_words old given) × (totals ≡ totals_of (answers_to old given)) × (length given ≤ 1000000)
-AreTaken given (Err Source) old new = (new ≡ after_words old given) × (length given ≤ 1000000)
-AreTaken given (Err (TooMuch raw totals)) old new = IsHandedBack given raw totals old new
-AreTaken given (Err Gate) old new = (taken : ℕ) × (new ≡ after_words old (take taken given)) × (length given ≤ taken + 1) × (length given ≤ 1000000)
+abbrev pub LineWordsAreTaken : List ℕ → Result ReceiveTotals ReceiveFault → ReceiverEnd → ReceiverEnd → Type 0
+LineWordsAreTaken given (Ok totals) old new = (new ≡ after_words old given) × (totals ≡ totals_of (answers_to old given)) × (length given ≤ 1000000)
+LineWordsAreTaken given (Err Source) old new = (new ≡ after_words old given) × (length given ≤ 1000000)
+LineWordsAreTaken given (Err (TooMuch raw totals)) old new = IsHandedBack given raw totals old new
+LineWordsAreTaken given (Err Gate) old new = (taken : ℕ) × (new ≡ after_words old (take taken given)) × (length given ≤ taken + 1) × (length given ≤ 1000000)
 
 -- the count of failures of the line: it rises by one where the line failed
 abbrev pub source_failures : ℕ → Result ReceiveTotals ReceiveFault → ℕ

@@ -123,7 +123,7 @@ pub record IsRun (C : ℕ) (o : Opening) (g : ℕ) (later : List Proposed) (call
   pub cells : (n : ℕ) (c : Carried) (l : Load) → slice_get calls n ≡ Some (Asks (Some c)) → c.load ≡ Some l → HasCellPlace C o g (take n calls) l E
 
 -- what was done is one run
-pub record HasRun (C : ℕ) (o : Opening) (g : ℕ) (later : List Proposed) (calls : List Call) (heard : ℕ → List (ℕ × ℕ)) : Type 0 where
+pub record CallsAreOneRun (C : ℕ) (o : Opening) (g : ℕ) (later : List Proposed) (calls : List Call) (heard : ℕ → List (ℕ × ℕ)) : Type 0 where
   pub events : List Event
   pub is : IsRun C o g later calls heard events
 
@@ -131,4 +131,4 @@ pub record HasRun (C : ℕ) (o : Opening) (g : ℕ) (later : List Proposed) (cal
 abbrev pub WorkIsOneRun : Type 0
 WorkIsOneRun =
     (C : ℕ) (o : Opening) (g : ℕ) (p : SlotTable) (later : List Proposed) (calls : List Call) (heard : ℕ → List (ℕ × ℕ))
-    → IsWorking C o g p later calls heard → HasRun C o g later calls heard
+    → IsWorking C o g p later calls heard → CallsAreOneRun C o g later calls heard

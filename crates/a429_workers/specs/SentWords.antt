@@ -35,16 +35,16 @@ abbrev pub cells_of : List Call → List AnsweredCell
 cells_of calls = flat_map cells_in calls
 
 -- two words of one source that a transmitter sends are as far apart as the plan in force at the second asks
-abbrev pub WordsAreApart : Type 0
-WordsAreApart =
+abbrev pub WordsAreApartByCalls : Type 0
+WordsAreApartByCalls =
     (g : ℕ) (p : SlotTable) (s : GroupState) (calls : List Call) (j k : ℕ) (c d : Carried) (l m : Load) (output : Placed)
     → AreLawful g p s calls → j < k → SendsAt calls j c l → SendsAt calls k d m → l.source ≡ m.source
     → output_due (standing_at g p s calls k) ≡ Some output → c.slot + output.limits.spacing ≤ d.slot
 
 -- an accepted word, which is known by its source and its number, goes out only where it did so fewer times before, by whatever plans, than the
 -- plan in force allows
-abbrev pub HoldsAreKept : Type 0
-HoldsAreKept =
+abbrev pub HoldsAreKeptByCalls : Type 0
+HoldsAreKeptByCalls =
     (g : ℕ) (p : SlotTable) (s : GroupState) (calls : List Call) (k : ℕ) (d : Carried) (m : Load) (output : Placed) (hold : ℕ)
     → AreLawful g p s calls → SendsAt calls k d m → output_due (standing_at g p s calls k) ≡ Some output
     → output.limits.hold ≡ Some hold → times_sent (cells_of (take k calls)) m.source m.count < hold
@@ -88,8 +88,8 @@ CellsOfOneTableAreApart =
     → IsSpacedTable (table_at g p s calls k) → HasOneTable g p s calls j k → c.slot + now.limits.spacing ≤ d.slot
 
 -- before a cell that is empty for the sake of the least spacing there is none of its source since the slot table changed
-abbrev pub EmptyCellsAreFirst : Type 0
-EmptyCellsAreFirst =
+abbrev pub EmptyCellsAreFirstByCalls : Type 0
+EmptyCellsAreFirstByCalls =
     (g : ℕ) (p : SlotTable) (s : GroupState) (calls : List Call) (i k : ℕ) (earlier now : Placed) (c d : Carried)
     → s.earlier ≡ [] → AreLawful g p s calls → i < k → AnswersAt g p s calls i earlier c → AnswersAt g p s calls k now d
     → earlier.source ≡ now.source → IsSpacedTable (table_at g p s calls k) → IsTooCloseAt g p s calls k now d → ¬ (HasOneTable g p s calls i k)

@@ -18,6 +18,6 @@ failures_by n (Ok done) = n
 failures_by n (Err fault) = min (n + 1) (2 ^ 64 - 1)
 
 -- a sink in memory: the cells that it took, and how often it failed
-pub record Kept : Type 0 where
+pub record SinkRecord : Type 0 where
   pub sent : List Sent
   pub failures : ℕ

@@ -104,7 +104,7 @@ pub record IsReached (f : FrameState) (slot : ℕ) : Type 0 where
 
 -- This is kept of the cells that were answered, for source i: it is of no later word than any load finds that counts no less than these, and of
 -- no later slot than the next cell.
-pub record Remembers (loads : List Load) (s : GroupState) (i : ℕ) (x : Option Recent) : Type 0 where
+pub record RemembersLoads (loads : List Load) (s : GroupState) (i : ℕ) (x : Option Recent) : Type 0 where
   pub recent : Recent
   pub there : x ≡ Some recent
   pub recalls : Recalls s.earlier i recent
@@ -119,7 +119,7 @@ pub record IsAt (b : Outset) (s : GroupState) (v : Transmitting) : Type 0 where
   pub number : v.number ≡ s.number
   pub seen : IsPrefix s.seen v.watcher.list
   pub sources : IsKnownTable v.transmitter.at.station v.frame.table
-  pub sends : (i : ℕ) → i < length v.transmitter.at.station.sources → Remembers v.transmitter.loads s i (slice_get v.sends i)
+  pub sends : (i : ℕ) → i < length v.transmitter.at.station.sources → RemembersLoads v.transmitter.loads s i (slice_get v.sends i)
 
 -- the transmitter was asked for these calls since it began, each is lawful where those before it led, and its loads since are theirs
 pub record HasMade (b : Outset) (calls : List Call) (v : Transmitting) : Type 0 where

@@ -2,7 +2,7 @@
 ghost use Rattle.a429_workers.specs.Example as example;
 ghost use Rattle.a429_workers.specs.MoreCalls.{LastCallLeads, LastCallLoads, LawfulCallsGrow};
 ghost use Rattle.a429_workers.specs.Runs.{IsWorking, WorkIsOneRun};
-ghost use Rattle.a429_workers.specs.SentWords.{CellsOfOneTableAreApart, EmptyCellsAreFirst, FirstTableEmptiesNone, HoldsAreKept, OtherWordsGoOut, TablesInForceAreSpaced, WordsAreApart};
+ghost use Rattle.a429_workers.specs.SentWords.{CellsOfOneTableAreApart, EmptyCellsAreFirstByCalls, FirstTableEmptiesNone, HoldsAreKeptByCalls, OtherWordsGoOut, TablesInForceAreSpaced, WordsAreApartByCalls};
 
 use a429_equipment::laws::tables_receive_for_sources;
 use a429_slots::laws::{answered_cells_grow, frames_go_on};
@@ -34,7 +34,7 @@ pub fn lawful_calls_grow()
 /// A transmitter never sends two words of one source in cells that are fewer slots apart than the plan in force at
 /// the second asks, whatever plans changed between.
 pub fn words_are_spaced()
-    ensures { WordsAreApart }
+    ensures { WordsAreApartByCalls }
 {}
 
 /// While one slot table is in force, which keeps to its least spacings, two cells of an output are far enough apart: so
@@ -42,7 +42,7 @@ pub fn words_are_spaced()
 /// before the first change never. The transmitter had answered no cell before the first call.
 pub fn spacing_empties_first_cells_only()
     ensures table { CellsOfOneTableAreApart }
-    ensures first { EmptyCellsAreFirst }
+    ensures first { EmptyCellsAreFirstByCalls }
     ensures opening { FirstTableEmptiesNone }
 {}
 
@@ -56,7 +56,7 @@ pub fn tables_in_force_are_spaced()
 /// time it is sent, it was sent fewer times before. The load tells which accepted word it is, so an equal word that
 /// is accepted again is another.
 pub fn holds_are_kept()
-    ensures { HoldsAreKept }
+    ensures { HoldsAreKeptByCalls }
 {}
 
 /// Where neither the output's hold nor its least spacing forbids it, the word that a cell's load found goes out; so

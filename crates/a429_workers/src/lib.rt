@@ -24,7 +24,8 @@ mod sinks;
 mod transmit;
 
 pub use a429_equipment::WORDS;
-pub use cells::{ChangeFault, FrameEnd, OpenFault, Sent};
+pub use a429_slots::OpenFault;
+pub use cells::{ChangeFault, FrameEnd, Sent};
 pub use gates::{Gate, GateFault, OpenGate, Point};
 pub use receiving::{ReceiveFault, ReceiveTotals, receive_all};
 pub use sending::{SendFault, SendTotals, send_frames};

@@ -43,9 +43,9 @@ pub struct MemorySink {
 }
 
 impl Model for MemorySink {
-    ghost use Rattle.a429_workers.specs.Sinks.{Kept};
+    ghost use Rattle.a429_workers.specs.Sinks.{SinkRecord};
 
-    ghost Value = { Kept };
+    ghost Value = { SinkRecord };
 
     ghost view = { λ s. record { sent = s.sent.items; failures = s.failures } };
 }

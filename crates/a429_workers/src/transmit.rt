@@ -10,10 +10,10 @@ ghost use Rattle.a429_workers.specs.Calls.{Meets, number_of};
 ghost use mathlib.Core.List.{IsPrefix};
 ghost use Rattle.a429_workers.specs.Transmitting.{BeginsWith, GoesOnByCalls, IsDone, IsKnownPlan, IsKnownTable, IsLastTable, IsSameGroup, KeepsOthers, TakesNext, TellsSpent, cell_call, change_call, first_fits, loads_since, met, place_due, sent_by};
 
-use crate::cells::{ChangeFault, FrameEnd, OpenFault, Sent};
+use crate::cells::{ChangeFault, FrameEnd, Sent};
 use a429_board::{Planner, Watcher};
 use a429_slots::laws::sends_are_recalled;
-use a429_slots::{CachedSender, Due, GroupPlan, GroupSends, OUTPUTS};
+use a429_slots::{CachedSender, Due, GroupPlan, GroupSends, OUTPUTS, OpenFault};
 use a429_values::{Receiver, Transmitter};
 use a429_word::Word;
 use std::alloc::Global;

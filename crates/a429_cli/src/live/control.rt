@@ -3,7 +3,7 @@ ghost use Rattle.std.specs.Prelude.{◌≡◌, ◌≢◌, false, Ok, [], IfOk};
 ghost use Rattle.a429_table.specs.Reading.{reading};
 ghost use Rattle.std.specs.List.{list_any};
 ghost use Rattle.a429_cli.specs.Resubmitted.{AnswersFault, IsAnswer, is_refused};
-ghost use Rattle.a429_cli.specs.declared.live.control.Answer.TheVariants.{Refused};
+ghost use Rattle.a429_cli.specs.declared.live.control.SubmitAnswer.TheVariants.{Refused};
 ghost use Rattle.a429_console.specs.declared.refusals.CommandRefusal.TheVariants.{Memory};
 ghost use Rattle.a429_station.specs.Resubmitting.{GoesOn};
 
@@ -18,7 +18,7 @@ use std::sync::Wait;
 
 /// What a table is answered that is submitted to a running station.
 #[derive(Drop)]
-pub enum Answer {
+pub enum SubmitAnswer {
     /// Its plan is published under this number.
     Published(u64),
     /// The table or its plan has a fault.
@@ -35,7 +35,7 @@ pub struct Resubmits<'a> {
     alloc: Global,
     running: &'a Equipment,
     tables: &'a [Vec<u8>],
-    pub answers: Vec<Answer>,
+    pub answers: Vec<SubmitAnswer>,
     /// The tables that are refused, for a hint.
     faults: Vec<FurtherFault>,
 }
@@ -67,12 +67,12 @@ impl<'a> Resubmits<'a> {
 }
 
 /// The answer of a refusal. The error is that memory was refused.
-fn refused(refusal: CommandRefusal) -> Result<Answer, AllocError>
+fn refused(refusal: CommandRefusal) -> Result<SubmitAnswer, AllocError>
     ensures { IfOk result (λ answer. (answer ≡ Refused refusal) × (refusal ≢ Memory)) }
 {
     match refusal {
         CommandRefusal::Memory => Err(AllocError),
-        other => Ok(Answer::Refused(other)),
+        other => Ok(SubmitAnswer::Refused(other)),
     }
 }
 
@@ -81,7 +81,7 @@ fn answer_of_fault(
     alloc: Global,
     equipment: &Equipment,
     fault: ReplanFault,
-) -> Result<Answer, AllocError>
+) -> Result<SubmitAnswer, AllocError>
     ensures { AnswersFault equipment.now fault result }
 {
     match fault {
@@ -89,8 +89,8 @@ fn answer_of_fault(
         ReplanFault::TooManyBuses { group, needed } => {
             refused(too_many_buses(alloc, equipment, group, needed))
         }
-        ReplanFault::StationDiffers => Ok(Answer::OtherStation),
-        ReplanFault::CountSpent => Ok(Answer::NumbersSpent),
+        ReplanFault::StationDiffers => Ok(SubmitAnswer::OtherStation),
+        ReplanFault::CountSpent => Ok(SubmitAnswer::NumbersSpent),
         // a table that was read has no fault
         ReplanFault::Table(_) | ReplanFault::NoMemory => Err(AllocError),
     }
@@ -102,13 +102,13 @@ fn answer_read<R: Wait>(
     station: &mut Station<'_, R>,
     table: &[u8],
     equipment: &Equipment,
-) -> Result<Answer, AllocError>
+) -> Result<SubmitAnswer, AllocError>
     requires read { reading table.now ≡ Ok equipment.now }
     ensures answer { IfOk result (λ answer. IsAnswer station.old table.now answer station.new) }
     ensures on { GoesOn station.old station.new }
 {
     match station.resubmit_read(table, equipment) {
-        Ok(number) => Ok(Answer::Published(number)),
+        Ok(number) => Ok(SubmitAnswer::Published(number)),
         Err(fault) => answer_of_fault(alloc, equipment, fault),
     }
 }
@@ -119,7 +119,7 @@ fn answer_to<R: Wait>(
     station: &mut Station<'_, R>,
     table: &[u8],
     seen: &mut SeenTable,
-) -> Result<Answer, AllocError>
+) -> Result<SubmitAnswer, AllocError>
     ensures answer { IfOk result (λ answer. IsAnswer station.old table.now answer station.new) }
     ensures on { GoesOn station.old station.new }
 {
@@ -137,12 +137,14 @@ fn answer_to<R: Wait>(
 fn cause_of(
     alloc: Global,
     running: &Equipment,
-    answer: &Answer,
+    answer: &SubmitAnswer,
     seen: &SeenTable,
 ) -> Option<FurtherCause> {
     match (answer, &seen.equipment) {
-        (Answer::Refused(refusal), _) => FurtherCause::of(alloc, refusal),
-        (Answer::OtherStation, Some(other)) => FurtherCause::of_stations(alloc, running, other),
+        (SubmitAnswer::Refused(refusal), _) => FurtherCause::of(alloc, refusal),
+        (SubmitAnswer::OtherStation, Some(other)) => FurtherCause::of_stations(
+            alloc, running, other,
+        ),
         _ => None,
     }
 }
@@ -152,7 +154,7 @@ fn note_answer(
     alloc: Global,
     running: &Equipment,
     number: usize,
-    answer: &Result<Answer, AllocError>,
+    answer: &Result<SubmitAnswer, AllocError>,
     table: SeenTable,
     faults: &mut Vec<FurtherFault>,
 ) {
@@ -172,7 +174,7 @@ fn answer_and_note<R: Wait>(
     table: &[u8],
     number: usize,
     faults: &mut Vec<FurtherFault>,
-) -> Result<Answer, AllocError>
+) -> Result<SubmitAnswer, AllocError>
     ensures answer { IfOk result (λ answer. IsAnswer station.old table.now answer station.new) }
     ensures on { GoesOn station.old station.new }
 {
@@ -183,10 +185,13 @@ fn answer_and_note<R: Wait>(
 }
 
 /// Whether a table was refused.
-fn is_refused(answer: &Answer) -> bool
+fn is_refused(answer: &SubmitAnswer) -> bool
     ensures { result ≡ is_refused answer.now }
 {
-    matches!(answer, Answer::Refused(_) | Answer::OtherStation)
+    matches!(
+        answer,
+        SubmitAnswer::Refused(_) | SubmitAnswer::OtherStation
+    )
 }
 
 impl<'a, R: Wait> Control<R> for Resubmits<'a> {

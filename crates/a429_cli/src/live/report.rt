@@ -6,7 +6,7 @@ ghost use Rattle.a429_cli.specs.LiveReplies.{group_line, group_lines, receiver_l
 ghost use Rattle.a429_cli.specs.Resubmitted.{AppendsAll, AppendsAnswer, ReportsRun};
 ghost use Rattle.a429_console.specs.RefusalText.{refusal_line};
 
-use crate::live::control::Answer;
+use crate::live::control::SubmitAnswer;
 use a429_console::refusals::CommandRefusal;
 use a429_equipment::{Equipment, GroupRow, ReceiverRow};
 use a429_filter::MemoryLine;
@@ -86,15 +86,15 @@ fn push_refused(text: &mut Vec<u8>, refusal: &CommandRefusal) -> io::Result<()>
 }
 
 /// Appends the line of a further table, by what it was answered when it was resubmitted.
-fn push_resubmitted(text: &mut Vec<u8>, answer: &Answer) -> io::Result<()>
+fn push_resubmitted(text: &mut Vec<u8>, answer: &SubmitAnswer) -> io::Result<()>
     ensures { AppendsAnswer answer.now text.old.items text.new.items result }
 {
     match answer {
-        Answer::Published(number) => writeln!(text, "published {number}"),
-        Answer::Refused(refusal) => push_refused(text, refusal),
-        Answer::OtherStation => writeln!(text, "refused station-differs"),
+        SubmitAnswer::Published(number) => writeln!(text, "published {number}"),
+        SubmitAnswer::Refused(refusal) => push_refused(text, refusal),
+        SubmitAnswer::OtherStation => writeln!(text, "refused station-differs"),
         // a run publishes far fewer plans than there are numbers
-        Answer::NumbersSpent => Ok(()),
+        SubmitAnswer::NumbersSpent => Ok(()),
     }
 }
 
@@ -102,7 +102,7 @@ fn push_resubmitted(text: &mut Vec<u8>, answer: &Answer) -> io::Result<()>
 fn push_all_resubmitted(
     text: &mut Vec<u8>,
     further: &[Vec<u8>],
-    answers: &[Answer],
+    answers: &[SubmitAnswer],
 ) -> io::Result<()>
     ensures { AppendsAll (bytes_of further.now) answers.now text.old.items text.new.items result }
 {
@@ -121,7 +121,7 @@ pub fn report_text(
     alloc: Global,
     station: &Equipment,
     further: &[Vec<u8>],
-    answers: &[Answer],
+    answers: &[SubmitAnswer],
     report: &Report<MemoryLine, CountSink>,
 ) -> Result<Vec<u8>, CommandRefusal>
     ensures { ReportsRun station.now (bytes_of further.now) answers.now report.now.receivers.items report.now.groups.items result }

@@ -1,7 +1,7 @@
 //! Lists of names, and the numbers of the names with which texts begin.
 ghost use Rattle.std.specs.Prelude.{◌≡◌, ◌≤◌, ◌<◌, ◌++◌, ◌∷◌, IfSome, IsTrue, length, map, string_bytes};
 ghost use Rattle.a429_console.specs.Names.{name_at, number_named};
-ghost use Rattle.a429_cli.specs.NameLists.{AreFirst, BeginsWithName, IsFirst, IsPlain};
+ghost use Rattle.a429_cli.specs.NameLists.{AreFirst, BeginsWithName, IsFirstPlain, IsPlain};
 
 use crate::names::guesses::Guesses;
 use a429_console::texts::cut_at;
@@ -114,7 +114,7 @@ fn is_plain(text: &[u8]) -> bool
 fn is_first(names: &[String], number: usize) -> bool
     requires few { length names.now ≤ 16 }
     requires within { number < length names.now }
-    ensures { IsTrue result → IsFirst (map string_bytes names.now) number }
+    ensures { IsTrue result → IsFirstPlain (map string_bytes names.now) number }
 {
     let name = name_of(names, number);
     match number_of(names, name) {

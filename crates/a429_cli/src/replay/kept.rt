@@ -1,7 +1,7 @@
 //! Events of a script as they are kept between reading and play.
 ghost use Rattle.std.specs.Prelude.{◌≡◌};
 ghost use Rattle.a429_cli.specs.declared.replay.script.ScriptEvent.TheVariants.{Arrive, Cell, Frame};
-ghost use Rattle.a429_cli.specs.Kept.{IsShort, event_of, raw_of};
+ghost use Rattle.a429_cli.specs.Kept.{IsShortEvent, event_of, raw_of};
 
 use crate::replay::script::ScriptEvent;
 
@@ -76,7 +76,7 @@ impl KeptEvent {
 
     /// Keeps an event.
     pub fn of(event: ScriptEvent) -> KeptEvent
-        requires { IsShort event }
+        requires { IsShortEvent event }
         ensures { event_of result ≡ event }
     {
         match event {

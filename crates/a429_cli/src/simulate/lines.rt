@@ -6,7 +6,7 @@ ghost use Rattle.a429_console.specs.Names.{name_at, naming_of};
 ghost use Rattle.a429_cli.specs.AnswerLines.{refusal_text};
 ghost use Rattle.a429_cli.specs.CellLines.{BeginsCells, begin_of, rest_of};
 ghost use Rattle.a429_cli.specs.Simulating.{refused_line, sent_line, separator};
-ghost use Rattle.a429_cli.specs.SimulationRuns.{HasGroup, HasNames};
+ghost use Rattle.a429_cli.specs.SimulationRuns.{HasPlannedGroup, HasStationNames};
 ghost use Rattle.a429_cli.specs.Timeline.{rate_of as bit_rate};
 
 use crate::names::Names;
@@ -83,7 +83,7 @@ impl LineSetting<'_> {
     /// The name of a group; nothing if there is none. It has few bytes.
     #[tactic(auto, using(crate::proofs::ShortNames::group_short))]
     fn group_name(&self, group: usize) -> &[u8]
-        requires names { HasNames self.now.names.now self.now.proposal.now }
+        requires names { HasStationNames self.now.names.now self.now.proposal.now }
         ensures name { result.now ≡ name_at (naming_of self.now.proposal.now.station).groups group }
         ensures short { length result.now ≤ 16 }
     {
@@ -95,7 +95,7 @@ impl LineSetting<'_> {
     #[tactic(auto, using(crate::proofs::ShortNames::source_short))]
     #[inline(always)]
     fn source_name(&self, source: usize) -> &[u8]
-        requires names { HasNames self.now.names.now self.now.proposal.now }
+        requires names { HasStationNames self.now.names.now self.now.proposal.now }
         ensures name { result.now ≡ name_at (naming_of self.now.proposal.now.station).sources source }
         ensures short { length result.now ≤ 16 }
     {
@@ -106,7 +106,7 @@ impl LineSetting<'_> {
     /// The name of a receiver; nothing if there is none. It has few bytes.
     #[tactic(auto, using(crate::proofs::ShortNames::receiver_short))]
     fn receiver_name(&self, receiver: usize) -> &[u8]
-        requires names { HasNames self.now.names.now self.now.proposal.now }
+        requires names { HasStationNames self.now.names.now self.now.proposal.now }
         ensures name { result.now ≡ name_at (naming_of self.now.proposal.now.station).receivers receiver }
         ensures short { length result.now ≤ 16 }
     {
@@ -116,7 +116,7 @@ impl LineSetting<'_> {
 
     /// When a slot of a group ends, in microseconds, rounded up.
     pub fn end_of(&self, group: usize, slot: u64) -> u64
-        requires known { HasGroup self.now.proposal.now group }
+        requires known { HasPlannedGroup self.now.proposal.now group }
         requires few { slot < 8192000000 }
         ensures { result ≡ slots_us (bit_rate self.now.proposal.now group) (slot + 1) }
     {
@@ -125,8 +125,8 @@ impl LineSetting<'_> {
 
     /// Writes what the lines of a group's cells in a slot begin with before the bytes that begin at `end`, and gives its start.
     pub fn put_begin(&self, room: &mut [u8], end: usize, group: usize, slot: u64) -> usize
-        requires names { HasNames self.now.names.now self.now.proposal.now }
-        requires known { HasGroup self.now.proposal.now group }
+        requires names { HasStationNames self.now.names.now self.now.proposal.now }
+        requires known { HasPlannedGroup self.now.proposal.now group }
         requires few { slot < 8192000000 }
         requires room { (40 ≤ end) × (end ≤ length room.old) }
         ensures start { (result ≤ end) × (end ≤ result + 40) }
@@ -143,7 +143,7 @@ impl LineSetting<'_> {
     /// gives its start.
     #[inline(always)]
     fn put_rest(&self, room: &mut [u8], end: usize, sent: SentWord, age: u64) -> usize
-        requires names { HasNames self.now.names.now self.now.proposal.now }
+        requires names { HasStationNames self.now.names.now self.now.proposal.now }
         requires room { (80 ≤ end) × (end ≤ length room.old) }
         ensures start { (result ≤ end) × (end ≤ result + 80) }
         ensures written { drop result room.new
@@ -168,7 +168,7 @@ impl LineSetting<'_> {
         cell: &CellSlot<'_>,
         sent: SentWord,
     ) -> Result<(), AllocError>
-        requires names { HasNames self.now.names.now self.now.proposal.now }
+        requires names { HasStationNames self.now.names.now self.now.proposal.now }
         requires begin { BeginsCells self.now.proposal.now self.now.csv cell.now.group cell.now.slot cell.now.begin.now cell.now.end }
         ensures line { Gains result text.old.items text.new.items
             (sent_line self.now.proposal.now self.now.csv cell.now.group cell.now.slot sent.bus sent.raw sent.source sent.heard) }
@@ -188,7 +188,7 @@ impl LineSetting<'_> {
         word: LogWord,
         refusal: Refusal,
     ) -> Result<(), AllocError>
-        requires names { HasNames self.now.names.now self.now.proposal.now }
+        requires names { HasStationNames self.now.names.now self.now.proposal.now }
         ensures line { Gains result text.old.items text.new.items
             (refused_line self.now.proposal.now word (refusal_text refusal)) }
         ensures kept { OnErr result (text.new.items ≡ text.old.items) }

@@ -2,7 +2,7 @@
 ghost use Rattle.std.specs.Prelude.{◌≡◌, ◌∷◌, [], ℕ};
 ghost use Rattle.a429_cli.specs.CellLines.{SendsWord};
 ghost use Rattle.a429_cli.specs.Simulating.{Comes, Asks, Turns};
-ghost use Rattle.a429_cli.specs.SimulationRuns.{GoesOn, HasTime, IsAnswerTo, IsOpening, noted};
+ghost use Rattle.a429_cli.specs.SimulationRuns.{RunGoesOn, HasTime, IsAnswerTo, IsOpening, noted};
 
 use crate::simulate::lines::SentWord;
 use crate::simulate::log::LogWord;
@@ -49,7 +49,7 @@ impl Run {
     /// A word comes in: the answer to it.
     pub fn arrive(&mut self, word: LogWord) -> Answer
         ensures answer { IsAnswerTo self.old (Comes word) result }
-        ensures after { GoesOn self.old (Comes word ∷ []) self.new }
+        ensures after { RunGoesOn self.old (Comes word ∷ []) self.new }
     {
         calls_are_answered();
         let answer = self.state.arrive(usize::from(word.receiver), word.raw);
@@ -60,7 +60,7 @@ impl Run {
     /// A group sends its next cell: the answer to that.
     pub fn cell(&mut self, group: usize) -> Answer
         ensures answer { (slot : ℕ) → IsAnswerTo self.old (Asks group slot) result }
-        ensures after { (slot : ℕ) → GoesOn self.old (Asks group slot ∷ []) self.new }
+        ensures after { (slot : ℕ) → RunGoesOn self.old (Asks group slot ∷ []) self.new }
     {
         calls_are_answered();
         self.state.cell(group)
@@ -70,7 +70,7 @@ impl Run {
     #[inline(always)]
     pub fn send(&mut self, group: usize) -> Option<SentWord>
         ensures word { SendsWord self.old group result }
-        ensures after { (slot : ℕ) → GoesOn self.old (Asks group slot ∷ []) self.new }
+        ensures after { (slot : ℕ) → RunGoesOn self.old (Asks group slot ∷ []) self.new }
     {
         calls_are_answered();
         match self.state.send_cell(group) {
@@ -86,7 +86,7 @@ impl Run {
 
     /// A group goes on to its next frame.
     pub fn frame(&mut self, group: usize)
-        ensures after { GoesOn self.old (Turns group ∷ []) self.new }
+        ensures after { RunGoesOn self.old (Turns group ∷ []) self.new }
     {
         calls_are_answered();
         let _ = self.state.frame(group);

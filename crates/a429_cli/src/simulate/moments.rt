@@ -2,7 +2,7 @@
 ghost use Rattle.std.specs.Prelude.{◌≡◌, ◌<◌, IfSome, length};
 ghost use Rattle.a429_equipment.specs.Sound.{OfEach};
 ghost use Rattle.a429_cli.specs.SimulationLog.{AreInTime};
-ghost use Rattle.a429_cli.specs.Tracks.{ComesFirst, IsKnown, IsTrack, TakesMoment, left_in};
+ghost use Rattle.a429_cli.specs.Tracks.{ComesFirst, IsKnownMoment, IsTrack, TakesMoment, left_in};
 
 use crate::simulate::log::LogWord;
 use crate::simulate::tracks::{Track, first_group, take_slot};
@@ -50,7 +50,7 @@ impl Timeline {
         ensures taken { TakesMoment self.old self.new result }
         ensures sound { OfEach IsTrack self.new.tracks.items }
         ensures many { length self.new.tracks.items ≡ length self.old.tracks.items }
-        ensures known { IfSome result (IsKnown self.old.tracks.items) }
+        ensures known { IfSome result (IsKnownMoment self.old.tracks.items) }
         ensures shorter { IfSome result (λ _. left_in self.new < left_in self.old) }
     {
         let group = first_group(&self.tracks);

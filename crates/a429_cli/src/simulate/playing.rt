@@ -6,7 +6,7 @@ ghost use Rattle.a429_slots.specs.Planned.{IsPlanOf};
 ghost use Rattle.a429_cli.specs.CellLines.{BeginsCells};
 ghost use Rattle.a429_cli.specs.Simulating.{Asks, Comes, cells_in, steps_in, turn_after};
 ghost use Rattle.a429_cli.specs.SimulationLog.{AreInTime};
-ghost use Rattle.a429_cli.specs.SimulationRuns.{GoesOn, HasGroup, HasNames, IsWithin, Plays, PlaysTimeline};
+ghost use Rattle.a429_cli.specs.SimulationRuns.{RunGoesOn, HasPlannedGroup, HasStationNames, IsWithinRun, Plays, PlaysTimeline};
 ghost use Rattle.a429_cli.specs.Tracks.{HasTracks, IsTrack};
 
 use crate::pending::put_if_full;
@@ -43,7 +43,7 @@ fn play_word(
     word: LogWord,
     lines: &mut PendingLines,
 ) -> Result<(), AllocError>
-    requires names { HasNames setting.now.names.now setting.now.proposal.now }
+    requires names { HasStationNames setting.now.names.now setting.now.proposal.now }
     ensures { Plays setting.now.proposal.now setting.now.csv (Comes word ∷ []) run.old run.new
         lines.old.text.items lines.new.text.items result }
 {
@@ -64,9 +64,9 @@ fn play_cell(
     cell: &CellSlot<'_>,
     lines: &mut PendingLines,
 ) -> Result<(), AllocError>
-    requires names { HasNames setting.now.names.now setting.now.proposal.now }
+    requires names { HasStationNames setting.now.names.now setting.now.proposal.now }
     requires planned { IsPlanOf setting.now.proposal.now.station setting.now.proposal.now.plan }
-    requires known { HasGroup setting.now.proposal.now cell.now.group }
+    requires known { HasPlannedGroup setting.now.proposal.now cell.now.group }
     requires begin { BeginsCells setting.now.proposal.now setting.now.csv cell.now.group cell.now.slot cell.now.begin.now cell.now.end }
     ensures { Plays setting.now.proposal.now setting.now.csv (Asks cell.now.group cell.now.slot ∷ []) run.old run.new
         lines.old.text.items lines.new.text.items result }
@@ -84,8 +84,8 @@ fn play_buses(
     cell: &CellSlot<'_>,
     lines: &mut PendingLines,
 ) -> Result<(), AllocError>
-    requires names { HasNames setting.now.names.now setting.now.proposal.now }
-    requires known { HasGroup setting.now.proposal.now cell.now.group }
+    requires names { HasStationNames setting.now.names.now setting.now.proposal.now }
+    requires known { HasPlannedGroup setting.now.proposal.now cell.now.group }
     requires begin { BeginsCells setting.now.proposal.now setting.now.csv cell.now.group cell.now.slot cell.now.begin.now cell.now.end }
     ensures { Plays setting.now.proposal.now setting.now.csv (cells_in setting.now.proposal.now cell.now.group cell.now.slot)
         run.old run.new lines.old.text.items lines.new.text.items result }
@@ -106,8 +106,8 @@ fn play_cells(
     slot: u64,
     lines: &mut PendingLines,
 ) -> Result<(), AllocError>
-    requires names { HasNames setting.now.names.now setting.now.proposal.now }
-    requires known { HasGroup setting.now.proposal.now group }
+    requires names { HasStationNames setting.now.names.now setting.now.proposal.now }
+    requires known { HasPlannedGroup setting.now.proposal.now group }
     requires few { slot < 8192000000 }
     ensures { Plays setting.now.proposal.now setting.now.csv (cells_in setting.now.proposal.now group slot) run.old run.new
         lines.old.text.items lines.new.text.items result }
@@ -125,9 +125,9 @@ fn play_cells(
 
 /// A group goes on to its next frame, if this slot is the last of one.
 pub fn turn_after(proposal: &Proposal<OUTPUTS>, run: &mut Run, group: usize, slot: u64)
-    requires known { HasGroup proposal.now group }
+    requires known { HasPlannedGroup proposal.now group }
     requires few { slot < 8192000000 }
-    ensures { GoesOn run.old (turn_after proposal.now group slot) run.new }
+    ensures { RunGoesOn run.old (turn_after proposal.now group slot) run.new }
 {
     let frame = proposal.plan().group(group).frame();
     if (slot + 1) % u64::from(frame) == 0 {
@@ -142,8 +142,8 @@ fn play(
     moment: Moment,
     lines: &mut PendingLines,
 ) -> Result<(), AllocError>
-    requires names { HasNames setting.now.names.now setting.now.proposal.now }
-    requires known { IsWithin setting.now.proposal.now moment }
+    requires names { HasStationNames setting.now.names.now setting.now.proposal.now }
+    requires known { IsWithinRun setting.now.proposal.now moment }
     ensures { Plays setting.now.proposal.now setting.now.csv (steps_in setting.now.proposal.now moment) run.old run.new
         lines.old.text.items lines.new.text.items result }
 {
@@ -166,7 +166,7 @@ pub fn play_all<O: Output>(
     lines: &mut PendingLines,
     out: &mut O,
 ) -> Result<bool, OutputFault>
-    requires names { HasNames setting.now.names.now setting.now.proposal.now }
+    requires names { HasStationNames setting.now.names.now setting.now.proposal.now }
     requires tracks { HasTracks setting.now.proposal.now timeline.old.tracks.items }
     requires sound { OfEach IsTrack timeline.old.tracks.items }
     requires in_time { AreInTime timeline.old.words.items }

@@ -6,7 +6,7 @@ ghost use Rattle.a429_slots.specs.Proposed.{Proposed};
 ghost use Rattle.a429_slots.specs.Tables.{groups_of};
 ghost use Rattle.a429_cli.specs.Simulating.{Asks, Comes, cells_in, steps_in};
 ghost use Rattle.a429_cli.specs.SimulationLog.{AreInTime};
-ghost use Rattle.a429_cli.specs.SimulationRuns.{HasGroup, IsWithin};
+ghost use Rattle.a429_cli.specs.SimulationRuns.{HasPlannedGroup, IsWithinRun};
 ghost use Rattle.a429_cli.specs.SummaryRuns.{CountsSteps, CountsTimeline, HasFigures, counted, figures_at, groups_after, nothing_sent, unsent};
 ghost use Rattle.a429_cli.specs.Tracks.{HasTracks, IsTrack};
 
@@ -115,7 +115,7 @@ fn count_cell(
     slot: u64,
     summary: &mut Summary,
 )
-    requires known { HasGroup proposal.now group }
+    requires known { HasPlannedGroup proposal.now group }
     requires few { slot < 8192000000 }
     ensures { CountsSteps proposal.now (Asks group slot ∷ []) run.old run.new summary.old summary.new }
 {
@@ -152,7 +152,7 @@ fn count_cells(
     slot: u64,
     summary: &mut Summary,
 )
-    requires known { HasGroup proposal.now group }
+    requires known { HasPlannedGroup proposal.now group }
     requires few { slot < 8192000000 }
     ensures { CountsSteps proposal.now (cells_in proposal.now group slot) run.old run.new summary.old summary.new }
 {
@@ -164,7 +164,7 @@ fn count_cells(
 
 /// A moment happens.
 fn count(proposal: &Proposal<OUTPUTS>, run: &mut Run, moment: Moment, summary: &mut Summary)
-    requires known { IsWithin proposal.now moment }
+    requires known { IsWithinRun proposal.now moment }
     ensures { CountsSteps proposal.now (steps_in proposal.now moment) run.old run.new summary.old summary.new }
 {
     match moment {

@@ -2,7 +2,7 @@
 ghost use Rattle.std.specs.Prelude.{◌≡◌, ◌∷◌, [], ◌<◌, ◌^◌, length, IfOk};
 ghost use Rattle.a429_word.specs.Written.{Gains};
 ghost use Rattle.a429_slots.specs.Tables.{outputs_of, placed_at};
-ghost use Rattle.a429_cli.specs.SimulationRuns.{HasGroup};
+ghost use Rattle.a429_cli.specs.SimulationRuns.{HasPlannedGroup};
 ghost use Rattle.a429_cli.specs.Summary.{bound_fields, name_fields, number_or_dash, rows_text, summary_columns};
 ghost use Rattle.a429_cli.specs.SummaryRuns.{kept_group, kept_row, kept_rows, figure_fields};
 ghost use Rattle.a429_cli.specs.Timeline.{rate_of, table_of};
@@ -75,7 +75,7 @@ fn push_bound(
     group: usize,
     output: usize,
 ) -> Result<(), AllocError>
-    requires known { HasGroup proposal.now group }
+    requires known { HasPlannedGroup proposal.now group }
     requires output { output < length (outputs_of (table_of proposal.now group)) }
     ensures { Gains result row.old row.new (bound_fields (rate_of proposal.now group) (placed_at (table_of proposal.now group) output)) }
 {
@@ -91,7 +91,7 @@ fn row_of(
     group: usize,
     output: usize,
 ) -> Result<Row, AllocError>
-    requires known { HasGroup proposal.now group }
+    requires known { HasPlannedGroup proposal.now group }
     requires output { output < length (outputs_of (table_of proposal.now group)) }
     ensures { IfOk result (λ row. row ≡ kept_row proposal.now summary.now group output) }
 {
@@ -110,7 +110,7 @@ fn push_outputs(
     summary: &Summary,
     group: usize,
 ) -> Result<(), AllocError>
-    requires known { HasGroup proposal.now group }
+    requires known { HasPlannedGroup proposal.now group }
     ensures { Gains result rows.old.items rows.new.items (kept_group proposal.now summary.now group) }
 {
     for output in 0..proposal.plan().group(group).outputs() {

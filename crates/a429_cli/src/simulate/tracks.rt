@@ -4,9 +4,9 @@ ghost use Rattle.a429_equipment.specs.Sound.{OfEach};
 ghost use Rattle.a429_slots.specs.Tables.{groups_of};
 ghost use Rattle.a429_slots.specs.Planned.{IsPlanOf};
 ghost use Rattle.a429_documents.specs.Document.{slots_us};
-ghost use Rattle.a429_cli.specs.Tracks.{GoesBefore, IsCounted, IsLeast, IsTrack, IsTracking, advanced, next_at};
+ghost use Rattle.a429_cli.specs.Tracks.{GoesBefore, SlotsAreCounted, IsNextTrack, IsTrack, IsTracking, advanced, next_at};
 ghost use Rattle.a429_cli.specs.Timeline.{end_of, last_time, longest_frame, rate_of};
-ghost use Rattle.a429_cli.specs.SimulationRuns.{HasGroup};
+ghost use Rattle.a429_cli.specs.SimulationRuns.{HasPlannedGroup};
 ghost use Rattle.a429_cli.specs.SimulationLog.{AreInTime};
 ghost use Rattle.a429_cli.specs.declared.simulate.tracks.Track.{Track as TheTrack};
 
@@ -71,7 +71,7 @@ fn goes_before(tracks: &[Track], track: &Track, first: Option<usize>) -> bool
 /// The group whose next slot begins first, and of several the first in table order. `None` if no group has a slot left.
 pub fn first_group(tracks: &[Track]) -> Option<usize>
     requires sound { OfEach IsTrack tracks.now }
-    ensures least { IsLeast tracks.now (length tracks.now) result }
+    ensures least { IsNextTrack tracks.now (length tracks.now) result }
 {
     let mut first = None;
     for (group, track) in tracks.iter().enumerate() {
@@ -98,7 +98,7 @@ pub fn take_slot(tracks: &mut Vec<Track>, group: usize) -> u64
 
 /// The rate of a group in bit/s.
 pub fn rate_of(proposal: &Proposal<OUTPUTS>, group: usize) -> u32
-    requires known { HasGroup proposal.now group }
+    requires known { HasPlannedGroup proposal.now group }
     ensures rate { result ≡ rate_of proposal.now group }
     ensures some { 1 ≤ result }
 {
@@ -119,7 +119,7 @@ pub fn micros_of(rate: u32, slots: u64) -> u64
 /// frames of so many slots.
 fn count_slots(rate: u32, frame: u32, last: u64) -> Option<u64>
     requires { (1 ≤ frame) × (frame ≤ 8192) }
-    ensures { IsCounted rate frame last result }
+    ensures { SlotsAreCounted rate frame last result }
 {
     let lasting = last.checked_mul(u64::from(rate))?;
     let slots = lasting / SLOT_TIME + 1;

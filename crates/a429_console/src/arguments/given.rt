@@ -3,7 +3,7 @@ ghost use Rattle.std.specs.Prelude.{◌≡◌, ℕ, List, IfOk, Err, Some, None,
 ghost use Rattle.std.specs.Io.{WritesAtMost};
 ghost use Rattle.std.specs.Str.{IsUtf8};
 ghost use Rattle.a429_word.specs.Written.{Gains};
-ghost use Rattle.a429_console.specs.GivenWords.{AreGiven, HasNoText};
+ghost use Rattle.a429_console.specs.GivenWords.{AreAllWords, HasNoText};
 
 use std::alloc::{AllocError, Global};
 use std::env::{Env, FillError};
@@ -74,7 +74,7 @@ fn argument_bytes<A: Arguments>(
 
 /// The words of the command line, without the program's path.
 pub fn given_words<A: Arguments>(alloc: Global, arguments: &A) -> Result<Vec<String>, WordsFault>
-    ensures words { IfOk result (λ words. AreGiven (A.gives arguments.now) (A.ends arguments.now) (map string_bytes words.items)) }
+    ensures words { IfOk result (λ words. AreAllWords (A.gives arguments.now) (A.ends arguments.now) (map string_bytes words.items)) }
     ensures not_text { result ≡ Err WordsFault.NotText → HasNoText (A.gives arguments.now) }
 {
     let mut words = Vec::new(alloc);

@@ -7,7 +7,7 @@ ghost use Rattle.a429_console.specs.RefusalText.{OrMemory};
 ghost use Rattle.a429_console.specs.Tables.{IsGroupRefusal, IsProposedBy, IsTableFault, IsTableRefusal, IsPlanRefusal, IsUnfitNamed};
 
 use crate::files::reading::printable_name;
-use crate::hints::{Looks, SeenTable};
+use crate::hints::{SeenTable, TableLook};
 use crate::refusals::CommandRefusal;
 use crate::refusals::names::{group_name, source_name};
 use a429_equipment::Equipment;
@@ -42,7 +42,7 @@ pub fn read_table(
 ) -> Result<Equipment, CommandRefusal>
     ensures { MatchResult result (λ t. reading table.now ≡ Ok t) (OrMemory (IsTableFault table.now)) }
 {
-    seen.looks = Looks::of(table);
+    seen.looks = TableLook::of(table);
     match read_or_keep(alloc, table, &mut seen.document) {
         Ok(equipment) => Ok(equipment),
         Err(TableFault::NoMemory) => Err(CommandRefusal::Memory),

@@ -4,7 +4,7 @@ use Rattle.std.specs.Prelude.{Err}
 use Rattle.std.proofs.lemmas.Result.{err_from_is_err_and}
 use Rattle.a429_console.specs.FileReadings.{AreRead, IsFileRefusal}
 use Rattle.a429_cert.specs.Judged.{IsVerdictOnBytes}
-use Rattle.a429_cli.specs.PlanReplies.{IsNoVerdict, IsUnjudged, IsVerdictOf}
+use Rattle.a429_cli.specs.PlanReplies.{IsNoCheck, IsUnjudged, IsVerdictOf}
 use Rattle.a429_console.specs.RefusalText.{OrMemory}
 use Rattle.a429_console.proofs.Refused.{failed, matched_both, or_memory_weaker}
 use Rattle.a429_cli.proofs.plan_texts.verdict_on_files.Goals as goal
@@ -14,7 +14,7 @@ returns-in_err-table g c =
     let e = c.in_err-table.field-0.0 in
     let p = err_from_is_err_and c.from_residual.result c.from_residual.ensures.1 in
     read_weaker c.in_err-table.ensures (λ file bad.
-    let none = IsNoVerdict file c.args.table.now c.args.plan.now in
+    let none = IsNoCheck file c.args.table.now c.args.plan.now in
     failed c.from_residual.result _ (OrMemory none) e (p.1 ∙ ap Err p.2)
     (or_memory_weaker (IsFileRefusal file c.args.table.now) none e (λ one. inl (inl one)) bad))
 
@@ -24,7 +24,7 @@ returns-in_err-text g c =
     let e = c.in_err-text.field-0.0 in
     let p = err_from_is_err_and c.from_residual-in_err-text.result c.from_residual-in_err-text.ensures.1 in
     read_then c.in_ok-table.ensures c.in_err-text.ensures (λ file read bad.
-    let none = IsNoVerdict file c.args.table.now plan in
+    let none = IsNoCheck file c.args.table.now plan in
     failed c.from_residual-in_err-text.result _ (OrMemory none) e (p.1 ∙ ap Err p.2)
     (or_memory_weaker (IsFileRefusal file plan) none e (λ one. inl (inr (c.in_ok-table.table.items, read, inl one))) bad))
 
@@ -35,7 +35,7 @@ returns g c =
     let judged = rw (c.deref.ensures.value, c.deref-2.ensures.value) at c.verdict_on-verdict.ensures in
     read_then c.in_ok-table.ensures c.in_ok-text.ensures (λ file first second.
     let read : AreRead file (c.args.table.now ∷ c.args.plan.now ∷ []) (table ∷ text ∷ []) = (first, (second, tt)) in
-    matched_both c.verdict_on-verdict.result (IsVerdictOnBytes table text) (IsVerdictOf file c.args.table.now c.args.plan.now) (OrMemory (IsUnjudged table)) (OrMemory (IsNoVerdict file c.args.table.now c.args.plan.now))
+    matched_both c.verdict_on-verdict.result (IsVerdictOnBytes table text) (IsVerdictOf file c.args.table.now c.args.plan.now) (OrMemory (IsUnjudged table)) (OrMemory (IsNoCheck file c.args.table.now c.args.plan.now))
     (λ v is. (table, text, read, is))
-    (λ e bad. or_memory_weaker (IsUnjudged table) (IsNoVerdict file c.args.table.now c.args.plan.now) e (λ one. inr (table, text, read, one)) bad)
+    (λ e bad. or_memory_weaker (IsUnjudged table) (IsNoCheck file c.args.table.now c.args.plan.now) e (λ one. inr (table, text, read, one)) bad)
     judged)

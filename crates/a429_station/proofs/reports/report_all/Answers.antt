@@ -2,7 +2,7 @@ use Rattle.std.proofs.Common.{rules, ◌∙◌, List, ap, map, subst, sym}
 use Rattle.std.specs.Prelude.{Ok}
 use Rattle.std.specs.List.{AllByRecursion}
 use Rattle.a429_values.specs.Ends as ends
-use Rattle.a429_station.specs.Faults.{IsFirst, first_fault}
+use Rattle.a429_station.specs.Faults.{IsFirstFault, first_fault}
 use Rattle.a429_station.specs.Numbered.{AllNumbered}
 use Rattle.a429_station.specs.Resubmitting.{Running}
 use Rattle.a429_station.specs.Workers.{groups_fault, receivers_fault}
@@ -30,7 +30,7 @@ returns-in_err-check_all_ends-clause-reported g c = early_ok _ _ c.from_residual
 pub returns-in_err-check_all_ends-clause-fault : goal.returns-in_err-check_all_ends-clause-fault
 returns-in_err-check_all_ends-clause-fault g c =
     early_err _ c.from_residual.result c.from_residual.ensures.1
-    (λ e is. subst (IsFirst (receivers_fault c.args.done.first.items) (groups_fault c.args.done.second.items)) (sym is) c.in_err-check_all_ends.ensures.fault)
+    (λ e is. subst (IsFirstFault (receivers_fault c.args.done.first.items) (groups_fault c.args.done.second.items)) (sym is) c.in_err-check_all_ends.ensures.fault)
 
 pub returns-in_err-heard-clause-reported : goal.returns-in_err-heard-clause-reported
 returns-in_err-heard-clause-reported g c = early_ok _ _ c.from_residual-in_err-heard.result c.from_residual-in_err-heard.ensures.1

@@ -9,7 +9,7 @@ use Rattle.a429_workers.specs.Receives.{Gives, after_words}
 use Rattle.a429_station.specs.Course.{HasRunBeside, IsHeardIn, IsSentIn, asked, done_by, fresh}
 use Rattle.a429_station.specs.Faults.{IsRunFault}
 use Rattle.a429_station.specs.Numbered.{AllOfThree}
-use Rattle.a429_station.specs.Workers.{IsReportOf}
+use Rattle.a429_station.specs.Workers.{ReportsAllEnds}
 use Rattle.a429_station.specs.Working.{IsJoined, IsOver, IsReady, IsReceiverAt, emitting}
 use Rattle.a429_station.specs.declared.reports.Report.{Report}
 use Rattle.a429_station.specs.declared.working.Emitted.{Emitted}
@@ -85,7 +85,7 @@ returns-clause-ran g c =
     let es = c.in-Ok.done.second.items in
     let many : length ds ≡ length hub.station.receivers = omega (arith, zip_length did ws ds first, c.requires.all) in
     let x : TakenIn = record { at = hub; first = old.planner; last = new.planner; course = course; receivers = rs } in
-    let by : (report : Report g.row.L.Denot g.row.B.Denot) → IsReportOf hub.station new.planner.list c.in-Ok.done report
+    let by : (report : Report g.row.L.Denot g.row.B.Denot) → ReportsAllEnds hub.station new.planner.list c.in-Ok.done report
     → HasRunBeside (done_by g.K.Control c.args.control.now c.run_at_once.new.meanwhile) g.L.LineSource g.B.BusSink (asked hub.station c.args.frames (map (λ w. w.line) ws) c.args.sinks.items) report = λ report H.
     let lines = three_of did show (λ w. w.line) (λ d. d.line) (λ d. d.answer) (λ k w. w.receiver ≡ fresh hub k) (IsHeardIn gives ended hub.station course) came
     (λ k w d t h p same is. heard_one g.L.LineSource (points_of g.G.Gate w.gate.now) w.number hub course k (listening w.line w.receiver) (listening d.line d.receiver) d.answer t h p same is)

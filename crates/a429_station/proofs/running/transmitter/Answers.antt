@@ -3,7 +3,7 @@ use Rattle.std.specs.List.{AllByRecursion}
 use Rattle.std.specs.Prelude.{Err}
 use Rattle.a429_values.specs.Ends as ends
 use Rattle.a429_values.specs.declared.desk.HubFault.{HubFault}
-use Rattle.a429_workers.specs.declared.cells.OpenFault.{OpenFault}
+use Rattle.a429_slots.specs.declared.open_fault.OpenFault.{OpenFault}
 use Rattle.a429_station.proofs.Counting.{fits_at_first}
 use Rattle.a429_station.proofs.Numbered.{given_more, none_taken}
 use Rattle.a429_station.proofs.running.transmitter.Goals as goal

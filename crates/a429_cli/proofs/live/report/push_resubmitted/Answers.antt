@@ -1,7 +1,7 @@
 use Rattle.std.proofs.Common.{arith, subst}
 use Rattle.std.proofs.lemmas.Result.{on_ok_weaker}
 use Rattle.a429_cli.specs.Resubmitted.{IsAnswer}
-use Rattle.a429_cli.specs.declared.live.control.Answer.TheVariants as answer
+use Rattle.a429_cli.specs.declared.live.control.SubmitAnswer.TheVariants as answer
 use Rattle.a429_cli.proofs.Resubmits.{of_another, published, refused}
 use Rattle.a429_cli.proofs.live.report.push_resubmitted.Goals as goal
 

@@ -10,7 +10,7 @@ use Rattle.a429_station.specs.Faults.{IsLiveFault}
 use Rattle.a429_station.specs.Numbered.{AllOfThree}
 use Rattle.a429_console.specs.Files.{bytes_of}
 use Rattle.a429_cli.specs.LiveReplies.{AreSentWhole, IsReport, IsRunRefusal, IsRunReport}
-use Rattle.a429_cli.specs.declared.live.control.Answer.{Answer}
+use Rattle.a429_cli.specs.declared.live.control.SubmitAnswer.{SubmitAnswer}
 use Rattle.a429_cli.specs.Resubmitted.{AreAnswers}
 use Rattle.a429_console.specs.RefusalText.{OrMemory}
 use Rattle.a429_console.specs.declared.refusals.CommandRefusal.{CommandRefusal}
@@ -37,7 +37,7 @@ returns-in-Ok-clause-report g c =
     let further = bytes_of c.args.further.now in
     let answers = c.deref.result.now in
     let answered : AreAnswers between.begin further answers between.end =
-    subst (λ (xs : List Answer). AreAnswers between.begin further xs between.end) (sym (c.deref.ensures.value ∙ c.hand_faults.ensures.answers))
+    subst (λ (xs : List SubmitAnswer). AreAnswers between.begin further xs between.end) (sym (c.deref.ensures.value ∙ c.hand_faults.ensures.answers))
     (subst (λ (tables : List (Vec ℕ Global)). AreAnswers between.begin (bytes_of tables) c.live_planned.new.control.answers.items between.end) c.new-control.ensures.tables (between.done c.new-control.ensures.none)) in
     let heard = heard_rows t ran.course words (length t.receivers) report.sources.items report.receivers.items
     (subst (λ l. AllOfThree (IsHeardIn GivesFrom all_given t ran.course) l report.sources.items report.receivers.items) (search rules) ran.heard) in

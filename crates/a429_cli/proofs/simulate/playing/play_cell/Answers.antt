@@ -1,4 +1,4 @@
-use Rattle.std.proofs.Common.{◌≡◌, ◌∙◌, ◌∷◌, [], ℕ, sym, subst, ap, append-nil}
+use Rattle.std.proofs.Common.{◌∙◌, [], ℕ, sym, ap, append-nil}
 use Rattle.a429_cli.specs.CellLines.{word_line}
 use Rattle.a429_cli.specs.Simulating.{Asks, sent_line}
 use Rattle.a429_cli.proofs.SimulatedSteps.{takes_one}

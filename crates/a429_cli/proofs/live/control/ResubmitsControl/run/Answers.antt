@@ -4,7 +4,7 @@ use Rattle.std.specs.declared.alloc.Global.{Global}
 use Rattle.std.proofs.Math.ListN.{drop_of_length-le}
 use Rattle.std.proofs.lemmas.List.{drop_more}
 use Rattle.a429_console.specs.Files.{bytes_of}
-use Rattle.a429_cli.specs.declared.live.control.Answer.{Answer}
+use Rattle.a429_cli.specs.declared.live.control.SubmitAnswer.{SubmitAnswer}
 use Rattle.a429_cli.specs.Resubmitted.{AreAnswers, IsAnswer}
 use Rattle.a429_cli.proofs.Resubmits.{one_more_answer}
 use Rattle.a429_cli.proofs.live.control.ResubmitsControl.run.Goals as goal
@@ -36,5 +36,5 @@ returns-clause-did g c =
     let tables = c.args.self.now.tables.now in
     let over : drop c.loop-table.table-index tables ≡ [] = drop_of_length-le tables c.loop-table-test.false in
     let (on, same, answered) = c.loop-table.invariant in
-    λ none. subst (λ (xs : List Answer). AreAnswers c.args.station.now (bytes_of tables) xs c.loop-table.station) (append-nil c.loop-table.self.answers.items)
+    λ none. subst (λ (xs : List SubmitAnswer). AreAnswers c.args.station.now (bytes_of tables) xs c.loop-table.station) (append-nil c.loop-table.self.answers.items)
     (answered none [] c.loop-table.station (subst (λ (ts : List (Vec ℕ Global)). AreAnswers c.loop-table.station (bytes_of ts) [] c.loop-table.station) (sym over) refl))

@@ -1,7 +1,7 @@
 use Rattle.std.proofs.Common.{◌≡◌, [], ◌++◌, List, ℕ, drop}
 use Rattle.a429_station.specs.Resubmitting.{GoesOn, Running}
 use Rattle.a429_console.specs.Files.{bytes_of}
-use Rattle.a429_cli.specs.declared.live.control.Answer.{Answer}
+use Rattle.a429_cli.specs.declared.live.control.SubmitAnswer.{SubmitAnswer}
 use Rattle.a429_cli.specs.Resubmitted.{AreAnswers}
 use Rattle.a429_cli.proofs.live.control.ResubmitsControl.run.Given as goal
 
@@ -9,5 +9,5 @@ use Rattle.a429_cli.proofs.live.control.ResubmitsControl.run.Given as goal
 abbrev pub invariant-loop-table : goal.invariant-loop-table
 invariant-loop-table g l =
     GoesOn l.initial.station l.station × (l.self.tables ≡ l.initial.self.tables)
-    × (l.initial.self.answers.items ≡ [] → (rest : List Answer) (w : Running) → AreAnswers l.station (bytes_of (drop l.table-index l.table-items)) rest w
+    × (l.initial.self.answers.items ≡ [] → (rest : List SubmitAnswer) (w : Running) → AreAnswers l.station (bytes_of (drop l.table-index l.table-items)) rest w
     → AreAnswers l.initial.station (bytes_of l.table-items) (l.self.answers.items ++ rest) w)

@@ -5,7 +5,7 @@ use Rattle.a429_slots.specs.FrameStates.{all_fit}
 use Rattle.a429_slots.specs.Proposed.{Proposed}
 use Rattle.a429_slots.specs.Tables.{groups_of}
 use Rattle.a429_core.specs.MachineStates.{StandsForHistory}
-use Rattle.a429_core.specs.declared.state.OpenFault.TheVariants.{SlotsSpent}
+use Rattle.a429_slots.specs.declared.open_fault.OpenFault.TheVariants.{SlotsSpent}
 use Rattle.a429_cli.specs.Simulating.{heard_at}
 use Rattle.a429_cli.proofs.FirstFrames.{plan_fits}
 use Rattle.a429_cli.proofs.SimulatedSteps.{zero_at}

@@ -3,7 +3,7 @@ use Rattle.std.specs.Prelude.{Option, Some, None, MatchOption, sum_by}
 use Rattle.std.proofs.lemmas.Option.{slice_get_within}
 use Rattle.a429_equipment.specs.Sound.{OfEach}
 use Rattle.a429_cli.specs.Timeline.{IsTimeline}
-use Rattle.a429_cli.specs.Tracks.{ComesFirst, IsLeast, IsTimelineAt, IsTrack}
+use Rattle.a429_cli.specs.Tracks.{ComesFirst, IsNextTrack, IsTimelineAt, IsTrack}
 use Rattle.a429_cli.specs.declared.simulate.log.LogWord.{LogWord}
 use Rattle.a429_cli.specs.declared.simulate.moments.Moment.{Moment}
 use Rattle.a429_cli.specs.declared.simulate.moments.Moment.TheVariants.{Slot}
@@ -12,8 +12,8 @@ use Rattle.a429_cli.proofs.TrackOrder.{advanced_sound, fewer_left, none_taken, s
 use Rattle.a429_cli.proofs.simulate.moments.Timeline.next.Goals as goal
 
 -- what the calls say, of the fields
-least_of : (ts us : List Track) (group : Option ℕ) → us ≡ ts → IsLeast us (length us) group → IsLeast ts (length ts) group
-least_of ts us group same L = subst (λ (xs : List Track). IsLeast xs (length xs) group) same L
+least_of : (ts us : List Track) (group : Option ℕ) → us ≡ ts → IsNextTrack us (length us) group → IsNextTrack ts (length ts) group
+least_of ts us group same L = subst (λ (xs : List Track). IsNextTrack xs (length xs) group) same L
 
 comes_of : (ws vs : List LogWord) (at : ℕ) (ts us : List Track) (group : Option ℕ) (word : Option LogWord) → vs ≡ ws → us ≡ ts → ComesFirst vs at us group word → ComesFirst ws at ts group word
 comes_of ws vs at ts us group word words tracks C =
@@ -43,7 +43,7 @@ returns-in_err-group-clause-taken c = λ q words last M T.
     let none : c.first_group-group.result ≡ None = c.in_err-group.was in
     let no_word : c.next_word.result ≡ None = c.in_default.is in
     subst (λ (r : Option Moment). MatchOption r (IsTimeline q words last M) (λ m. IsTimelineAt q words last (M ++ m ∷ []) old)) (sym c.from_residual.ensures)
-    (none_taken q words last M old T (subst (IsLeast old.tracks.items (length old.tracks.items)) none least)
+    (none_taken q words last M old T (subst (IsNextTrack old.tracks.items (length old.tracks.items)) none least)
     (subst (λ (g : Option ℕ). ComesFirst old.words.items old.at old.tracks.items g None) none (subst (ComesFirst old.words.items old.at old.tracks.items c.first_group-group.result) no_word comes)))
 
 pub returns-clause-taken : goal.returns-clause-taken
@@ -56,7 +56,7 @@ returns-clause-taken c = λ q words last M T.
     let no_word : c.next_word.result ≡ None = c.in_default.is in
     let new = record old { tracks = c.take_slot.new.tracks } in
     subst (λ (t : ℕ). IsTimelineAt q words last (M ++ Slot g t ∷ []) new) (sym c.take_slot.ensures.slot)
-    (slot_taken q words last M old new g T (subst (IsLeast old.tracks.items (length old.tracks.items)) some least)
+    (slot_taken q words last M old new g T (subst (IsNextTrack old.tracks.items (length old.tracks.items)) some least)
     (subst (λ (x : Option ℕ). ComesFirst old.words.items old.at old.tracks.items x None) some (subst (ComesFirst old.words.items old.at old.tracks.items c.first_group-group.result) no_word comes))
     refl c.take_slot.ensures.after refl)
 
@@ -65,7 +65,7 @@ returns-clause-sound c =
     let old = c.args.self.now in
     let g : ℕ = c.in_ok-group.group in
     let some : c.first_group-group.result ≡ Some g = c.in_ok-group.was in
-    let least = subst (IsLeast old.tracks.items (length old.tracks.items)) some (least_of old.tracks.items c.deref.result.now c.first_group-group.result c.deref.ensures.value c.first_group-group.ensures.least) in
+    let least = subst (IsNextTrack old.tracks.items (length old.tracks.items)) some (least_of old.tracks.items c.deref.result.now c.first_group-group.result c.deref.ensures.value c.first_group-group.ensures.least) in
     subst (OfEach IsTrack) (sym c.take_slot.ensures.after) (advanced_sound old.tracks.items g least.1 least.2 least.3 c.requires.sound)
 
 pub returns-clause-shorter : goal.returns-clause-shorter
@@ -73,7 +73,7 @@ returns-clause-shorter c =
     let old = c.args.self.now in
     let g : ℕ = c.in_ok-group.group in
     let some : c.first_group-group.result ≡ Some g = c.in_ok-group.was in
-    let least = subst (IsLeast old.tracks.items (length old.tracks.items)) some (least_of old.tracks.items c.deref.result.now c.first_group-group.result c.deref.ensures.value c.first_group-group.ensures.least) in
+    let least = subst (IsNextTrack old.tracks.items (length old.tracks.items)) some (least_of old.tracks.items c.deref.result.now c.first_group-group.result c.deref.ensures.value c.first_group-group.ensures.least) in
     let f : Track → ℕ = λ z. z.slots - z.next in
     let fewer = fewer_left old.tracks.items g least.1 least.2 least.3 in
     let less : sum_by f c.take_slot.new.tracks.items < sum_by f old.tracks.items = subst (λ (ts : List Track). sum_by f ts < sum_by f old.tracks.items) (sym c.take_slot.ensures.after) fewer in
