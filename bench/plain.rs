@@ -302,24 +302,32 @@ fn groups(plan: &str) -> Result<Vec<Group>, Fault> {
 
 // ---- Scripts
 
-/// Names of at most seven bytes, found by their bytes as a number.
+/// Names of 1 to 16 bytes, found by their bytes as a number.
 struct Names {
-    heads: [u64; 64],
+    heads: [u128; 64],
     numbers: [u8; 64],
 }
 
-fn place(head: u64) -> usize {
-    (head.wrapping_mul(0x9e37_79b9_7f4a_7c15) >> 58) as usize
+fn place(head: u128) -> usize {
+    let folded = head as u64 ^ ((head >> 64) as u64).wrapping_mul(0x9e37_79b9);
+    (folded.wrapping_mul(0x9e37_79b9_7f4a_7c15) >> 58) as usize
+}
+
+/// The place of the first of eight bytes that is `end`; 8 if there is none.
+#[inline(always)]
+fn first_of(bytes: u64, end: u8) -> u32 {
+    let unlike = bytes ^ u64::from(end) * BYTES;
+    (unlike.wrapping_sub(BYTES) & !unlike & BYTES << 7).trailing_zeros() / 8
 }
 
 impl Names {
     fn of(letter: char, count: u8) -> Names {
         let mut names = Names { heads: [0; 64], numbers: [0; 64] };
         for number in 0..count {
-            let mut bytes = [0; 8];
+            let mut bytes = [0; 16];
             let name = format!("{letter}{number}");
             bytes[..name.len()].copy_from_slice(name.as_bytes());
-            let head = u64::from_le_bytes(bytes);
+            let head = u128::from_le_bytes(bytes);
             let mut at = place(head);
             while names.heads[at] != 0 {
                 at = (at + 1) % 64;
@@ -329,13 +337,18 @@ impl Names {
         names
     }
 
-    /// The number of the name before the first of eight bytes that is `end`, and the length of the name.
+    /// The number of the name before the first of sixteen bytes that is `end`, or of all of them, and the length of the
+    /// name.
     #[inline(always)]
-    fn number(&self, bytes: u64, end: u8) -> Option<(u8, usize)> {
-        let unlike = bytes ^ u64::from(end) * BYTES;
-        let like = unlike.wrapping_sub(BYTES) & !unlike & BYTES << 7;
-        let length = like.trailing_zeros() as usize / 8;
-        let head = bytes & (1u64 << (8 * length as u32 & 63)) - 1;
+    fn number(&self, bytes: u128, end: u8) -> Option<(u8, usize)> {
+        let mut length = first_of(bytes as u64, end);
+        if length == 8 {
+            length += first_of((bytes >> 64) as u64, end);
+        }
+        if length == 0 {
+            return None;
+        }
+        let head = bytes & u128::MAX >> (128 - 8 * length);
         let mut at = place(head);
         while self.heads[at] != head {
             if self.heads[at] == 0 {
@@ -343,7 +356,7 @@ impl Names {
             }
             at = (at + 1) % 64;
         }
-        (like != 0 && head != 0).then_some((self.numbers[at], length))
+        Some((self.numbers[at], length as usize))
     }
 }
 
@@ -378,21 +391,22 @@ impl Reader {
     /// The first event of a text that is followed by bytes of no meaning, and the length of its line.
     #[inline(always)]
     fn event(&self, text: &[u8]) -> Option<(Event, usize)> {
-        let eight = |at: usize| Some(u64::from_le_bytes(*text.get(at..)?.first_chunk::<8>()?));
-        let verb = eight(0)?;
+        let verb = u64::from_le_bytes(*text.first_chunk::<8>()?);
+        let name = |at: usize| Some(u128::from_le_bytes(*text.get(at..)?.first_chunk::<16>()?));
         if verb & 0xff_ffff_ffff == u64::from_le_bytes(*b"cell \0\0\0") {
-            let (group, length) = self.groups.number(eight(5)?, b'\n')?;
-            return Some((Event::Cell(group), 5 + length + 1));
+            let (group, length) = self.groups.number(name(5)?, b'\n')?;
+            return (text[5 + length] == b'\n').then_some((Event::Cell(group), 5 + length + 1));
         }
         if verb & 0xff_ffff_ffff_ffff == u64::from_le_bytes(*b"arrive \0") {
-            let (receiver, length) = self.receivers.number(eight(7)?, b' ')?;
-            let word = text.get(7 + length + 1..7 + length + 10)?;
-            let raw = raw_word(&word[..8])?;
-            return (word[8] == b'\n').then_some((Event::Arrive(receiver, raw), 7 + length + 10));
+            let (receiver, length) = self.receivers.number(name(7)?, b' ')?;
+            let [b' ', word @ .., b'\n'] = text.get(7 + length..)?.first_chunk::<10>()? else {
+                return None;
+            };
+            return Some((Event::Arrive(receiver, raw_word(word)?), 7 + length + 10));
         }
         if verb & 0xffff_ffff_ffff == u64::from_le_bytes(*b"frame \0\0") {
-            let (group, length) = self.groups.number(eight(6)?, b'\n')?;
-            return Some((Event::Frame(group), 6 + length + 1));
+            let (group, length) = self.groups.number(name(6)?, b'\n')?;
+            return (text[6 + length] == b'\n').then_some((Event::Frame(group), 6 + length + 1));
         }
         None
     }
@@ -402,7 +416,7 @@ impl Reader {
 fn events(mut script: Vec<u8>) -> Result<Vec<Event>, Fault> {
     let reader = Reader { receivers: Names::of('r', 16), groups: Names::of('g', 8) };
     let size = script.len();
-    script.extend([0; 16]);
+    script.extend([0; 32]);
     let mut events = Vec::with_capacity(size / 7 + 1);
     let mut at = 0;
     while at < size {
