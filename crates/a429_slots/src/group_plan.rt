@@ -240,6 +240,7 @@ impl<const N: usize> GroupPlan<N> {
     }
 
     /// The number of an output's source.
+    #[inline(always)]
     pub fn source(&self, output: OutputId) -> usize
         requires { output < length (outputs_of self.now) }
         ensures { source_of self.now output ≡ Some result }
@@ -249,6 +250,7 @@ impl<const N: usize> GroupPlan<N> {
         self.sources[number]
     }
     /// What limits the sends of an output.
+    #[inline(always)]
     pub fn limits(&self, output: OutputId) -> SendLimits
         requires { output < length (outputs_of self.now) }
         ensures limits { limits_of self.now output ≡ Some result }

@@ -22,15 +22,14 @@ impl Model for GroupSends {
     ghost view = { λ s. s.sources.items };
 }
 
+#[inline(always)]
 fn send_source(sources: &mut Vec<LastSend>, slot: u64, count: u64, due: Due) -> bool
+    requires kept { due.source < length sources.old.items }
     requires some { 1 ≤ due.limits.spacing }
     requires room { slot + 1 < 2 ^ 64 }
     ensures sent { result ≡ source_sends sources.old.items slot count due }
     ensures after { sources.new.items ≡ source_after sources.old.items slot count due }
 {
-    if due.source >= sources.len() {
-        return false;
-    }
     sources[due.source].send(slot, count, due.limits)
 }
 
@@ -54,6 +53,21 @@ impl GroupSends {
     /// Sends the accepted word of this number of an output's source, where the output's limits and what was sent
     /// before let it. Answers whether it is sent; a source of which no sends are kept sends nothing.
     pub fn send(&mut self, slot: u64, count: u64, due: Due) -> bool
+        requires some { 1 ≤ due.limits.spacing }
+        requires room { slot + 1 < 2 ^ 64 }
+        ensures sent { result ≡ source_sends self.old slot count due }
+        ensures after { self.new ≡ source_after self.old slot count due }
+    {
+        if due.source >= self.sources.len() {
+            return false;
+        }
+        self.send_kept(slot, count, due)
+    }
+
+    /// As `send`, for an output of a source of which sends are kept.
+    #[inline(always)]
+    pub fn send_kept(&mut self, slot: u64, count: u64, due: Due) -> bool
+        requires kept { due.source < length self.old }
         requires some { 1 ≤ due.limits.spacing }
         requires room { slot + 1 < 2 ^ 64 }
         ensures sent { result ≡ source_sends self.old slot count due }

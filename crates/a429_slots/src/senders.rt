@@ -69,6 +69,7 @@ impl Sender {
     }
 
     /// Whether cells of the frame are left to send.
+    #[inline(always)]
     pub fn is_mid_frame(&self) -> bool
         ensures { result ≡ (nat_lt self.now.sent (cells_of self.now.table)) }
     {
@@ -92,6 +93,7 @@ impl Sender {
     }
 
     /// The source of an output, and what limits its sends.
+    #[inline(always)]
     pub(crate) fn due(&self, output: OutputId) -> Due
         requires { output < length (outputs_of self.now.table) }
         ensures value { option_map due_of (slice_get (outputs_of self.now.table) output) ≡ Some result }
@@ -104,6 +106,7 @@ impl Sender {
     }
 
     /// The bus and the slot in the frame of the next cell, which then counts as sent.
+    #[inline(always)]
     pub fn cell(&mut self) -> Option<(u32, u64)>
         ensures due { result ≡ next_cell self.old }
         ensures after { self.new ≡ after_cell self.old }

@@ -41,6 +41,7 @@ impl LastSend {
 
     /// Whether the accepted word of this number may be sent in this slot: not where it was sent as often as the
     /// limits say, nor where a word of the source was sent fewer slots before. If so, it counts as sent.
+    #[inline(always)]
     pub fn send(&mut self, slot: u64, count: u64, limits: SendLimits) -> bool
         requires some { 1 ≤ limits.spacing }
         requires room { slot + 1 < 2 ^ 64 }
@@ -48,12 +49,12 @@ impl LastSend {
         ensures after { self.new ≡ recent_after self.old slot count limits.hold limits.spacing }
     {
         let times = if self.count == count { self.times } else { 0 };
-        let is_held = match limits.hold {
-            Some(most) => u64::from(most) <= times,
-            None => false,
-        };
-        let is_close = self.times > 0 && slot.saturating_sub(self.slot) < u64::from(limits.spacing);
-        if is_held || is_close {
+        if let Some(most) = limits.hold {
+            if u64::from(most) <= times {
+                return false;
+            }
+        }
+        if self.times > 0 && slot.saturating_sub(self.slot) < u64::from(limits.spacing) {
             return false;
         }
         self.count = count;

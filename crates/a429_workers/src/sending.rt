@@ -34,6 +34,7 @@ pub enum SendFault {
 }
 
 /// One cell: it passes the gate, is asked for, goes to the sink, and passes the gate again.
+#[inline(always)]
 fn send_cell<B: BusSink, G: Gate>(
     transmit: &mut Transmit,
     sink: &mut B,
@@ -69,6 +70,7 @@ fn send_cell<B: BusSink, G: Gate>(
 }
 
 /// The cells of a frame, from its first on.
+#[inline(always)]
 fn send_frame<B: BusSink, G: Gate>(
     transmit: &mut Transmit,
     sink: &mut B,
@@ -110,6 +112,7 @@ fn next_frame(transmit: &mut Transmit) -> Result<(), SendFault>
 /// frame cannot be counted, and `Gate` where the gate ended the loop, at the point that the loop had come to: a cell is
 /// asked for only after its first point. What was sent before stays sent, and frames that were taken stay taken. It
 /// takes no memory, if the sink takes none.
+#[inline(always)]
 pub fn send_frames<B: BusSink, G: Gate>(
     transmit: &mut Transmit,
     sink: &mut B,

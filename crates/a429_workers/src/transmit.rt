@@ -53,12 +53,14 @@ impl Model for Transmit {
 }
 
 /// The word that goes out for an output where the load of its source found this.
+#[inline(always)]
 fn word_found(
     sends: &mut GroupSends,
     slot: u64,
     due: Due,
     found: Option<(u64, Word)>,
 ) -> Option<Word>
+    requires kept { due.source < length sends.old }
     requires some { 1 ≤ due.limits.spacing }
     requires room { slot + 1 < 2 ^ 64 }
     ensures word { result ≡ (sent_by sends.old slot due found).0 }
@@ -66,7 +68,7 @@ fn word_found(
     ensures sized { length sends.new ≡ length sends.old }
 {
     let (count, word) = found?;
-    if sends.send(slot, count, due) {
+    if sends.send_kept(slot, count, due) {
         Some(word)
     } else {
         None
@@ -74,6 +76,7 @@ fn word_found(
 }
 
 /// The word that goes out in a cell in which this output stands, if any, by one load of its source.
+#[inline(always)]
 fn word_for(
     transmitter: &mut Transmitter,
     sends: &mut GroupSends,

@@ -46,6 +46,7 @@ fn byte_of(output: Option<OutputId>) -> u8
 }
 
 /// The output whose byte this is, if it is one's.
+#[inline(always)]
 fn output_of(byte: u8) -> Option<OutputId>
     requires { 1 ≤ byte }
     ensures { cached result ≡ byte }
@@ -59,6 +60,7 @@ fn output_of(byte: u8) -> Option<OutputId>
 
 /// The output in a cell of a slot table, which is looked up where it was not before.
 #[tactic(auto, using(crate::proofs::Cells::cell_known))]
+#[inline(always)]
 fn look_up(cells: &mut Vec<u8>, plan: &GroupPlan<OUTPUTS>, bus: u32, slot: u64) -> Option<OutputId>
     requires { AreCached plan.now cells.old.items }
     ensures cell { result ≡ cell_at plan.now bus slot }
@@ -70,6 +72,10 @@ fn look_up(cells: &mut Vec<u8>, plan: &GroupPlan<OUTPUTS>, bus: u32, slot: u64) 
     }
     let place = slot as usize * 16 + bus as usize;
     let mut byte = cells[place];
+    // the usual cell, by one test
+    if byte >= 2 {
+        return output_of(byte);
+    }
     if byte == 0 {
         prove!(plan.outputs() <= OUTPUTS);
         byte = byte_of(plan.at(bus, slot));
@@ -134,6 +140,7 @@ impl CachedSender {
     }
 
     /// The output that stands on a bus in a slot of the frame.
+    #[inline(always)]
     pub fn output_in(&mut self, bus: u32, slot: u64) -> Option<Due>
         ensures output { result ≡ option_map due_of (output_in self.old.table bus slot) }
         ensures some { IfSome result (λ due. 1 ≤ due.limits.spacing) }
@@ -145,6 +152,7 @@ impl CachedSender {
     }
 
     /// The bus and the slot in the frame of the next cell, which then counts as sent.
+    #[inline(always)]
     pub fn cell(&mut self) -> Option<(u32, u64)>
         ensures due { result ≡ next_cell self.old }
         ensures after { self.new ≡ after_cell self.old }
