@@ -1,5 +1,5 @@
 -- What was found of the words that name a command.
-use Rattle.std.proofs.Common.{◌≡◌, ◌∙◌, ◌<◌, ◌^◌, ap, sym, refl, true, false, codes, ℕ, Bool, List, arith}
+use Rattle.std.proofs.Common.{◌≡◌, ◌∙◌, ◌∷◌, ◌<◌, ◌^◌, [], ap, fold, map, sym, refl, true, false, codes, ℕ, Bool, List, arith}
 use Rattle.std.specs.Prelude.{Option, Some, None, Result, Ok, Err, not, if◌then◌else◌, is_some, option_and_then, option_map, Box}
 use Rattle.std.proofs.lemmas.Bool.{and_parts}
 use Rattle.std.proofs.lemmas.Option.{same_Some}
@@ -9,7 +9,7 @@ use Rattle.std.specs.Str.Parse.{ParsesUnsigned, digits_value, without_leading_pl
 use Rattle.std.specs.Box.{box_value}
 use Rattle.std.specs.declared.alloc.Global.{Global}
 use Rattle.clap.specs.ValueTests.{is_unsigned_in}
-use Rattle.clap.specs.Words.{ReadsOne, Row, Text, app_of, first_of, one_of, subcommand_name_of, subcommand_rows, subcommand_rows_of}
+use Rattle.clap.specs.Words.{App, ReadsOne, Row, Rule, Text, app_of, first_of, new_app, one_of, subcommand_name_of, subcommand_rows, subcommand_rows_of, with_rule}
 use Rattle.clap.specs.declared.builder.value_parser.ValueParser.TheVariants as reads
 use Rattle.clap.specs.declared.error.Error.{Error}
 use Rattle.clap.specs.declared.parser.matches.SubCommand.{SubCommand}
@@ -19,7 +19,8 @@ use Rattle.clap.specs.declared.parser.matches.ArgMatches.{ArgMatches}
 use Rattle.clap.specs.declared.parser.matches.ArgMatches.TheViews.{out-ArgMatches, out-SubCommand}
 use Rattle.clap.proofs.ValueTestLemmas.{accepts-Accepts}
 use Rattle.a429_equipment.specs.Limits.{most_frames}
-use Rattle.a429_console.specs.CommandLine.{last_time, most_slots}
+use Rattle.a429_console.specs.CommandLine.{command_app, form_rule, last_time, most_slots}
+use Rattle.a429_console.specs.declared.arguments.forms.ArgumentForm.{ArgumentForm}
 use Rattle.a429_console.specs.Requests.{CommandAsk, Word, Lines, Import, Plan, Check, Icd, Margin, Lint, Diff, Draw, Replay, Simulate, LiveAsk, IsReadOf}
 use Rattle.a429_console.specs.RequestRows.{flag_given, found_by, frames_of, number_of, values_of, width_given, width_in}
 use Rattle.a429_console.specs.RequestRows.{word_request, lines_request, import_request, plan_request, check_request, icd_request, margin_request, lint_request, diff_request, draw_request, replay_request, simulate_request, live_request}
@@ -31,6 +32,14 @@ was_not false e = refl
 -- a plain command has no global argument
 pub plain_is_local : (c : Command) → (app_of c).top.is_plain ≡ true → (out-Command c).has_globals ≡ false
 plain_is_local c plain = was_not _ (and_parts _ _ (and_parts _ _ (and_parts _ _ plain).1).1).0
+
+rules_keep_plain : (rules : List Rule) (a : App) → (fold with_rule a rules).top.is_plain ≡ a.top.is_plain
+rules_keep_plain [] a = refl
+rules_keep_plain (rule ∷ rules) a = rules_keep_plain rules (with_rule a rule)
+
+-- a command with arguments of any forms is plain
+pub command_is_plain : (name : Text) (forms : List ArgumentForm) → (command_app name forms).top.is_plain ≡ true
+command_is_plain name forms = rules_keep_plain (map form_rule forms) (new_app name)
 
 pub name_of_rows : (m : ArgMatches) → option_map (λ (p : Text × List Row). p.0) (subcommand_rows_of m) ≡ subcommand_name_of m
 name_of_rows m = go (out-ArgMatches m).subcommand

@@ -1,11 +1,9 @@
 pub mod PlainWords
 pub mod StoppedWords
+pub mod CommandWords
+pub mod NameWords
 pub mod ManyWords
-pub mod RequestWords
-pub mod ImportWords
-pub mod MarginWords
-pub mod LintWords
-pub mod DiffWords
+pub mod RepeatedWords
 pub mod IcdWords
 pub mod DrawWords
 pub mod SimulateWords

@@ -1,41 +1,41 @@
 -- What the words of `simulate` come to, with each of its options and without.
-use Rattle.std.proofs.Common.{◌≡◌, ◌∙◌, ap, ap₂, refl, codes, true, false, List, [], ◌∷◌, ◌++◌, fold}
+use Rattle.std.proofs.Common.{◌≡◌, ◌∙◌, ap, refl, codes, true, false, ℕ, List, [], ◌∷◌, ◌++◌}
 use Rattle.std.specs.Prelude.{Option, Some, None, IfSome, Bool, ◌&&◌, option_map}
-use Rattle.std.specs.List.{list_all}
-use Rattle.clap.specs.Words.{Row, Shape, Text, subcommand_of, takes}
-use Rattle.clap.specs.Walk.{Walk, idle, option, walk, walked, walk_from, nothing_held, finished, stop_after}
-use Rattle.clap.specs.Simple.{built, built_leaf, entered, inherited}
-use Rattle.clap.specs.Takes.{default_passes, is_valid, level_passes, settle_passes, turn_passes, walk_passes}
+use Rattle.clap.specs.Words.{Row, Shape, Text}
+use Rattle.clap.specs.Walk.{Walk, finished, idle, nothing_held, option, walk_from, walked}
+use Rattle.clap.specs.Takes.{turn_passes}
 use Rattle.clap.specs.ValueTests.{is_unsigned_in}
 use Rattle.clap.proofs.OnLiterals.{clap_on_literals}
-use Rattle.a429_console.specs.CommandLine.{command_line, top_shape, simulate_app, last_time}
-use Rattle.a429_console.specs.Requests.{Command, Simulate, flag_words, option_words}
-use Rattle.a429_console.specs.RequestRows.{found_by, number_of, request_by, simulate_request}
+use Rattle.a429_console.specs.CommandLine.{command_line, simulate_app, last_time}
+use Rattle.a429_console.specs.Requests.{Command, CommandAsk, Simulate, flag_words, option_words}
+use Rattle.a429_console.specs.RequestRows.{AsksFor, number_of, simulate_request}
 use Rattle.a429_console.proofs.PlainWords.{IsPlainWord, at_word, for_none, turn_of_value, turn_of_word, walked_value, walked_word}
-use Rattle.a429_console.proofs.StoppedWords.{stopped_more, stopped_passes}
-use Rattle.a429_console.proofs.ManyWords.{row_of_words}
-use Rattle.a429_console.proofs.RequestWords.{at_command, commands, held_last, passes_with, top}
+use Rattle.a429_console.proofs.CommandWords.{IsNamed, Walks, asks_for, ends_well, goes_on, held_last, leaf, row, stays}
 
 abbrev simulate_leaf : Shape
-simulate_leaf = built_leaf (inherited top_shape simulate_app.top)
+simulate_leaf = leaf simulate_app
+
+simulate_named : IsNamed (codes "simulate") simulate_leaf
+unfolding command_line
+simulate_named = record { met = refl; leads = refl; label = refl; no_help = refl }
 
 -- the words after the command's, by the text of the time
 abbrev pub simulate_words : Text → Text → Option Text → Bool → Bool → List Text
 simulate_words t l until summary csv = t ∷ l ∷ (option_words (codes "--until") until ++ (flag_words (codes "--summary") summary ++ flag_words (codes "--csv") csv))
 
 abbrev table_row : Text → List Row
-table_row t = row_of_words (codes "TABLE") (t ∷ []) ∷ []
+table_row t = row (codes "TABLE") t ∷ []
 
 abbrev name_rows : Text → Text → List Row
-name_rows t l = row_of_words (codes "TABLE") (t ∷ []) ∷ row_of_words (codes "LOG") (l ∷ []) ∷ []
+name_rows t l = row (codes "TABLE") t ∷ row (codes "LOG") l ∷ []
 
 -- the rows of the names and of the time
 abbrev value_rows : Text → Text → Option Text → List Row
 value_rows t l None = name_rows t l
-value_rows t l (Some n) = row_of_words (codes "TABLE") (t ∷ []) ∷ row_of_words (codes "LOG") (l ∷ []) ∷ row_of_words (codes "until") (n ∷ []) ∷ []
+value_rows t l (Some n) = row (codes "TABLE") t ∷ row (codes "LOG") l ∷ row (codes "until") n ∷ []
 
 abbrev flag_row : Text → Row
-flag_row id = row_of_words id (codes "true" ∷ [])
+flag_row id = row id (codes "true")
 
 -- after the last value
 abbrev after_values : Text → Text → Option Text → Walk
@@ -130,53 +130,37 @@ csv_turn t l (Some n) true q = refl
 
 -- ---- the walk over all of them
 
--- each of the words passes, and they come to this
-record Walks (from : Walk) (words : List Text) (to : Walk) : Type 0 where
-  pub passes : walk_passes simulate_leaf [] from words ≡ true
-  pub comes : fold (walked simulate_leaf.rules []) from words ≡ to
-
-stays : (w : Walk) → Walks w [] w
-unfolding walk_passes
-stays w = record { passes = refl; comes = refl }
-
-goes_on : (from next to : Walk) (word : Text) (words : List Text) → turn_passes simulate_leaf [] from word ≡ true → walked simulate_leaf.rules [] from word ≡ next → Walks next words to → Walks from (word ∷ words) to
-unfolding walk_passes
-goes_on from next to word words turn step rest = record {
-  passes = rw (turn, step) rest.passes;
-  comes = ap (λ (w : Walk). fold (walked simulate_leaf.rules []) w words) step ∙ rest.comes;
-}
-
 csv_walks : (t l : Text) (until : Option Text) (summary csv : Bool) → PassesTime until
-    → Walks (after_summary t l until summary) (flag_words (codes "--csv") csv) (at_end t l until summary csv)
-csv_walks t l until summary false q = stays (at_end t l until summary false)
+    → Walks simulate_leaf (after_summary t l until summary) (flag_words (codes "--csv") csv) (at_end t l until summary csv)
+csv_walks t l until summary false q = stays simulate_leaf (at_end t l until summary false)
 csv_walks t l until summary true q =
     let last = at_end t l until summary true in
-    goes_on (after_summary t l until summary) last last (codes "--csv") [] (csv_turn t l until summary q) (csv_read t l until summary) (stays last)
+    goes_on simulate_leaf (after_summary t l until summary) last last (codes "--csv") [] (csv_turn t l until summary q) (csv_read t l until summary) (stays simulate_leaf last)
 
 flags_walk : (t l : Text) (until : Option Text) (summary csv : Bool) → PassesTime until
-    → Walks (after_values t l until) (flag_words (codes "--summary") summary ++ flag_words (codes "--csv") csv) (at_end t l until summary csv)
+    → Walks simulate_leaf (after_values t l until) (flag_words (codes "--summary") summary ++ flag_words (codes "--csv") csv) (at_end t l until summary csv)
 flags_walk t l until false csv q = csv_walks t l until false csv q
 flags_walk t l until true csv q =
-    goes_on (after_values t l until) (after_summary t l until true) (at_end t l until true csv) (codes "--summary") (flag_words (codes "--csv") csv) (summary_turn t l until q) (summary_read t l until)
+    goes_on simulate_leaf (after_values t l until) (after_summary t l until true) (at_end t l until true csv) (codes "--summary") (flag_words (codes "--csv") csv) (summary_turn t l until q) (summary_read t l until)
     (csv_walks t l until true csv q)
 
 options_walk : (t l : Text) (until : Option Text) (summary csv : Bool) → PassesTime until
-    → Walks (after_values t l None) (option_words (codes "--until") until ++ (flag_words (codes "--summary") summary ++ flag_words (codes "--csv") csv)) (at_end t l until summary csv)
+    → Walks simulate_leaf (after_values t l None) (option_words (codes "--until") until ++ (flag_words (codes "--summary") summary ++ flag_words (codes "--csv") csv)) (at_end t l until summary csv)
 options_walk t l None summary csv q = flags_walk t l None summary csv q
 options_walk t l (Some n) summary csv q =
     let rest = flag_words (codes "--summary") summary ++ flag_words (codes "--csv") csv in
     let last = at_end t l (Some n) summary csv in
-    goes_on (after_values t l None) (waiting_for (name_rows t l) (codes "until")) last (codes "--until") (n ∷ rest) (until_turn t l) (until_named t l)
-    (goes_on (waiting_for (name_rows t l) (codes "until")) (after_values t l (Some n)) last n rest (value_turn t l n q.0) (until_read t l n q.0)
+    goes_on simulate_leaf (after_values t l None) (waiting_for (name_rows t l) (codes "until")) last (codes "--until") (n ∷ rest) (until_turn t l) (until_named t l)
+    (goes_on simulate_leaf (waiting_for (name_rows t l) (codes "until")) (after_values t l (Some n)) last n rest (value_turn t l n q.0) (until_read t l n q.0)
     (flags_walk t l (Some n) summary csv q))
 
 simulate_walks : (t l : Text) (until : Option Text) (summary csv : Bool) → IsPlainWord t → IsPlainWord l → PassesTime until
-    → Walks (walk_from nothing_held) (simulate_words t l until summary csv) (at_end t l until summary csv)
+    → Walks simulate_leaf (walk_from nothing_held) (simulate_words t l until summary csv) (at_end t l until summary csv)
 simulate_walks t l until summary csv p r q =
     let options = option_words (codes "--until") until ++ (flag_words (codes "--summary") summary ++ flag_words (codes "--csv") csv) in
     let last = at_end t l until summary csv in
-    goes_on (walk_from nothing_held) (after_table t) last t (l ∷ options) (table_turn t p) (table_read t p)
-    (goes_on (after_table t) (after_values t l None) last l options (log_turn t l r) (log_read t l r) (options_walk t l until summary csv q))
+    goes_on simulate_leaf (walk_from nothing_held) (after_table t) last t (l ∷ options) (table_turn t p) (table_read t p)
+    (goes_on simulate_leaf (after_table t) (after_values t l None) last l options (log_turn t l r) (log_read t l r) (options_walk t l until summary csv q))
 
 -- ---- what stands at the end
 
@@ -194,10 +178,7 @@ simulate_read t l (Some n) true false = refl
 simulate_read t l (Some n) true true = refl
 
 -- it passes
-ends_well : Walk → Bool
-ends_well w = settle_passes simulate_leaf.rules false w.held && (list_all default_passes simulate_leaf.rules && is_valid simulate_leaf (finished simulate_leaf.rules w.held) false)
-
-simulate_ends : (t l : Text) (until : Option Text) (summary csv : Bool) → PassesTime until → ends_well (at_end t l until summary csv) ≡ true
+simulate_ends : (t l : Text) (until : Option Text) (summary csv : Bool) → PassesTime until → ends_well simulate_leaf (at_end t l until summary csv) ≡ true
 unfolding ends_well clap_on_literals
 simulate_ends t l None false false q = refl
 simulate_ends t l None false true q = refl
@@ -208,39 +189,8 @@ simulate_ends t l (Some n) false true q = refl
 simulate_ends t l (Some n) true false q = refl
 simulate_ends t l (Some n) true true q = refl
 
-simulate_level : (t l : Text) (until : Option Text) (summary csv : Bool) → IsPlainWord t → IsPlainWord l → PassesTime until
-    → level_passes simulate_leaf [] nothing_held (simulate_words t l until summary csv) false ≡ true
-unfolding ends_well
-simulate_level t l until summary csv p r q =
-    let walks = simulate_walks t l until summary csv p r q in
-    ap₂ (λ (a b : Bool). a && b) walks.passes (ap ends_well walks.comes ∙ simulate_ends t l until summary csv q)
-
--- ---- the words of the command line
-
-simulate_stop : (words : List Text) → stop_after top.rules commands (codes "simulate" ∷ words) ≡ Some (codes "simulate", words)
-unfolding command_line clap_on_literals
-simulate_stop words = ap (λ (w : Walk). w.stopped) (stopped_more top.rules commands (at_command (codes "simulate")) (codes "simulate") [] words refl)
-
-simulate_enters : (words : List Text) → entered (built command_line) (Some (codes "simulate", words)) ≡ Some (codes "simulate", finished simulate_leaf.rules (walk simulate_leaf.rules [] nothing_held words).held)
-unfolding command_line clap_on_literals
-simulate_enters words = refl
-
-simulate_entered : (words : List Text) → subcommand_of command_line (codes "simulate" ∷ words) ≡ Some (codes "simulate", finished simulate_leaf.rules (walk simulate_leaf.rules [] nothing_held words).held)
-unfolding command_line
-simulate_entered words = ap (entered (built command_line)) (simulate_stop words) ∙ simulate_enters words
-
-pub simulate_asked : (t l : Text) (until : Option Text) (summary csv : Bool) → IsPlainWord t → IsPlainWord l → PassesTime until
-    → found_by request_by (subcommand_of command_line (codes "simulate" ∷ simulate_words t l until summary csv))
-    ≡ option_map Command (option_map (λ n. Simulate t l n summary csv) (number_of 0 last_time until))
-simulate_asked t l until summary csv p r q =
-    ap (found_by request_by) (simulate_entered (simulate_words t l until summary csv))
-    ∙ ap (option_map Command)
-    (ap (λ (w : Walk). simulate_request (finished simulate_leaf.rules w.held)) (simulate_walks t l until summary csv p r q).comes ∙ simulate_read t l until summary csv)
-
-pub simulate_takes : (t l : Text) (until : Option Text) (summary csv : Bool) → IsPlainWord t → IsPlainWord l → PassesTime until
-    → takes command_line (codes "simulate" ∷ simulate_words t l until summary csv) ≡ true
-unfolding command_line clap_on_literals passes_with
-simulate_takes t l until summary csv p r q =
-    ap₂ passes_with (stopped_more top.rules commands (at_command (codes "simulate")) (codes "simulate") [] (simulate_words t l until summary csv) refl)
-    (stopped_passes top commands (at_command (codes "simulate")) (codes "simulate") [] (simulate_words t l until summary csv) refl)
-    ∙ rw (simulate_level t l until summary csv p r q) refl
+pub simulate_asks : (t l : Text) (until : Option Text) (summary csv : Bool) (r : CommandAsk) → IsPlainWord t → IsPlainWord l → PassesTime until
+    → option_map (λ (n : Option ℕ). Simulate t l n summary csv) (number_of 0 last_time until) ≡ Some r → AsksFor (codes "simulate" ∷ simulate_words t l until summary csv) (Command r)
+simulate_asks t l until summary csv r p q passes is =
+    asks_for (codes "simulate") simulate_leaf (simulate_words t l until summary csv) (at_end t l until summary csv) (Command r) simulate_named (simulate_walks t l until summary csv p q passes)
+    (simulate_ends t l until summary csv passes) (ap (option_map Command) (simulate_read t l until summary csv ∙ is))

@@ -1,10 +1,14 @@
 -- The command line of the program.
-use Rattle.std.specs.Prelude.{◌≡◌, ◌≢◌, ◌≤◌, ◌∷◌, ◌⊎◌, [], ℕ, true, false, Some, codes, ⊤}
+use Rattle.std.specs.Prelude.{◌≡◌, ◌≢◌, ◌≤◌, ◌∷◌, ◌⊎◌, [], ℕ, List, true, false, Some, codes, fold, map, ⊤}
 use Rattle.clap.specs.Words.{App, Rule, Shape, Text, new_app, new_rule, rule_of, with_rule, with_subcommand}
 use Rattle.clap.specs.declared.builder.arg.Arg.{Arg}
 use Rattle.clap.specs.declared.builder.action.ArgAction.TheVariants.{Append, SetTrue}
 use Rattle.clap.specs.declared.builder.value_parser.ValueParser.TheVariants as reads
 use Rattle.a429_equipment.specs.Limits.{most_frames}
+use Rattle.a429_console.specs.declared.arguments.forms.ArgumentForm.{ArgumentForm}
+use Rattle.a429_console.specs.declared.arguments.forms.ArgumentKind.{ArgumentKind}
+use Rattle.a429_console.specs.declared.arguments.forms.CommandForm.{CommandForm}
+use Rattle.a429_console.specs.declared.arguments.forms.ArgumentKind.TheVariants as given
 
 abbrev pub required_rule : Text → Rule
 required_rule id = record (new_rule id) { required = true }
@@ -28,6 +32,25 @@ option_rule name = record (new_rule name) { long = Some name; value_names = 1 }
 -- and whose value is a whole number from the least to the most
 abbrev pub number_option_rule : Text → ℕ → ℕ → Rule
 number_option_rule name least most = record (option_rule name) { parser = Some (reads.Unsigned least most) }
+
+-- the rule of an argument for which this is given
+abbrev pub kind_rule : Text → ArgumentKind → Rule
+kind_rule id given.Required = required_rule id
+kind_rule id (given.Number most) = number_rule id most
+kind_rule id given.Repeated = many_rule id
+kind_rule id given.Flag = flag_rule id
+kind_rule id (given.Value value) = option_rule id
+kind_rule id (given.NumberValue value least most) = number_option_rule id least most
+
+abbrev pub form_rule : ArgumentForm → Rule
+form_rule form = kind_rule form.id.now form.kind
+
+-- a command of this name with arguments of these forms
+abbrev pub command_app : Text → List ArgumentForm → App
+command_app name forms = fold with_rule (new_app name) (map form_rule forms)
+
+abbrev pub form_app : CommandForm → App
+form_app form = command_app form.name.now form.arguments.now
 
 -- an argument of this rule, for one command alone
 abbrev pub HasRule : Arg → Rule → Type 0
@@ -93,18 +116,14 @@ top_shape = record ((new_app (codes "a429")).top) { has_version = true; no_binar
 abbrev pub bare_line : App
 bare_line = record { top = top_shape; subs = [] }
 
--- with the commands on words and lines, and the one on rows of comma-separated values
-abbrev pub reading_line : App
-reading_line = with_subcommand (with_subcommand (with_subcommand bare_line word_app.top) lines_app.top) import_app.top
-
--- and those on plans, but for their image
-abbrev pub planning_line : App
-planning_line =
-    with_subcommand (with_subcommand (with_subcommand (with_subcommand (with_subcommand (with_subcommand reading_line plan_app.top) check_app.top) icd_app.top) margin_app.top)
-    lint_app.top) diff_app.top
+-- with these commands more
+abbrev pub with_commands : App → List App → App
+with_commands line apps = fold (λ (a b : App). with_subcommand a b.top) line apps
 
 unfoldable pub command_line : App
-command_line = with_subcommand (with_subcommand (with_subcommand (with_subcommand planning_line draw_app.top) replay_app.top) simulate_app.top) live_app.top
+command_line =
+    with_commands bare_line
+    (word_app ∷ lines_app ∷ import_app ∷ plan_app ∷ check_app ∷ icd_app ∷ margin_app ∷ lint_app ∷ diff_app ∷ draw_app ∷ replay_app ∷ simulate_app ∷ live_app ∷ [])
 
 -- a name of a file, which no option can be
 abbrev pub IsName : Text → Type 0

@@ -13,7 +13,7 @@ use clap::{ArgMatches, Error};
 use std::alloc::{AllocError, Global};
 
 /// What the words ask for.
-#[derive(Debug, Drop)]
+#[derive(Drop)]
 pub enum Request<'a> {
     /// One of the commands that `command` does.
     Command(CommandRequest<'a>),
@@ -22,7 +22,7 @@ pub enum Request<'a> {
 }
 
 /// What `command` is asked for.
-#[derive(Debug, Drop)]
+#[derive(Drop)]
 pub enum CommandRequest<'a> {
     /// To tell what the word of this text says.
     Word {
@@ -80,7 +80,7 @@ pub enum CommandRequest<'a> {
 /// To draw the plan of the table of this name as an image: each group, or the one of this name alone, and of each
 /// bus so many slots, from 1 to 8192, or where that is not said a frame, of which 256 slots at most; in folds of 64, 128 or
 /// 256 slots, or where that is not said of 64. Or a page with that image and the lines of the documents.
-#[derive(Clone, Copy, Debug)]
+#[derive(Clone, Copy)]
 pub struct DrawRequest<'a> {
     pub table: &'a str,
     pub group: Option<&'a str>,
@@ -92,7 +92,7 @@ pub struct DrawRequest<'a> {
 /// To print which words the station of the table of this name sends by the log of this name: until this
 /// microsecond, or where that is not said until all words can be out. With a summary, one line for each output in place
 /// of one for each word. Or the same as comma-separated values.
-#[derive(Clone, Copy, Debug)]
+#[derive(Clone, Copy)]
 pub struct SimulateRequest<'a> {
     pub table: &'a str,
     pub log: &'a str,
@@ -103,7 +103,7 @@ pub struct SimulateRequest<'a> {
 
 /// To run the station of the table of this name on threads of its own, with the words of the file of this name, for
 /// so many frames, while the plans of further tables are published.
-#[derive(Debug, Drop)]
+#[derive(Drop)]
 pub struct LiveRequest<'a> {
     pub table: &'a str,
     pub words: &'a str,

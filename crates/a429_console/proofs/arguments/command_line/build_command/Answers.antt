@@ -1,13 +1,14 @@
-use Rattle.std.proofs.Common.{refl}
-use Rattle.a429_console.specs.CommandLine.{command_line}
+use Rattle.std.proofs.Common.{ap, ap₂, ◌∙◌}
+use Rattle.std.proofs.lemmas.Result.{IfOk-weaker}
+use Rattle.a429_console.specs.CommandLine.{bare_line, command_line, with_commands}
 use Rattle.a429_console.proofs.arguments.command_line.build_command.Goals as goal
 
 pub returns : goal.returns
 unfolding command_line
 returns c =
-    let reading = c.with_reading-line.ensures c.top_command.ensures in
-    let planning = c.with_planning-line.ensures reading in
-    let draw = c.with_command-line.ensures _ _ planning c.draw_command.ensures refl in
-    let replay = c.with_command-line-2.ensures _ _ draw c.replay_command.ensures refl in
-    let simulate = c.with_command-line-3.ensures _ _ replay c.simulate_command.ensures refl in
-    c.with_command.ensures _ _ simulate c.live_command.ensures refl
+    let first = c.with_forms-line.ensures _ c.top_command.ensures in
+    let second = c.with_forms-line-2.ensures _ first in
+    let third = c.with_forms-line-3.ensures _ second in
+    let plans = ap₂ with_commands (ap (with_commands bare_line) c.word_forms.ensures) c.plan_forms.ensures in
+    let all = ap₂ with_commands (ap₂ with_commands plans c.review_forms.ensures) c.run_forms.ensures in
+    IfOk-weaker c.with_forms.result _ _ (λ r is. is ∙ all) (c.with_forms.ensures _ third)

@@ -7,7 +7,7 @@ use Rattle.a429_console.specs.CommandLine.{command_line}
 use Rattle.a429_console.specs.RequestRows.{AsksFor, found_by, request_by}
 use Rattle.a429_console.specs.Usage.{ComesTo, found_kinds, is_live, is_run, kinds_of_words, live_kinds_of_words}
 use Rattle.a429_console.proofs.Elsewhere.{comes_to_after, kind_in_first}
-use Rattle.a429_console.proofs.RequestWords.{is_free_here, is_simple_here}
+use Rattle.a429_console.proofs.CommandWords.{is_free_here, is_simple_here}
 use Rattle.a429_console.proofs.arguments.requests.parse.Goals as goal
 
 pub returns-in_err-matches : goal.returns-in_err-matches

@@ -1,4 +1,0 @@
-use Rattle.a429_console.proofs.arguments.command_line.plan_command.Goals as goal
-
-pub returns : goal.returns
-returns c = c.with_argument.ensures _ _ c.named_command-plan.ensures c.required_argument.ensures

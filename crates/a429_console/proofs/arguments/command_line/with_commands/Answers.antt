@@ -1,0 +1,21 @@
+use Rattle.std.proofs.Common.{◌≡◌, ◌∷◌, ◌+◌, [], drop, get_or}
+use Rattle.std.proofs.Math.ListN.{drop_of_length-le}
+use Rattle.std.proofs.lemmas.List.{drop_more}
+use Rattle.a429_console.specs.declared.arguments.forms.CommandForm.{CommandForm}
+use Rattle.a429_console.proofs.arguments.command_line.with_commands.Goals as goal
+
+abbrev none : CommandForm
+none = record { name = record { ref_ptr = (0, 0); now = [] }; about = record { ref_ptr = (0, 0); now = [] }; end = record { ref_ptr = (0, 0); now = [] }; arguments = record { ref_ptr = (0, 0); now = [] } }
+
+pub loop-form-preserved : goal.loop-form-preserved
+loop-form-preserved c =
+    let forms = c.args.forms.now in
+    let form = get_or forms c.loop-form.form-index none in
+    let left = drop (c.loop-form.form-index + 1) forms in
+    let more : drop c.loop-form.form-index forms ≡ form ∷ left = drop_more forms c.loop-form.form-index none c.loop-form-test.true in
+    rw c.in_ok-line.ensures (rw more at c.loop-form.invariant)
+
+pub returns : goal.returns
+returns c =
+    let none_left : drop c.loop-form.form-index c.args.forms.now ≡ [] = drop_of_length-le c.args.forms.now c.loop-form-test.false in
+    rw none_left at c.loop-form.invariant
