@@ -7,3 +7,4 @@ pub mod Between
 pub mod Origins
 pub mod RunPlaces
 pub mod KnownWords
+pub mod Icd

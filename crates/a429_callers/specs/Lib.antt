@@ -2,3 +2,4 @@ pub mod OneRun
 pub mod Serving
 pub mod Origins
 pub mod KnownWords
+pub mod ImportedIcd

@@ -32,3 +32,9 @@ pub none_common : (has_gap : Bool) (a b : Proposed) (g : ℕ) (row : GroupRow) �
 none_common has_gap a b g row here named =
     ap (λ (r : Option GroupRow). option_map_or (λ (row : GroupRow). group_against has_gap row.name a b g (group_named b.station.groups row.name)) r []) here
     ∙ ap (group_against has_gap row.name a b g) named
+
+pub some_common : (has_gap : Bool) (a b : Proposed) (g other : ℕ) (row : GroupRow) → slice_get a.station.groups g ≡ Some row → group_named b.station.groups row.name ≡ Some other
+    → common_line has_gap a b g ≡ group_against has_gap row.name a b g (Some other)
+some_common has_gap a b g other row here named =
+    ap (λ (r : Option GroupRow). option_map_or (λ (row : GroupRow). group_against has_gap row.name a b g (group_named b.station.groups row.name)) r []) here
+    ∙ ap (group_against has_gap row.name a b g) named

@@ -1,5 +1,5 @@
 -- What the text of an image is made of.
-use Rattle.std.proofs.Common.{◌≡◌, ℕ, suc, ◌+◌, ◌^◌, ◌<◌, List, [], ◌∷◌, ◌++◌, length, Option, Some, ap, sym, subst, arith, ◌∙◌, append_assoc}
+use Rattle.std.proofs.Common.{◌≡◌, ℕ, suc, ◌+◌, ◌<◌, List, [], ◌∷◌, ◌++◌, length, Option, Some, ap, sym, subst, arith, ◌∙◌, append_assoc}
 use Rattle.std.specs.Prelude.{Bool, true, false, cond, slice_get, option_map, count_by}
 use Rattle.std.specs.List.{range_with_len, sum_by}
 use Rattle.std.specs.Option.{option_map_or}

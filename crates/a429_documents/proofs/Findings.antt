@@ -1,6 +1,7 @@
 -- What the text of `lint` is made of.
-use Rattle.std.proofs.Common.{◌≡◌, ℕ, zero, suc, ◌+◌, ◌<◌, Bool, true, false, List, [], ◌∷◌, ◌++◌, length, map, take, get_or, Option, Some, ap, ap₂, sym, subst, refl, arith, ◌∙◌}
-use Rattle.std.specs.Prelude.{◌||◌, option_map, slice_get}
+use Rattle.std.proofs.Common.{◌≡◌, ℕ, zero, suc, ◌+◌, ◌<◌, Bool, true, false, List, [], ◌∷◌, ◌++◌, length, map, take, get_or, codes, Option, Some, ap, ap₂, sym, subst, refl, arith, ◌∙◌}
+use Rattle.std.specs.Prelude.{◌||◌, if◌then◌else◌, option_map, slice_get}
+use Rattle.std.specs.Fmt.{decimal}
 use Rattle.std.specs.List.{AllZip, flat_map, list_any, range_with_len}
 use Rattle.std.specs.Option.{option_map_or}
 use Rattle.std.proofs.lemmas.List.{flat_map_more}
@@ -13,12 +14,14 @@ use Rattle.a429_word.proofs.Lists.{range_next, read_is, take_next}
 use Rattle.a429_equipment.specs.TableRecord.{TableRecord, outputs_in}
 use Rattle.a429_equipment.specs.declared.rows.GroupRow.{GroupRow}
 use Rattle.a429_equipment.specs.declared.rows.OutputRow.{OutputRow}
+use Rattle.a429_equipment.specs.declared.rows.SourceRow.{SourceRow}
+use Rattle.a429_filter.specs.declared.filters.Filter.{Filter}
 use Rattle.a429_pack.specs.declared.demands.Demand.{Demand}
 use Rattle.a429_slots.specs.Asked.{IsAsked}
 use Rattle.a429_slots.specs.Planned.{rated_outputs}
 use Rattle.a429_slots.proofs.Planning.{rated_at}
 use Rattle.a429_documents.specs.declared.lint.GroupFinding.{GroupFinding}
-use Rattle.a429_documents.specs.Lint.{AreAsked, asked_in, group_finding, group_lines}
+use Rattle.a429_documents.specs.Lint.{AreAsked, asked_in, blind_line, group_finding, group_lines, sees_source}
 
 -- ---- one more
 
@@ -77,3 +80,11 @@ module _ (e : TableRecord) (asked : List (List Demand)) (g : ℕ) (row : GroupRo
 -- what is read of the lists that are kept
 pub kept_at : (asked : List (Vec Demand Global)) (g : ℕ) (v : Vec Demand Global) → g < length asked → v ≡ get_or asked g v → slice_get (map (λ v. v.items) asked) g ≡ Some v.items
 kept_at asked g v below is = slice_get-map (λ v. v.items) asked g ∙ ap (option_map (λ (v : Vec Demand Global). v.items)) (read_is asked g v below is)
+
+-- ---- a filter that passes no source
+
+pub blind_is : (sources : List SourceRow) (r : ℕ) (name : List ℕ) (filters : List Filter) (n : ℕ) (f : Filter) → slice_get filters n ≡ Some f → sees_source sources r f ≡ false
+    → codes "blind " ++ (name ++ (codes " " ++ (decimal (n + 1) ++ codes "\n"))) ≡ blind_line sources r name filters n
+blind_is sources r name filters n f there unseen =
+    let line : List ℕ = codes "blind " ++ (name ++ (codes " " ++ (decimal (n + 1) ++ codes "\n"))) in
+    sym (ap (λ (o : Option Filter). option_map_or (λ f. if sees_source sources r f then [] else line) o []) there ∙ ap (λ (b : Bool). if b then [] else line) unseen)

@@ -283,3 +283,9 @@ pub row_refused : {X : Type 0} (view : X → List ImportRow) (heading : List (Li
 row_refused view heading earlier line lines NoMemory h = tt
 row_refused view heading earlier line lines (Csv number kind column) h = ap (λ (r : Result ImportRow CsvFault). r >>= λ next. rows_after heading (earlier ++ next ∷ []) lines) h
 row_refused view heading earlier line lines (Table f) h = absurd h
+
+-- a refusal is one whatever would have been read
+pub same_refusal : {X Y : Type 0} (view : X → List ImportRow) (other : Y → List ImportRow) (e : ImportFault) (stated : Result (List ImportRow) CsvFault) → States view (Err e) stated → States other (Err e) stated
+same_refusal view other NoMemory stated h = tt
+same_refusal view other (Csv line kind column) stated h = h
+same_refusal view other (Table fault) stated h = absurd h

@@ -1,14 +1,18 @@
 -- The tree that rows state: how it is built, and how deep it is.
-use Rattle.std.proofs.Common.{codes, ◌≡◌, ℕ, ◌≤◌, true, List, [], ◌∷◌, map, Option, None, Some, String, Global, string_bytes, Ordering, Less, Equal, Greater, arith, ap, refl, ◌∙◌}
+use Rattle.std.proofs.Common.{codes, ◌≡◌, ◌==◌, ◌+◌, ◌++◌, append_assoc, cond, drop, length, sym, take, ℕ, ◌≤◌, Bool, true, false, List, [], ◌∷◌, map, Option, None, Some, String, Global, string_bytes, Ordering, Less, Equal, Greater, arith, ap, refl, ◌∙◌}
+use Rattle.std.specs.Prelude.{filter, if◌then◌else◌, slice_get}
 use Rattle.std.specs.Ordering.{is_lt, match_ordering}
 use Rattle.std.specs.BTreeMap.{insert_entry}
 use Rattle.std.specs.String.{string_cmp}
+use Rattle.std.proofs.lemmas.List.{map-append}
 use Rattle.toml.specs.Data.{Data, Members, no_members, member, string, depth, items_depth, members_depth, is_before}
 use Rattle.toml.specs.View.{items_of, members_view, view}
 use Rattle.toml.specs.declared.value.Value.{Value}
+use Rattle.a429_word.proofs.Lists.{clash, drop_at, take_next}
 use Rattle.a429_documents.specs.declared.import.rows.ImportRow.{ImportRow}
+use Rattle.a429_documents.specs.declared.import.firsts.Part.{Part}
 use Rattle.a429_documents.specs.declared.import.firsts.Part.TheVariants.{Receivers, Sources, Groups}
-use Rattle.a429_documents.specs.ImportTables.{with_filters, with_hold, sdi_data, number, words, firsts, rows_of_group, receiver_tree, source_tree, output_tree, group_tree, root_members}
+use Rattle.a429_documents.specs.ImportTables.{firsts_after, is_word, listed, part_tree, unless_known, with_filters, with_hold, sdi_data, number, words, firsts, rows_of_group, receiver_tree, source_tree, output_tree, group_tree, root_members}
 
 abbrev Entry : Type 0
 Entry = String Global × Value
@@ -85,3 +89,42 @@ root_depth rows =
 -- one key more in front
 pub put_next : (key : List ℕ) (value : Data) (old new rest : Members) → old ≡ rest → is_before key rest ≡ true → (is_before key old ≡ true → new ≡ member key value old) → new ≡ member key value rest
 put_next key value old new rest same before put = put (rw same before) ∙ ap (member key value) same
+
+-- ---- words
+
+if_word : (b : Bool) (word : List ℕ) (words : List (List ℕ)) → map (λ w. string w) (cond b (word ∷ words) words) ≡ (if b then string word ∷ [] else []) ++ map (λ w. string w) words
+if_word true word words = refl
+if_word false word words = refl
+
+-- one more part of a text, which may be no word
+pub words_more : {X : Type 0} (xs : List X) (text : X → List ℕ) (k : ℕ) (x : X) (old new whole : List Data) → slice_get xs k ≡ Some x
+    → old ++ map (λ w. string w) (filter is_word (map text (drop k xs))) ≡ whole → new ≡ old ++ (if is_word (text x) then string (text x) ∷ [] else [])
+    → new ++ map (λ w. string w) (filter is_word (map text (drop (k + 1) xs))) ≡ whole
+words_more {X} xs text k x old new whole there so now =
+    let others : List (List ℕ) = filter is_word (map text (drop (k + 1) xs)) in
+    let first : List Data = if is_word (text x) then string (text x) ∷ [] else [] in
+    let left : map (λ w. string w) (filter is_word (map text (drop k xs))) ≡ first ++ map (λ w. string w) others =
+    ap (λ (ys : List X). map (λ w. string w) (filter is_word (map text ys))) (drop_at xs k x there) ∙ if_word (is_word (text x)) (text x) others in
+    ap (λ (ds : List Data). ds ++ map (λ w. string w) others) now ∙ append_assoc old first (map (λ w. string w) others) ∙ ap (λ (ds : List Data). old ++ ds) (sym left) ∙ so
+
+-- the filters of a receiver that has some
+pub filters_put : (ws : List (List ℕ)) (values : List Value) (old new : Members) → map view values ≡ map (λ w. string w) ws → (length values == 0) ≡ false
+    → new ≡ member (codes "filters") (listed (map view values)) old → new ≡ with_filters ws old
+filters_put [] [] old new same some put = absurd (clash (sym some))
+filters_put [] (v ∷ values) old new same some put = cc
+filters_put (w ∷ ws) values old new same some put = put ∙ ap (λ (ds : List Data). member (codes "filters") (listed ds) old) same
+
+-- ---- receivers, sources and groups
+
+-- one more row, which may be the first of its part
+pub trees_more : (part : Part) (rows : List ImportRow) (k : ℕ) (row : ImportRow) (old new whole : List Data) → slice_get rows k ≡ Some row
+    → old ++ map (part_tree part rows) (firsts_after part (take k rows) (drop k rows)) ≡ whole → new ≡ old ++ map (part_tree part rows) (unless_known part (take k rows) row)
+    → new ++ map (part_tree part rows) (firsts_after part (take (k + 1) rows) (drop (k + 1) rows)) ≡ whole
+trees_more part rows k row old new whole there so now =
+    let tree : ImportRow → Data = part_tree part rows in
+    let first : List ImportRow = unless_known part (take k rows) row in
+    let others : List ImportRow = firsts_after part (take (k + 1) rows) (drop (k + 1) rows) in
+    let left : map tree (firsts_after part (take k rows) (drop k rows)) ≡ map tree first ++ map tree others =
+    ap (λ (rest : List ImportRow). map tree (firsts_after part (take k rows) rest)) (drop_at rows k row there)
+    ∙ ap (λ (earlier : List ImportRow). map tree (first ++ firsts_after part earlier (drop (k + 1) rows))) (sym (take_next rows k row there)) ∙ map-append tree first others in
+    ap (λ (ds : List Data). ds ++ map tree others) now ∙ append_assoc old (map tree first) (map tree others) ∙ ap (λ (ds : List Data). old ++ ds) (sym left) ∙ so

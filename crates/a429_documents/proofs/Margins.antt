@@ -19,6 +19,11 @@ pub stands_at : (t : SlotTable) (o : ℕ) (place : SlotPlace) → o < length (ou
 stands_at t o place below at =
     same_Some _ _ (sym (ap (option_map (λ (p : Placed). p.place)) (output_is t o below)) ∙ at)
 
+-- one more of what is answered of each element
+pub mapped_more : {X Y : Type 0} (f : X → Y) (xs : List X) (k : ℕ) (x : X) (old new : List Y) → slice_get xs k ≡ Some x → old ≡ map f (take k xs) → new ≡ old ++ f x ∷ [] → new ≡ map f (take (k + 1) xs)
+mapped_more {X} {Y} f xs k x old new there so now =
+    now ∙ ap (λ (ys : List Y). ys ++ f x ∷ []) so ∙ sym (ap (map f) (take_next xs k x there) ∙ map-append f (take k xs) (x ∷ []))
+
 -- one more period
 pub period_more : (t : SlotTable) (ps new : List ℕ) (k : ℕ) (place : SlotPlace) → k < length (outputs_of t) → place_of t k ≡ Some place → ps ≡ map (λ o. o.place.period) (take k (outputs_of t))
     → new ≡ ps ++ place.period ∷ [] → new ≡ map (λ o. o.place.period) (take (k + 1) (outputs_of t))

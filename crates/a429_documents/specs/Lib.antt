@@ -17,7 +17,6 @@ pub mod ImportFaults
 pub mod ImportTexts
 pub mod Imports
 pub mod ImportedRows
-pub mod ImportedIcd
 pub mod FirstRows
 pub mod ImportClashes
 pub mod NextRows

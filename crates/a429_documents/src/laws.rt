@@ -1,12 +1,10 @@
 //! What holds of the definitions that the contracts cite.
-ghost use Rattle.a429_documents.specs.ImportedIcd.{ImportedIcdIsSamePlan};
 ghost use Rattle.a429_documents.specs.ImportedRows.{RowsAreInRecord};
 ghost use Rattle.a429_documents.specs.Losses.{BusCountsAreFewest, NoLossIsAllServed};
 ghost use Rattle.a429_documents.specs.Margins.{WiderIntervalsAreNext};
 ghost use Rattle.a429_documents.specs.Unchanged.{NoStationLineIsOneStation, SameIsNoLine, SameIsOnePlan};
 
 use a429_pack::laws::fewest_by_demand;
-use a429_slots::laws::plans_are_unique;
 
 /// An interval whose greatest time becomes what twice its grid period lasts, rounded up to a whole microsecond, has
 /// that as its grid period, where the grid has such a period.
@@ -52,13 +50,3 @@ pub fn same_is_one_plan()
 pub fn imported_rows_are_in_record()
     ensures { RowsAreInRecord }
 {}
-
-/// If `import_table` is given what `icd_csv` answers for a table of version 2 without filters, it answers a table that is
-/// read with the same groups and outputs, in order, each with the same source and receiver, and the text of its plan is the
-/// same. Only the numbers of sources and receivers may be others, and the sources that no group sends and the receivers
-/// that are left without a source are gone. The one error is that memory ran out.
-pub fn imported_icd_is_same_plan()
-    ensures { ImportedIcdIsSamePlan }
-{
-    plans_are_unique();
-}

@@ -52,6 +52,25 @@ fn push_row(
     Ok(())
 }
 
+/// Adds what rows state below a heading, to no rows.
+fn push_rows(
+    alloc: Global,
+    rows: &mut Vec<ImportRow>,
+    firsts: &mut FirstRows,
+    heading: &CsvLine,
+    lines: &[CsvLine],
+) -> Result<(), ImportFault>
+    requires rows { rows.old.items ≡ [] }
+    requires firsts { AreFirstRows firsts.old [] }
+    ensures { States (λ _. rows.new.items) result (rows_after (fields_of heading.now.fields) [] lines.now) }
+{
+    for line in lines {
+        let row = next_row(alloc, heading, rows, firsts, line)?;
+        push_row(alloc, rows, firsts, row)?;
+    }
+    Ok(())
+}
+
 /// What rows state below a heading.
 fn rows_below(
     alloc: Global,
@@ -62,11 +81,13 @@ fn rows_below(
 {
     let mut rows = Vec::new(alloc);
     let mut firsts = FirstRows::new(alloc);
-    for line in lines {
-        let row = next_row(alloc, heading, &rows, &firsts, line)?;
-        push_row(alloc, &mut rows, &mut firsts, row)?;
+    let pushed = push_rows(alloc, &mut rows, &mut firsts, heading, lines);
+    // One call, in place of a drop of each of its parts at each return.
+    std::mem::drop(firsts);
+    match pushed {
+        Ok(()) => Ok(rows),
+        Err(fault) => Err(fault),
     }
-    Ok(rows)
 }
 
 /// The fault of a heading that lacks a column, or has it twice.

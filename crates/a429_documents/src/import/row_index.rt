@@ -29,12 +29,18 @@ impl<'a> RowIndex<'a> {
         ensures { IfOk result (λ index. index.rows.now ≡ rows.now) }
     {
         let firsts = FirstRows::of(alloc, rows)?;
-        let nexts = next_rows(alloc, rows)?;
-        Ok(RowIndex {
-            rows,
-            firsts,
-            nexts,
-        })
+        match next_rows(alloc, rows) {
+            Ok(nexts) => Ok(RowIndex {
+                rows,
+                firsts,
+                nexts,
+            }),
+            Err(error) => {
+                // One call, in place of a drop of each of its parts.
+                std::mem::drop(firsts);
+                Err(error)
+            }
+        }
     }
 
     /// Whether the row of a number is the first of its receiver, source or group.

@@ -246,12 +246,22 @@ fn root_table(alloc: Global, index: &RowIndex<'_>) -> Result<Table, AllocError>
     Ok(root)
 }
 
+/// The root table that rows state.
+fn stated_root(alloc: Global, rows: &[ImportRow]) -> Result<Table, AllocError>
+    ensures { IfOk result (λ root. table_view root ≡ root_members rows.now) }
+{
+    let index = RowIndex::of(alloc, rows)?;
+    let root = root_table(alloc, &index);
+    // One call, in place of a drop of each of its parts at each return.
+    std::mem::drop(index);
+    root
+}
+
 /// The equipment table that rows state, as TOML of version 2. The error is that memory was refused.
 pub fn table_text(alloc: Global, rows: &[ImportRow]) -> Result<String, AllocError>
     ensures { IfOk result (λ text. parse_document (string_bytes text) ≡ Some (root_members rows.now)) }
 {
-    let index = RowIndex::of(alloc, rows)?;
-    let root = root_table(alloc, &index)?;
+    let root = stated_root(alloc, rows)?;
     match toml::table_to_string(alloc, &root) {
         Ok(text) => Ok(text),
         Err(_) => Err(AllocError),

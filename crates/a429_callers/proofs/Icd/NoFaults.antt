@@ -11,7 +11,7 @@ use Rattle.a429_table.specs.declared.walk.Rows.{Rows}
 use Rattle.a429_table.specs.declared.walk.Rows.TheVariants.{Outputs, Receivers, Sources}
 use Rattle.a429_table.specs.Faults.{faults, faults_of, kinds, stands}
 use Rattle.a429_table.specs.Tree.{rows_at}
-use Rattle.a429_documents.proofs.IcdRows.{all_joined}
+use Rattle.a429_callers.proofs.Icd.Rows.{all_joined}
 use Rattle.a429_table.specs.Walk.{Stop, group_stops, numbered, numbered_from, row_place, stops_of_groups, walk}
 
 -- ---- lists

@@ -28,8 +28,8 @@ use Rattle.a429_documents.specs.declared.import.rows.ImportRow.{ImportRow}
 use Rattle.a429_documents.specs.Document.{csv_text_of, groups_rows, icd_columns, icd_rows, output_row, output_rows, plan_rows, receiver_name}
 use Rattle.a429_documents.specs.ImportRows.{agreed, below_heading, clash, first_clash, next_row, other_clash, row_of, rows_after, rows_stated, source_clash, unless_wrong, wrong_column, is_wrong}
 use Rattle.a429_documents.specs.Imports.{AreLines}
-use Rattle.a429_documents.proofs.IcdFields.{IsReadable, read_row, row_back, row_from}
-use Rattle.a429_documents.proofs.IcdTexts.{lines_back}
+use Rattle.a429_callers.proofs.Icd.Fields.{IsReadable, read_row, row_back, row_from}
+use Rattle.a429_callers.proofs.Icd.Texts.{lines_back}
 use Rattle.a429_documents.proofs.RowsInRecord.{IsAt}
 
 -- ---- what is read

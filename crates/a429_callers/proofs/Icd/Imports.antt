@@ -15,17 +15,17 @@ use Rattle.a429_documents.specs.declared.import.fault.ImportFault.TheVariants.{C
 use Rattle.a429_documents.specs.declared.import.lines.CsvLine.{CsvLine}
 use Rattle.a429_documents.specs.declared.import.rows.ImportRow.{ImportRow}
 use Rattle.a429_documents.specs.Document.{csv_text_of, icd_rows}
-use Rattle.a429_documents.specs.ImportedIcd.{HasPlanTextOf, ImportedIcdIsSamePlan, ImportsPlan, IsWholeInIcd}
+use Rattle.a429_callers.specs.ImportedIcd.{HasPlanTextOf, ImportedIcdIsSamePlan, ImportsPlan, IsWholeInIcd}
 use Rattle.a429_documents.specs.Imports.{AreLines, IsImport, IsImportOf}
 use Rattle.a429_documents.specs.ImportRows.{rows_stated}
 use Rattle.a429_documents.specs.ImportTables.{record_stated, root_members}
-use Rattle.a429_documents.proofs.IcdFaults.{none_at_all}
-use Rattle.a429_documents.proofs.IcdGroups.{new_number}
-use Rattle.a429_documents.proofs.IcdRecords.{is_renumbered, sent_part}
-use Rattle.a429_documents.proofs.IcdRows.{read_table, rows_stated_are}
+use Rattle.a429_callers.proofs.Icd.Faults.{none_at_all}
+use Rattle.a429_callers.proofs.Icd.Groups.{new_number}
+use Rattle.a429_callers.proofs.Icd.Records.{is_renumbered, sent_part}
+use Rattle.a429_callers.proofs.Icd.Rows.{read_table, rows_stated_are}
 use Rattle.a429_documents.proofs.ImportRanges.{same_ok}
-use Rattle.a429_documents.proofs.OwnWords.{IsReadTable, read_table_is}
-use Rattle.a429_documents.proofs.RenumberedPlans.{IsRenumbered, is_plan, renumbered_plan, one_text}
+use Rattle.a429_callers.proofs.Icd.OwnWords.{IsReadTable, read_table_is}
+use Rattle.a429_callers.proofs.Icd.RenumberedPlans.{IsRenumbered, is_plan, renumbered_plan, one_text}
 
 module _ (bytes : List ℕ) (a : Proposed) (A : IsWholeInIcd bytes a) (one_plan : PlansAreUnique) where
   abbrev rows : List ImportRow

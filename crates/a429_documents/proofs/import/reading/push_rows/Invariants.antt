@@ -3,7 +3,7 @@ use Rattle.csv.specs.Records.{fields_of}
 use Rattle.a429_documents.specs.FirstRows.{AreFirstRows}
 use Rattle.a429_documents.specs.ImportClashes.{Agree}
 use Rattle.a429_documents.specs.ImportRows.{rows_after}
-use Rattle.a429_documents.proofs.import.reading.rows_below.Given as goal
+use Rattle.a429_documents.proofs.import.reading.push_rows.Given as goal
 
 abbrev pub invariant-loop-line : goal.invariant-loop-line
 invariant-loop-line l = record {

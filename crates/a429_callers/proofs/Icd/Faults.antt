@@ -37,15 +37,15 @@ use Rattle.a429_documents.specs.declared.import.firsts.Part.{Part}
 use Rattle.a429_documents.specs.declared.import.firsts.Part.TheVariants.{Groups, Receivers, Sources}
 use Rattle.a429_documents.specs.declared.import.rows.ImportRow.{ImportRow}
 use Rattle.a429_documents.specs.ImportTables.{firsts, group_stated, group_tree, name_in, number_of, output_tree, part_tree, part_trees, receiver_tree, record_stated, root_members, rows_of_group, sdi_data, source_stated, source_tree, with_filters, words}
-use Rattle.a429_documents.proofs.NamedFirsts.{own_firsts}
-use Rattle.a429_documents.proofs.IcdGroups.{group_rows_are, groups_again}
-use Rattle.a429_documents.proofs.IcdRecords.{IsRead, all_read, first_is_of, no_words, source_is}
-use Rattle.a429_documents.proofs.IcdRows.{IsRowOf, one_source, read_output, read_table, rows_are, source_at, source_there}
-use Rattle.a429_documents.proofs.IcdSound.{few_receivers, few_sources, imported_sound}
-use Rattle.a429_documents.proofs.FineRows.{bare_receiver, group_fine, output_data, output_fine, outputs_at, receiver_fine, root_fine, source_fine}
-use Rattle.a429_documents.proofs.NoFaults.{HoldsAtStops, IsFine, no_faults, none_earlier, some_found}
+use Rattle.a429_callers.proofs.Icd.NamedFirsts.{own_firsts}
+use Rattle.a429_callers.proofs.Icd.Groups.{group_rows_are, groups_again}
+use Rattle.a429_callers.proofs.Icd.Records.{IsRead, all_read, first_is_of, no_words, source_is}
+use Rattle.a429_callers.proofs.Icd.Rows.{IsRowOf, one_source, read_output, read_table, rows_are, source_at, source_there}
+use Rattle.a429_callers.proofs.Icd.Sound.{few_receivers, few_sources, imported_sound}
+use Rattle.a429_callers.proofs.Icd.FineRows.{bare_receiver, group_fine, output_data, output_fine, outputs_at, receiver_fine, root_fine, source_fine}
+use Rattle.a429_callers.proofs.Icd.NoFaults.{HoldsAtStops, IsFine, no_faults, none_earlier, some_found}
 use Rattle.a429_documents.proofs.ImportRecords.{named_receiver, position_same}
-use Rattle.a429_documents.proofs.OwnWords.{HaveOwnWords}
+use Rattle.a429_callers.proofs.Icd.OwnWords.{HaveOwnWords}
 use Rattle.a429_documents.proofs.RowsInRecord.{IsAt, first_of}
 use Rattle.a429_documents.proofs.Words.{word_of}
 

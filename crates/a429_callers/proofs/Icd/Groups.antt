@@ -18,8 +18,8 @@ use Rattle.a429_table.proofs.Absence.{all_from}
 use Rattle.a429_documents.specs.declared.import.firsts.Part.TheVariants.{Groups, Sources}
 use Rattle.a429_documents.specs.declared.import.rows.ImportRow.{ImportRow}
 use Rattle.a429_documents.specs.ImportTables.{firsts, firsts_after, group_stated, number_of, output_stated, outputs_stated, record_stated}
-use Rattle.a429_documents.proofs.IcdRows.{read_groups, read_output, read_table, source_at}
-use Rattle.a429_documents.proofs.RenumberedPlans.{renumbered_row}
+use Rattle.a429_callers.proofs.Icd.Rows.{read_groups, read_output, read_table, source_at}
+use Rattle.a429_callers.proofs.Icd.RenumberedPlans.{renumbered_row}
 
 -- none of these rows is of a group of this name
 abbrev IsFree : List ImportRow → List ℕ → Type 0
