@@ -1,63 +1,49 @@
 //! Hints about a line of a plan's text: what was found, and what was due.
 
-use crate::about::About;
+use crate::hint::HintText;
 use crate::reasons::meaning;
-use crate::rows::short_text;
 use a429_console::hints::Objection;
 use a429_console::refusals::names::{group_name, source_name};
+use a429_console::texts::cut_at;
 use a429_equipment::{Equipment, OutputRow};
 use a429_grid::grid_period;
-use std::io;
-use std::io::Write;
 
-/// What is due at a line of a plan's text, groups and outputs by their numbers. Outputs may come in any order.
-#[derive(Clone, Copy, PartialEq, Eq)]
+/// A group of the equipment by its number, and the number of its line in a plan's text.
+#[derive(Clone, Copy)]
+struct NumberedGroup {
+    number: usize,
+    line: usize,
+}
+
+/// What is due at a line of a plan's text. Outputs of a group may come in any order.
+#[derive(Clone, Copy)]
 enum DueLine {
     Version,
     Rate,
-    Group(usize),
-    Output(usize),
-    Bound(usize),
+    Group(NumberedGroup),
+    Output(NumberedGroup),
+    Bound(NumberedGroup),
     End,
 }
 
 /// A plan's text with the equipment that it is judged by.
 #[derive(Clone, Copy)]
-pub struct Judged<'a> {
+pub struct JudgedText<'a> {
     pub equipment: &'a Equipment,
     pub text: &'a [u8],
 }
 
 /// Tells what is wrong with a line of a plan's text.
-pub fn tell_objection<V: Write>(
-    file: &str,
-    judged: Judged,
-    objection: Objection,
-    err: &mut V,
-) -> io::Result<()> {
+pub fn tell_objection(judged: JudgedText, objection: Objection, hint: &mut HintText) {
     let Objection { line, reason } = objection;
-    let about = About::line(file, line);
+    hint.turn_to_line(line);
     let due = due_at(judged.equipment, line);
-    let bytes = line_of(judged.text, line).unwrap_or(b"");
-    let found = str::from_utf8(bytes).unwrap_or("");
+    let found = text_of(judged.text, line);
     match reason {
-        "form" => tell_form(about, judged, due, line, found, err),
-        "shared" => tell_shared(about, judged, due, line, found, err),
-        _ => tell_values(about, judged, due, reason, found, err),
+        "form" => tell_form(judged, due, line, found, hint),
+        "shared" => tell_shared(judged, due, line, found, hint),
+        _ => tell_values(judged, due, reason, found, hint),
     }
-}
-
-/// The number of the line of a group.
-fn line_of_group(equipment: &Equipment, group: usize) -> usize {
-    let mut line: usize = if equipment.version() == 1 { 3 } else { 2 };
-    for number in 0..group {
-        if number < equipment.groups().len() {
-            line = line
-                .saturating_add(equipment.outputs(number).len())
-                .saturating_add(2);
-        }
-    }
-    line
 }
 
 /// What is due at a line.
@@ -67,41 +53,49 @@ fn due_at(equipment: &Equipment, line: usize) -> DueLine {
         (2, 1) => return DueLine::Rate,
         _ => {}
     }
+    let mut first: usize = if equipment.version() == 1 { 3 } else { 2 };
     for number in 0..equipment.groups().len() {
-        let first = line_of_group(equipment, number);
+        let group = NumberedGroup {
+            number,
+            line: first,
+        };
         let last = first
             .saturating_add(equipment.outputs(number).len())
             .saturating_add(1);
         if line == first {
-            return DueLine::Group(number);
+            return DueLine::Group(group);
         }
         if line == last {
-            return DueLine::Bound(number);
+            return DueLine::Bound(group);
         }
         if first < line && line < last {
-            return DueLine::Output(number);
+            return DueLine::Output(group);
         }
+        first = last.saturating_add(1);
     }
     DueLine::End
 }
 
-/// The bytes of a line, without its line feed. `None` if the text has no such line.
-fn line_of(text: &[u8], number: usize) -> Option<&[u8]> {
+/// The bytes from a line on. They are empty if the text has no such line.
+fn lines_from(text: &[u8], number: usize) -> &[u8] {
     let mut rest = text;
     for _ in 1..number {
-        let end = rest.iter().position(|byte| *byte == b'\n')?;
-        rest = &rest[end + 1..];
+        rest = match cut_at(rest, b'\n') {
+            Some((_, next)) => next,
+            None => &[],
+        };
     }
-    if rest.is_empty() {
-        return None;
-    }
-    let end = rest.iter().position(|byte| *byte == b'\n');
-    Some(&rest[..end.unwrap_or(rest.len())])
+    rest
 }
 
-/// Whether a line has its line feed.
-fn is_ended(text: &[u8], number: usize) -> bool {
-    text.iter().filter(|byte| **byte == b'\n').count() >= number
+/// The text of a line; the empty text if there is no such line, or if it is not UTF-8.
+fn text_of(text: &[u8], number: usize) -> &str {
+    let rest = lines_from(text, number);
+    let line = match cut_at(rest, b'\n') {
+        Some((line, _)) => line,
+        None => rest,
+    };
+    str::from_utf8(line).unwrap_or("")
 }
 
 /// The word after a key of a line, whose words are keys and values in turn.
@@ -131,110 +125,78 @@ fn form_of(due: DueLine, version: u32) -> &'static str {
     }
 }
 
-fn tell_form<V: Write>(
-    about: About,
-    judged: Judged,
-    due: DueLine,
-    line: usize,
-    found: &str,
-    err: &mut V,
-) -> io::Result<()> {
-    let form = form_of(due, judged.equipment.version());
-    if due == DueLine::End {
-        return writeln!(err, "{about}: nothing may follow the last line that is due");
+fn tell_form(judged: JudgedText, due: DueLine, line: usize, found: &str, hint: &mut HintText) {
+    hint.begin(": ");
+    if matches!(due, DueLine::End) {
+        return hint.end("nothing may follow the last line that is due");
     }
-    if line_of(judged.text, line).is_none() {
-        return writeln!(err, "{about}: the line is missing; due is `{form}`");
-    }
-    if found.ends_with('\r') {
-        return writeln!(
-            err,
-            "{about}: the line ends with a carriage return: save the file with line feeds alone"
+    let rest = lines_from(judged.text, line);
+    if rest.is_empty() {
+        hint.say("the line is missing; ");
+    } else if found.ends_with('\r') {
+        return hint.end(
+            "the line ends with a carriage return: save the file with line feeds alone",
         );
+    } else if !rest.contains(&b'\n') {
+        hint.say("the line has no line feed at its end; ");
     }
-    if !is_ended(judged.text, line) {
-        return writeln!(
-            err,
-            "{about}: the line has no line feed at its end; due is `{form}`"
-        );
-    }
-    writeln!(err, "{about}: due is `{form}`")
+    hint.say_text("due is `", form_of(due, judged.equipment.version()));
+    hint.end("`");
 }
 
 /// Tells the value that was found, the one that was due, and what that is.
-fn tell_values<V: Write>(
-    about: About,
-    judged: Judged,
-    due: DueLine,
-    reason: &str,
-    found: &str,
-    err: &mut V,
-) -> io::Result<()> {
+fn tell_values(judged: JudgedText, due: DueLine, reason: &str, found: &str, hint: &mut HintText) {
     let equipment = judged.equipment;
-    let value = value_at(found, reason).unwrap_or("");
     match (reason, due) {
+        ("bound", DueLine::Bound(group)) => tell_bound(judged, group, found, hint),
+        ("period" | "hold", DueLine::Output(group)) => {
+            tell_output_value(equipment, group.number, found, reason, hint);
+        }
         ("rate", DueLine::Group(group)) => {
-            tell_number(about, value, rate_of(equipment, group), reason, err)
+            tell_number(found, rate_of(equipment, group.number), reason, hint);
         }
         ("rate", _) => {
-            let rate = equipment.rate().unwrap_or(0);
-            tell_number(about, value, rate, reason, err)
+            tell_number(found, equipment.rate().unwrap_or(0), reason, hint);
         }
         ("frame", DueLine::Group(group)) => {
-            tell_number(about, value, frame_of(equipment, group), reason, err)
+            tell_number(found, frame_of(equipment, group.number), reason, hint);
         }
         ("group", DueLine::Group(group)) => {
-            tell_text(about, value, group_name(equipment, group), reason, err)
+            tell_text(found, group_name(equipment, group.number), reason, hint);
         }
-        ("period" | "hold", DueLine::Output(group)) => {
-            tell_output_value(about, equipment, group, found, reason, err)
+        _ => {
+            begin_found(found, reason, hint);
+            hint.end_text(": ", meaning(reason));
         }
-        ("bound", DueLine::Bound(group)) => tell_bound(about, judged, group, found, err),
-        ("place", _) => tell_place(about, found, err),
-        _ => tell_found(about, value, reason, err),
     }
 }
 
-/// Tells a value for which there is no one value that was due.
-fn tell_found<V: Write>(about: About, value: &str, reason: &str, err: &mut V) -> io::Result<()> {
-    let shown = short_text(value);
-    let (shown, meaning) = (shown.as_str(), meaning(reason));
-    writeln!(err, "{about}: found {shown}: {meaning}")
+/// Begins a line with the value that was found in a line. A place is a bus and an offset.
+fn begin_found(found: &str, reason: &str, hint: &mut HintText) {
+    hint.begin(": found ");
+    if reason == "place" {
+        hint.say_number("bus ", number_at(found, "bus"));
+        hint.say_number(" offset ", number_at(found, "offset"));
+    } else {
+        hint.say_short("", value_at(found, reason).unwrap_or(""));
+    }
 }
 
-/// Tells a bus and an offset.
-fn tell_place<V: Write>(about: About, found: &str, err: &mut V) -> io::Result<()> {
-    let (bus, offset) = (number_at(found, "bus"), number_at(found, "offset"));
-    let meaning = meaning("place");
-    writeln!(err, "{about}: found bus {bus} offset {offset}: {meaning}")
+/// Tells the value that was found in a line, and the number that was due.
+fn tell_number(found: &str, due: u32, reason: &str, hint: &mut HintText) {
+    begin_found(found, reason, hint);
+    hint.say_number(", due ", u64::from(due));
+    hint.end_text(": ", meaning(reason));
 }
 
-/// Tells a value, and the number that was due.
-fn tell_number<V: Write>(
-    about: About,
-    value: &str,
-    due: u32,
-    reason: &str,
-    err: &mut V,
-) -> io::Result<()> {
-    let shown = short_text(value);
-    let (shown, meaning) = (shown.as_str(), meaning(reason));
-    writeln!(err, "{about}: found {shown}, due {due}: {meaning}")
+/// Tells the value that was found in a line, and the text that was due.
+fn tell_text(found: &str, due: &str, reason: &str, hint: &mut HintText) {
+    begin_found(found, reason, hint);
+    hint.say_text(", due ", due);
+    hint.end_text(": ", meaning(reason));
 }
 
-/// Tells a value, and the text that was due.
-fn tell_text<V: Write>(
-    about: About,
-    value: &str,
-    due: &str,
-    reason: &str,
-    err: &mut V,
-) -> io::Result<()> {
-    let shown = short_text(value);
-    let (shown, meaning) = (shown.as_str(), meaning(reason));
-    writeln!(err, "{about}: found {shown}, due {due}: {meaning}")
-}
-
+/// The rate of a group; 0 if there is no such group.
 fn rate_of(equipment: &Equipment, group: usize) -> u32 {
     if group < equipment.groups().len() {
         equipment.group_rate(group)
@@ -264,83 +226,78 @@ fn frame_of(equipment: &Equipment, group: usize) -> u32 {
 }
 
 /// Tells the period or the hold of the output of a line.
-fn tell_output_value<V: Write>(
-    about: About,
+fn tell_output_value(
     equipment: &Equipment,
     group: usize,
     found: &str,
     reason: &str,
-    err: &mut V,
-) -> io::Result<()> {
-    if group >= equipment.groups().len() {
-        return Ok(());
-    }
-    let source = value_at(found, "output").unwrap_or("");
-    let value = value_at(found, reason).unwrap_or("");
-    let rate = equipment.group_rate(group);
-    for (number, row) in equipment.outputs(group).iter().enumerate() {
-        if source_name(equipment, group, number) == source {
-            return match (reason, row.hold) {
-                ("period", _) => tell_number(about, value, period_of(row, rate), reason, err),
-                (_, Some(hold)) => tell_number(about, value, hold, reason, err),
-                (_, None) => tell_text(about, value, "none", reason, err),
-            };
+    hint: &mut HintText,
+) {
+    let Some(row) = output_of(equipment, group, found) else {
+        return;
+    };
+    match (reason, row.hold) {
+        ("period", _) => {
+            let period = period_of(row, rate_of(equipment, group));
+            tell_number(found, period, reason, hint);
         }
+        (_, Some(hold)) => tell_number(found, hold, reason, hint),
+        (_, None) => tell_text(found, "none", reason, hint),
     }
-    Ok(())
 }
 
-/// Tells the certificate that is due.
-fn tell_bound<V: Write>(
-    about: About,
-    judged: Judged,
-    group: usize,
-    found: &str,
-    err: &mut V,
-) -> io::Result<()> {
-    let equipment = judged.equipment;
+/// The output of a group whose source a line names. `None` if there is none.
+fn output_of<'a>(equipment: &'a Equipment, group: usize, line: &str) -> Option<&'a OutputRow> {
     if group >= equipment.groups().len() {
-        return Ok(());
+        return None;
     }
-    let (rate, frame) = (equipment.group_rate(group), frame_of(equipment, group));
+    let source = value_at(line, "output").unwrap_or("");
+    for (number, row) in equipment.outputs(group).iter().enumerate() {
+        if source_name(equipment, group, number) == source {
+            return Some(row);
+        }
+    }
+    None
+}
+
+/// How many cells the outputs of a group fill in a frame.
+fn demand_of(equipment: &Equipment, group: usize) -> u64 {
     let mut demand: u64 = 0;
-    for row in equipment.outputs(group) {
-        demand = demand.saturating_add(u64::from(frame / period_of(row, rate).max(1)));
+    if group < equipment.groups().len() {
+        let (rate, frame) = (equipment.group_rate(group), frame_of(equipment, group));
+        for row in equipment.outputs(group) {
+            demand = demand.saturating_add(u64::from(frame / period_of(row, rate).max(1)));
+        }
     }
-    let head = line_of(judged.text, line_of_group(equipment, group)).unwrap_or(b"");
-    let buses = value_at(str::from_utf8(head).unwrap_or(""), "buses").unwrap_or("0");
-    let full = buses.parse::<u64>().unwrap_or(1).saturating_sub(1);
-    let shown = short_text(found);
-    let (shown, meaning) = (shown.as_str(), meaning("bound"));
-    writeln!(
-        err,
-        "{about}: found `{shown}`, due `bound {demand} > {full} * {frame}`: {meaning}"
-    )
+    demand
+}
+
+/// Tells the certificate that is due: its buses are one fewer than the line of the group has.
+fn tell_bound(judged: JudgedText, group: NumberedGroup, found: &str, hint: &mut HintText) {
+    let NumberedGroup { number, line } = group;
+    let buses = number_at(text_of(judged.text, line), "buses");
+    hint.begin(": found `");
+    hint.say_short("", found);
+    hint.say_number("`, due `bound ", demand_of(judged.equipment, number));
+    hint.say_number(" > ", buses.saturating_sub(1));
+    hint.say_number(" * ", u64::from(frame_of(judged.equipment, number)));
+    hint.end_text("`: ", meaning("bound"));
 }
 
 /// Tells which earlier line is in a cell of this one's.
-fn tell_shared<V: Write>(
-    about: About,
-    judged: Judged,
-    due: DueLine,
-    line: usize,
-    found: &str,
-    err: &mut V,
-) -> io::Result<()> {
+fn tell_shared(judged: JudgedText, due: DueLine, line: usize, found: &str, hint: &mut HintText) {
     let DueLine::Output(group) = due else {
-        return Ok(());
+        return;
     };
-    let first = line_of_group(judged.equipment, group).saturating_add(1);
-    for earlier in first..line {
-        let other = line_of(judged.text, earlier).unwrap_or(b"");
-        if share_cells(str::from_utf8(other).unwrap_or(""), found) {
-            return writeln!(
-                err,
-                "{about}: the output of line {earlier} is in a cell of this one: the same bus, and offsets that are equal modulo the smaller period"
+    for earlier in group.line.saturating_add(1)..line {
+        if share_cells(text_of(judged.text, earlier), found) {
+            hint.begin(": the output of line ");
+            hint.say_count("", earlier);
+            return hint.end(
+                " is in a cell of this one: the same bus, and offsets that are equal modulo the smaller period",
             );
         }
     }
-    Ok(())
 }
 
 /// Whether the outputs of two lines share a cell.
@@ -352,6 +309,7 @@ fn share_cells(one: &str, other: &str) -> bool {
         && number_at(one, "offset") % smaller == number_at(other, "offset") % smaller
 }
 
+/// The number after a key of a line; 0 if there is none.
 fn number_at(line: &str, key: &str) -> u64 {
     value_at(line, key).unwrap_or("").parse().unwrap_or(0)
 }

@@ -1,145 +1,156 @@
 //! Hints about a further table of another station.
 
-use crate::about::About;
+use crate::hint::HintText;
+use a429_console::files::reading::printable_name;
 use a429_equipment::{Equipment, GroupRow, ReceiverRow, SourceRow};
 use a429_filter::FilterSet;
 use a429_word::Sdi;
-use std::io::Write;
-use std::{fmt, io};
-
-/// The filters of a receiver, as a table has them.
-#[derive(Clone, Copy)]
-struct Filters<'a>(&'a FilterSet);
-
-impl fmt::Display for Filters<'_> {
-    fn fmt<W: fmt::Write>(&self, f: &mut fmt::Formatter<W>) -> fmt::Result {
-        let Some(filters) = self.0.list() else {
-            return f.write_str("no key `filters`");
-        };
-        f.write_str("[")?;
-        for (place, filter) in filters.iter().enumerate() {
-            if place > 0 {
-                f.write_str(", ")?;
-            }
-            let (label, mask) = (filter.label, filter.mask);
-            write!(f, "{label}/{}{}{}", mask / 64, mask / 8 % 8, mask % 8)?;
-        }
-        f.write_str("]")
-    }
-}
-
-/// An SDI, as a table has it.
-#[derive(Clone, Copy)]
-struct ShownSdi(Option<Sdi>);
-
-impl fmt::Display for ShownSdi {
-    fn fmt<W: fmt::Write>(&self, f: &mut fmt::Formatter<W>) -> fmt::Result {
-        match self.0 {
-            Some(sdi) => write!(f, "{sdi}"),
-            None => f.write_str("any"),
-        }
-    }
-}
 
 /// Tells the first thing in which a table differs from the one whose station runs, with both values.
-pub fn tell_difference<V: Write>(
-    about: About,
-    table: &str,
-    running: &Equipment,
-    other: &Equipment,
-    err: &mut V,
-) -> io::Result<()> {
-    write!(err, "{about}: its station is not that of {table}: ")?;
-    if tell_receivers(running.receivers(), other.receivers(), err)?
-        || tell_sources(running, other, err)?
-        || tell_groups(running.groups(), other.groups(), err)?
-    {
-        return Ok(());
+pub fn tell_difference(table: &str, running: &Equipment, other: &Equipment, hint: &mut HintText) {
+    hint.begin(": its station is not that of ");
+    match printable_name(hint.alloc, table) {
+        Ok(shown) => hint.say(shown.as_str()),
+        Err(_) => hint.give_up(),
     }
-    writeln!(err, "its rows differ")
+    hint.say(": ");
+    if tell_receivers(running.receivers(), other.receivers(), hint)
+        || tell_sources(running, other, hint)
+        || tell_groups(running.groups(), other.groups(), hint)
+    {
+        return;
+    }
+    hint.end("its rows differ");
 }
 
 /// Tells a number that differs. Whether it does.
-fn tell_count<V: Write>(what: &str, running: usize, other: usize, err: &mut V) -> io::Result<bool> {
+fn tell_count(what: &str, running: usize, other: usize, hint: &mut HintText) -> bool {
     if running == other {
-        return Ok(false);
+        return false;
     }
-    writeln!(err, "it has {other} {what} here, and {running} there")?;
-    Ok(true)
+    hint.say_count("it has ", other);
+    hint.say_text(" ", what);
+    hint.say_count(" here, and ", running);
+    hint.end(" there");
+    true
+}
+
+/// Tells a name that differs, by the number of its row. Whether it does.
+fn tell_name(kind: &str, place: usize, own: &str, found: &str, hint: &mut HintText) -> bool {
+    if own == found {
+        return false;
+    }
+    hint.say(kind);
+    hint.say_count(" ", place);
+    hint.say_quoted(" is ", found);
+    hint.say_quoted(" here, and ", own);
+    hint.end(" there");
+    true
 }
 
 /// Tells the first receiver that differs, in its name or its filters. Whether one does.
-fn tell_receivers<V: Write>(
-    running: &[ReceiverRow],
-    other: &[ReceiverRow],
-    err: &mut V,
-) -> io::Result<bool> {
-    for (place, (a, b)) in running.iter().zip(other).enumerate() {
-        let (own, found) = (a.name.as_str(), b.name.as_str());
-        if own != found {
-            writeln!(err, "receiver {place} is {found:?} here, and {own:?} there")?;
-            return Ok(true);
-        }
-        if !have_same_filters(&a.filters, &b.filters) {
-            let (own, found) = (Filters(&a.filters), Filters(&b.filters));
-            let name = a.name.as_str();
-            writeln!(err, "receiver {name} has {found} here, and {own} there")?;
-            return Ok(true);
+fn tell_receivers(running: &[ReceiverRow], other: &[ReceiverRow], hint: &mut HintText) -> bool {
+    for (place, (own, found)) in running.iter().zip(other).enumerate() {
+        if tell_name(
+            "receiver",
+            place,
+            own.name.as_str(),
+            found.name.as_str(),
+            hint,
+        ) || tell_filters(own, found, hint)
+        {
+            return true;
         }
     }
-    tell_count("receivers", running.len(), other.len(), err)
+    tell_count("receivers", running.len(), other.len(), hint)
 }
 
-fn have_same_filters(a: &FilterSet, b: &FilterSet) -> bool {
-    match (a.list(), b.list()) {
+/// Tells the filters of a receiver if they differ. Whether they do.
+fn tell_filters(own: &ReceiverRow, found: &ReceiverRow, hint: &mut HintText) -> bool {
+    let are_same = match (own.filters.list(), found.filters.list()) {
         (None, None) => true,
-        (Some(a), Some(b)) => a == b,
+        (Some(own), Some(found)) => own == found,
         _ => false,
+    };
+    if are_same {
+        return false;
     }
+    hint.say_text("receiver ", own.name.as_str());
+    say_filters(" has ", &found.filters, hint);
+    say_filters(" here, and ", &own.filters, hint);
+    hint.end(" there");
+    true
+}
+
+/// Says words, and the filters of a receiver as a table has them.
+fn say_filters(words: &str, filters: &FilterSet, hint: &mut HintText) {
+    hint.say(words);
+    let Some(filters) = filters.list() else {
+        return hint.say("no key `filters`");
+    };
+    hint.say("[");
+    for (place, filter) in filters.iter().enumerate() {
+        if place > 0 {
+            hint.say(", ");
+        }
+        let (label, mask) = (filter.label, filter.mask);
+        write!(hint, "{label}/{mask:03o}");
+    }
+    hint.say("]");
 }
 
 /// Tells the first source that differs. Whether one does.
-fn tell_sources<V: Write>(running: &Equipment, other: &Equipment, err: &mut V) -> io::Result<bool> {
+fn tell_sources(running: &Equipment, other: &Equipment, hint: &mut HintText) -> bool {
     let (own, found) = (running.sources(), other.sources());
     for (place, (a, b)) in own.iter().zip(found).enumerate() {
-        if tell_source(running.receivers(), place, a, b, err)? {
-            return Ok(true);
+        if tell_source(running.receivers(), place, a, b, hint) {
+            return true;
         }
     }
-    tell_count("sources", own.len(), found.len(), err)
+    tell_count("sources", own.len(), found.len(), hint)
 }
 
 /// Tells in what a source differs. Whether it does.
-fn tell_source<V: Write>(
+fn tell_source(
     receivers: &[ReceiverRow],
     place: usize,
     own: &SourceRow,
     found: &SourceRow,
-    err: &mut V,
-) -> io::Result<bool> {
-    let name = own.name.as_str();
-    let (sdi, other_sdi) = (ShownSdi(own.sdi), ShownSdi(found.sdi));
-    if name != found.name.as_str() {
-        let other = found.name.as_str();
-        writeln!(err, "source {place} is {other:?} here, and {name:?} there")?;
-    } else if own.receiver != found.receiver {
-        let (a, b) = (
-            receiver_name(receivers, own.receiver),
-            receiver_name(receivers, found.receiver),
-        );
-        writeln!(err, "source {name} has receiver {b} here, and {a} there")?;
-    } else if own.label != found.label {
-        let (a, b) = (own.label, found.label);
-        writeln!(err, "source {name} has label {b} here, and {a} there")?;
-    } else if own.sdi != found.sdi {
-        writeln!(
-            err,
-            "source {name} has sdi {other_sdi} here, and {sdi} there"
-        )?;
-    } else {
-        return Ok(false);
+    hint: &mut HintText,
+) -> bool {
+    if tell_name(
+        "source",
+        place,
+        own.name.as_str(),
+        found.name.as_str(),
+        hint,
+    ) {
+        return true;
     }
-    Ok(true)
+    if own.receiver == found.receiver && own.label == found.label && own.sdi == found.sdi {
+        return false;
+    }
+    hint.say_text("source ", own.name.as_str());
+    if own.receiver != found.receiver {
+        hint.say_text(" has receiver ", receiver_name(receivers, found.receiver));
+        hint.say_text(" here, and ", receiver_name(receivers, own.receiver));
+    } else if own.label != found.label {
+        hint.say_value(" has label ", found.label);
+        hint.say_value(" here, and ", own.label);
+    } else {
+        say_sdi(" has sdi ", found.sdi, hint);
+        say_sdi(" here, and ", own.sdi, hint);
+    }
+    hint.end(" there");
+    true
+}
+
+/// Says words, and an SDI as a table has it.
+fn say_sdi(words: &str, sdi: Option<Sdi>, hint: &mut HintText) {
+    match sdi {
+        Some(sdi) => hint.say_value(words, sdi),
+        None => hint.say_text(words, "any"),
+    }
 }
 
 /// The name of a receiver; both tables have the same ones.
@@ -151,25 +162,25 @@ fn receiver_name<'a>(receivers: &'a [ReceiverRow], number: usize) -> &'a str {
 }
 
 /// Tells the first group that differs, in its name or its rate. Whether one does.
-fn tell_groups<V: Write>(
-    running: &[GroupRow],
-    other: &[GroupRow],
-    err: &mut V,
-) -> io::Result<bool> {
-    for (place, (a, b)) in running.iter().zip(other).enumerate() {
-        let (own, found) = (a.name.as_str(), b.name.as_str());
-        if own != found {
-            writeln!(err, "group {place} is {found:?} here, and {own:?} there")?;
-            return Ok(true);
-        }
-        if a.rate != b.rate {
-            let (rate, other_rate) = (a.rate, b.rate);
-            writeln!(
-                err,
-                "group {own} has rate {other_rate} here, and {rate} there"
-            )?;
-            return Ok(true);
+fn tell_groups(running: &[GroupRow], other: &[GroupRow], hint: &mut HintText) -> bool {
+    for (place, (own, found)) in running.iter().zip(other).enumerate() {
+        if tell_name("group", place, own.name.as_str(), found.name.as_str(), hint)
+            || tell_rate(own, found, hint)
+        {
+            return true;
         }
     }
-    tell_count("groups", running.len(), other.len(), err)
+    tell_count("groups", running.len(), other.len(), hint)
+}
+
+/// Tells the rate of a group if it differs. Whether it does.
+fn tell_rate(own: &GroupRow, found: &GroupRow, hint: &mut HintText) -> bool {
+    if own.rate == found.rate {
+        return false;
+    }
+    hint.say_text("group ", own.name.as_str());
+    hint.say_number(" has rate ", u64::from(found.rate));
+    hint.say_number(" here, and ", u64::from(own.rate));
+    hint.end(" there");
+    true
 }

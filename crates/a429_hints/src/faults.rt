@@ -1,226 +1,178 @@
 //! Hints about tables with a fault.
 
-use crate::about::About;
+use crate::hint::HintText;
 use crate::keys::{form, is_faulty, kilobits};
 use crate::nearest::Nearest;
 use crate::plans::TOLD;
-use crate::rows::{FoundValue, TableRow, rows_at, short_text, text_at};
+use crate::rows::{TableRow, rows_at, say_found, say_row, short_text, text_at};
 use crate::twins::twin_of;
 use a429_equipment::TableVersion;
 use a429_filter::Filter;
 use a429_table::{
     Column, FaultKind, RefusedTable, Shape, TablePlace, columns_of, places_of, version_of,
 };
-use std::alloc::Global;
-use std::io;
-use std::io::Write;
 use toml::Value;
-use toml::de::Error;
 
 /// Tells what is at each place of a table with a fault of this kind, and what is to be there. A value has no line: TOML's
 /// reader tells the line and the column only of what it refuses itself.
-pub fn tell_table_fault<V: Write>(
-    alloc: Global,
-    about: About,
-    document: &RefusedTable,
-    kind: FaultKind,
-    err: &mut V,
-) -> io::Result<()> {
+pub fn tell_table_fault(document: &RefusedTable, kind: FaultKind, hint: &mut HintText) {
     match document {
-        RefusedTable::Tree(root) => tell_places(alloc, about, root, kind, err),
-        RefusedTable::NotToml(error) => tell_not_toml(alloc, about, error, err),
+        RefusedTable::Tree(root) => tell_places(root, kind, hint),
+        RefusedTable::NotToml(error) => match error.to_string(hint.alloc) {
+            Ok(text) => {
+                for line in text.as_str().lines() {
+                    hint.say_line(line);
+                }
+            }
+            Err(_) => hint.give_up(),
+        },
     }
 }
 
-/// Tells what TOML's reader says, with line and column.
-fn tell_not_toml<V: Write>(
-    alloc: Global,
-    about: About,
-    error: &Error,
-    err: &mut V,
-) -> io::Result<()> {
-    let text = error.to_string(alloc)?;
-    for line in text.as_str().lines() {
-        writeln!(err, "{about}: {line}")?;
-    }
-    Ok(())
-}
-
-fn tell_places<V: Write>(
-    alloc: Global,
-    about: About,
-    root: &Value,
-    kind: FaultKind,
-    err: &mut V,
-) -> io::Result<()> {
-    let places = places_of(alloc, root, kind)?;
+fn tell_places(root: &Value, kind: FaultKind, hint: &mut HintText) {
+    let Ok(places) = places_of(hint.alloc, root, kind) else {
+        return hint.give_up();
+    };
     for place in places.iter().take(TOLD) {
         if let Some(row) = TableRow::at(root, *place) {
-            tell_row(alloc, about, kind, row, err)?;
+            tell_row(kind, &row, hint);
         }
     }
     if places.len() > TOLD {
-        writeln!(err, "a429: and {} more", places.len() - TOLD)?;
+        hint.say_count("a429: and ", places.len() - TOLD);
+        hint.end(" more");
     }
-    Ok(())
 }
 
-fn tell_row<V: Write>(
-    alloc: Global,
-    about: About,
-    kind: FaultKind,
-    row: TableRow,
-    err: &mut V,
-) -> io::Result<()> {
+/// Begins a line about a row of a table.
+fn begin_row(row: &TableRow, words: &str, hint: &mut HintText) {
+    hint.begin(": ");
+    say_row("", row, hint);
+    hint.say(words);
+}
+
+fn tell_row(kind: FaultKind, row: &TableRow, hint: &mut HintText) {
     match kind {
-        FaultKind::UnknownKey => tell_unknown_keys(alloc, about, row, err),
-        FaultKind::UnknownName => tell_unknown_name(alloc, about, row, err),
-        FaultKind::DuplicateName => tell_twin(about, kind, "name", row, err),
+        FaultKind::UnknownKey => tell_unknown_keys(row, hint),
+        FaultKind::UnknownName => tell_unknown_name(row, hint),
+        FaultKind::DuplicateName => tell_twin(kind, "name", row, hint),
         FaultKind::DuplicateSource => {
-            tell_twin(
-                about,
-                kind,
-                "receiver and label, and their SDIs meet",
-                row,
-                err,
-            )
+            tell_twin(kind, "receiver and label, and their SDIs meet", row, hint);
         }
         FaultKind::DuplicateOutput => {
-            tell_twin(about, kind, "label and SDI, by their sources", row, err)
+            tell_twin(kind, "label and SDI, by their sources", row, hint);
         }
-        FaultKind::Interval => tell_interval(about, row, err),
-        _ => tell_values(about, kind, row, err),
+        FaultKind::Interval => tell_interval(row, hint),
+        _ => tell_values(kind, row, hint),
     }
 }
 
 /// Tells with which earlier row a row clashes.
-fn tell_twin<V: Write>(
-    about: About,
-    kind: FaultKind,
-    what: &str,
-    row: TableRow,
-    err: &mut V,
-) -> io::Result<()> {
-    match twin_of(row, kind) {
-        Some(twin) => writeln!(err, "{about}: {row} and {twin} have the same {what}"),
-        None => Ok(()),
+fn tell_twin(kind: FaultKind, what: &str, row: &TableRow, hint: &mut HintText) {
+    if let Some(twin) = twin_of(row, kind) {
+        begin_row(row, " and ", hint);
+        say_row("", &twin, hint);
+        hint.end_text(" have the same ", what);
     }
 }
 
 /// Tells of each value of a row that has a fault of its own.
-fn tell_values<V: Write>(
-    about: About,
-    kind: FaultKind,
-    row: TableRow,
-    err: &mut V,
-) -> io::Result<()> {
+fn tell_values(kind: FaultKind, row: &TableRow, hint: &mut HintText) {
     if !row.value.is_table() {
-        let found = FoundValue(Some(row.value));
-        return writeln!(err, "{about}: {row} is {found}; it is to be a table");
+        begin_row(row, " is ", hint);
+        say_found("", Some(row.value), hint);
+        return hint.end("; it is to be a table");
     }
     for column in columns_of(version_of(row.root), row.place) {
         let found = row.value.get(column.key);
         if is_faulty(column, kind, found) {
-            tell_value(about, column, row, found, err)?;
+            tell_value(column, row, found, hint);
         }
     }
     if kind == FaultKind::Version {
-        tell_late_version(about, row, err)?;
+        tell_late_version(row, hint);
     }
-    tell_filter(about, kind, row, err)
+    tell_filter(kind, row, hint);
 }
 
 /// Tells what is at a key, and what is to be there.
-fn tell_value<V: Write>(
-    about: About,
-    column: &Column,
-    row: TableRow,
-    found: Option<&Value>,
-    err: &mut V,
-) -> io::Result<()> {
-    let (text, form) = (column.key, form(column));
-    if let (Some(Value::Integer(_)), Shape::Text) = (found, column.shape) {
+fn tell_value(column: &Column, row: &TableRow, found: Option<&Value>, hint: &mut HintText) {
+    begin_row(row, ": `", hint);
+    hint.say(column.key);
+    match (found, column.shape) {
         // its digits may be written otherwise in the table
-        return writeln!(
-            err,
-            "{about}: {row}: `{text}` is an integer; it is to be {form}"
-        );
+        (Some(Value::Integer(_)), Shape::Text) => hint.say("` is an integer"),
+        _ => say_found("` is ", found, hint),
     }
-    let found_text = FoundValue(found);
-    match (text, kilobits(found)) {
-        ("rate", Some(rate)) => writeln!(
-            err,
-            "{about}: {row}: `{text}` is {found_text}; rate is in bit/s: {rate}"
-        ),
-        _ => writeln!(
-            err,
-            "{about}: {row}: `{text}` is {found_text}; it is to be {form}"
-        ),
+    match kilobits(found) {
+        Some(rate) if column.key == "rate" => {
+            hint.say_number("; rate is in bit/s: ", u64::from(rate));
+            hint.end("");
+        }
+        _ => hint.end_text("; it is to be ", form(column)),
     }
 }
 
 /// Tells which end of an interval has a fault.
-fn tell_interval<V: Write>(about: About, row: TableRow, err: &mut V) -> io::Result<()> {
+fn tell_interval(row: &TableRow, hint: &mut HintText) {
     let (Some(Value::Integer(min_us)), Some(Value::Integer(max_us))) = (
         row.value.get("min_us"),
         row.value.get("max_us"),
     ) else {
-        return Ok(());
+        return;
     };
     let (min_us, max_us) = (*min_us, *max_us);
     if min_us < 1 {
-        writeln!(
-            err,
-            "{about}: {row}: `min_us` is {min_us}; it is to be an integer from 1 to max_us (microseconds)"
-        )?;
+        begin_row(row, ": `min_us` is ", hint);
+        hint.say_value("", min_us);
+        hint.end("; it is to be an integer from 1 to max_us (microseconds)");
     }
     if max_us > 30000000 {
-        writeln!(
-            err,
-            "{about}: {row}: `max_us` is {max_us}; it is to be an integer from min_us to 30000000 (microseconds)"
-        )?;
+        begin_row(row, ": `max_us` is ", hint);
+        hint.say_value("", max_us);
+        hint.end("; it is to be an integer from min_us to 30000000 (microseconds)");
     }
     if min_us > max_us {
-        writeln!(
-            err,
-            "{about}: {row}: `min_us` is {min_us} and `max_us` is {max_us}; the first is to be at most the second"
-        )?;
+        begin_row(row, ": `min_us` is ", hint);
+        hint.say_value("", min_us);
+        hint.say_value(" and `max_us` is ", max_us);
+        hint.end("; the first is to be at most the second");
     }
-    Ok(())
 }
 
 /// Tells where the version of a table is, if it has come into one of its rows.
-fn tell_late_version<V: Write>(about: About, row: TableRow, err: &mut V) -> io::Result<()> {
+fn tell_late_version(row: &TableRow, hint: &mut HintText) {
     for key in ["receiver", "source", "group"] {
-        for value in rows_at(row.root, key) {
-            if value.get("version").is_some() {
-                return writeln!(
-                    err,
-                    "{about}: `version` is after a [[{key}]] and so belongs to it: move it to the top of the table"
-                );
-            }
+        if has_version_in(row.root, key) {
+            hint.begin(": `version` is after a [[");
+            hint.say(key);
+            return hint.end("]] and so belongs to it: move it to the top of the table");
         }
     }
-    Ok(())
+}
+
+/// Whether a row of the array at a key has a key `version`.
+fn has_version_in(root: &Value, key: &str) -> bool {
+    for row in rows_at(root, key) {
+        if row.get("version").is_some() {
+            return true;
+        }
+    }
+    false
 }
 
 /// Tells of the first filter of a receiver that is no text, or not of its form.
-fn tell_filter<V: Write>(
-    about: About,
-    kind: FaultKind,
-    row: TableRow,
-    err: &mut V,
-) -> io::Result<()> {
+fn tell_filter(kind: FaultKind, row: &TableRow, hint: &mut HintText) {
     for (number, filter) in rows_at(row.value, "filters").iter().enumerate() {
         if is_faulty_filter(kind, filter) {
-            let found = FoundValue(Some(filter));
-            return writeln!(
-                err,
-                "{about}: {row}: filter {number} is {found}; it is to be a text LLL/MMM, label and mask, each three octal digits from 000 to 377"
+            begin_row(row, ": filter ", hint);
+            hint.say_count("", number);
+            say_found(" is ", Some(filter), hint);
+            return hint.end(
+                "; it is to be a text LLL/MMM, label and mask, each three octal digits from 000 to 377",
             );
         }
     }
-    Ok(())
 }
 
 fn is_faulty_filter(kind: FaultKind, filter: &Value) -> bool {
@@ -234,50 +186,45 @@ fn is_faulty_filter(kind: FaultKind, filter: &Value) -> bool {
 
 /// Tells of each key of a row that its tables do not have, where it belongs or which is the nearest, and of those that
 /// they have.
-fn tell_unknown_keys<V: Write>(
-    alloc: Global,
-    about: About,
-    row: TableRow,
-    err: &mut V,
-) -> io::Result<()> {
+fn tell_unknown_keys(row: &TableRow, hint: &mut HintText) {
     let Value::Table(table) = row.value else {
-        return Ok(());
+        return;
     };
     let version = version_of(row.root);
     for key in table.keys() {
         if !has_key(version, row.place, key.as_str()) {
-            tell_unknown_key(alloc, about, version, row, key.as_str(), err)?;
+            tell_unknown_key(version, row, key.as_str(), hint);
         }
     }
-    Ok(())
 }
 
-fn tell_unknown_key<V: Write>(
-    alloc: Global,
-    about: About,
-    version: TableVersion,
-    row: TableRow,
-    key: &str,
-    err: &mut V,
-) -> io::Result<()> {
-    let shown = short_text(key);
-    let shown = shown.as_str();
-    let mut nearest = Nearest::to(shown);
-    let number = version.number();
-    write!(
-        err,
-        "{about}: {row}: {shown:?} is no key of it; in version {number} those are"
-    )?;
+fn tell_unknown_key(version: TableVersion, row: &TableRow, key: &str, hint: &mut HintText) {
+    begin_row(row, ": ", hint);
+    hint.say_quoted("", key);
+    hint.say_value(" is no key of it; in version ", version.number());
+    hint.say(" those are");
     for column in columns_of(version, row.place) {
-        let text = column.key;
-        write!(err, " `{text}`")?;
-        nearest = nearest.or(alloc, text);
+        hint.say_text(" `", column.key);
+        hint.say("`");
     }
-    match (where_it_belongs(version, row.place, key), nearest.name()) {
-        (Some(place), _) => writeln!(err, "; {place}"),
-        (None, Some(name)) => writeln!(err, ", of which `{name}` is the nearest"),
-        (None, None) => writeln!(err),
+    match where_it_belongs(version, row.place, key) {
+        Some(place) => hint.end_text("; ", place),
+        None => say_nearest_key(version, row.place, key, hint),
     }
+}
+
+/// Says which key of a table is the nearest to one that it does not have, and ends the line.
+fn say_nearest_key(version: TableVersion, place: TablePlace, key: &str, hint: &mut HintText) {
+    let shown = short_text(key);
+    let mut nearest = Nearest::to(shown.as_str());
+    for column in columns_of(version, place) {
+        nearest = nearest.or(hint.alloc, column.key);
+    }
+    if let Some(near) = nearest.name() {
+        hint.say_text(", of which `", near);
+        hint.say("` is the nearest");
+    }
+    hint.end("");
 }
 
 /// Where a key belongs that tables have, but not here.
@@ -301,33 +248,31 @@ fn where_it_belongs(version: TableVersion, place: TablePlace, key: &str) -> Opti
 }
 
 fn has_key(version: TableVersion, place: TablePlace, text: &str) -> bool {
-    columns_of(version, place)
-        .iter()
-        .any(|column| column.key == text)
+    for column in columns_of(version, place) {
+        if column.key == text {
+            return true;
+        }
+    }
+    false
 }
 
 /// Tells which name of a row stands for nothing, which one may have been meant, and which there are.
-fn tell_unknown_name<V: Write>(
-    alloc: Global,
-    about: About,
-    row: TableRow,
-    err: &mut V,
-) -> io::Result<()> {
+fn tell_unknown_name(row: &TableRow, hint: &mut HintText) {
     let key = match row.place {
         TablePlace::Source(_) => "receiver",
         _ => "source",
     };
     let name = short_text(text_at(row.value, key));
     let name = name.as_str();
+    begin_row(row, ": no ", hint);
+    hint.say_text(key, " has the name ");
+    hint.say_quoted("", name);
     let mut nearest = Nearest::to(name);
     for other in rows_at(row.root, key) {
-        nearest = nearest.or(alloc, text_at(other, "name"));
+        nearest = nearest.or(hint.alloc, text_at(other, "name"));
     }
-    match nearest.name() {
-        Some(near) => writeln!(
-            err,
-            "{about}: {row}: no {key} has the name {name:?}; the nearest is {near}"
-        ),
-        None => writeln!(err, "{about}: {row}: no {key} has the name {name:?}"),
+    if let Some(near) = nearest.name() {
+        hint.say_text("; the nearest is ", near);
     }
+    hint.end("");
 }

@@ -1,8 +1,9 @@
 //! Hints about what `lint` finds.
 
-use crate::about::About;
-use std::io;
-use std::io::Write;
+use crate::hint::HintText;
+
+/// The kinds of findings in the order in which `lint` prints them, with spaces between them.
+const KINDS: &str = "unfit too-many-buses unheard unsent idle blind alike full";
 
 /// What a finding means, and what to do about it, by the first word of its line.
 fn advice(kind: &str) -> &'static str {
@@ -34,27 +35,21 @@ fn advice(kind: &str) -> &'static str {
 
 /// Whether a line of a text begins with this word.
 fn has_line(text: &str, kind: &str) -> bool {
-    text.lines()
-        .any(|line| line.split(' ').next() == Some(kind))
+    for line in text.lines() {
+        if line.split(' ').next() == Some(kind) {
+            return true;
+        }
+    }
+    false
 }
 
 /// Tells what to do about each kind of finding in the text of `lint`, in the order of the kinds there.
-pub fn tell_findings<V: Write>(about: About, text: &str, err: &mut V) -> io::Result<()> {
-    let kinds = [
-        "unfit",
-        "too-many-buses",
-        "unheard",
-        "unsent",
-        "idle",
-        "blind",
-        "alike",
-        "full",
-    ];
-    for kind in kinds {
+pub fn tell_findings(text: &str, hint: &mut HintText) {
+    for kind in KINDS.split(' ') {
         if has_line(text, kind) {
-            let advice = advice(kind);
-            writeln!(err, "{about}: {kind}: {advice}")?;
+            hint.begin(": ");
+            hint.say_text(kind, ": ");
+            hint.end(advice(kind));
         }
     }
-    Ok(())
 }

@@ -1,71 +1,64 @@
 //! Hints about the table that rows of comma-separated values state.
 
-use crate::sheets::{Sheet, form_in, tell_field};
+use crate::hint::HintText;
+use crate::sheets::{Sheet, begin_column, begin_row, form_in, tell_field};
 use a429_documents::CsvLine;
 use a429_equipment::{GROUPS, OUTPUTS, RECEIVERS, SOURCES};
 use a429_filter::FILTERS;
 use a429_table::{FaultKind, TablePlace};
-use std::alloc::{AllocError, Global};
-use std::io;
-use std::io::Write;
 
 /// Tells which row states what the table is refused for.
-pub fn tell_imported<V: Write>(
-    alloc: Global,
-    sheet: Sheet,
-    kind: FaultKind,
-    place: TablePlace,
-    err: &mut V,
-) -> io::Result<()> {
+pub fn tell_imported(sheet: Sheet, kind: FaultKind, place: TablePlace, hint: &mut HintText) {
     if kind == FaultKind::TooMany {
-        return tell_too_many(alloc, sheet, place, err);
+        return tell_too_many(sheet, place, hint);
     }
-    let Some(row) = row_of(alloc, sheet, place)? else {
-        return Ok(());
+    let Some(row) = row_of(sheet, place, hint) else {
+        return;
     };
     match kind {
-        FaultKind::DuplicateSource => tell_twin_source(sheet, row, err),
-        FaultKind::DuplicateOutput => tell_twin_output(sheet, row, err),
-        FaultKind::Interval => tell_interval(sheet, row, err),
-        _ => tell_at_fault(sheet, row, kind, place, err),
+        FaultKind::DuplicateSource => tell_twin_source(sheet, row, hint),
+        FaultKind::DuplicateOutput => tell_twin_output(sheet, row, hint),
+        FaultKind::Interval => tell_interval(sheet, row, hint),
+        _ => tell_at_fault(sheet, row, kind, place, hint),
     }
 }
 
-/// The row that states what is at a place of the table first.
-fn row_of<'a>(
-    alloc: Global,
-    sheet: Sheet<'a>,
-    place: TablePlace,
-) -> Result<Option<&'a CsvLine>, AllocError> {
+/// The row that states what is at a place of the table first. `None` if there is none, or if memory was refused.
+fn row_of<'a>(sheet: Sheet<'a>, place: TablePlace, hint: &mut HintText) -> Option<&'a CsvLine> {
     match place {
-        TablePlace::Root => Ok(None),
-        TablePlace::Receiver(number) => sheet.first_row(alloc, "receiver", number),
-        TablePlace::Source(number) => sheet.first_row(alloc, "source", number),
-        TablePlace::Group(number) => sheet.first_row(alloc, "group", number),
-        TablePlace::Output(group, number) => match sheet.first_row(alloc, "group", group)? {
-            Some(row) => Ok(sheet.output_row(sheet.field(row, "group"), number)),
-            None => Ok(None),
-        },
+        TablePlace::Root => None,
+        TablePlace::Receiver(number) => sheet.first_row("receiver", number, hint),
+        TablePlace::Source(number) => sheet.first_row("source", number, hint),
+        TablePlace::Group(number) => sheet.first_row("group", number, hint),
+        TablePlace::Output(group, number) => {
+            let row = sheet.first_row("group", group, hint)?;
+            sheet.output_row(sheet.field(row, "group"), number)
+        }
     }
 }
 
 /// Tells of the field of a row that a fault of this kind is about.
-fn tell_at_fault<V: Write>(
+fn tell_at_fault(
     sheet: Sheet,
     row: &CsvLine,
     kind: FaultKind,
     place: TablePlace,
-    err: &mut V,
-) -> io::Result<()> {
+    hint: &mut HintText,
+) {
     let column = match (kind, place) {
         (FaultKind::Rate, _) => "rate",
         (FaultKind::Hold, _) => "hold",
         (FaultKind::Name, TablePlace::Receiver(_)) => "receiver",
         (FaultKind::Name, TablePlace::Source(_)) => "source",
         (FaultKind::Name, TablePlace::Group(_)) => "group",
-        _ => return Ok(()),
+        _ => return,
     };
-    tell_field(sheet.about(row), column, sheet.text(row, column), err)
+    tell_column(sheet, row, column, hint);
+}
+
+/// Tells what is in a column of a row, and what is to be there.
+fn tell_column(sheet: Sheet, row: &CsvLine, column: &str, hint: &mut HintText) {
+    tell_field(row, column, sheet.text(row, column), hint);
 }
 
 /// The number in a column of a row; 0 if there is none.
@@ -77,137 +70,113 @@ fn number_in(sheet: Sheet, row: &CsvLine, column: &str) -> u64 {
 }
 
 /// Tells which end of an interval has a fault.
-fn tell_interval<V: Write>(sheet: Sheet, row: &CsvLine, err: &mut V) -> io::Result<()> {
-    let about = sheet.about(row);
+fn tell_interval(sheet: Sheet, row: &CsvLine, hint: &mut HintText) {
     let min_us = number_in(sheet, row, "min_us");
     let max_us = number_in(sheet, row, "max_us");
     if min_us < 1 {
-        tell_field(about, "min_us", sheet.text(row, "min_us"), err)?;
+        tell_column(sheet, row, "min_us", hint);
     }
     if max_us > 30000000 {
-        tell_field(about, "max_us", sheet.text(row, "max_us"), err)?;
+        tell_column(sheet, row, "max_us", hint);
     }
     if min_us > max_us {
-        writeln!(
-            err,
-            "{about}: min_us is {min_us} and max_us is {max_us}; the first is to be at most the second"
-        )?;
+        begin_row(row, ": min_us is ", hint);
+        hint.say_number("", min_us);
+        hint.say_number(" and max_us is ", max_us);
+        hint.end("; the first is to be at most the second");
     }
-    Ok(())
 }
 
-/// The digits of a label without leading zeros, which may be lost.
-fn label_digits(sheet: Sheet, row: &CsvLine) -> u64 {
-    number_in(sheet, row, "label")
+/// Whether two rows have the same label. Its leading zeros may be lost.
+fn have_same_label(sheet: Sheet, a: &CsvLine, b: &CsvLine) -> bool {
+    number_in(sheet, a, "label") == number_in(sheet, b, "label")
 }
 
 /// Whether two rows state sources that cannot be told apart.
 fn meet(sheet: Sheet, a: &CsvLine, b: &CsvLine) -> bool {
     let (one, other) = (sheet.text(a, "sdi"), sheet.text(b, "sdi"));
     sheet.field(a, "receiver") == sheet.field(b, "receiver")
-        && label_digits(sheet, a) == label_digits(sheet, b)
+        && have_same_label(sheet, a, b)
         && (one == other || one == "any" || other == "any")
 }
 
 /// Tells with which earlier source that of a row meets.
-fn tell_twin_source<V: Write>(sheet: Sheet, row: &CsvLine, err: &mut V) -> io::Result<()> {
-    let about = sheet.about(row);
+fn tell_twin_source(sheet: Sheet, row: &CsvLine, hint: &mut HintText) {
     for earlier in sheet.rows {
         if sheet.field(earlier, "source") != sheet.field(row, "source")
             && meet(sheet, earlier, row)
         {
-            let (source, other) = (sheet.text(row, "source"), sheet.text(earlier, "source"));
-            return writeln!(
-                err,
-                "{about}: source {source:?} and source {other:?} of line {} have the same receiver and label, and their SDIs meet",
-                earlier.number
-            );
+            begin_row(row, ": source ", hint);
+            hint.say_quoted("", sheet.text(row, "source"));
+            hint.say_quoted(" and source ", sheet.text(earlier, "source"));
+            hint.say_number(" of line ", earlier.number);
+            return hint.end(" have the same receiver and label, and their SDIs meet");
         }
     }
-    Ok(())
 }
 
 /// Tells which earlier row of its group has the label and the SDI of a row.
-fn tell_twin_output<V: Write>(sheet: Sheet, row: &CsvLine, err: &mut V) -> io::Result<()> {
-    let about = sheet.about(row);
+fn tell_twin_output(sheet: Sheet, row: &CsvLine, hint: &mut HintText) {
     for earlier in sheet.rows {
         if earlier.number != row.number
             && sheet.field(earlier, "group") == sheet.field(row, "group")
-            && label_digits(sheet, earlier) == label_digits(sheet, row)
+            && have_same_label(sheet, earlier, row)
             && sheet.field(earlier, "sdi") == sheet.field(row, "sdi")
         {
-            return writeln!(
-                err,
-                "{about}: this row and that of line {} have the same group, label and SDI",
-                earlier.number
-            );
+            begin_row(row, ": this row and that of line ", hint);
+            hint.say_number("", earlier.number);
+            return hint.end(" have the same group, label and SDI");
         }
     }
-    Ok(())
 }
 
 /// Tells of a row that states one more than there can be.
-fn tell_too_many<V: Write>(
-    alloc: Global,
-    sheet: Sheet,
-    place: TablePlace,
-    err: &mut V,
-) -> io::Result<()> {
+fn tell_too_many(sheet: Sheet, place: TablePlace, hint: &mut HintText) {
     match place {
         TablePlace::Root => {
-            tell_more(alloc, sheet, "receiver", RECEIVERS, err)?;
-            tell_more(alloc, sheet, "source", SOURCES, err)?;
-            tell_more(alloc, sheet, "group", GROUPS, err)
+            tell_more(sheet, "receiver", RECEIVERS, hint);
+            tell_more(sheet, "source", SOURCES, hint);
+            tell_more(sheet, "group", GROUPS, hint);
         }
-        TablePlace::Receiver(_) => match row_of(alloc, sheet, place)? {
-            Some(row) => tell_filters(sheet, row, err),
-            None => Ok(()),
-        },
-        TablePlace::Group(number) => {
-            match row_of(alloc, sheet, TablePlace::Output(number, OUTPUTS))? {
-                Some(row) => writeln!(
-                    err,
-                    "{}: this is output number {} of its group, and a group has {OUTPUTS} at most",
-                    sheet.about(row),
-                    OUTPUTS + 1
-                ),
-                None => Ok(()),
+        TablePlace::Receiver(_) => {
+            if let Some(row) = row_of(sheet, place, hint) {
+                tell_filters(sheet, row, hint);
             }
         }
-        _ => Ok(()),
+        TablePlace::Group(number) => tell_more_outputs(sheet, number, hint),
+        _ => {}
+    }
+}
+
+/// Tells of the row that states one more output of a group than it can have, if there is one.
+fn tell_more_outputs(sheet: Sheet, group: usize, hint: &mut HintText) {
+    if let Some(row) = row_of(sheet, TablePlace::Output(group, OUTPUTS), hint) {
+        begin_row(row, ": this is output number ", hint);
+        hint.say_count("", OUTPUTS + 1);
+        hint.say_count(" of its group, and a group has ", OUTPUTS);
+        hint.end(" at most");
     }
 }
 
 /// Tells of the row that states one more of these than there can be, if there is one.
-fn tell_more<V: Write>(
-    alloc: Global,
-    sheet: Sheet,
-    column: &str,
-    most: usize,
-    err: &mut V,
-) -> io::Result<()> {
-    match sheet.first_row(alloc, column, most)? {
-        Some(row) => writeln!(
-            err,
-            "{}, column {column}: this is one more than the {most} that a table can have",
-            sheet.about(row)
-        ),
-        None => Ok(()),
+fn tell_more(sheet: Sheet, column: &str, most: usize, hint: &mut HintText) {
+    if let Some(row) = sheet.first_row(column, most, hint) {
+        begin_column(row, column, hint);
+        hint.say_count("this is one more than the ", most);
+        hint.end(" that a table can have");
     }
 }
 
 /// Tells how many filters a row has.
-fn tell_filters<V: Write>(sheet: Sheet, row: &CsvLine, err: &mut V) -> io::Result<()> {
+fn tell_filters(sheet: Sheet, row: &CsvLine, hint: &mut HintText) {
     let mut count: usize = 0;
-    for part in sheet.text(row, "filters").split(' ') {
-        if !part.is_empty() {
+    for filter in sheet.text(row, "filters").split(' ') {
+        if !filter.is_empty() {
             count = count.saturating_add(1);
         }
     }
-    writeln!(
-        err,
-        "{}, column filters: {count} filters, and a receiver has {FILTERS} at most; each is {}",
-        sheet.about(row),
-        form_in("filters")
-    )
+    begin_column(row, "filters", hint);
+    hint.say_count("", count);
+    hint.say_count(" filters, and a receiver has ", FILTERS);
+    hint.end_text(" at most; each is ", form_in("filters"));
 }

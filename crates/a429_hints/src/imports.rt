@@ -1,188 +1,143 @@
 //! Hints about rows of comma-separated values that are not imported.
 
-use crate::about::About;
+use crate::hint::HintText;
 use crate::imported::tell_imported;
-use crate::lists::LISTED;
+use crate::lists::{LISTED, say_more};
 use crate::nearest::Nearest;
-use crate::rows::short_text;
-use crate::sheets::{Sheet, tell_field};
+use crate::sheets::{Sheet, begin_column, begin_row, tell_field};
 use a429_console::hints::SeenRows;
 use a429_console::refusals::{CommandRefusal, CsvKind};
 use a429_documents::{CsvLine, IMPORT_COLUMNS, ImportColumn, csv_lines};
 use a429_filter::Filter;
-use std::alloc::Global;
 use std::cmp::min;
-use std::io;
-use std::io::Write;
 
 /// Tells what is wrong with the rows of a file.
-pub fn tell_rows<V: Write>(
-    alloc: Global,
-    file: &str,
-    refusal: &CommandRefusal,
-    seen: &SeenRows,
-    err: &mut V,
-) -> io::Result<()> {
-    let lines = csv_lines(alloc, &seen.bytes)?;
+pub fn tell_rows(refusal: &CommandRefusal, seen: &SeenRows, hint: &mut HintText) {
+    let Ok(lines) = csv_lines(hint.alloc, &seen.bytes) else {
+        return hint.give_up();
+    };
+    hint.turn_to_line(1);
     match lines.as_slice() {
-        [] => writeln!(
-            err,
-            "{}: there is no heading; it is to name the columns group, rate, source, receiver, label, sdi, min_us and max_us",
-            About::line(file, 1)
+        [] => hint.say_line(
+            "there is no heading; it is to name the columns group, rate, source, receiver, label, sdi, min_us and max_us",
         ),
         [heading, rows @ ..] => {
-            let sheet = Sheet {
-                file,
-                heading,
-                rows,
-            };
-            tell_sheet(alloc, sheet, refusal, seen, err)
+            let sheet = Sheet { heading, rows };
+            tell_sheet(sheet, refusal, seen, hint);
         }
     }
 }
 
-fn tell_sheet<V: Write>(
-    alloc: Global,
-    sheet: Sheet,
-    refusal: &CommandRefusal,
-    seen: &SeenRows,
-    err: &mut V,
-) -> io::Result<()> {
+fn tell_sheet(sheet: Sheet, refusal: &CommandRefusal, seen: &SeenRows, hint: &mut HintText) {
     match refusal {
-        CommandRefusal::Table(kind, place) => tell_imported(alloc, sheet, *kind, *place, err),
+        CommandRefusal::Table(kind, place) => tell_imported(sheet, *kind, *place, hint),
         CommandRefusal::Csv {
             kind: CsvKind::Column,
             ..
-        } => tell_heading(alloc, sheet, err),
-        CommandRefusal::Csv { line, kind } => match sheet.row_on(*line) {
-            Some(row) => tell_row(sheet, row, *kind, seen, err),
-            None => Ok(()),
+        } => tell_heading(sheet, hint),
+        CommandRefusal::Csv { line, kind } => match (sheet.row_on(*line), seen.column, *kind) {
+            (None, _, _) => {}
+            (Some(row), None, _) => tell_count(sheet, row, &seen.bytes, hint),
+            (Some(row), Some(column), CsvKind::Differs) => {
+                tell_difference(sheet, row, column, hint);
+            }
+            (Some(row), Some(column), _) => tell_form(sheet, row, column, hint),
         },
-        _ => Ok(()),
-    }
-}
-
-/// Tells what is wrong with a row below the heading.
-fn tell_row<V: Write>(
-    sheet: Sheet,
-    row: &CsvLine,
-    kind: CsvKind,
-    seen: &SeenRows,
-    err: &mut V,
-) -> io::Result<()> {
-    match (kind, seen.column) {
-        (CsvKind::Differs, Some(column)) => tell_difference(sheet, row, column, err),
-        (_, Some(column)) => tell_form(sheet, row, column, err),
-        (_, None) => tell_count(sheet, row, &seen.bytes, err),
+        _ => {}
     }
 }
 
 /// Tells of each column that the heading lacks or has twice.
-fn tell_heading<V: Write>(alloc: Global, sheet: Sheet, err: &mut V) -> io::Result<()> {
-    let about = About::line(sheet.file, 1);
+fn tell_heading(sheet: Sheet, hint: &mut HintText) {
     let first = sheet.heading.field(0);
     if sheet.heading.len() == 1 && first.contains(&b';') {
-        return writeln!(
-            err,
-            "{about}: the fields have semicolons between them; commas are to be there"
-        );
+        return hint.say_line("the fields have semicolons between them; commas are to be there");
     }
     if sheet.heading.len() == 1 && first.contains(&b'\t') {
-        return writeln!(
-            err,
-            "{about}: the fields have tabs between them; commas are to be there"
-        );
+        return hint.say_line("the fields have tabs between them; commas are to be there");
     }
     for column in IMPORT_COLUMNS.as_slice() {
-        tell_column(alloc, about, sheet.heading, *column, err)?;
+        tell_column(sheet.heading, *column, hint);
     }
-    Ok(())
 }
 
-/// Tells of a column if the heading lacks it or has it twice.
-fn tell_column<V: Write>(
-    alloc: Global,
-    about: About,
-    heading: &CsvLine,
-    column: ImportColumn,
-    err: &mut V,
-) -> io::Result<()> {
-    let name = column.name();
+/// How many fields of a heading have this name.
+fn times_in(heading: &CsvLine, name: &str) -> usize {
     let mut times: usize = 0;
     for place in 0..heading.len() {
         if heading.field(place) == name.as_bytes() {
             times = times.saturating_add(1);
         }
     }
-    match times {
-        0 if column.is_needed() => tell_missing(alloc, about, heading, name, err),
-        0 | 1 => Ok(()),
-        _ => writeln!(
-            err,
-            "{about}: the column {name} is there {times} times; it is to be there once"
-        ),
+    times
+}
+
+/// Tells of a column if the heading lacks it or has it twice.
+fn tell_column(heading: &CsvLine, column: ImportColumn, hint: &mut HintText) {
+    let name = column.name();
+    let times = times_in(heading, name);
+    if times > 1 {
+        hint.begin(": the column ");
+        hint.say(name);
+        hint.say_count(" is there ", times);
+        hint.end(" times; it is to be there once");
+    } else if times == 0 && column.is_needed() {
+        tell_missing(heading, name, hint);
     }
 }
 
-/// The field of a heading that is nearest to the name of a column, among those that name no column.
-fn nearest_field<'a>(alloc: Global, heading: &'a CsvLine, name: &'a str) -> Nearest<'a> {
+/// A field of a heading as a text; the empty text if it is none.
+fn heading_text(heading: &CsvLine, place: usize) -> &str {
+    str::from_utf8(heading.field(place)).unwrap_or("")
+}
+
+/// Says which field of a heading is nearest to the name of a column, among those that name no column.
+fn say_nearest_field(heading: &CsvLine, name: &str, hint: &mut HintText) {
     let mut nearest = Nearest::to(name);
     for place in 0..min(heading.len(), LISTED) {
-        let text = str::from_utf8(heading.field(place)).unwrap_or("");
+        let text = heading_text(heading, place);
         if !is_column(text) {
-            nearest = nearest.or(alloc, text);
+            nearest = nearest.or(hint.alloc, text);
         }
     }
-    nearest
+    if let Some(near) = nearest.name() {
+        hint.say_quoted(", of which ", near);
+        hint.say(" is the nearest");
+    }
 }
 
 /// Tells of a column that the heading lacks, and of those that it has.
-fn tell_missing<V: Write>(
-    alloc: Global,
-    about: About,
-    heading: &CsvLine,
-    name: &str,
-    err: &mut V,
-) -> io::Result<()> {
-    write!(
-        err,
-        "{about}: the column {name} is missing; the heading has"
-    )?;
+fn tell_missing(heading: &CsvLine, name: &str, hint: &mut HintText) {
+    hint.begin(": the column ");
+    hint.say_text(name, " is missing; the heading has");
     for place in 0..min(heading.len(), LISTED) {
-        let shown = short_text(str::from_utf8(heading.field(place)).unwrap_or(""));
-        write!(err, " {:?}", shown.as_str())?;
+        hint.say_quoted(" ", heading_text(heading, place));
     }
-    if heading.len() > LISTED {
-        write!(err, " and {} more", heading.len() - LISTED)?;
-    }
-    match nearest_field(alloc, heading, name).name() {
-        Some(near) => {
-            let shown = short_text(near);
-            writeln!(err, ", of which {:?} is the nearest", shown.as_str())
-        }
-        None => writeln!(err),
-    }
+    say_more(heading.len(), hint);
+    say_nearest_field(heading, name, hint);
+    hint.end("");
 }
 
 /// Whether a text is the name of a column that is read.
 fn is_column(text: &str) -> bool {
-    IMPORT_COLUMNS
-        .as_slice()
-        .iter()
-        .any(|column| column.name() == text)
+    for column in IMPORT_COLUMNS.as_slice() {
+        if column.name() == text {
+            return true;
+        }
+    }
+    false
 }
 
 /// Tells of a row that has more or fewer fields than the heading.
-fn tell_count<V: Write>(sheet: Sheet, row: &CsvLine, bytes: &[u8], err: &mut V) -> io::Result<()> {
-    let about = sheet.about(row);
-    let (fields, columns) = (row.len(), sheet.heading.len());
+fn tell_count(sheet: Sheet, row: &CsvLine, bytes: &[u8], hint: &mut HintText) {
     if has_open_quote(bytes, row.number) {
-        return writeln!(err, "{about}: the row has a quote that is not closed");
+        begin_row(row, ": ", hint);
+        return hint.end("the row has a quote that is not closed");
     }
-    writeln!(
-        err,
-        "{about}: the row has {fields} fields, and the heading has {columns}"
-    )
+    begin_row(row, ": the row has ", hint);
+    hint.say_count("", row.len());
+    hint.say_count(" fields, and the heading has ", sheet.heading.len());
+    hint.end("");
 }
 
 /// Whether quotes from a line to the end of a text are odd in number.
@@ -201,23 +156,19 @@ fn has_open_quote(bytes: &[u8], line: u64) -> bool {
 }
 
 /// Tells of a field that is not of its column's form.
-fn tell_form<V: Write>(sheet: Sheet, row: &CsvLine, column: &str, err: &mut V) -> io::Result<()> {
-    let about = sheet.about(row);
+fn tell_form(sheet: Sheet, row: &CsvLine, column: &str, hint: &mut HintText) {
     let Ok(text) = str::from_utf8(sheet.field(row, column)) else {
-        return writeln!(
-            err,
-            "{about}, column {column}: the field is not UTF-8: save the file as UTF-8"
-        );
+        begin_column(row, column, hint);
+        return hint.end("the field is not UTF-8: save the file as UTF-8");
     };
     if column != "filters" {
-        return tell_field(about, column, text, err);
+        return tell_field(row, column, text, hint);
     }
     for part in text.split(' ') {
         if !part.is_empty() && Filter::parse(part).is_err() {
-            return tell_field(about, column, part, err);
+            return tell_field(row, column, part, hint);
         }
     }
-    Ok(())
 }
 
 /// The column that names what a column says something of: a source, a receiver or a group.
@@ -230,29 +181,18 @@ fn owner_of(column: &str) -> &'static str {
 }
 
 /// Tells what an earlier row states otherwise.
-fn tell_difference<V: Write>(
-    sheet: Sheet,
-    row: &CsvLine,
-    column: &str,
-    err: &mut V,
-) -> io::Result<()> {
+fn tell_difference(sheet: Sheet, row: &CsvLine, column: &str, hint: &mut HintText) {
     let owner = owner_of(column);
     let name = sheet.field(row, owner);
     for earlier in sheet.rows {
         if sheet.field(earlier, owner) == name {
-            let about = sheet.about(row);
-            let here = short_text(sheet.text(row, column));
-            let before = short_text(sheet.text(earlier, column));
-            let shown = short_text(sheet.text(row, owner));
-            return writeln!(
-                err,
-                "{about}, column {column}: {owner} {:?} has {:?} here, and {:?} on line {}",
-                shown.as_str(),
-                here.as_str(),
-                before.as_str(),
-                earlier.number
-            );
+            begin_column(row, column, hint);
+            hint.say(owner);
+            hint.say_quoted(" ", sheet.text(row, owner));
+            hint.say_quoted(" has ", sheet.text(row, column));
+            hint.say_quoted(" here, and ", sheet.text(earlier, column));
+            hint.say_number(" on line ", earlier.number);
+            return hint.end("");
         }
     }
-    Ok(())
 }

@@ -8,12 +8,12 @@
 //! ```
 #![tactic(auto)]
 
-mod about;
 mod checks;
 mod differences;
 mod faults;
 mod files;
 mod findings;
+mod hint;
 mod imported;
 mod imports;
 mod keys;

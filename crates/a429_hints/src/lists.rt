@@ -1,44 +1,56 @@
 //! Lists of names in a hint.
 
-use crate::about::About;
+use crate::hint::HintText;
 use crate::nearest::Nearest;
 use crate::rows::short_text;
-use std::alloc::Global;
-use std::io;
-use std::io::Write;
 
 /// How many names a hint lists at most.
 pub const LISTED: usize = 16;
 
-/// Tells that a name is none of these, which is the nearest, and which there are.
-pub fn tell_names<V: Write>(
-    alloc: Global,
-    about: About,
-    kind: &str,
-    name: &str,
-    names: &[String],
-    err: &mut V,
-) -> io::Result<()> {
-    let shown = short_text(name);
-    let shown = shown.as_str();
-    let mut nearest = Nearest::to(shown);
+/// Whether a name is one of these.
+pub fn has_name(names: &[String], name: &str) -> bool {
     for known in names {
-        nearest = nearest.or(alloc, known.as_str());
+        if known.as_str() == name {
+            return true;
+        }
     }
-    write!(err, "{about}: no {kind} has the name {shown:?}")?;
-    if let Some(name) = nearest.name() {
-        write!(err, ", the nearest is {name}")?;
-    }
+    false
+}
+
+/// Tells that a name is none of these, which is the nearest, and which there are.
+pub fn tell_names(kind: &str, name: &str, names: &[String], hint: &mut HintText) {
+    hint.begin(": no ");
+    hint.say_text(kind, " has the name ");
+    hint.say_quoted("", name);
+    say_nearest(name, names, hint);
     if names.is_empty() {
-        return writeln!(err, "; there is none");
+        return hint.end("; there is none");
     }
-    write!(err, "; the {kind}s are")?;
+    hint.say_text("; the ", kind);
+    hint.say("s are");
     for known in names.iter().take(LISTED) {
-        let known = known.as_str();
-        write!(err, " {known}")?;
+        hint.say_text(" ", known.as_str());
     }
-    if names.len() > LISTED {
-        write!(err, " and {} more", names.len() - LISTED)?;
+    say_more(names.len(), hint);
+    hint.end("");
+}
+
+/// Says which of some names is the nearest to one.
+fn say_nearest(name: &str, names: &[String], hint: &mut HintText) {
+    let shown = short_text(name);
+    let mut nearest = Nearest::to(shown.as_str());
+    for known in names {
+        nearest = nearest.or(hint.alloc, known.as_str());
     }
-    writeln!(err)
+    if let Some(near) = nearest.name() {
+        hint.say_text(", the nearest is ", near);
+    }
+}
+
+/// Says how many more there are than a hint lists, if there are more.
+pub fn say_more(count: usize, hint: &mut HintText) {
+    if count > LISTED {
+        hint.say_count(" and ", count - LISTED);
+        hint.say(" more");
+    }
 }

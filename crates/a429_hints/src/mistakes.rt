@@ -1,71 +1,42 @@
 //! Hints about words of the command line that are a mistake.
 
+use crate::hint::HintText;
 use crate::nearest::Nearest;
 use crate::rows::short_text;
-use std::alloc::Global;
-use std::io;
-use std::io::Write;
+
+/// The commands, with spaces between them.
+const COMMANDS: &str =
+    "import plan check icd margin lint diff draw replay simulate live word lines help";
+
+/// The options, with spaces between them.
+const OPTIONS: &str = "--csv --group --slots --width --until --summary --help --version";
 
 /// Tells which command, or which option, may have been meant by a word that is none.
-pub fn tell_nearest_word<V: Write>(alloc: Global, words: &[&str], err: &mut V) -> io::Result<()> {
+pub fn tell_nearest_word(words: &[&str], hint: &mut HintText) {
     if let Some(first) = words.first() {
-        tell_command(alloc, first, err)?;
+        tell_nearest("command", COMMANDS, first, hint);
     }
     for word in words {
         if *word == "--" {
-            return Ok(());
+            return;
         }
         if word.starts_with("--") {
             let (name, _) = word.split_once('=').unwrap_or((word, ""));
-            tell_option(alloc, name, err)?;
+            tell_nearest("option", OPTIONS, name, hint);
         }
     }
-    Ok(())
 }
 
-/// Tells the command that is nearest to a word, if the word is none.
-fn tell_command<V: Write>(alloc: Global, word: &str, err: &mut V) -> io::Result<()> {
+/// Tells the name of this kind that is nearest to a word, if the word is none.
+fn tell_nearest(kind: &str, names: &str, word: &str, hint: &mut HintText) {
     let shown = short_text(word);
     let shown = shown.as_str();
-    let nearest = Nearest::to(shown)
-        .or(alloc, "import")
-        .or(alloc, "plan")
-        .or(alloc, "check")
-        .or(alloc, "icd")
-        .or(alloc, "margin")
-        .or(alloc, "lint")
-        .or(alloc, "diff")
-        .or(alloc, "draw")
-        .or(alloc, "replay")
-        .or(alloc, "simulate")
-        .or(alloc, "live")
-        .or(alloc, "word")
-        .or(alloc, "lines")
-        .or(alloc, "help");
-    tell_nearest(shown, "command", nearest, err)
-}
-
-/// Tells the option that is nearest to a word, if the word is none.
-fn tell_option<V: Write>(alloc: Global, word: &str, err: &mut V) -> io::Result<()> {
-    let shown = short_text(word);
-    let shown = shown.as_str();
-    let nearest = Nearest::to(shown)
-        .or(alloc, "--csv")
-        .or(alloc, "--group")
-        .or(alloc, "--slots")
-        .or(alloc, "--width")
-        .or(alloc, "--until")
-        .or(alloc, "--summary")
-        .or(alloc, "--help")
-        .or(alloc, "--version");
-    tell_nearest(shown, "option", nearest, err)
-}
-
-fn tell_nearest<V: Write>(word: &str, kind: &str, nearest: Nearest, err: &mut V) -> io::Result<()> {
-    match nearest.name() {
-        Some(name) if name != word => {
-            writeln!(err, "a429: {word:?} is no {kind}, the nearest is {name}")
+    match Nearest::among(hint.alloc, shown, names).name() {
+        Some(name) if name != shown => {
+            hint.say_quoted("a429: ", shown);
+            hint.say_text(" is no ", kind);
+            hint.end_text(", the nearest is ", name);
         }
-        _ => Ok(()),
+        _ => {}
     }
 }

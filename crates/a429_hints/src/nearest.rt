@@ -16,6 +16,15 @@ impl<'a> Nearest<'a> {
         Nearest { text, best: None }
     }
 
+    /// Among names with spaces between them.
+    pub fn among(alloc: Global, text: &'a str, names: &'a str) -> Nearest<'a> {
+        let mut nearest = Nearest::to(text);
+        for name in names.split(' ') {
+            nearest = nearest.or(alloc, name);
+        }
+        nearest
+    }
+
     /// Among one name more. If memory is refused, among those before.
     pub fn or(self, alloc: Global, name: &'a str) -> Nearest<'a> {
         let Ok(edits) = levenshtein(alloc, self.text, name) else {

@@ -1,9 +1,7 @@
 //! Hints about intervals that have no period of the grid.
 
-use crate::about::About;
+use crate::hint::HintText;
 use a429_grid::{SLOT_TIME, grid_period};
-use std::io::Write;
-use std::{fmt, io};
 
 /// The periods of the grid, in slots (profile).
 const PERIODS: [u64; 14] = [
@@ -18,95 +16,81 @@ pub struct Interval {
     pub rate: u32,
 }
 
-/// A time in microseconds times bit/s, told in slots and thousandths of a slot.
-#[derive(Clone, Copy)]
-struct Slots(u64);
-
-impl fmt::Display for Slots {
-    fn fmt<W: fmt::Write>(&self, f: &mut fmt::Formatter<W>) -> fmt::Result {
-        let (whole, thousandths) = (self.0 / SLOT_TIME, self.0 % SLOT_TIME / (SLOT_TIME / 1000));
-        write!(f, "{whole}.{thousandths:03}")
+impl Interval {
+    /// A time in microseconds times the rate in bit/s.
+    fn slot_time(self, us: u32) -> u64 {
+        u64::from(us).saturating_mul(u64::from(self.rate))
     }
 }
 
+/// Says words, and a time in microseconds times bit/s in slots and thousandths of a slot.
+fn say_slots(words: &str, time: u64, hint: &mut HintText) {
+    let (whole, thousandths) = (time / SLOT_TIME, time % SLOT_TIME / (SLOT_TIME / 1000));
+    hint.say(words);
+    write!(hint, "{whole}.{thousandths:03}");
+}
+
 /// Tells an interval in slots, and that it has no period.
-pub fn tell_unfit_briefly<V: Write>(interval: Interval, err: &mut V) -> io::Result<()> {
-    let Interval {
-        min_us,
-        max_us,
-        rate,
-    } = interval;
-    let shortest = u64::from(min_us).saturating_mul(u64::from(rate));
-    let longest = u64::from(max_us).saturating_mul(u64::from(rate));
-    let (least, most) = (Slots(shortest), Slots(longest));
-    writeln!(
-        err,
-        "{min_us} to {max_us} us are {least} to {most} slots at {rate} bit/s, and no period (1, 2, 4 .. 8192 slots) lies within"
-    )
+pub fn tell_unfit_briefly(interval: Interval, hint: &mut HintText) {
+    hint.say_number(": ", u64::from(interval.min_us));
+    hint.say_number(" to ", u64::from(interval.max_us));
+    say_slots(" us are ", interval.slot_time(interval.min_us), hint);
+    say_slots(" to ", interval.slot_time(interval.max_us), hint);
+    hint.say_number(" slots at ", u64::from(interval.rate));
+    hint.end(" bit/s, and no period (1, 2, 4 .. 8192 slots) lies within");
 }
 
-/// Tells the periods next to an interval, and what would admit them.
-pub fn tell_unfit<V: Write>(about: About, interval: Interval, err: &mut V) -> io::Result<()> {
-    let Interval {
-        min_us,
-        max_us,
-        rate,
-    } = interval;
-    let shortest = u64::from(min_us).saturating_mul(u64::from(rate));
-    let longest = u64::from(max_us).saturating_mul(u64::from(rate));
-    tell_period_below(about, shortest, rate, err)?;
-    tell_period_above(about, longest, rate, err)?;
-    tell_milliseconds(about, interval, err)
-}
-
-/// Tells the period that an interval in milliseconds would have, if it has one.
-fn tell_milliseconds<V: Write>(about: About, interval: Interval, err: &mut V) -> io::Result<()> {
+/// Tells the periods next to an interval, what would admit them, and the period that the interval would have in
+/// milliseconds, if it would have one.
+pub fn tell_unfit(interval: Interval, hint: &mut HintText) {
+    tell_period_below(interval, hint);
+    tell_period_above(interval, hint);
     let (Some(min_us), Some(max_us)) = (
         interval.min_us.checked_mul(1000),
         interval.max_us.checked_mul(1000),
     ) else {
-        return Ok(());
+        return;
     };
     match grid_period(min_us, max_us, interval.rate) {
         Some(period) if max_us <= 30000000 => {
-            let slots = period.slots();
-            writeln!(
-                err,
-                "{about}: if these are milliseconds: min_us = {min_us}, max_us = {max_us} would have period {slots}"
-            )
+            hint.begin(": if these are milliseconds");
+            hint.say_number(": min_us = ", u64::from(min_us));
+            hint.say_number(", max_us = ", u64::from(max_us));
+            hint.say_number(" would have period ", u64::from(period.slots()));
+            hint.end("");
         }
-        _ => Ok(()),
+        _ => {}
     }
 }
 
 /// Tells the greatest period that is shorter than an interval, if there is one.
-fn tell_period_below<V: Write>(
-    about: About,
-    shortest: u64,
-    rate: u32,
-    err: &mut V,
-) -> io::Result<()> {
-    let is_shorter = |slots: &&u64| slots.saturating_mul(SLOT_TIME) < shortest;
-    let Some(slots) = PERIODS.iter().rev().find(is_shorter) else {
-        return Ok(());
-    };
-    let us = slots.saturating_mul(SLOT_TIME) / u64::from(rate.max(1));
-    writeln!(err, "{about}: min_us = {us} would admit period {slots}")
+fn tell_period_below(interval: Interval, hint: &mut HintText) {
+    let shortest = interval.slot_time(interval.min_us);
+    for slots in PERIODS.iter().rev() {
+        let time = slots.saturating_mul(SLOT_TIME);
+        if time < shortest {
+            let us = time / u64::from(interval.rate.max(1));
+            return tell_bound(": min_us = ", us, *slots, hint);
+        }
+    }
 }
 
 /// Tells the least period that is longer than an interval, if there is one.
-fn tell_period_above<V: Write>(
-    about: About,
-    longest: u64,
-    rate: u32,
-    err: &mut V,
-) -> io::Result<()> {
-    let is_longer = |slots: &&u64| slots.saturating_mul(SLOT_TIME) > longest;
-    let Some(slots) = PERIODS.iter().find(is_longer) else {
-        return Ok(());
-    };
-    let us = slots
-        .saturating_mul(SLOT_TIME)
-        .div_ceil(u64::from(rate.max(1)));
-    writeln!(err, "{about}: max_us = {us} would admit period {slots}")
+fn tell_period_above(interval: Interval, hint: &mut HintText) {
+    let longest = interval.slot_time(interval.max_us);
+    for slots in &PERIODS {
+        let time = slots.saturating_mul(SLOT_TIME);
+        if time > longest {
+            let us = time.div_ceil(u64::from(interval.rate.max(1)));
+            return tell_bound(": max_us = ", us, *slots, hint);
+        }
+    }
+}
+
+/// Tells a bound of an interval that would admit a period.
+fn tell_bound(words: &str, us: u64, slots: u64, hint: &mut HintText) {
+    hint.begin(words);
+    hint.say_number("", us);
+    hint.say_number(" would admit period ", slots);
+    hint.end("");
 }

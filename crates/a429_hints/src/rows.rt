@@ -1,7 +1,7 @@
 //! Rows of a table and their values, as a person sees them.
 
+use crate::hint::HintText;
 use a429_table::TablePlace;
-use std::fmt;
 use std::fmt::InlineText;
 use toml::Value;
 
@@ -17,50 +17,47 @@ impl<'a> TableRow<'a> {
     /// The row of a place; none where there is no such row.
     pub fn at(root: &'a Value, place: TablePlace) -> Option<TableRow<'a>> {
         let value = match place {
-            TablePlace::Root => root,
-            TablePlace::Receiver(row) => rows_at(root, "receiver").get(row)?,
-            TablePlace::Source(row) => rows_at(root, "source").get(row)?,
-            TablePlace::Group(row) => rows_at(root, "group").get(row)?,
-            TablePlace::Output(group, row) => {
-                let group = rows_at(root, "group").get(group)?;
-                rows_at(group, "output").get(row)?
-            }
+            TablePlace::Root => Some(root),
+            TablePlace::Receiver(row) => rows_at(root, "receiver").get(row),
+            TablePlace::Source(row) => rows_at(root, "source").get(row),
+            TablePlace::Group(row) => rows_at(root, "group").get(row),
+            TablePlace::Output(group, row) => match rows_at(root, "group").get(group) {
+                Some(group) => rows_at(group, "output").get(row),
+                None => None,
+            },
         };
-        Some(TableRow { root, place, value })
-    }
-}
-
-impl fmt::Display for TableRow<'_> {
-    /// The place as the refusal has it, and the name, or of an output that of its source: `source 3 "alt"`.
-    fn fmt<W: fmt::Write>(&self, f: &mut fmt::Formatter<W>) -> fmt::Result {
-        let place = self.place;
-        let name = match place {
-            TablePlace::Output(_, _) => self.value.get("source"),
-            _ => self.value.get("name"),
-        };
-        match name {
-            Some(Value::String(_)) => write!(f, "{place} {}", FoundValue(name)),
-            _ => write!(f, "{place}"),
+        match value {
+            Some(value) => Some(TableRow { root, place, value }),
+            None => None,
         }
     }
 }
 
-/// What stands at a place: a single value as a table has it, or what else it is.
-#[derive(Clone, Copy)]
-pub struct FoundValue<'a>(pub Option<&'a Value>);
+/// Says words, and the place of a row as the refusal has it, with its name, or of an output that of its source:
+/// `source 3 "alt"`.
+pub fn say_row(words: &str, row: &TableRow, hint: &mut HintText) {
+    hint.say_value(words, row.place);
+    let key = match row.place {
+        TablePlace::Output(_, _) => "source",
+        _ => "name",
+    };
+    if let Some(Value::String(name)) = row.value.get(key) {
+        hint.say_quoted(" ", name.as_str());
+    }
+}
 
-impl fmt::Display for FoundValue<'_> {
-    fn fmt<W: fmt::Write>(&self, f: &mut fmt::Formatter<W>) -> fmt::Result {
-        match self.0 {
-            Some(Value::String(text)) => write!(f, "{:?}", short_text(text.as_str()).as_str()),
-            Some(Value::Integer(number)) => write!(f, "{number}"),
-            Some(Value::Float(number)) => write!(f, "{number:?}"),
-            Some(Value::Boolean(is_so)) => write!(f, "{is_so}"),
-            Some(Value::Datetime(_)) => write!(f, "a date or a time"),
-            Some(Value::Array(rows)) => write!(f, "an array of {}", rows.len()),
-            Some(Value::Table(_)) => write!(f, "a table"),
-            None => write!(f, "missing"),
-        }
+/// Says words, and what stands at a place: a single value as a table has it, or what else it is.
+pub fn say_found(words: &str, found: Option<&Value>, hint: &mut HintText) {
+    hint.say(words);
+    match found {
+        Some(Value::String(text)) => hint.say_quoted("", text.as_str()),
+        Some(Value::Integer(number)) => hint.say_value("", *number),
+        Some(Value::Float(number)) => write!(hint, "{number:?}"),
+        Some(Value::Boolean(is_so)) => hint.say_value("", *is_so),
+        Some(Value::Datetime(_)) => hint.say("a date or a time"),
+        Some(Value::Array(rows)) => hint.say_count("an array of ", rows.len()),
+        Some(Value::Table(_)) => hint.say("a table"),
+        None => hint.say("missing"),
     }
 }
 

@@ -1,63 +1,55 @@
 //! Hints about lines of scripts and of files of words.
 
-use crate::about::About;
-use crate::lists::tell_names;
+use crate::hint::HintText;
+use crate::lists::{has_name, tell_names};
 use crate::nearest::Nearest;
 use crate::rows::short_text;
 use a429_console::hints::SeenLine;
-use std::alloc::Global;
-use std::io;
-use std::io::Write;
 
 /// The forms of a script's lines.
 const FORMS: &str = "arrive RECEIVER HEX, cell GROUP, frame GROUP, or publish N";
 
+/// What is wrong with a line that is no text.
+pub const NOT_UTF8: &str = "the line is not UTF-8";
+
+/// What is wrong with a line without words.
+const EMPTY: &str = "the line is empty";
+
+/// What is wrong with a line that is a comment.
+const COMMENT: &str = "there are no comments";
+
+/// The first words of a script's lines, with spaces between them.
+const VERBS: &str = "arrive cell frame publish";
+
 /// Tells what is wrong with a line of a script.
-pub fn tell_script_line<V: Write>(
-    alloc: Global,
-    about: About,
-    line: &SeenLine,
-    err: &mut V,
-) -> io::Result<()> {
+pub fn tell_script_line(line: &SeenLine, hint: &mut HintText) {
     let Ok(text) = str::from_utf8(&line.bytes) else {
-        return tell_no_text(about, err);
+        return hint.say_line(NOT_UTF8);
     };
-    if tell_form(about, line, text, FORMS, err)? {
-        return Ok(());
+    if tell_form(line, text, FORMS, hint) {
+        return;
     }
     let (verb, rest) = cut(text);
     match verb {
-        "arrive" => tell_arrival(alloc, about, line, rest, err),
-        "cell" | "frame" => tell_group(alloc, about, line, rest, err),
-        "publish" => tell_publication(about, line, rest, err),
-        _ => tell_verb(alloc, about, verb, err),
+        "arrive" => tell_arrival(line, rest, hint),
+        "cell" | "frame" => tell_names("group", rest, &line.groups, hint),
+        "publish" => tell_publication(line, rest, hint),
+        _ => tell_verb(verb, hint),
     }
 }
 
 /// Tells what is wrong with a line of a file of words.
-pub fn tell_words_line<V: Write>(
-    alloc: Global,
-    about: About,
-    line: &SeenLine,
-    err: &mut V,
-) -> io::Result<()> {
+pub fn tell_words_line(line: &SeenLine, hint: &mut HintText) {
     let Ok(text) = str::from_utf8(&line.bytes) else {
-        return tell_no_text(about, err);
+        return hint.say_line(NOT_UTF8);
     };
-    if tell_form(about, line, text, "RECEIVER HEX", err)? {
-        return Ok(());
+    if tell_form(line, text, "RECEIVER HEX", hint) {
+        return;
     }
-    if matches!(cut(text).0, "arrive" | "cell" | "frame" | "publish") {
-        return writeln!(
-            err,
-            "{about}: this is a line of a script; a file of words has lines RECEIVER HEX"
-        );
+    if is_script_word(cut(text).0) {
+        return hint.say_line("this is a line of a script; a file of words has lines RECEIVER HEX");
     }
-    tell_arrival(alloc, about, line, text, err)
-}
-
-pub fn tell_no_text<V: Write>(about: About, err: &mut V) -> io::Result<()> {
-    writeln!(err, "{about}: the line is not UTF-8")
+    tell_arrival(line, text, hint);
 }
 
 /// The text before the first space, and the text after it.
@@ -65,150 +57,115 @@ pub fn cut(text: &str) -> (&str, &str) {
     text.split_once(' ').unwrap_or((text, ""))
 }
 
-/// Tells what is wrong with the form of a line, whatever it says. Whether something is.
-pub fn tell_form<V: Write>(
-    about: About,
-    line: &SeenLine,
-    text: &str,
-    form: &str,
-    err: &mut V,
-) -> io::Result<bool> {
-    if text.starts_with('\u{feff}') {
-        writeln!(
-            err,
-            "{about}: the file begins with a byte order mark: save it as UTF-8 without one"
-        )?;
-    } else if text.ends_with('\r') {
-        writeln!(
-            err,
-            "{about}: the line ends with a carriage return: save the file with line feeds alone"
-        )?;
-    } else if text.is_empty() && line.is_ended {
-        writeln!(err, "{about}: the line is empty; each line is {form}")?;
-    } else if text.starts_with('#') {
-        writeln!(err, "{about}: there are no comments; each line is {form}")?;
-    } else if text.contains('\t') {
-        writeln!(
-            err,
-            "{about}: the line has a tab; a single space is to stand between its words"
-        )?;
-    } else if text.starts_with(' ') {
-        writeln!(err, "{about}: the line begins with a space")?;
-    } else if text.contains("  ") {
-        writeln!(
-            err,
-            "{about}: the line has two spaces together; a single one is to stand between its words"
-        )?;
-    } else if text.ends_with(' ') {
-        writeln!(err, "{about}: the line ends with a space")?;
-    } else if !line.is_ended {
-        writeln!(err, "{about}: the last line has no line feed at its end")?;
-    } else {
-        return Ok(false);
-    }
-    Ok(true)
+/// Whether a line of a script begins with this word.
+pub fn is_script_word(word: &str) -> bool {
+    matches!(word, "arrive" | "cell" | "frame" | "publish")
 }
 
-fn tell_verb<V: Write>(alloc: Global, about: About, verb: &str, err: &mut V) -> io::Result<()> {
-    let shown = short_text(verb);
-    let nearest = Nearest::to(shown.as_str())
-        .or(alloc, "arrive")
-        .or(alloc, "cell")
-        .or(alloc, "frame")
-        .or(alloc, "publish");
-    match nearest.name() {
-        Some(name) => writeln!(
-            err,
-            "{about}: {:?} is no event, the nearest is {name}; each line is {FORMS}",
-            shown.as_str()
-        ),
-        None => writeln!(
-            err,
-            "{about}: {:?} is no event; each line is {FORMS}",
-            shown.as_str()
-        ),
+/// Tells what is wrong with the form of a line, whatever it says. Whether something is.
+pub fn tell_form(line: &SeenLine, text: &str, form: &str, hint: &mut HintText) -> bool {
+    let Some(fault) = fault_of_form(line, text) else {
+        return false;
+    };
+    hint.begin(": ");
+    hint.say(fault);
+    if fault == EMPTY || fault == COMMENT {
+        hint.say_text("; each line is ", form);
     }
+    hint.end("");
+    true
+}
+
+/// What is wrong with the form of a line. `None` if nothing is.
+fn fault_of_form(line: &SeenLine, text: &str) -> Option<&'static str> {
+    if text.starts_with('\u{feff}') {
+        Some("the file begins with a byte order mark: save it as UTF-8 without one")
+    } else if text.ends_with('\r') {
+        Some("the line ends with a carriage return: save the file with line feeds alone")
+    } else if text.is_empty() && line.is_ended {
+        Some(EMPTY)
+    } else if text.starts_with('#') {
+        Some(COMMENT)
+    } else {
+        fault_between_words(line, text)
+    }
+}
+
+/// What is wrong between the words of a line, or at its ends. `None` if nothing is.
+fn fault_between_words(line: &SeenLine, text: &str) -> Option<&'static str> {
+    if text.contains('\t') {
+        Some("the line has a tab; a single space is to stand between its words")
+    } else if text.starts_with(' ') {
+        Some("the line begins with a space")
+    } else if text.contains("  ") {
+        Some("the line has two spaces together; a single one is to stand between its words")
+    } else if text.ends_with(' ') {
+        Some("the line ends with a space")
+    } else if !line.is_ended {
+        Some("the last line has no line feed at its end")
+    } else {
+        None
+    }
+}
+
+fn tell_verb(verb: &str, hint: &mut HintText) {
+    let shown = short_text(verb);
+    let shown = shown.as_str();
+    hint.begin(": ");
+    hint.say_quoted("", shown);
+    hint.say(" is no event");
+    if let Some(name) = Nearest::among(hint.alloc, shown, VERBS).name() {
+        hint.say_text(", the nearest is ", name);
+    }
+    hint.end_text("; each line is ", FORMS);
 }
 
 /// Tells what is wrong with a receiver and a word.
-pub fn tell_arrival<V: Write>(
-    alloc: Global,
-    about: About,
-    line: &SeenLine,
-    text: &str,
-    err: &mut V,
-) -> io::Result<()> {
+pub fn tell_arrival(line: &SeenLine, text: &str, hint: &mut HintText) {
     let (receiver, word) = cut(text);
-    if line.receivers.iter().any(|name| name.as_str() == receiver) {
-        return tell_word(about, word, err);
+    if has_name(&line.receivers, receiver) {
+        tell_word(word, hint);
+    } else {
+        tell_names("receiver", receiver, &line.receivers, hint);
     }
-    tell_names(alloc, about, "receiver", receiver, &line.receivers, err)
 }
 
 /// Tells what is wrong with a word.
-fn tell_word<V: Write>(about: About, word: &str, err: &mut V) -> io::Result<()> {
-    let shown = short_text(word);
-    let shown = shown.as_str();
+fn tell_word(word: &str, hint: &mut HintText) {
+    hint.begin(": ");
     if word.is_empty() {
-        return writeln!(
-            err,
-            "{about}: the word is missing: eight hexadecimal digits"
-        );
+        hint.end("the word is missing: eight hexadecimal digits");
+        return;
     }
+    hint.say_quoted("", word);
     if word.starts_with("0x") || word.starts_with("0X") {
-        return writeln!(
-            err,
-            "{about}: {shown:?} begins with 0x; a word is eight hexadecimal digits alone"
-        );
+        hint.end(" begins with 0x; a word is eight hexadecimal digits alone");
+    } else if word.contains(' ') {
+        hint.end(" is more than one word; each line has one, of eight hexadecimal digits");
+    } else {
+        hint.say_count(" is no word: it has ", word.len());
+        hint.end(" characters, and a word is eight hexadecimal digits");
     }
-    if word.contains(' ') {
-        return writeln!(
-            err,
-            "{about}: {shown:?} is more than one word; each line has one, of eight hexadecimal digits"
-        );
-    }
-    let digits = word.len();
-    writeln!(
-        err,
-        "{about}: {shown:?} is no word: it has {digits} characters, and a word is eight hexadecimal digits"
-    )
-}
-
-/// Tells what is wrong with a group.
-fn tell_group<V: Write>(
-    alloc: Global,
-    about: About,
-    line: &SeenLine,
-    group: &str,
-    err: &mut V,
-) -> io::Result<()> {
-    tell_names(alloc, about, "group", group, &line.groups, err)
 }
 
 /// Tells what is wrong with the number of a further table.
-fn tell_publication<V: Write>(
-    about: About,
-    line: &SeenLine,
-    number: &str,
-    err: &mut V,
-) -> io::Result<()> {
-    let shown = short_text(number);
-    let (shown, further) = (shown.as_str(), line.further);
+fn tell_publication(line: &SeenLine, number: &str, hint: &mut HintText) {
+    hint.begin(": ");
     if number.starts_with('+') || number.starts_with('-') {
-        return writeln!(err, "{about}: {shown:?} has a sign; a number has none");
+        hint.say_quoted("", number);
+        hint.end(" has a sign; a number has none");
+        return;
     }
-    match further {
-        0 => writeln!(
-            err,
-            "{about}: there is no further table to publish: name it after the script"
-        ),
-        1 => writeln!(
-            err,
-            "{about}: {shown:?} is not the number of a further table: there is one, number 1"
-        ),
-        _ => writeln!(
-            err,
-            "{about}: {shown:?} is not the number of a further table: there are {further}, numbered from 1"
-        ),
+    if line.further == 0 {
+        hint.end("there is no further table to publish: name it after the script");
+        return;
+    }
+    hint.say_quoted("", number);
+    hint.say(" is not the number of a further table: there ");
+    if line.further == 1 {
+        hint.end("is one, number 1");
+    } else {
+        hint.say_count("are ", line.further);
+        hint.end(", numbered from 1");
     }
 }

@@ -1,37 +1,24 @@
 //! Rows of comma-separated values, as a person sees them.
 
-use crate::about::About;
-use crate::rows::short_text;
+use crate::hint::HintText;
 use a429_documents::CsvLine;
-use std::alloc::{AllocError, Global};
-use std::io;
-use std::io::Write;
 
 /// The rows of a file below their heading.
 #[derive(Clone, Copy)]
 pub struct Sheet<'a> {
-    pub file: &'a str,
     pub heading: &'a CsvLine,
     pub rows: &'a [CsvLine],
-}
-
-/// The place of a column in a heading, counted from 0.
-fn place_of(heading: &CsvLine, column: &str) -> Option<usize> {
-    for place in 0..heading.len() {
-        if heading.field(place) == column.as_bytes() {
-            return Some(place);
-        }
-    }
-    None
 }
 
 impl<'a> Sheet<'a> {
     /// The field of a row in a column; an empty one if the heading has no such column.
     pub fn field(self, row: &'a CsvLine, column: &str) -> &'a [u8] {
-        match place_of(self.heading, column) {
-            Some(place) => row.field(place),
-            None => &[],
+        for place in 0..self.heading.len() {
+            if self.heading.field(place) == column.as_bytes() {
+                return row.field(place);
+            }
         }
+        &[]
     }
 
     /// The same as a text; the empty text if it is none.
@@ -54,24 +41,27 @@ impl<'a> Sheet<'a> {
     }
 
     /// Names in a column have numbers from 0, in the order of their first rows: the first row of the name with this number.
-    /// The error is that memory was refused.
+    /// `None` if there is none, or if memory was refused.
     pub fn first_row(
         self,
-        alloc: Global,
         column: &str,
         number: usize,
-    ) -> Result<Option<&'a CsvLine>, AllocError> {
-        let mut names: Vec<&'a [u8]> = Vec::new(alloc);
+        hint: &mut HintText,
+    ) -> Option<&'a CsvLine> {
+        let mut names: Vec<&'a [u8]> = Vec::new(hint.alloc);
         for row in self.rows {
             let name = self.field(row, column);
-            if !names.iter().any(|known| *known == name) {
+            if !names.contains(&name) {
                 if names.len() == number {
-                    return Ok(Some(row));
+                    return Some(row);
                 }
-                names.push(name)?;
+                if names.push(name).is_err() {
+                    hint.give_up();
+                    return None;
+                }
             }
         }
-        Ok(None)
+        None
     }
 
     /// The row of an output by the name of its group and its number there, from 0.
@@ -86,11 +76,6 @@ impl<'a> Sheet<'a> {
             }
         }
         None
-    }
-
-    /// What a hint about a row is about.
-    pub fn about(self, row: &CsvLine) -> About<'a> {
-        About::line(self.file, row.number as usize)
     }
 }
 
@@ -126,35 +111,45 @@ fn is_numeric(column: &str) -> bool {
     matches!(column, "rate" | "min_us" | "max_us" | "hold")
 }
 
+/// The rate in bit/s that a text states in kbit/s, if it is one of the two usual rates.
+fn kilobits(text: &str) -> Option<&'static str> {
+    match text {
+        "12.5" => Some("12500"),
+        "100" | "100.0" => Some("100000"),
+        _ => None,
+    }
+}
+
+/// Begins a line about a row: says what it is about, and words.
+pub fn begin_row(row: &CsvLine, words: &str, hint: &mut HintText) {
+    hint.turn_to_line(row.number as usize);
+    hint.begin(words);
+}
+
+/// Begins a line about a column of a row.
+pub fn begin_column(row: &CsvLine, column: &str, hint: &mut HintText) {
+    begin_row(row, ", column ", hint);
+    hint.say_text(column, ": ");
+}
+
 /// Tells what is in a column, and what is to be there.
-pub fn tell_field<V: Write>(about: About, column: &str, text: &str, err: &mut V) -> io::Result<()> {
-    let shown = short_text(text);
-    let (shown, form) = (shown.as_str(), form_in(column));
+pub fn tell_field(row: &CsvLine, column: &str, text: &str, hint: &mut HintText) {
+    let form = form_in(column);
+    begin_column(row, column, hint);
     if text.is_empty() {
-        return writeln!(
-            err,
-            "{about}, column {column}: the field is empty; it is to be {form}"
-        );
+        hint.end_text("the field is empty; it is to be ", form);
+        return;
     }
+    hint.say_quoted("", text);
     if is_numeric(column) && text.len() > 1 && text.starts_with('0') {
-        return writeln!(
-            err,
-            "{about}, column {column}: {shown:?} begins with a zero; it is to be {form}"
-        );
+        hint.end_text(" begins with a zero; it is to be ", form);
+        return;
     }
-    let thing = thing_in(column);
-    match (column, text) {
-        ("rate", "12.5") => writeln!(
-            err,
-            "{about}, column rate: {shown:?}: rate is in bit/s: 12500"
-        ),
-        ("rate", "100" | "100.0") => writeln!(
-            err,
-            "{about}, column rate: {shown:?}: rate is in bit/s: 100000"
-        ),
-        _ => writeln!(
-            err,
-            "{about}, column {column}: {shown:?} is no {thing}: {form}"
-        ),
+    match kilobits(text) {
+        Some(rate) if column == "rate" => hint.end_text(": rate is in bit/s: ", rate),
+        _ => {
+            hint.say_text(" is no ", thing_in(column));
+            hint.end_text(": ", form);
+        }
     }
 }

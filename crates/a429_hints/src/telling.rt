@@ -1,19 +1,18 @@
 //! The hint about a refused request.
 
-use crate::about::About;
-use crate::checks::{Judged, tell_objection};
+use crate::checks::{JudgedText, tell_objection};
 use crate::differences::tell_difference;
 use crate::faults::tell_table_fault;
 use crate::files::tell_trouble;
 use crate::findings::tell_findings;
+use crate::hint::HintText;
 use crate::imports::tell_rows;
 use crate::logs::{tell_log_line, tell_too_long};
 use crate::mistakes::tell_nearest_word;
-use crate::plans::{tell_all_unfit, tell_fewer_buses, tell_groups, tell_too_high};
+use crate::plans::{tell_all_unfit, tell_fewer_buses, tell_groups};
 use crate::scripts::{tell_script_line, tell_words_line};
 use crate::words::{tell_even_word, tell_filter, tell_line_byte, tell_word_text};
 use a429_console::arguments::requests::{CommandRequest, Request};
-use a429_console::files::reading::printable_name;
 use a429_console::hints::{FurtherCause, FurtherFault, Hints, Seen, SeenTable, TableLook};
 use a429_console::refusals::CommandRefusal;
 use a429_table::FaultKind;
@@ -33,31 +32,16 @@ impl Hints for HintLines {
         seen: &Seen,
         err: &mut V,
     ) -> io::Result<()> {
-        if let Some(refusal) = &seen.refusal {
-            tell_refusal(alloc, request, refusal, seen, err)?;
-        }
-        if let (Some(objection), Some(equipment), Some(text)) = (
-            seen.objection,
-            &seen.table.equipment,
-            &seen.text,
-        ) {
-            let file = printable_name(alloc, text_name(request))?;
-            let judged = Judged {
-                equipment,
-                text: text.as_slice(),
-            };
-            tell_objection(file.as_str(), judged, objection, err)?;
-        }
-        if let Some(findings) = &seen.findings {
-            let file = printable_name(alloc, table_name(request))?;
-            let text = str::from_utf8(findings).unwrap_or("");
-            tell_findings(About::file(file.as_str()), text, err)?;
-        }
+        let mut hint = HintText::new(alloc);
+        tell_seen(request, seen, &mut hint);
+        hint.put(err)?;
         err.flush()
     }
 
     fn tell_mistake<V: Write>(&self, alloc: Global, words: &[&str], err: &mut V) -> io::Result<()> {
-        tell_nearest_word(alloc, words, err)
+        let mut hint = HintText::new(alloc);
+        tell_nearest_word(words, &mut hint);
+        hint.put(err)
     }
 
     fn tell_further<V: Write>(
@@ -67,197 +51,175 @@ impl Hints for HintLines {
         faults: &[FurtherFault],
         err: &mut V,
     ) -> io::Result<()> {
+        let mut hint = HintText::new(alloc);
         for fault in faults {
-            let name = further_name(request, fault.number);
-            let file = printable_name(alloc, name)?;
-            tell_further_fault(alloc, About::file(file.as_str()), request, fault, err)?;
+            tell_further_fault(request, fault, &mut hint);
         }
+        hint.put(err)?;
         err.flush()
     }
 }
 
+/// Tells of all that a command saw.
+fn tell_seen(request: &Request, seen: &Seen, hint: &mut HintText) {
+    if let Some(refusal) = &seen.refusal {
+        tell_refusal(request, refusal, seen, hint);
+    }
+    if let (Some(objection), Some(equipment), Some(text)) = (
+        seen.objection,
+        &seen.table.equipment,
+        &seen.text,
+    ) {
+        let judged = JudgedText {
+            equipment,
+            text: text.as_slice(),
+        };
+        hint.turn_to(text_name(request));
+        tell_objection(judged, objection, hint);
+    }
+    if let Some(findings) = &seen.findings {
+        let text = str::from_utf8(findings).unwrap_or("");
+        hint.turn_to(table_name(request));
+        tell_findings(text, hint);
+    }
+}
+
 /// Tells why a further table is not taken: what its own refusal would tell, or in what its station differs.
-fn tell_further_fault<V: Write>(
-    alloc: Global,
-    about: About,
-    request: &Request,
-    fault: &FurtherFault,
-    err: &mut V,
-) -> io::Result<()> {
+fn tell_further_fault(request: &Request, fault: &FurtherFault, hint: &mut HintText) {
+    hint.turn_to(further_name(request, fault.number));
     match &fault.cause {
-        FurtherCause::Fault(kind) => tell_fault(alloc, about, request, *kind, &fault.table, err),
-        FurtherCause::Unfit => tell_unfit_of_table(about, &fault.table, err),
+        FurtherCause::Fault(kind) => tell_fault(request, *kind, &fault.table, hint),
+        FurtherCause::Unfit => tell_unfit_of_table(&fault.table, hint),
         FurtherCause::TooManyBuses { group, needed } => {
-            tell_fewer_buses(about, group.as_str(), *needed, err)
+            tell_fewer_buses(group.as_str(), *needed, hint);
         }
         FurtherCause::OtherStation { running, other } => {
-            let table = printable_name(alloc, table_name(request))?;
-            tell_difference(about, table.as_str(), running, other, err)
+            tell_difference(table_name(request), running, other, hint);
         }
     }
 }
 
-fn tell_refusal<V: Write>(
-    alloc: Global,
-    request: &Request,
-    refusal: &CommandRefusal,
-    seen: &Seen,
-    err: &mut V,
-) -> io::Result<()> {
+fn tell_refusal(request: &Request, refusal: &CommandRefusal, seen: &Seen, hint: &mut HintText) {
     if let Some(rows) = &seen.rows {
-        let file = printable_name(alloc, text_name(request))?;
-        return tell_rows(alloc, file.as_str(), refusal, rows, err);
+        hint.turn_to(text_name(request));
+        return tell_rows(refusal, rows, hint);
     }
     match refusal {
-        CommandRefusal::File(name) => tell_trouble(seen.trouble, name.as_str(), err),
+        CommandRefusal::File(name) => tell_trouble(seen.trouble, name.as_str(), hint),
         CommandRefusal::WordText | CommandRefusal::Parity | CommandRefusal::Filter(_) => {
-            tell_of_words(request, refusal, err)
+            tell_of_words(request, refusal, hint);
         }
         CommandRefusal::LineByte(_) | CommandRefusal::Script(_) | CommandRefusal::LogLine { .. } =>
-            { tell_of_line(alloc, request, seen, err) }
-        CommandRefusal::TooMuch => tell_of_length(alloc, request, err),
-        _ => tell_of_table(alloc, request, refusal, seen, err),
+            { tell_of_line(request, seen, hint) }
+        CommandRefusal::TooMuch => tell_of_length(request, hint),
+        _ => tell_of_table(request, refusal, seen, hint),
     }
 }
 
 /// Tells of words of the command line.
-fn tell_of_words<V: Write>(
-    request: &Request,
-    refusal: &CommandRefusal,
-    err: &mut V,
-) -> io::Result<()> {
+fn tell_of_words(request: &Request, refusal: &CommandRefusal, hint: &mut HintText) {
     match (refusal, request) {
         (CommandRefusal::WordText, Request::Command(CommandRequest::Word { text })) => {
-            tell_word_text(text, err)
+            tell_word_text(text, hint);
         }
         (CommandRefusal::Parity, Request::Command(CommandRequest::Word { text })) => {
-            tell_even_word(text, err)
+            tell_even_word(text, hint);
         }
         (CommandRefusal::Filter(number), Request::Command(CommandRequest::Lines { filters, .. })) =>
             {
                 let text = filters.get(number.saturating_sub(1)).copied();
-                tell_filter(*number, text.unwrap_or(""), err)
+                tell_filter(*number, text.unwrap_or(""), hint);
             }
-        _ => Ok(()),
+        _ => {}
     }
 }
 
 /// Tells of a line of a script, of a file of words, of a log, or of a line file.
-fn tell_of_line<V: Write>(
-    alloc: Global,
-    request: &Request,
-    seen: &Seen,
-    err: &mut V,
-) -> io::Result<()> {
+fn tell_of_line(request: &Request, seen: &Seen, hint: &mut HintText) {
     let Some(line) = &seen.line else {
-        return Ok(());
+        return;
     };
-    let file = printable_name(alloc, text_name(request))?;
-    let about = About::line(file.as_str(), line.number);
+    hint.turn_to(text_name(request));
+    hint.turn_to_line(line.number);
     match (request, seen.byte) {
-        (_, Some(byte)) => tell_line_byte(file.as_str(), line, byte, err),
-        (Request::Live(_), None) => tell_words_line(alloc, about, line, err),
-        (Request::Command(CommandRequest::Simulate(_)), None) => {
-            tell_log_line(alloc, about, line, err)
-        }
-        (Request::Command(_), None) => tell_script_line(alloc, about, line, err),
+        (_, Some(byte)) => tell_line_byte(line, byte, hint),
+        (Request::Live(_), None) => tell_words_line(line, hint),
+        (Request::Command(CommandRequest::Simulate(_)), None) => tell_log_line(line, hint),
+        (Request::Command(_), None) => tell_script_line(line, hint),
     }
 }
 
 /// Tells of a log that is too long, or of an image that is too high.
-fn tell_of_length<V: Write>(alloc: Global, request: &Request, err: &mut V) -> io::Result<()> {
+fn tell_of_length(request: &Request, hint: &mut HintText) {
     match request {
         Request::Command(CommandRequest::Simulate(asked)) => {
-            let file = printable_name(alloc, asked.log)?;
-            tell_too_long(About::file(file.as_str()), asked.until, err)
+            hint.turn_to(asked.log);
+            tell_too_long(asked.until, hint);
         }
         Request::Command(CommandRequest::Draw(asked)) => {
-            let file = printable_name(alloc, asked.table)?;
-            tell_too_high(About::file(file.as_str()), err)
+            hint.turn_to(asked.table);
+            hint.say_line(
+                "the image would be higher than 32767 pixels, which programs that show images refuse: ask for fewer slots (--slots), for wider rows (--width 256), or for one group (--group)",
+            );
         }
-        _ => Ok(()),
+        _ => {}
     }
 }
 
 /// Tells of the table, of its plan, or of the threads that it needs.
-fn tell_of_table<V: Write>(
-    alloc: Global,
-    request: &Request,
-    refusal: &CommandRefusal,
-    seen: &Seen,
-    err: &mut V,
-) -> io::Result<()> {
-    let file = printable_name(alloc, refused_table(request, seen))?;
-    let about = About::file(file.as_str());
+fn tell_of_table(request: &Request, refusal: &CommandRefusal, seen: &Seen, hint: &mut HintText) {
+    hint.turn_to(match request {
+        Request::Command(CommandRequest::Diff { other, .. }) if seen.is_second => other,
+        _ => table_name(request),
+    });
     match refusal {
-        CommandRefusal::Table(kind, _) => {
-            tell_fault(alloc, about, request, *kind, &seen.table, err)
-        }
-        CommandRefusal::Unfit { .. } => tell_unfit_of_table(about, &seen.table, err),
+        CommandRefusal::Table(kind, _) => tell_fault(request, *kind, &seen.table, hint),
+        CommandRefusal::Unfit { .. } => tell_unfit_of_table(&seen.table, hint),
         CommandRefusal::TooManyBuses { group, needed } => {
-            tell_fewer_buses(about, group.as_str(), *needed, err)
+            tell_fewer_buses(group.as_str(), *needed, hint);
         }
-        CommandRefusal::Group(_) => match &seen.proposal {
-            Some(proposal) => tell_groups(about, proposal.equipment().groups(), err),
-            None => Ok(()),
-        },
+        CommandRefusal::Group(_) => {
+            if let Some(proposal) = &seen.proposal {
+                tell_groups(proposal.equipment().groups(), hint);
+            }
+        }
         CommandRefusal::Join => {
-            let threads = seen.threads;
-            writeln!(
-                err,
-                "{about}: threads could not be started: this station needs {threads}, one for each receiver and each group"
-            )
+            hint.begin(": threads could not be started");
+            hint.say_count(": this station needs ", seen.threads);
+            hint.end(", one for each receiver and each group");
         }
-        _ => Ok(()),
+        _ => {}
     }
 }
 
 /// Tells of a table with a fault of this kind.
-fn tell_fault<V: Write>(
-    alloc: Global,
-    about: About,
-    request: &Request,
-    kind: FaultKind,
-    table: &SeenTable,
-    err: &mut V,
-) -> io::Result<()> {
-    tell_order(about, request, kind, table, err)?;
-    match &table.document {
-        Some(document) => tell_table_fault(alloc, about, document, kind, err),
-        None => Ok(()),
+fn tell_fault(request: &Request, kind: FaultKind, table: &SeenTable, hint: &mut HintText) {
+    if kind == FaultKind::NotToml {
+        tell_order(request, table.looks, hint);
+    }
+    if let Some(document) = &table.document {
+        tell_table_fault(document, kind, hint);
     }
 }
 
 /// Tells of a table's outputs without a period.
-fn tell_unfit_of_table<V: Write>(about: About, table: &SeenTable, err: &mut V) -> io::Result<()> {
-    match &table.equipment {
-        Some(equipment) => tell_all_unfit(about, equipment, err),
-        None => Ok(()),
+fn tell_unfit_of_table(table: &SeenTable, hint: &mut HintText) {
+    if let Some(equipment) = &table.equipment {
+        tell_all_unfit(equipment, hint);
     }
 }
 
-/// Tells the order of the files that is due, if the table looks like another of them.
-fn tell_order<V: Write>(
-    about: About,
-    request: &Request,
-    kind: FaultKind,
-    table: &SeenTable,
-    err: &mut V,
-) -> io::Result<()> {
-    if kind != FaultKind::NotToml {
-        return Ok(());
-    }
-    let looks = match table.looks {
+/// Tells the order of the files that is due, if a table looks like another of them.
+fn tell_order(request: &Request, looks: TableLook, hint: &mut HintText) {
+    let looks = match looks {
         TableLook::PlanText => "the text of a plan",
         TableLook::Script => "a script",
         TableLook::Log => "a log",
-        TableLook::Other => return Ok(()),
+        TableLook::Other => return,
     };
-    writeln!(
-        err,
-        "{about}: this looks like {looks}; the order is {}",
-        order_of(request)
-    )
+    hint.begin(": this looks like ");
+    hint.say_text(looks, "; the order is ");
+    hint.end(order_of(request));
 }
 
 /// The order of the files of a command.
@@ -292,14 +254,6 @@ fn table_name<'a>(request: &'a Request) -> &'a str {
             | CommandRequest::Lines { .. }
             | CommandRequest::Import { .. },
         ) => "",
-    }
-}
-
-/// The name of the table that is refused; empty if the command has none.
-fn refused_table<'a>(request: &'a Request, seen: &Seen) -> &'a str {
-    match request {
-        Request::Command(CommandRequest::Diff { other, .. }) if seen.is_second => other,
-        _ => table_name(request),
     }
 }
 

@@ -5,7 +5,7 @@ use a429_table::{FaultKind, TablePlace};
 use toml::Value;
 
 /// The first earlier row of the same array with which a row clashes, by a fault of this kind.
-pub fn twin_of(row: TableRow<'_>, kind: FaultKind) -> Option<TableRow<'_>> {
+pub fn twin_of<'a>(row: &TableRow<'a>, kind: FaultKind) -> Option<TableRow<'a>> {
     for number in 0..usize::MAX {
         let place = place_of_row(row.place, number);
         if place == row.place {
