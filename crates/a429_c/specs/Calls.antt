@@ -12,7 +12,7 @@ use Rattle.a429_c.specs.Stations.{Held}
 use Rattle.a429_c.specs.Statuses.{code_of, line_of, status_for}
 use Rattle.a429_c.specs.declared.statuses.Status.{Status}
 use Rattle.a429_c.specs.declared.statuses.Status.TheVariants.{NoSuch, Closed, NoRoom}
-use Rattle.a429_c.specs.declared.answers.SentCell.{SentCell}
+use Rattle.a429_c.specs.declared.answers.CellAnswer.{CellAnswer}
 use Rattle.a429_c.specs.declared.refusal_text.RefusalText.{RefusalText}
 
 -- ---- what a call gives back
@@ -57,7 +57,7 @@ source_of (Refused why) = Err (status_for why)
 source_of _ = Err NoSuch
 
 -- the cell that is sent, of which no word is 0; no cell is answered otherwise
-abbrev pub cell_of : Answer → Result SentCell Status
+abbrev pub cell_of : Answer → Result CellAnswer Status
 cell_of (Sent bus slot (Some word)) = Ok (record { slot = slot; bus = bus; filled = 1; word = word })
 cell_of (Sent bus slot None) = Ok (record { slot = slot; bus = bus; filled = 0; word = 0 })
 cell_of (Refused why) = Err (status_for why)

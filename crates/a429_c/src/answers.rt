@@ -9,7 +9,7 @@ use a429_core::Answer;
 /// word, else 0, and then the word is 0.
 #[repr(C)]
 #[derive(Clone, Copy)]
-pub struct SentCell {
+pub struct CellAnswer {
     pub slot: u64,
     pub bus: u32,
     pub filled: u32,
@@ -28,7 +28,7 @@ pub(crate) fn source_of(answer: Answer) -> Result<usize, Status>
 }
 
 /// The cell that is sent.
-pub(crate) fn cell_of(answer: Answer) -> Result<SentCell, Status>
+pub(crate) fn cell_of(answer: Answer) -> Result<CellAnswer, Status>
     ensures { result ≡ cell_of answer }
 {
     match answer {
@@ -36,7 +36,7 @@ pub(crate) fn cell_of(answer: Answer) -> Result<SentCell, Status>
             bus,
             slot,
             word: Some(word),
-        } => Ok(SentCell {
+        } => Ok(CellAnswer {
             slot,
             bus,
             filled: 1,
@@ -46,7 +46,7 @@ pub(crate) fn cell_of(answer: Answer) -> Result<SentCell, Status>
             bus,
             slot,
             word: None,
-        } => Ok(SentCell {
+        } => Ok(CellAnswer {
             slot,
             bus,
             filled: 0,

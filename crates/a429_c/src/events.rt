@@ -5,7 +5,7 @@ ghost use Rattle.a429_c.specs.Calls.{arrival_step, asked, cell_of, given_or, mov
 ghost use Rattle.a429_c.specs.Openings.{IsNoPublication, IsOpenIn, HasPublishedTable, IsPublishing, IsRefusedOpening};
 ghost use Rattle.a429_c.specs.Places.{KeepsText, found_in};
 
-use crate::answers::{SentCell, cell_of, plan_of, source_of};
+use crate::answers::{CellAnswer, cell_of, plan_of, source_of};
 use crate::machine::{Machine, build};
 use crate::sizes::sizes_of;
 use crate::station::StationHandle;
@@ -74,7 +74,7 @@ pub extern "C" fn a429_cell(
     alloc: Global,
     station: &mut StationHandle,
     group: usize,
-    sent: &mut SentCell,
+    sent: &mut CellAnswer,
 ) -> u32
     ensures status { result ≡ status_of (asked cell_of (λ s. cell_asked s group) station.old.handle.held) }
     ensures cell { sent.new ≡ given_or (asked cell_of (λ s. cell_asked s group) station.old.handle.held) sent.old }

@@ -18,7 +18,7 @@ mod station;
 mod statuses;
 mod tables;
 
-pub use answers::SentCell;
+pub use answers::CellAnswer;
 pub use handle::Handle;
 pub use refusal_text::RefusalText;
 pub use station::StationHandle;

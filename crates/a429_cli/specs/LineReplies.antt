@@ -13,7 +13,7 @@ use Rattle.a429_line.specs.LineBytes.{first_bad_byte}
 use Rattle.a429_cli.specs.LineReports.{printed, rest_line}
 use Rattle.a429_console.specs.Outputs.{memory_refused}
 use Rattle.a429_console.specs.RefusalText.{OrMemory, refusal_line}
-use Rattle.a429_cli.specs.declared.lines.Line.{Line}
+use Rattle.a429_cli.specs.declared.lines.LineInput.{LineInput}
 use Rattle.a429_console.specs.declared.refusals.CommandRefusal.{CommandRefusal}
 use Rattle.a429_console.specs.declared.refusals.CommandRefusal.TheVariants as refused
 
@@ -53,11 +53,11 @@ IsLinesRefusal file name filters refusal =
     ⊎ ((bytes : List ℕ) × AreLineBytes file name filters bytes × IsByteRefusal bytes refusal)
 
 -- a line that was read: it has the bytes of the file, each a symbol or skipped, and the list of the filters
-abbrev pub IsLineOf : (List ℕ → Option (List ℕ)) → List ℕ → List (List ℕ) → Line → Type 0
+abbrev pub IsLineOf : (List ℕ → Option (List ℕ)) → List ℕ → List (List ℕ) → LineInput → Type 0
 IsLineOf file name filters l = AreLineBytes file name filters l.bytes.items × (first_bad_byte l.bytes.items ≡ None) × (l.filters ≡ filter_list filters)
 
 -- what reading a line file gives: the line, or why nothing is told of it
-abbrev pub IsLineReading : (List ℕ → Option (List ℕ)) → List ℕ → List (List ℕ) → Result Line CommandRefusal → Type 0
+abbrev pub IsLineReading : (List ℕ → Option (List ℕ)) → List ℕ → List (List ℕ) → Result LineInput CommandRefusal → Type 0
 IsLineReading file name filters result = MatchResult result (IsLineOf file name filters) (OrMemory (IsLinesRefusal file name filters))
 
 -- these lines are what is printed of some reports of a first part of a line
@@ -76,11 +76,11 @@ IsTold filters line status bytes =
     ⊎ ((lines : List ℕ) × IsToldInPart filters line lines × (status ≡ 1) × (bytes ≡ lines ++ memory_refused ++ 10 ∷ []))
 
 -- what is printed of a line that was read, and whether memory sufficed for all
-abbrev pub IsLinePrinted : Line → Bool → List ℕ → Type 0
+abbrev pub IsLinePrinted : LineInput → Bool → List ℕ → Type 0
 IsLinePrinted l sufficed lines = IsPrinted l.filters (symbols_of l.bytes.items) sufficed lines
 
 -- what is told of a line that was read, and the status
-abbrev pub IsLineTold : Line → ℕ → List ℕ → Type 0
+abbrev pub IsLineTold : LineInput → ℕ → List ℕ → Type 0
 IsLineTold l status bytes = IsTold l.filters (symbols_of l.bytes.items) status bytes
 
 -- what is written of a line file with filters of these texts, and the status: the line of a refusal, or what is told of the line

@@ -33,7 +33,7 @@ use Rattle.a429_station.specs.declared.faults.LiveFault.{LiveFault}
 use Rattle.a429_station.specs.declared.faults.LiveFault.TheVariants as live
 use Rattle.a429_cli.specs.WordsFile.{IsWordsFault, arrivals_of, words_for}
 use Rattle.a429_cli.specs.declared.live.running.LiveInput.{LiveInput}
-use Rattle.a429_cli.specs.declared.live.running.Prepared.{Prepared}
+use Rattle.a429_cli.specs.declared.live.running.PreparedRun.{PreparedRun}
 use Rattle.a429_cli.specs.declared.live.words.Arrival.{Arrival}
 use Rattle.a429_console.specs.declared.refusals.CommandRefusal.{CommandRefusal}
 use Rattle.a429_console.specs.declared.refusals.CommandRefusal.TheVariants as refused
@@ -205,7 +205,7 @@ abbrev pub IsLiveReading : (List ℕ → Option (List ℕ)) → LiveAsk → Resu
 IsLiveReading file r result = MatchResult result (λ i. AreLiveFiles file r (files_of i)) (OrMemory (IsFirstUnread file (r.table ∷ r.words ∷ r.further)))
 
 -- a station and its words, from which a run of these bytes starts
-abbrev pub IsPreparedLive : LiveFiles → Prepared → Type 0
+abbrev pub IsPreparedLive : LiveFiles → PreparedRun → Type 0
 IsPreparedLive i p = IsLiveStart i p.proposal p.arrivals.items
 
 -- behind a text stands the line of a table that was submitted again between these two states of a station

@@ -19,7 +19,7 @@ use Rattle.a429_cli.specs.declared.simulate.Beginning.{Beginning}
 use Rattle.a429_cli.specs.declared.simulate.Simulation.{Simulation}
 use Rattle.a429_cli.specs.declared.simulate.SimulationForm.{SimulationForm}
 use Rattle.a429_cli.specs.declared.simulate.SimulationInput.{SimulationInput}
-use Rattle.a429_cli.specs.declared.simulate.Station.{Station}
+use Rattle.a429_cli.specs.declared.simulate.NamedProposal.{NamedProposal}
 use Rattle.a429_cli.specs.declared.simulate.log.LogWord.{LogWord}
 use Rattle.a429_cli.specs.declared.simulate.moments.Moment.{Moment}
 
@@ -108,7 +108,7 @@ IsSimulationReading file table log result =
     MatchResult result (λ i. AreSimulationFiles file table log (files_of i)) (OrMemory (IsFirstUnread file (table ∷ log ∷ [])))
 
 -- a station of a table's bytes, with its names
-abbrev pub IsStationOf : List ℕ → Station → Type 0
+abbrev pub IsStationOf : List ℕ → NamedProposal → Type 0
 IsStationOf table s = IsProposedBy table s.proposal × HasStationNames s.names s.proposal
 
 -- a timeline where nothing has happened, with a machine to which nothing has happened
@@ -121,6 +121,16 @@ pub record IsBegin (q : Proposed) (words : List LogWord) (last : ℕ) (b : Begin
 -- a beginning, or that a group would send too much
 abbrev pub IsBeginningOf : Proposed → List LogWord → ℕ → Result Beginning CommandRefusal → Type 0
 IsBeginningOf q words last result = MatchResult result (IsBegin q words last) (OrMemory (λ refusal. (refusal ≡ refused.TooMuch) × SendsTooMuch q last))
+
+-- a beginning with the words of a log
+abbrev pub BeginsLog : NamedProposal → List ℕ → Option ℕ → Beginning → Type 0
+BeginsLog s log until b = (words : List LogWord) × (log_words s.names log ≡ Ok words) × IsBegin s.proposal words (end_of s.proposal words until) b
+
+-- why there is none: the log, or that a group would send too much
+abbrev pub BeginsNoLog : NamedProposal → List ℕ → Option ℕ → CommandRefusal → Type 0
+BeginsNoLog s log until refusal =
+    IsLogFault s.names log refusal
+    ⊎ ((words : List LogWord) × (log_words s.names log ≡ Ok words) × (refusal ≡ refused.TooMuch) × SendsTooMuch s.proposal (end_of s.proposal words until))
 
 -- what these bytes simulate, at its begin
 pub record IsPreparedFor (i : SimulationFiles) (until : Option ℕ) (s : Simulation) : Type 0 where

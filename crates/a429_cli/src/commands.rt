@@ -134,6 +134,9 @@ fn answer_with_hint<H: Hints, F: FileReader, O: Output, V: Output>(
     if let Ok(status) = result {
         tell_hints(alloc, request, status, &seen, &faults, hints, err);
     }
+    // `drop` keeps the proof short: a drop in place goes through all parts.
+    drop(seen);
+    drop(faults);
     result
 }
 

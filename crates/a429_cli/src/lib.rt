@@ -19,6 +19,7 @@ mod import;
 mod lines;
 mod live;
 mod names;
+mod opening;
 mod pending;
 mod plan_texts;
 mod program;

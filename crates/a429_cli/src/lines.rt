@@ -24,7 +24,7 @@ use std::alloc::Global;
 
 /// The bytes of a line file, and the filters of its receiver.
 #[derive(Drop)]
-struct Line {
+struct LineInput {
     bytes: Vec<u8>,
     filters: FilterSet,
 }
@@ -61,6 +61,12 @@ fn line_at(alloc: Global, bytes: &[u8], place: usize) -> Option<SeenLine> {
     SeenLine::of(alloc, before, feeds.saturating_add(1)).ok()
 }
 
+/// Keeps the byte at this place, and its line up to that byte, for a hint. If memory is refused, no line is kept.
+fn keep_byte(alloc: Global, bytes: &[u8], place: usize, seen: &mut Seen) {
+    seen.line = line_at(alloc, bytes, place);
+    seen.byte = bytes.get(place).copied();
+}
+
 /// Reads a line file, and the filters of its receiver. Refused is the file, then a filter, then a byte.
 fn read_line<F: FileReader>(
     alloc: Global,
@@ -68,24 +74,27 @@ fn read_line<F: FileReader>(
     name: &str,
     filters: &[&str],
     seen: &mut Seen,
-) -> Result<Line, CommandRefusal>
+) -> Result<LineInput, CommandRefusal>
     ensures { HasRead F.answers (λ file. IsLineReading file name.now (texts_of filters.now) result) files.old files.new }
 {
     let bytes = read_file(alloc, files, name, seen)?;
     let filters = read_filters(filters)?;
     match first_bad_byte(&bytes) {
         Some(place) => {
-            seen.line = line_at(alloc, &bytes, place);
-            seen.byte = bytes.get(place).copied();
+            keep_byte(alloc, &bytes, place, seen);
             Err(CommandRefusal::LineByte(place))
         }
-        None => Ok(Line { bytes, filters }),
+        None => Ok(LineInput { bytes, filters }),
     }
 }
 
 /// Appends what is printed of a line's reports, one after another, and of its rest. The lines are put out where
 /// they have become many, and those that are left stand in `lines`. Whether memory sufficed for all.
-fn print_line<O: Output>(line: &Line, lines: &mut Pending, out: &mut O) -> Result<bool, OutputFault>
+fn print_line<O: Output>(
+    line: &LineInput,
+    lines: &mut Pending,
+    out: &mut O,
+) -> Result<bool, OutputFault>
     ensures printed { IfOk result (IsPut (IsLinePrinted line.now)
         (append_known (O.contents out.old) lines.old.text.items) (append_known (O.contents out.new) lines.new.text.items)) }
     ensures faults { CountsFault result (O.failures out.old) (O.failures out.new) }
@@ -106,7 +115,7 @@ fn print_line<O: Output>(line: &Line, lines: &mut Pending, out: &mut O) -> Resul
 
 /// Puts what is printed of a line. Where memory is refused in the midst, the lines so far end with the one
 /// that says so.
-fn tell_line<O: Output>(alloc: Global, line: &Line, out: &mut O) -> Result<u8, OutputFault>
+fn tell_line<O: Output>(alloc: Global, line: &LineInput, out: &mut O) -> Result<u8, OutputFault>
     ensures told { IfOk result (IsPut (IsLineTold line.now) (O.contents out.old) (O.contents out.new)) }
     ensures status { IfOk result (λ status. status ≤ 1) }
     ensures flushed { OnOk result (IsTrue (O.is_flushed out.new)) }

@@ -1,5 +1,6 @@
 //! Names of a station: of its receivers, sources and groups, and the numbers that they stand for.
-ghost use Rattle.std.specs.Prelude.{◌≡◌, IfOk, IfSome, map, string_bytes};
+ghost use Rattle.std.specs.Prelude.{◌≡◌, ◌++◌, ◌∷◌, [], IfOk, IfSome, codes, map, string_bytes};
+ghost use Rattle.a429_word.specs.Written.{Gains};
 ghost use Rattle.a429_slots.specs.declared.answers.Answer.TheVariants.{Accepted};
 ghost use Rattle.a429_cli.specs.AnswerLines.{answer_line};
 ghost use Rattle.a429_console.specs.Names.{name_at, naming_of, number_named};
@@ -9,7 +10,7 @@ mod guesses;
 mod lists;
 
 use crate::names::lists::NameList;
-use a429_console::hints::SeenLine;
+use a429_console::hints::{Seen, SeenLine};
 use a429_equipment::{Equipment, GroupRow, ReceiverRow, SourceRow};
 use std::alloc::{AllocError, Global};
 use std::marker::Model;
@@ -31,14 +32,22 @@ impl Model for SourceName {
     ghost invariant = { λ s. s.accepted.items ≡ codes "accepted " ++ string_bytes s.name ++ 10 ∷ [] };
 }
 
+/// Appends the line of an accepted word of the source of this name.
+fn push_accepted(text: &mut Vec<u8>, name: &str) -> Result<(), AllocError>
+    ensures { Gains result text.old.items text.new.items (codes "accepted " ++ name.now ++ 10 ∷ []) }
+{
+    text.extend_from_slice(b"accepted ")?;
+    text.extend_from_slice(name.as_bytes())?;
+    text.extend_from_slice(b"\n")
+}
+
 impl SourceName {
     fn of(alloc: Global, name: &str) -> Result<SourceName, AllocError>
         ensures { IfOk result (λ s. s ≡ name.now) }
     {
+        let mut accepted = Vec::new(alloc);
+        push_accepted(&mut accepted, name)?;
         let name = String::from_str(alloc, name)?;
-        let mut accepted = Vec::from_slice(alloc, b"accepted ")?;
-        accepted.extend_from_slice(name.as_bytes())?;
-        accepted.push(b'\n')?;
         Ok(SourceName { name, accepted })
     }
 
@@ -85,9 +94,21 @@ impl Names {
         })
     }
 
-    /// The refused line of a text with these names, for a hint. It can publish so many further tables. `None` if memory is
-    /// refused.
-    pub fn seen_line(
+    /// Keeps the refused line of a text with these names in `seen`, for a hint. It can publish so many further tables. If
+    /// memory is refused, no line is kept.
+    pub fn keep_line(
+        &self,
+        alloc: Global,
+        text: &[u8],
+        number: usize,
+        further: usize,
+        seen: &mut Seen,
+    ) {
+        seen.line = self.seen_line(alloc, text, number, further);
+    }
+
+    /// The line of this number of a text with these names. `None` if memory is refused.
+    fn seen_line(
         &self,
         alloc: Global,
         text: &[u8],
@@ -95,18 +116,17 @@ impl Names {
         further: usize,
     ) -> Option<SeenLine> {
         let mut line = SeenLine::of(alloc, text, number).ok()?;
-        for name in self.receivers.names() {
-            line.receivers
-                .push(String::from_str(alloc, name.as_str()).ok()?)
-                .ok()?;
-        }
-        for name in self.groups.names() {
-            line.groups
-                .push(String::from_str(alloc, name.as_str()).ok()?)
-                .ok()?;
-        }
         line.further = further;
-        Some(line)
+        match self.name_line(alloc, &mut line) {
+            Ok(()) => Some(line),
+            Err(_) => None,
+        }
+    }
+
+    /// Adds the names that a line can have. The error is that memory was refused.
+    fn name_line(&self, alloc: Global, line: &mut SeenLine) -> Result<(), AllocError> {
+        push_names(alloc, &mut line.receivers, self.receivers.names())?;
+        push_names(alloc, &mut line.groups, self.groups.names())
     }
 
     /// The number of the receiver with this name.
@@ -174,6 +194,14 @@ impl Names {
             None => b"accepted \n",
         }
     }
+}
+
+/// Adds names at the end of a list. The error is that memory was refused.
+fn push_names(alloc: Global, list: &mut Vec<String>, names: &[String]) -> Result<(), AllocError> {
+    for name in names {
+        list.push(String::from_str(alloc, name.as_str())?)?;
+    }
+    Ok(())
 }
 
 fn receiver_names(alloc: Global, rows: &[ReceiverRow]) -> Result<Vec<String>, AllocError>

@@ -75,7 +75,7 @@ fn read_input<F: FileReader>(
 
 /// A station, and the events that are to happen to it.
 #[derive(Drop)]
-struct Prepared {
+struct PreparedReplay {
     station: ReplayStation,
     events: Vec<KeptEvent>,
 }
@@ -87,7 +87,7 @@ fn prepare(
     input: &Input,
     seen: &mut Seen,
     faults: &mut Vec<FurtherFault>,
-) -> Result<Prepared, CommandRefusal>
+) -> Result<PreparedReplay, CommandRefusal>
     ensures prepared { MatchResult result (IsPreparedFor (input_of input.now)) (OrMemory (IsNoStart (input_of input.now))) }
     ensures taken { TakesAll (input_of input.now).table (input_of input.now).further → faults.new.items ≡ faults.old.items }
 {
@@ -97,30 +97,36 @@ fn prepare(
         further: input.further.len(),
     };
     let events = read_script(alloc, &form, &input.script, seen)?;
-    Ok(Prepared { station, events })
+    Ok(PreparedReplay { station, events })
 }
 
 /// Plays events on the station, and puts the lines that they come to. Where memory is refused in the midst, these lines
 /// end with the one that says so.
 fn play_prepared<O: Output>(
     alloc: Global,
-    prepared: Prepared,
+    prepared: &mut PreparedReplay,
     input: &Input,
     published: &mut [bool],
     out: &mut O,
 ) -> Result<u8, OutputFault>
-    requires { TakesAllTables (length (input_of input.now).further) prepared.events.items }
-    ensures played { IfOk result (IsOutcomePut (input_of input.now) prepared (O.contents out.old) (O.contents out.new)) }
+    requires { TakesAllTables (length (input_of input.now).further) prepared.old.events.items }
+    ensures played { IfOk result (IsOutcomePut (input_of input.now) prepared.old (O.contents out.old) (O.contents out.new)) }
     ensures status { IfOk result (λ status. status ≤ 1) }
     ensures flushed { OnOk result (IsTrue (O.is_flushed out.new)) }
     ensures faults { CountsFault result (O.failures out.old) (O.failures out.new) }
 {
-    let Prepared { station, events } = prepared;
-    let ReplayStation { names, mut state } = station;
     let mut lines = Pending::new(alloc);
     let further = &input.further;
+    let station = &mut prepared.station;
     let sufficed = play_all(
-        alloc, &mut state, &names, further, &events, published, &mut lines, out,
+        alloc,
+        &mut station.state,
+        &station.names,
+        further,
+        &prepared.events,
+        published,
+        &mut lines,
+        out,
     )?;
     finish(&lines.text, sufficed, out)
 }
@@ -151,9 +157,9 @@ pub fn replay<F: FileReader, O: Output>(
     };
     let mut found = Vec::new(alloc);
     match prepare(alloc, &input, seen, &mut found) {
-        Ok(prepared) => {
+        Ok(mut prepared) => {
             let mut published = none_published(alloc, input.further.len());
-            let status = play_prepared(alloc, prepared, &input, &mut published, out);
+            let status = play_prepared(alloc, &mut prepared, &input, &mut published, out);
             hand_published(found, &published, faults);
             status
         }

@@ -7,7 +7,7 @@ ghost use Rattle.a429_console.specs.RefusalText.{OrMemory};
 ghost use Rattle.a429_console.specs.Replying.{HasReplied};
 ghost use Rattle.a429_console.specs.Tables.{IsTableRefusal};
 ghost use Rattle.a429_cli.specs.SimulationLog.{AreInTime};
-ghost use Rattle.a429_cli.specs.SimulationReplies.{HasPrinted, HasSummary, IsBeginningOf, IsPreparedFor, SimulationIsReady, IsSimulation, IsSimulationReading, IsStationOf, IsUnsimulated, files_of, heading};
+ghost use Rattle.a429_cli.specs.SimulationReplies.{BeginsLog, BeginsNoLog, HasPrinted, HasSummary, IsBeginningOf, IsPreparedFor, SimulationIsReady, IsSimulation, IsSimulationReading, IsStationOf, IsUnsimulated, files_of, heading};
 ghost use Rattle.a429_cli.specs.SimulationRuns.{HasStationNames};
 ghost use Rattle.a429_cli.specs.Timeline.{end_of};
 ghost use Rattle.a429_cli.specs.Tracks.{HasTracks, IsTrack};
@@ -73,9 +73,9 @@ struct SimulationInput {
     log: Vec<u8>,
 }
 
-/// A station with its names.
+/// A proposal, with the names of its station.
 #[derive(Drop)]
-struct Station {
+struct NamedProposal {
     proposal: Proposal<OUTPUTS>,
     names: Names,
 }
@@ -90,7 +90,7 @@ struct Beginning {
 /// What is simulated.
 #[derive(Drop)]
 struct Simulation {
-    station: Station,
+    station: NamedProposal,
     beginning: Beginning,
 }
 
@@ -110,12 +110,16 @@ fn read_input<F: FileReader>(
 }
 
 /// The station of a table's bytes. Refused is the table, or its plan.
-fn read_station(alloc: Global, table: &[u8], seen: &mut Seen) -> Result<Station, CommandRefusal>
+fn read_station(
+    alloc: Global,
+    table: &[u8],
+    seen: &mut Seen,
+) -> Result<NamedProposal, CommandRefusal>
     ensures { MatchResult result (IsStationOf table.now) (OrMemory (IsTableRefusal table.now)) }
 {
     let proposal = propose(alloc, table, &mut seen.table)?;
     let names = Names::of(alloc, proposal.equipment())?;
-    Ok(Station { proposal, names })
+    Ok(NamedProposal { proposal, names })
 }
 
 /// The begin of a simulation with slots up to this time, or to that which the words ask for. Refused is a group that would
@@ -139,6 +143,20 @@ fn begin(
     Ok(Beginning { timeline, run })
 }
 
+/// The begin of a simulation of a log. Refused is the log, or a group that would send too much.
+fn begin_log(
+    alloc: Global,
+    station: &NamedProposal,
+    log: &[u8],
+    until: Option<u64>,
+    seen: &mut Seen,
+) -> Result<Beginning, CommandRefusal>
+    ensures { MatchResult result (BeginsLog station.now log.now until) (OrMemory (BeginsNoLog station.now log.now until)) }
+{
+    let words = read_log(alloc, &station.names, log, seen)?;
+    begin(alloc, &station.proposal, words, until)
+}
+
 /// What is simulated. Refused is the table, its plan, the log, or a group that would send too much.
 fn prepare(
     alloc: Global,
@@ -149,8 +167,7 @@ fn prepare(
     ensures { MatchResult result (IsPreparedFor (files_of input.now) until) (OrMemory (IsUnsimulated (files_of input.now) until)) }
 {
     let station = read_station(alloc, &input.table, seen)?;
-    let words = read_log(alloc, &station.names, &input.log, seen)?;
-    let beginning = begin(alloc, &station.proposal, words, until)?;
+    let beginning = begin_log(alloc, &station, &input.log, until, seen)?;
     Ok(Simulation { station, beginning })
 }
 
@@ -172,14 +189,14 @@ fn heading(alloc: Global, csv: bool) -> Result<PendingLines, AllocError>
 fn play_words<O: Output>(
     alloc: Global,
     setting: &LineSetting<'_>,
-    beginning: Beginning,
+    beginning: &mut Beginning,
     out: &mut O,
 ) -> Result<u8, OutputFault>
     requires names { HasStationNames setting.now.names.now setting.now.proposal.now }
-    requires tracks { HasTracks setting.now.proposal.now beginning.timeline.tracks.items }
-    requires sound { OfEach IsTrack beginning.timeline.tracks.items }
-    requires in_time { AreInTime beginning.timeline.words.items }
-    ensures printed { HasPrinted setting.now.proposal.now false setting.now.csv beginning
+    requires tracks { HasTracks setting.now.proposal.now beginning.old.timeline.tracks.items }
+    requires sound { OfEach IsTrack beginning.old.timeline.tracks.items }
+    requires in_time { AreInTime beginning.old.timeline.words.items }
+    ensures printed { HasPrinted setting.now.proposal.now false setting.now.csv beginning.old
         (O.contents out.old) (O.contents out.new) result }
     ensures status { IfOk result (λ status. status ≤ 1) }
     ensures flushed { OnOk result (IsTrue (O.is_flushed out.new)) }
@@ -188,35 +205,37 @@ fn play_words<O: Output>(
     let Ok(mut lines) = heading(alloc, setting.csv) else {
         return refuse_memory(out);
     };
-    let Beginning {
-        mut timeline,
-        mut run,
-    } = beginning;
-    let sufficed = play_all(setting, &mut run, &mut timeline, &mut lines, out)?;
+    let sufficed = play_all(
+        setting,
+        &mut beginning.run,
+        &mut beginning.timeline,
+        &mut lines,
+        out,
+    )?;
     finish(&lines.text, sufficed, out)
 }
 
 /// Plays what is simulated, and puts the lines of that.
 fn print_lines<O: Output>(
     alloc: Global,
-    simulation: Simulation,
+    simulation: &mut Simulation,
     csv: bool,
     out: &mut O,
 ) -> Result<u8, OutputFault>
-    requires { SimulationIsReady simulation }
-    ensures printed { HasPrinted simulation.station.proposal false csv simulation.beginning
+    requires { SimulationIsReady simulation.old }
+    ensures printed { HasPrinted simulation.old.station.proposal false csv simulation.old.beginning
         (O.contents out.old) (O.contents out.new) result }
     ensures status { IfOk result (λ status. status ≤ 1) }
     ensures flushed { OnOk result (IsTrue (O.is_flushed out.new)) }
     ensures faults { CountsFault result (O.failures out.old) (O.failures out.new) }
 {
-    let Simulation { station, beginning } = simulation;
+    let station = &simulation.station;
     let setting = LineSetting {
         proposal: &station.proposal,
         names: &station.names,
         csv,
     };
-    play_words(alloc, &setting, beginning, out)
+    play_words(alloc, &setting, &mut simulation.beginning, out)
 }
 
 /// Plays a timeline on the station of a proposal: the text of the summary of that. The error is that memory is refused.
@@ -265,20 +284,19 @@ fn print_summary<O: Output>(
 /// Plays what is simulated, and puts the summary of that, or its lines.
 fn print_simulation<O: Output>(
     alloc: Global,
-    simulation: Simulation,
+    simulation: &mut Simulation,
     form: SimulationForm,
     out: &mut O,
 ) -> Result<u8, OutputFault>
-    requires { SimulationIsReady simulation }
-    ensures printed { HasPrinted simulation.station.proposal form.summary form.csv simulation.beginning
+    requires { SimulationIsReady simulation.old }
+    ensures printed { HasPrinted simulation.old.station.proposal form.summary form.csv simulation.old.beginning
         (O.contents out.old) (O.contents out.new) result }
     ensures status { IfOk result (λ status. status ≤ 1) }
     ensures flushed { OnOk result (IsTrue (O.is_flushed out.new)) }
     ensures faults { CountsFault result (O.failures out.old) (O.failures out.new) }
 {
-    let mut simulation = simulation;
     if form.summary {
-        print_summary(alloc, &mut simulation, form.csv, out)
+        print_summary(alloc, simulation, form.csv, out)
     } else {
         print_lines(alloc, simulation, form.csv, out)
     }
@@ -307,7 +325,7 @@ pub fn simulate<F: FileReader, O: Output>(
         Err(refusal) => return refuse(alloc, refusal, seen, out),
     };
     match prepare(alloc, &input, form.until, seen) {
-        Ok(simulation) => print_simulation(alloc, simulation, form, out),
+        Ok(mut simulation) => print_simulation(alloc, &mut simulation, form, out),
         Err(refusal) => refuse(alloc, refusal, seen, out),
     }
 }

@@ -33,13 +33,13 @@ pub struct Report<L, B> {
 
 /// What the receivers did, with their devices.
 #[derive(Drop)]
-struct Heard<L> {
+struct ReceiverReports<L> {
     pub totals: Vec<ReceiveTotals>,
     pub sources: Vec<L>,
     pub receivers: Vec<Receiver>,
 }
 
-impl<L: Drop> Heard<L> {
+impl<L: Drop> ReceiverReports<L> {
     /// Adds what a further receiver did. The error is that memory was refused.
     fn push(&mut self, totals: ReceiveTotals, line: L, receiver: Receiver) -> Result<(), LiveFault>
         ensures totals { OnOk result (self.new.totals.items ≡ self.old.totals.items ++ totals ∷ []) }
@@ -56,12 +56,12 @@ impl<L: Drop> Heard<L> {
 
 /// What the groups did, with their devices.
 #[derive(Drop)]
-struct Told<B> {
+struct GroupReports<B> {
     pub totals: Vec<SendTotals>,
     pub sinks: Vec<B>,
 }
 
-impl<B: Drop> Told<B> {
+impl<B: Drop> GroupReports<B> {
     /// Adds what a further group did. The error is that memory was refused.
     fn push(&mut self, totals: SendTotals, sink: B) -> Result<(), LiveFault>
         ensures totals { OnOk result (self.new.totals.items ≡ self.old.totals.items ++ totals ∷ []) }
@@ -136,7 +136,10 @@ fn check_all_ends<R: Wait, L: Drop, B: Drop>(
 }
 
 /// Adds what a receiver did to what those before it did. The error is its fault, or else `NoMemory`.
-fn report_receiver<L: Drop>(done: Received<L>, heard: &mut Heard<L>) -> Result<(), LiveFault>
+fn report_receiver<L: Drop>(
+    done: Received<L>,
+    heard: &mut ReceiverReports<L>,
+) -> Result<(), LiveFault>
     ensures ended { OnOk result (first_fault (done.answer ∷ []) ≡ None) }
     ensures totals { OnOk result (map (λ t. Ok t) heard.new.totals.items ≡ map (λ t. Ok t) heard.old.totals.items ++ done.answer ∷ []) }
     ensures sources { OnOk result (heard.new.sources.items ≡ heard.old.sources.items ++ done.line ∷ []) }
@@ -161,13 +164,13 @@ fn report_receiver<L: Drop>(done: Received<L>, heard: &mut Heard<L>) -> Result<(
 fn report_receivers<L: Drop>(
     alloc: Global,
     received: Vec<Received<L>>,
-) -> Result<Heard<L>, LiveFault>
+) -> Result<ReceiverReports<L>, LiveFault>
     ensures totals { IfOk result (λ r. map (λ t. Ok t) r.totals.items ≡ map (λ d. d.answer) received.items) }
     ensures sources { IfOk result (λ r. r.sources.items ≡ map (λ d. d.line) received.items) }
     ensures receivers { IfOk result (λ r. r.receivers.items ≡ map (λ d. d.receiver) received.items) }
     ensures fault { IfErr result (λ f. (f ≡ NoMemory) ⊎ (Some f ≡ option_map of_receiver (receivers_fault received.items))) }
 {
-    let mut heard = Heard {
+    let mut heard = ReceiverReports {
         totals: Vec::new(alloc),
         sources: Vec::new(alloc),
         receivers: Vec::new(alloc),
@@ -196,7 +199,7 @@ fn report_group<R: Wait, B: Drop>(
     station: &mut Station<'_, R>,
     receivers: &mut [Receiver],
     done: Emitted<B>,
-    told: &mut Told<B>,
+    told: &mut GroupReports<B>,
 ) -> Result<(), LiveFault>
     requires receivers { AllNumbered (IsReceiverAt hub.now) receivers.old }
     requires group { IsOver hub.now station.old.planner done.transmit done.answer }
@@ -232,7 +235,7 @@ fn report_groups<R: Wait, B: Drop>(
     station: &mut Station<'_, R>,
     receivers: &mut [Receiver],
     sent: Vec<Emitted<B>>,
-) -> Result<Told<B>, LiveFault>
+) -> Result<GroupReports<B>, LiveFault>
     requires receivers { AllNumbered (IsReceiverAt hub.now) receivers.old }
     requires groups { AllByRecursion (λ d. IsOver hub.now station.old.planner d.transmit d.answer) sent.items }
     ensures totals { IfOk result (λ r. map (λ t. Ok t) r.totals.items ≡ map (λ d. d.answer) sent.items) }
@@ -240,7 +243,7 @@ fn report_groups<R: Wait, B: Drop>(
     ensures joined { OnOk result (AreJoined hub.now.station station.old.planner.list receivers.old sent.items) }
     ensures fault { IfErr result (λ f. (f ≡ NoMemory) ⊎ IsFirstFault None (groups_fault sent.items) f) }
 {
-    let mut told = Told {
+    let mut told = GroupReports {
         totals: Vec::new(alloc),
         sinks: Vec::new(alloc),
     };
@@ -251,7 +254,7 @@ fn report_groups<R: Wait, B: Drop>(
 }
 
 /// What the workers did, with their devices alone.
-fn report_from<L: Drop, B: Drop>(heard: Heard<L>, told: Told<B>) -> Report<L, B>
+fn report_from<L: Drop, B: Drop>(heard: ReceiverReports<L>, told: GroupReports<B>) -> Report<L, B>
     ensures receivers { result.receivers.items ≡ heard.totals.items }
     ensures groups { result.groups.items ≡ told.totals.items }
     ensures sources { result.sources.items ≡ heard.sources.items }

@@ -252,7 +252,7 @@ fn words_and_cells_are_counted(rt: HostRuntime) {
 
 /// Submits a table of its station, then one of another station and one that is no table.
 #[derive(Drop)]
-struct Resubmits<'a> {
+struct MixedTables<'a> {
     faster: &'a str,
     made: &'a AtomicU64,
     number: Option<u64>,
@@ -260,7 +260,7 @@ struct Resubmits<'a> {
     unread: bool,
 }
 
-impl<'a, R: Wait> Control<R> for Resubmits<'a> {
+impl<'a, R: Wait> Control<R> for MixedTables<'a> {
     fn run(&mut self, station: &mut Station<'_, R>) -> Result<(), AllocError> {
         let first = station.resubmit(self.faster.as_bytes());
         self.made.fetch_or(CONTROL, Ordering::SeqCst);
@@ -288,7 +288,7 @@ fn resubmitted_plans_come_into_force(rt: HostRuntime) {
         turns: TURNS,
         made: &made,
     };
-    let mut control = Resubmits {
+    let mut control = MixedTables {
         faster: faster.as_str(),
         made: &made,
         number: None,

@@ -109,10 +109,10 @@ fn open_workers<R: Wait + Abort>(
 }
 
 /// A cell as a row says it: bus, slot and word.
-type Row = (u32, u64, Option<u32>);
+type CellRow = (u32, u64, Option<u32>);
 
 /// Whether the next cell is this.
-fn sends_next(transmit: &mut Transmit, cell: Row) -> bool
+fn sends_next(transmit: &mut Transmit, cell: CellRow) -> bool
     ensures { IsSameGroup transmit.old transmit.new }
 {
     match transmit.cell() {
@@ -124,7 +124,7 @@ fn sends_next(transmit: &mut Transmit, cell: Row) -> bool
 }
 
 /// Whether the next cells are these.
-fn sends(transmit: &mut Transmit, cells: &[Row]) -> bool
+fn sends(transmit: &mut Transmit, cells: &[CellRow]) -> bool
     ensures { IsSameGroup transmit.old transmit.new }
 {
     let mut as_said = true;
@@ -171,10 +171,10 @@ fn publish_and_tell<R: Wait>(
 /// The word of c, and the first frame, in which it goes out last.
 const WORD: u32 = 0x800000c0;
 
-const FRAME: &[Row] = &[(0, 0, None), (0, 1, None), (0, 2, None), (0, 3, Some(WORD))];
+const FRAME: &[CellRow] = &[(0, 0, None), (0, 1, None), (0, 2, None), (0, 3, Some(WORD))];
 
 /// The first frame of a plan of two buses, without a word.
-const EMPTY: &[Row] = &[
+const EMPTY: &[CellRow] = &[
     (0, 4, None),
     (1, 4, None),
     (0, 5, None),

@@ -38,7 +38,7 @@ use crate::bus::PrintBus;
 use crate::control::PublishControl;
 use crate::line::HexLine;
 use crate::pacing::{LateStart, Marks};
-use crate::showing::{show_alone, show_done, show_started};
+use crate::showing::{show_alone, show_answers, show_started};
 use crate::station::run_printing;
 use a429_table::read_equipment;
 use anyhow::ensure;
@@ -52,7 +52,7 @@ const USAGE: &str = "usage: a429_uses TABLE NEXT FRAMES WORDS < LINES";
 
 /// The two tables and the two numbers of the command line.
 #[derive(Drop)]
-struct Request {
+struct UseArguments {
     table: Vec<u8>,
     next: Vec<u8>,
     frames: u32,
@@ -60,7 +60,7 @@ struct Request {
 }
 
 /// Reads the command line and the tables. None if the words of the command line are others than these four.
-fn read_request<R: Env + Files + AllocGlobal>(rt: &R) -> anyhow::Result<Option<Request>> {
+fn read_arguments<R: Env + Files + AllocGlobal>(rt: &R) -> anyhow::Result<Option<UseArguments>> {
     let mut words = env::args(rt)?.skip(1);
     let (Some(table), Some(next)) = (words.next(), words.next()) else {
         return Ok(None);
@@ -71,7 +71,7 @@ fn read_request<R: Env + Files + AllocGlobal>(rt: &R) -> anyhow::Result<Option<R
     let (Ok(frames), Ok(words)) = (frames.parse(), count.parse()) else {
         return Ok(None);
     };
-    Ok(Some(Request {
+    Ok(Some(UseArguments {
         table: fs::read(rt, table.as_str())?,
         next: fs::read(rt, next.as_str())?,
         frames,
@@ -80,7 +80,7 @@ fn read_request<R: Env + Files + AllocGlobal>(rt: &R) -> anyhow::Result<Option<R
 }
 
 fn main(rt: HostRuntime) -> anyhow::Result<ExitCode> {
-    let Some(request) = read_request(&rt)? else {
+    let Some(request) = read_arguments(&rt)? else {
         eprintln!(rt; "{USAGE}")?;
         return Ok(ExitCode::from(2));
     };
@@ -114,6 +114,6 @@ fn main(rt: HostRuntime) -> anyhow::Result<ExitCode> {
         &gate,
         &control,
     )?;
-    show_done(&rt, done)?;
+    show_answers(&rt, done)?;
     Ok(ExitCode::SUCCESS)
 }

@@ -3,7 +3,7 @@ ghost use Rattle.std.specs.Prelude.{◌≡◌, ◌<◌, length};
 
 use crate::calls::{plan_table, simulate, slot_of};
 use crate::started::run_all;
-use crate::station::Done;
+use crate::station::StationAnswers;
 use a429_core::{Answer, Event};
 use a429_equipment::Equipment;
 use a429_filter::{LineSource, MemoryLine};
@@ -92,8 +92,8 @@ pub fn show_started<R: Print + AllocGlobal + Threads + Wait>(
 }
 
 /// Prints what the threads of a station answered. The error is that of a thread.
-pub fn show_done<R: Print>(rt: &R, done: Done) -> anyhow::Result<()> {
-    let Done {
+pub fn show_answers<R: Print>(rt: &R, done: StationAnswers) -> anyhow::Result<()> {
+    let StationAnswers {
         heard,
         sent,
         published,

@@ -29,7 +29,7 @@ use std::thread::{Threads, join_mut};
 
 /// What the threads of a station answered.
 #[derive(Drop)]
-pub struct Done {
+pub struct StationAnswers {
     pub heard: anyhow::Result<LineCount>,
     pub sent: Result<SendTotals, SendFault>,
     pub published: anyhow::Result<u64>,
@@ -75,14 +75,18 @@ fn open_group(
 }
 
 /// The ends of a station of one receiver and one group.
-struct Ends {
+struct StationEnds {
     receiver: Receiver,
     transmit: Transmit,
     planner: Planner,
 }
 
 /// Opens a station: its current values, and a board that begins with its plan.
-fn open_station<R: Wait>(rt: &R, alloc: Global, equipment: &Equipment) -> anyhow::Result<Ends>
+fn open_station<R: Wait>(
+    rt: &R,
+    alloc: Global,
+    equipment: &Equipment,
+) -> anyhow::Result<StationEnds>
     requires receiver { 0 < length equipment.now.receivers }
     requires group { 0 < length equipment.now.groups }
     ensures { IfOk result (λ ends. EndsAreReady equipment.now ends.receiver ends.transmit ends.planner) }
@@ -92,7 +96,7 @@ fn open_station<R: Wait>(rt: &R, alloc: Global, equipment: &Equipment) -> anyhow
     let (receiver, transmitter) = open_values(alloc, equipment)?;
     let (planner, mut watchers) = Board::open(rt, alloc, plan, 1)?;
     match open_group(alloc, transmitter, &mut watchers, &planner) {
-        Ok(transmit) => Ok(Ends {
+        Ok(transmit) => Ok(StationEnds {
             receiver,
             transmit,
             planner,
@@ -155,8 +159,8 @@ fn run_threads<R: Threads + Wait + Sync, L: LineSource + Send, B: BusSink + Send
     frames: u32,
     gate: &G,
     control: &PublishControl<'_>,
-    ends: &mut Ends,
-) -> Done
+    ends: &mut StationEnds,
+) -> StationAnswers
     requires begins { ends.old.transmit.frame.sent ≡ 0 }
     requires plans { AllByRecursion (IsKnownPlan station.now) ends.old.planner.list }
     ensures listened { HasListened L.given line.old ends.old.receiver line.new ends.new.receiver }
@@ -166,7 +170,7 @@ fn run_threads<R: Threads + Wait + Sync, L: LineSource + Send, B: BusSink + Send
     ensures plans { AllByRecursion (IsKnownPlan station.now) ends.new.planner.list }
     ensures board { ends.new.planner.book ≡ ends.old.planner.book }
 {
-    let Ends {
+    let StationEnds {
         receiver,
         transmit,
         planner,
@@ -180,7 +184,7 @@ fn run_threads<R: Threads + Wait + Sync, L: LineSource + Send, B: BusSink + Send
             requires { AllByRecursion (IsKnownPlan station.now) planner.now.list }
         { listen_and_publish(rt, alloc, station, line, receiver, gate, planner, control) },
     );
-    Done {
+    StationAnswers {
         heard,
         sent,
         published,
@@ -205,7 +209,7 @@ pub fn run_station<
     frames: u32,
     gate: &G,
     control: &PublishControl<'_>,
-) -> anyhow::Result<Done>
+) -> anyhow::Result<StationAnswers>
     requires receiver { length equipment.now.receivers ≡ 1 }
     requires group { 0 < length equipment.now.groups }
     ensures given { TookWordsOfLine equipment.now (L.given line.new) (B.taken bus.old) (B.taken bus.new) }
@@ -215,7 +219,7 @@ pub fn run_station<
     let done = run_threads(
         rt, alloc, equipment, line, bus, frames, gate, control, &mut ends,
     );
-    let Ends {
+    let StationEnds {
         mut receiver,
         mut transmit,
         mut planner,
@@ -246,7 +250,7 @@ pub fn run_printing<
     frames: u32,
     gate: &G,
     control: &PublishControl<'_>,
-) -> anyhow::Result<Done>
+) -> anyhow::Result<StationAnswers>
     requires receiver { length equipment.now.receivers ≡ 1 }
     requires group { 0 < length equipment.now.groups }
     requires begin { items_of bus.old.taken ≡ [] }

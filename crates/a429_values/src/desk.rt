@@ -1,5 +1,6 @@
 //! The desk, which gives the ends of a hub out.
-ghost use Rattle.std.specs.Prelude.{◌≡◌, ◌==◌, ◌++◌, ◌∷◌, [], ◌<◌, ◌-◌, ◌^◌, ◌↔◌, length, true, IfOk, OnErr, IsErrOf, IsTrue};
+ghost use Rattle.std.specs.Prelude.{◌≡◌, ◌==◌, ◌++◌, ◌∷◌, [], ◌<◌, ◌-◌, ◌^◌, ◌↔◌, length, replicate, true, IfOk, OnErr, IsErrOf, IsTrue};
+ghost use Rattle.std.specs.Arc.{arc_value};
 ghost use Rattle.std.specs.List.{list_any};
 ghost use Rattle.a429_values.specs.Seats.{IsSeatOf, SitsAt, Stays};
 ghost use Rattle.a429_values.specs.Views.{CanDeal, CanDealTransmitter, Deals, DealsTransmitter};
@@ -9,7 +10,7 @@ use crate::receiver::Receiver;
 use crate::shared_words::{Chosen, HubSeat, SharedWords};
 use crate::steps::{receiver_step, transmitter_step};
 use crate::transmitter::Transmitter;
-use crate::wired::zeros;
+use crate::wired::{Wired, zeros};
 use std::alloc::{AllocError, Global};
 use std::marker::{Brand, Model};
 use std::sync::Arc;
@@ -61,6 +62,26 @@ impl From<AllocError> for HubFault {
     }
 }
 
+/// What a receiver has beside its seat.
+#[derive(Drop)]
+struct ReceiverParts {
+    wired: Arc<Wired, Global>,
+    counts: Vec<u64>,
+}
+
+impl ReceiverParts {
+    /// Those of a receiver that has accepted nothing.
+    fn of(alloc: Global, wired: &Arc<Wired, Global>) -> Result<ReceiverParts, AllocError>
+        ensures wired { IfOk result (λ parts. arc_value parts.wired ≡ arc_value wired.now) }
+        ensures many { IfOk result (λ parts. length parts.counts.items ≡ length (arc_value wired.now).equipment.sources) }
+        ensures counts { IfOk result (λ parts. parts.counts.items ≡ replicate (length (arc_value wired.now).equipment.sources) 0) }
+    {
+        let counts = zeros(alloc, wired.equipment.sources().len())?;
+        let wired = Arc::try_clone(wired)?;
+        Ok(ReceiverParts { wired, counts })
+    }
+}
+
 impl Desk {
     /// The desk with this seat, which has given nothing out.
     pub(crate) fn of_seat(alloc: Global, seat: HubSeat) -> Desk
@@ -98,11 +119,11 @@ impl Desk {
         if receivers.as_slice().contains(&number) {
             return Err(HubFault::AlreadyTaken);
         }
-        let counts = zeros(alloc, hub.wired.equipment.sources().len())?;
-        let wired = Arc::try_clone(&hub.wired)?;
+        let parts = ReceiverParts::of(alloc, &hub.wired)?;
         if receivers.push(number).is_err() {
             return Err(HubFault::NoMemory);
         }
+        let ReceiverParts { wired, counts } = parts;
         let badge = cut_receiver(&wired.shared_words, seat, number).into_badge();
         Ok(Receiver {
             wired,

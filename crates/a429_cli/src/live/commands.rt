@@ -162,5 +162,8 @@ fn run_with_hint<
     if let Ok(status) = result {
         tell_hints(alloc, request, status, &seen, &faults, hints, err);
     }
+    // `drop` keeps the proof short: a drop in place goes through all parts.
+    drop(seen);
+    drop(faults);
     result
 }

@@ -3,6 +3,8 @@ ghost use Rattle.std.specs.Prelude.{◌≡◌, ◌≤◌, IfOk, IsTrue, MatchRes
 ghost use Rattle.a429_console.specs.Files.{bytes_of};
 ghost use Rattle.a429_slots.specs.Planned.{IsPlanOf};
 ghost use Rattle.a429_cli.specs.LiveReplies.{HasToldRun, IsLiveReading, IsLiving, IsNoLiveStart, IsPreparedLive, IsRunResult, TakesLive, files_of, refusal_of};
+ghost use Rattle.a429_cli.specs.WordsFile.{IsWordsReading};
+ghost use Rattle.a429_console.specs.Names.{naming_of};
 ghost use Rattle.a429_console.specs.Requests.{live_of};
 ghost use Rattle.a429_console.specs.Outputs.{CountsFault};
 ghost use Rattle.a429_console.specs.Readings.{HasRead};
@@ -42,7 +44,7 @@ struct LiveInput {
 
 /// A station and the words that come in.
 #[derive(Drop)]
-struct Prepared {
+struct PreparedRun {
     proposal: Proposal<OUTPUTS>,
     arrivals: Vec<Arrival>,
 }
@@ -66,14 +68,26 @@ fn read_input<F: FileReader>(
     })
 }
 
+/// The words of a file for the receivers of a station. Refused is the file.
+fn read_arrivals(
+    alloc: Global,
+    equipment: &Equipment,
+    words: &[u8],
+    seen: &mut Seen,
+) -> Result<Vec<Arrival>, CommandRefusal>
+    ensures { IsWordsReading (naming_of equipment.now) words.now result }
+{
+    let names = Names::of(alloc, equipment)?;
+    read_words(alloc, &names, words, seen)
+}
+
 /// The station and the words that are given. Refused is the table, its plan, or the file of words.
-fn prepare(alloc: Global, input: &LiveInput, seen: &mut Seen) -> Result<Prepared, CommandRefusal>
+fn prepare(alloc: Global, input: &LiveInput, seen: &mut Seen) -> Result<PreparedRun, CommandRefusal>
     ensures { MatchResult result (IsPreparedLive (files_of input.now)) (OrMemory (IsNoLiveStart (files_of input.now))) }
 {
     let proposal = propose(alloc, &input.table, &mut seen.table)?;
-    let names = Names::of(alloc, proposal.equipment())?;
-    let arrivals = read_words(alloc, &names, &input.words, seen)?;
-    Ok(Prepared { proposal, arrivals })
+    let arrivals = read_arrivals(alloc, proposal.equipment(), &input.words, seen)?;
+    Ok(PreparedRun { proposal, arrivals })
 }
 
 /// So many sinks, which count their cells.

@@ -67,7 +67,7 @@ pub fn read_words(
     match read_lines(alloc, &WordsForm { names }, bytes) {
         Ok(arrivals) => Ok(arrivals),
         Err(LinesFault::Line(number)) => {
-            seen.line = names.seen_line(alloc, bytes, number, 0);
+            names.keep_line(alloc, bytes, number, 0, seen);
             Err(CommandRefusal::Script(number))
         }
         Err(LinesFault::NoMemory) => Err(CommandRefusal::Memory),

@@ -11,7 +11,7 @@ const TRIES: u64 = 64;
 const NO_NUMBER: u8 = u8::MAX;
 
 /// The bytes of a name that its place comes from, with the byte that ends the name if it is among the eight.
-type Head = u64;
+type NameHead = u64;
 
 /// A byte eight times, as it is multiplied by this.
 const EACH: u64 = 0x0101_0101_0101_0101;
@@ -29,7 +29,7 @@ pub struct Guesses {
 /// The first bytes of a text up to the first that is `end`, at most eight; nothing if the text has fewer. Of a name of
 /// eight bytes or more, the last byte counts too.
 #[inline(always)]
-fn head_of(text: &[u8], end: u8) -> Option<Head> {
+fn head_of(text: &[u8], end: u8) -> Option<NameHead> {
     let head = u64::from_le_bytes(*text.first_chunk::<8>()?);
     let differences = head ^ u64::from(end).wrapping_mul(EACH);
     let ends = differences.wrapping_sub(EACH) & !differences & HIGHEST;
@@ -49,14 +49,14 @@ fn last_before(text: &[u8], end: u8) -> u64 {
 }
 
 /// The place that a name's first bytes come to.
-fn place_of(head: Head, multiplier: u64) -> usize
+fn place_of(head: NameHead, multiplier: u64) -> usize
     ensures { result < 256 }
 {
     ((head.wrapping_mul(multiplier) >> 56) & 0xff) as usize
 }
 
 /// A name's first bytes, as a text has them that begins with the name and this byte.
-fn head_of_name(name: &[u8], end: u8) -> Option<Head> {
+fn head_of_name(name: &[u8], end: u8) -> Option<NameHead> {
     let mut text = [0u8; 32];
     if name.len() >= text.len() {
         return None;

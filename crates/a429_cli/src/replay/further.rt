@@ -1,5 +1,5 @@
 //! Further tables, each read and planned once.
-ghost use Rattle.std.specs.Prelude.{◌≡◌, [], true, IfOk, IsNone};
+ghost use Rattle.std.specs.Prelude.{◌≡◌, ◌++◌, ◌∷◌, [], true, IfOk, IsNone, OnOk};
 ghost use Rattle.a429_equipment.specs.SameStation.{same_station};
 ghost use Rattle.std.specs.List.{AllByRecursion};
 ghost use Rattle.a429_console.specs.Files.{bytes_of};
@@ -92,6 +92,21 @@ fn cause_of_proposal(
     }
 }
 
+/// Reads and plans a table, and adds it to these. What was read of it is kept in `seen`.
+fn plan_table(
+    alloc: Global,
+    bytes: Vec<u8>,
+    planned: &mut Vec<FurtherTable>,
+    seen: &mut Seen,
+) -> Result<(), AllocError>
+    ensures { OnOk result (planned.new.items ≡ planned.old.items ++ bytes.items ∷ []) }
+{
+    let place = seen.further.len();
+    seen.further.push(SeenTable::nothing())?;
+    planned.push(FurtherTable::of(alloc, bytes, &mut seen.further[place]))?;
+    Ok(())
+}
+
 /// Reads and plans tables. What was read of each is kept in `seen`.
 pub fn plan_tables(
     alloc: Global,
@@ -102,10 +117,7 @@ pub fn plan_tables(
 {
     let mut planned = Vec::new(alloc);
     for bytes in tables {
-        let mut read = SeenTable::nothing();
-        let table = FurtherTable::of(alloc, bytes, &mut read);
-        planned.push(table)?;
-        seen.further.push(read)?;
+        plan_table(alloc, bytes, &mut planned, seen)?;
     }
     Ok(planned)
 }

@@ -100,7 +100,8 @@ pub fn read_script(
     match read_events(alloc, form, script) {
         Ok(kept) => Ok(kept),
         Err(LinesFault::Line(line)) => {
-            seen.line = form.names.seen_line(alloc, script, line, form.further);
+            form.names
+                .keep_line(alloc, script, line, form.further, seen);
             Err(CommandRefusal::Script(line))
         }
         Err(LinesFault::NoMemory) => Err(CommandRefusal::Memory),

@@ -1,15 +1,18 @@
 //! The station of a table, opened for a script.
 ghost use Rattle.std.specs.Prelude.{◌≡◌, MatchResult};
-ghost use Rattle.a429_cli.specs.Opened.{IsOpenedFrom};
+ghost use Rattle.a429_slots.specs.Planned.{IsPlanOf};
+ghost use Rattle.a429_cli.specs.Opened.{IsOpenedFrom, OpensStation};
 ghost use Rattle.a429_console.specs.RefusalText.{OrMemory};
 ghost use Rattle.a429_console.specs.Tables.{IsTableRefusal, TakesAll};
 
 use crate::names::Names;
+use crate::opening::open_machine;
 use crate::replay::further::{FurtherTable, note_faults};
 use a429_console::hints::{FurtherFault, Seen};
 use a429_console::refusals::CommandRefusal;
 use a429_console::refusals::tables::propose;
-use a429_core::{OpenFault, StationState};
+use a429_core::StationState;
+use a429_slots::{OUTPUTS, Proposal};
 use std::alloc::Global;
 
 /// A station in operation, with its names.
@@ -34,12 +37,16 @@ impl ReplayStation {
     {
         let proposal = propose(alloc, table, &mut seen.table)?;
         note_faults(alloc, proposal.equipment(), further, seen, faults);
+        ReplayStation::of(alloc, proposal)
+    }
+
+    /// The station of a proposal, to which nothing has happened, at slot 0. The refusal is that of memory.
+    fn of(alloc: Global, proposal: Proposal<OUTPUTS>) -> Result<ReplayStation, CommandRefusal>
+        requires planned { IsPlanOf proposal.station proposal.plan }
+        ensures { OpensStation proposal result }
+    {
         let names = Names::of(alloc, proposal.equipment())?;
-        match StationState::open(alloc, proposal, 0) {
-            Ok(state) => Ok(ReplayStation { names, state }),
-            Err(OpenFault::NoMemory) => Err(CommandRefusal::Memory),
-            // the frames of a plan are far too short for that
-            Err(OpenFault::SlotsSpent) => unreachable!(),
-        }
+        let state = open_machine(alloc, proposal)?;
+        Ok(ReplayStation { names, state })
     }
 }

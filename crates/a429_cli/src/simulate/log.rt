@@ -187,7 +187,7 @@ pub fn read_log(
     match read_words(alloc, names, log) {
         Ok(words) => Ok(words),
         Err(LinesFault::Line(line)) => {
-            seen.line = names.seen_line(alloc, log, line, 0);
+            names.keep_line(alloc, log, line, 0, seen);
             Err(CommandRefusal::LogLine { line })
         }
         Err(LinesFault::NoMemory) => Err(CommandRefusal::Memory),

@@ -4,11 +4,12 @@ ghost use Rattle.a429_cli.specs.CellLines.{SendsWord};
 ghost use Rattle.a429_cli.specs.Simulating.{Comes, Asks, Turns};
 ghost use Rattle.a429_cli.specs.SimulationRuns.{RunGoesOn, HasTime, IsAnswerTo, IsOpening, noted};
 
+use crate::opening::open_machine;
 use crate::simulate::lines::SentWord;
 use crate::simulate::log::LogWord;
 use a429_console::refusals::CommandRefusal;
 use a429_core::laws::calls_are_answered;
-use a429_core::{Answer, OpenFault, StationState};
+use a429_core::{Answer, StationState};
 use a429_slots::{OUTPUTS, Proposal};
 use std::alloc::Global;
 
@@ -36,14 +37,9 @@ impl Run {
     pub fn open(alloc: Global, proposal: &Proposal<OUTPUTS>) -> Result<Run, CommandRefusal>
         ensures { IsOpening proposal.now result }
     {
-        let own = proposal.copied(alloc)?;
-        let times = vec![in alloc; 0; own.equipment().sources().len()]?;
-        match StationState::open(alloc, own, 0) {
-            Ok(state) => Ok(Run { state, times }),
-            Err(OpenFault::NoMemory) => Err(CommandRefusal::Memory),
-            // the frames of a plan are far too short for that
-            Err(OpenFault::SlotsSpent) => unreachable!(),
-        }
+        let times = vec![in alloc; 0; proposal.equipment().sources().len()]?;
+        let state = open_machine(alloc, proposal.copied(alloc)?)?;
+        Ok(Run { state, times })
     }
 
     /// A word comes in: the answer to it.

@@ -21,11 +21,11 @@ use std::sync::atomic::{AtomicU64, Ordering};
 use std::thread::Threads;
 use std::time::Clock;
 
-type Values = Hub<256, 41>;
+type StationValues = Hub<256, 41>;
 
 /// What the receivers did, with their devices.
 #[derive(Drop)]
-struct Heard<L> {
+struct ReceiverAnswers<L> {
     totals: Vec<ReceiveTotals>,
     sources: Vec<L>,
     receivers: Vec<Receiver>,
@@ -33,13 +33,13 @@ struct Heard<L> {
 
 /// What the groups did, with their devices.
 #[derive(Drop)]
-struct Told<B> {
+struct GroupAnswers<B> {
     totals: Vec<SendTotals>,
     sinks: Vec<B>,
 }
 
 /// Keeps one more receiver of this hub.
-fn keep<R: Abort>(rt: &R, hub: &Values, all: &mut Vec<Receiver>, one: Receiver)
+fn keep<R: Abort>(rt: &R, hub: &StationValues, all: &mut Vec<Receiver>, one: Receiver)
     requires all { All (λ r. r.at ≡ hub.now) all.old.items }
     requires one { one.at ≡ hub.now }
     ensures { All (λ r. r.at ≡ hub.now) all.new.items }
@@ -53,17 +53,17 @@ fn receivers_in_turn<R: Abort, L: LineSource + Drop, G: Gate>(
     rt: &R,
     alloc: Global,
     equipment: &Equipment,
-    hub: &Values,
+    hub: &StationValues,
     desk: &mut Desk,
     sources: Vec<L>,
     gate: &G,
-) -> Result<Heard<L>, LiveFault>
+) -> Result<ReceiverAnswers<L>, LiveFault>
     requires station { hub.now.station ≡ equipment.now }
     requires desk { desk.old.at ≡ hub.now }
     ensures desk { desk.new.at ≡ desk.old.at }
     ensures receivers { IfOk result (λ heard. All (λ r. r.at ≡ hub.now) heard.receivers.items) }
 {
-    let mut heard = Heard {
+    let mut heard = ReceiverAnswers {
         totals: Vec::new(alloc),
         sources: Vec::new(alloc),
         receivers: Vec::new(alloc),
@@ -96,7 +96,7 @@ fn meet_all(transmit: &mut Transmit, receivers: &mut [Receiver])
 fn transmit_of<R: Abort>(
     rt: &R,
     alloc: Global,
-    hub: &Values,
+    hub: &StationValues,
     desk: &mut Desk,
     watcher: Watcher,
     number: usize,
@@ -149,7 +149,7 @@ fn groups_in_turn<R: Abort, B: BusSink + Drop, G: Gate>(
     rt: &R,
     alloc: Global,
     equipment: &Equipment,
-    hub: &Values,
+    hub: &StationValues,
     desk: &mut Desk,
     planner: &mut Planner,
     watchers: Vec<Watcher>,
@@ -157,13 +157,13 @@ fn groups_in_turn<R: Abort, B: BusSink + Drop, G: Gate>(
     sinks: Vec<B>,
     frames: u32,
     gate: &G,
-) -> Result<Told<B>, LiveFault>
+) -> Result<GroupAnswers<B>, LiveFault>
     requires station { hub.now.station ≡ equipment.now }
     requires desk { desk.old.at ≡ hub.now }
     requires watchers { All (λ w. w.book ≡ planner.old.book) watchers.items }
     requires receivers { All (λ r. r.at ≡ hub.now) receivers.old }
 {
-    let mut told = Told {
+    let mut told = GroupAnswers {
         totals: Vec::new(alloc),
         sinks: Vec::new(alloc),
     };
@@ -201,9 +201,9 @@ fn live_in_turn<R: Wait + Abort, L: LineSource + Drop, B: BusSink + Drop, G: Gat
         return Err(LiveFault::TooMuch);
     }
     assert!(rt; equipment.sources().len() <= 256);
-    let (hub, mut desk) = Values::open(alloc, equipment)?;
+    let (hub, mut desk) = StationValues::open(alloc, equipment)?;
     control.mark();
-    let Heard {
+    let ReceiverAnswers {
         totals: receivers,
         sources,
         receivers: mut ends,
@@ -223,7 +223,7 @@ fn live_in_turn<R: Wait + Abort, L: LineSource + Drop, B: BusSink + Drop, G: Gat
         gate,
     );
     planner.close(rt);
-    let Told {
+    let GroupAnswers {
         totals: groups,
         sinks,
     } = told?;

@@ -34,7 +34,7 @@ fn a_shut_gate_ends_the_run(rt: HostRuntime) {
 
 /// Words in memory, or a source that fails in every call.
 #[derive(Drop)]
-struct Line<'a> {
+struct FallibleLine<'a> {
     line: MemoryLine,
     fails: bool,
     failures: u64,
@@ -42,7 +42,7 @@ struct Line<'a> {
     calls: &'a AtomicU64,
 }
 
-impl<'a> LineSource for Line<'a> {
+impl<'a> LineSource for FallibleLine<'a> {
     ghost given = { λ s. s.line.given };
 
     ghost ended = { λ s. s.ended };
@@ -68,11 +68,11 @@ impl<'a> LineSource for Line<'a> {
 
 /// A sink that fails in every call.
 #[derive(Drop)]
-struct FailingSink {
+struct BrokenSink {
     failures: u64,
 }
 
-impl BusSink for FailingSink {
+impl BusSink for BrokenSink {
     ghost use Rattle.std.specs.Prelude.{None};
 
     ghost taken = { λ _. None };
@@ -118,7 +118,7 @@ fn fault_of_run<R: Threads + Wait + Abort, K: Control<R>>(
             given.push(0x00000080).expect(rt, "memory");
         }
         lines
-            .push(Line {
+            .push(FallibleLine {
                 line: MemoryLine::from_words(given),
                 fails: fails && number == 1,
                 failures: 0,
@@ -128,8 +128,8 @@ fn fault_of_run<R: Threads + Wait + Abort, K: Control<R>>(
             .expect(rt, "memory");
     }
     let mut sinks = Vec::new(alloc);
-    sinks.push(FailingSink { failures: 0 }).expect(rt, "memory");
-    sinks.push(FailingSink { failures: 0 }).expect(rt, "memory");
+    sinks.push(BrokenSink { failures: 0 }).expect(rt, "memory");
+    sinks.push(BrokenSink { failures: 0 }).expect(rt, "memory");
     assert!(rt; lines.len() == equipment.receivers().len());
     assert!(rt; sinks.len() == equipment.groups().len());
     let gate = OpenGate;

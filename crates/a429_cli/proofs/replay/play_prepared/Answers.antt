@@ -17,15 +17,15 @@ returns-clause-played g c =
     both_ok c.finish.result _ _ (λ status is put q start opened.
     let o : Opening = record { proposal = q; first = 0 } in
     let i = input_of c.args.input.now in
-    let events = events_of c.args.prepared.events.items in
+    let events = events_of c.args.prepared.now.events.items in
     let all = c.in_ok-sufficed.sufficed in
     let (n, E, lines, told, appended, every) = c.in_ok-sufficed.ensures.played o [] opened.1 in
     let kept = rw c.new-lines.ensures at appended in
     let sent = rw c.deref-3.ensures.value at put in
-    let of_events : Played o c.args.prepared.station.names.sources c.deref.result.now [] (take n events) E lines =
-    subst (λ (ks : List KeptEvent). Played o c.args.prepared.station.names.sources c.deref.result.now [] (take n (events_of ks)) E lines) c.deref-2.ensures.value told in
-    let of_tables : Played o c.args.prepared.station.names.sources i.further [] (take n events) E lines =
-    subst (λ (ts : List (List ℕ)). Played o c.args.prepared.station.names.sources ts [] (take n events) E lines) c.deref.ensures.value of_events in
+    let of_events : Played o c.args.prepared.now.station.names.sources c.deref.result.now [] (take n events) E lines =
+    subst (λ (ks : List KeptEvent). Played o c.args.prepared.now.station.names.sources c.deref.result.now [] (take n (events_of ks)) E lines) c.deref-2.ensures.value told in
+    let of_tables : Played o c.args.prepared.now.station.names.sources i.further [] (take n events) E lines =
+    subst (λ (ts : List (List ℕ)). Played o c.args.prepared.now.station.names.sources ts [] (take n events) E lines) c.deref.ensures.value of_events in
     let played : Played o (naming_of q.station).sources i.further [] (take n events) E lines =
     subst (λ (names : List (List ℕ)). Played o names i.further [] (take n events) E lines) (ap (λ (n : Naming). n.sources) opened.0) of_tables in
     let whole : IsTrue all → n ≡ length events = subst (λ (ks : List KeptEvent). IsTrue all → n ≡ length (events_of ks)) c.deref-2.ensures.value every in

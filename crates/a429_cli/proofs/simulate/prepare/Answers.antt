@@ -2,14 +2,11 @@ use Rattle.std.proofs.Common.{◌≡◌, ◌∙◌, ap, inl, inr, subst, List, �
 use Rattle.std.specs.Prelude.{Err, Ok}
 use Rattle.std.proofs.lemmas.Result.{err_from_is_err_and}
 use Rattle.a429_console.specs.RefusalText.{OrMemory}
-use Rattle.a429_console.specs.Names.{Naming, naming_of}
+use Rattle.a429_console.specs.Names.{Naming}
 use Rattle.a429_console.specs.Tables.{IsProposedBy, IsTableRefusal}
 use Rattle.a429_console.proofs.Refused.{failed, or_memory_weaker}
-use Rattle.a429_console.specs.declared.refusals.CommandRefusal.{CommandRefusal}
-use Rattle.a429_console.specs.declared.refusals.CommandRefusal.TheVariants.{TooMuch}
 use Rattle.a429_cli.specs.SimulationLog.{IsLogFault, log_words}
-use Rattle.a429_cli.specs.SimulationReplies.{IsSimulated, IsUnsimulated, files_of}
-use Rattle.a429_cli.specs.Timeline.{SendsTooMuch, end_of}
+use Rattle.a429_cli.specs.SimulationReplies.{BeginsLog, BeginsNoLog, IsUnsimulated, files_of}
 use Rattle.a429_cli.proofs.simulate.prepare.Goals as goal
 
 pub returns-in_err-station : goal.returns-in_err-station
@@ -21,38 +18,39 @@ returns-in_err-station c =
     failed c.from_residual.result _ (OrMemory (IsUnsimulated i c.args.until)) e (p.1 ∙ ap Err p.2)
     (or_memory_weaker (IsTableRefusal i.table) (IsUnsimulated i c.args.until) e (λ one. inl (inl one)) fault)
 
-pub returns-in_err-words : goal.returns-in_err-words
-returns-in_err-words c =
-    let i = files_of c.args.input.now in
-    let e = c.in_err-words.field-0.0 in
-    let p = err_from_is_err_and c.from_residual-in_err-words.result c.from_residual-in_err-words.ensures.1 in
-    let q = c.in_ok-station.station.proposal in
-    let proposed = subst (λ (t : List ℕ). IsProposedBy t q) c.deref.ensures.value c.in_ok-station.ensures.0 in
-    let of_names = subst (λ (n : Naming). OrMemory (IsLogFault n c.deref-2.result.now) e) c.in_ok-station.ensures.1 c.in_err-words.ensures.words in
-    let fault = subst (λ (t : List ℕ). OrMemory (IsLogFault (naming_of q.station) t) e) c.deref-2.ensures.value of_names in
-    failed c.from_residual-in_err-words.result _ (OrMemory (IsUnsimulated i c.args.until)) e (p.1 ∙ ap Err p.2)
-    (or_memory_weaker (IsLogFault (naming_of q.station) i.log) (IsUnsimulated i c.args.until) e (λ one. inl (inr (q, proposed, one))) fault)
-
 pub returns-in_err-beginning : goal.returns-in_err-beginning
 returns-in_err-beginning c =
     let i = files_of c.args.input.now in
     let e = c.in_err-beginning.field-0.0 in
     let p = err_from_is_err_and c.from_residual-in_err-beginning.result c.from_residual-in_err-beginning.ensures.1 in
-    let q = c.in_ok-station.station.proposal in
-    let words = c.in_ok-words.words.items in
+    let s = c.in_ok-station.station in
+    let q = s.proposal in
+    let names = c.in_ok-station.ensures.1 in
     let proposed = subst (λ (t : List ℕ). IsProposedBy t q) c.deref.ensures.value c.in_ok-station.ensures.0 in
-    let of_names = subst (λ (n : Naming). log_words n c.deref-2.result.now ≡ Ok words) c.in_ok-station.ensures.1 c.in_ok-words.ensures.words in
-    let of_text = subst (λ (t : List ℕ). log_words (naming_of q.station) t ≡ Ok words) c.deref-2.ensures.value of_names in
-    let simulated : IsSimulated i q words = record { proposed = proposed; words_are = of_text } in
+    let fault = subst (λ (t : List ℕ). OrMemory (BeginsNoLog s t c.args.until) e) c.deref-2.ensures.value c.in_err-beginning.ensures in
+    let why : BeginsNoLog s i.log c.args.until e → IsUnsimulated i c.args.until e = λ why. elim why [
+      | inl one ↦ inl (inr (q, proposed, subst (λ (n : Naming). IsLogFault n i.log e) names one))
+      | inr more ↦ inr (
+        q,
+        more.0,
+        record { proposed = proposed; words_are = subst (λ (n : Naming). log_words n i.log ≡ Ok more.0) names more.1 },
+        more.2,
+        more.3,
+      )
+    ] in
     failed c.from_residual-in_err-beginning.result _ (OrMemory (IsUnsimulated i c.args.until)) e (p.1 ∙ ap Err p.2)
-    (or_memory_weaker (λ (r : CommandRefusal). (r ≡ TooMuch) × SendsTooMuch q (end_of q words c.args.until)) (IsUnsimulated i c.args.until) e (λ long. inr (q, words, simulated, long.0, long.1)) c.in_err-beginning.ensures)
+    (or_memory_weaker (BeginsNoLog s i.log c.args.until) (IsUnsimulated i c.args.until) e why fault)
 
 pub returns : goal.returns
 returns c =
     let i = files_of c.args.input.now in
-    let q = c.in_ok-station.station.proposal in
-    let words = c.in_ok-words.words.items in
-    let proposed = subst (λ (t : List ℕ). IsProposedBy t q) c.deref.ensures.value c.in_ok-station.ensures.0 in
-    let of_names = subst (λ (n : Naming). log_words n c.deref-2.result.now ≡ Ok words) c.in_ok-station.ensures.1 c.in_ok-words.ensures.words in
-    let of_text = subst (λ (t : List ℕ). log_words (naming_of q.station) t ≡ Ok words) c.deref-2.ensures.value of_names in
-    record { words = words; simulated = record { proposed = proposed; words_are = of_text }; names = c.in_ok-station.ensures.1; begin = c.in_ok-beginning.ensures }
+    let s = c.in_ok-station.station in
+    let names = c.in_ok-station.ensures.1 in
+    let proposed = subst (λ (t : List ℕ). IsProposedBy t s.proposal) c.deref.ensures.value c.in_ok-station.ensures.0 in
+    let start = subst (λ (t : List ℕ). BeginsLog s t c.args.until c.in_ok-beginning.beginning) c.deref-2.ensures.value c.in_ok-beginning.ensures in
+    record {
+      words = start.0;
+      simulated = record { proposed = proposed; words_are = subst (λ (n : Naming). log_words n i.log ≡ Ok start.0) names start.1 };
+      names = names;
+      begin = start.2;
+    }

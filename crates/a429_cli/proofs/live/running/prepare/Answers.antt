@@ -16,7 +16,7 @@ returns-in_err-arrivals c =
     let p = err_from_is_err_and c.from_residual-in_err-arrivals.result c.from_residual-in_err-arrivals.ensures.1 in
     let q = c.in_ok-proposal.proposal in
     let proposed = subst (λ (t : List ℕ). IsProposedBy t q) c.deref.ensures.value c.in_ok-proposal.ensures in
-    let of_names = subst (λ (n : Naming). OrMemory (IsWordsFault n c.deref-2.result.now) e) (c.in_ok-names.ensures ∙ ap naming_of c.equipment.ensures.equipment) c.in_err-arrivals.ensures in
+    let of_names = subst (λ (n : Naming). OrMemory (IsWordsFault n c.deref-2.result.now) e) (ap naming_of c.equipment.ensures.equipment) c.in_err-arrivals.ensures in
     let fault = subst (λ (t : List ℕ). OrMemory (IsWordsFault (naming_of q.station) t) e) c.deref-2.ensures.value of_names in
     failed c.from_residual-in_err-arrivals.result _ (OrMemory (IsNoLiveStart i)) e (p.1 ∙ ap Err p.2)
     (or_memory_weaker (IsWordsFault (naming_of q.station) i.words) (IsNoLiveStart i) e (λ one. inr (q, proposed, one)) fault)

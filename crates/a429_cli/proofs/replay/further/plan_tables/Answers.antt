@@ -11,8 +11,8 @@ loop-bytes-preserved c =
     let so_far = c.loop-bytes.yielded in
     let here = c.in-Some.bytes in
     record {
-      planned = c.in_ok-push.ensures.items ∙ (ap (λ (xs : List (List ℕ)). xs ++ c.of-table.result ∷ []) c.loop-bytes.invariant.planned
-          ∙ (ap (λ (x : List ℕ). bytes_of so_far ++ x ∷ []) c.of-table.ensures ∙ sym (map-append (λ (b : Vec ℕ Global). b.items) so_far (here ∷ []))));
+      planned = c.in_ok-plan_table.ensures ∙ (ap (λ (xs : List (List ℕ)). xs ++ here.items ∷ []) c.loop-bytes.invariant.planned
+          ∙ sym (map-append (λ (b : Vec ℕ Global). b.items) so_far (here ∷ [])));
       whole = c.loop-bytes.invariant.whole ∙ (ap (λ (xs : List (Vec ℕ Global)). so_far ++ xs) c.in-Some.ensures.steps.0 ∙ sym (append_assoc so_far (here ∷ []) _));
     }
 

@@ -1,16 +1,15 @@
-use Rattle.std.proofs.Common.{rules, ◌≡◌, true, false}
-use Rattle.std.specs.Prelude.{Err}
-use Rattle.a429_slots.specs.Proposed.{Proposed}
-use Rattle.a429_slots.specs.Tables.{groups_of}
-use Rattle.a429_slots.specs.FrameStates.{all_fit}
-use Rattle.a429_slots.specs.declared.open_fault.OpenFault.TheVariants.{SlotsSpent}
-use Rattle.a429_cli.proofs.FirstFrames.{plan_fits}
+use Rattle.std.proofs.Common.{◌≡◌, subst, sym}
+use Rattle.a429_console.specs.RefusalText.{OrMemory}
+use Rattle.a429_console.specs.Tables.{IsTableRefusal}
+use Rattle.a429_console.specs.declared.refusals.CommandRefusal.{CommandRefusal}
+use Rattle.a429_console.specs.declared.refusals.CommandRefusal.TheVariants.{Memory}
+use Rattle.a429_console.proofs.Refused.{matched_both}
+use Rattle.a429_cli.specs.Opened.{IsOpened, IsOpenedFrom}
 use Rattle.a429_cli.proofs.replay.station.ReplayStation.open.Goals as goal
 
-pub unreachable-requires : goal.unreachable-requires
-unreachable-requires c =
-    let q : Proposed = c.in_ok-proposal.proposal in
-    let fits : all_fit 0 (groups_of q.plan) ≡ true = plan_fits q.station q.plan c.in_ok-proposal.ensures.1 in
-    let spent : c.open.result ≡ Err SlotsSpent = search rules in
-    let unfit : all_fit 0 (groups_of q.plan) ≡ false = c.open.ensures.spent.0 spent in
-    cc
+pub returns-clause-opened : goal.returns-clause-opened
+returns-clause-opened c =
+    let table = c.args.table.now in
+    let q = c.in_ok-proposal.proposal in
+    matched_both c.of.result (IsOpened q) (IsOpenedFrom table) (λ (e : CommandRefusal). e ≡ Memory) (OrMemory (IsTableRefusal table))
+    (λ s is. (q, c.in_ok-proposal.ensures, is)) (λ e is. subst (OrMemory (IsTableRefusal table)) (sym is) tt) c.of.ensures

@@ -1,4 +1,4 @@
-use Rattle.a429_threads.proofs.stations.ResubmitsControl.run.Goals as goal
+use Rattle.a429_threads.proofs.stations.MixedTablesControl.run.Goals as goal
 use Rattle.a429_station.proofs.Plans.{goes_further}
 
 pub returns-clause-station : goal.returns-clause-station
