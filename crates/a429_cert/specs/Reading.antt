@@ -1,5 +1,5 @@
 -- How a line of a plan text is read from left to right.
-use Rattle.std.specs.Prelude.{◌≡◌, ℕ, List, length, take, drop, codes, Option, Some, None, Bool, ◌||◌, ◌&&◌, ◌==◌, nat_eq, nat_le, not, if◌then◌else◌, slice_index}
+use Rattle.std.specs.Prelude.{◌≡◌, ℕ, List, length, take, drop, codes, Option, Some, None, Bool, ◌==◌, nat_eq, if◌then◌else◌}
 use Rattle.std.specs.List.{starts_with, position_or_len}
 use Rattle.std.specs.Str.{bytes_eq}
 use Rattle.a429_word.specs.Decimal.{decimal_number}

@@ -1,5 +1,5 @@
 -- Places in a list that is made element by element.
-use Rattle.std.proofs.Common.{◌≡◌, ◌+◌, ℕ, Bool, cond, List, map, [], ◌∷◌, refl, ap}
+use Rattle.std.proofs.Common.{◌≡◌, ◌+◌, Bool, cond, List, map, [], ◌∷◌, refl, ap}
 use Rattle.std.proofs.lemmas.List.{length-map}
 use Rattle.std.specs.Prelude.{not, position}
 use Rattle.std.specs.List.{prefix_len}

@@ -1,16 +1,14 @@
 -- Tables whose plans a station takes.
-use Rattle.std.proofs.Common.{◌≡◌, ◌∙◌, ◌∷◌, [], ◌+◌, ◌<◌, ℕ, true, false, List, ap, sym, subst, refl}
+use Rattle.std.proofs.Common.{◌≡◌, ◌∙◌, ◌∷◌, [], ℕ, true, false, List, sym, subst, refl}
 use Rattle.std.specs.Prelude.{Result, Ok, Err, IfOk}
 use Rattle.std.specs.List.{AllByRecursion, list_any}
 use Rattle.a429_word.proofs.Lists.{same_Ok}
 use Rattle.a429_equipment.specs.TableRecord.{TableRecord}
 use Rattle.a429_equipment.specs.SameStation.{same_station}
 use Rattle.a429_table.specs.Reading.{reading}
-use Rattle.a429_slots.specs.Faults.{IsFaultOf}
 use Rattle.a429_slots.specs.OnePlan.{PlansHaveNoFault}
 use Rattle.a429_slots.specs.Planned.{IsPlanOf}
 use Rattle.a429_slots.specs.Proposed.{Proposed}
-use Rattle.a429_slots.specs.declared.planner.PlanFault.{PlanFault}
 use Rattle.a429_slots.specs.declared.planner.PlanFault.TheVariants as plan
 use Rattle.a429_console.specs.RefusalText.{OrMemory}
 use Rattle.a429_console.specs.Tables.{IsPlanRefusal, IsProposedBy, IsTableRefusal, IsTakenBy}

@@ -1,5 +1,5 @@
 -- Files of words: one word a line, `RECEIVER HEX` (profile: words file). They are read with the names of the station.
-use Rattle.std.specs.Prelude.{◌≡◌, ◌==◌, ◌+◌, ◌∷◌, [], ◌++◌, ℕ, List, Option, Some, None, Result, MatchResult, Ok, Err, filter_map, if◌then◌else◌, option_map, option_and_then}
+use Rattle.std.specs.Prelude.{◌≡◌, ◌==◌, ℕ, List, Option, Some, None, Result, MatchResult, Ok, Err, filter_map, if◌then◌else◌, option_and_then}
 use Rattle.std.specs.declared.vec.Vec.{Vec}
 use Rattle.std.specs.declared.alloc.Global.{Global}
 use Rattle.a429_word.specs.Hexadecimal.{raw_word}

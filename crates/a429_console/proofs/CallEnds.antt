@@ -1,13 +1,13 @@
 -- How a call ends, by what it did.
-use Rattle.std.proofs.Common.{◌≡◌, ◌≢◌, ◌≤◌, ◌+◌, ◌⊎◌, ◌∙◌, ◌∷◌, [], ℕ, List, true, false, ap, arith, inl, inr, refl, subst, sym}
-use Rattle.std.specs.Prelude.{Option, Result, Ok, Err, IfOk, IsTrue, OnErr, OnOk}
+use Rattle.std.proofs.Common.{◌≡◌, ◌≢◌, ◌≤◌, ◌+◌, ◌⊎◌, ◌∙◌, ◌∷◌, [], ℕ, List, true, false, arith, inl, inr, refl, subst, sym}
+use Rattle.std.specs.Prelude.{Result, Ok, Err, IfOk, OnErr, OnOk}
 use Rattle.std.proofs.lemmas.Result.{IfOk-weaker}
 use Rattle.std.specs.Io.KnownBytes.{Appends}
 use Rattle.clap.specs.Words.{HasKind, Kinds, kind_of}
 use Rattle.clap.specs.declared.error.Error.{Error}
 use Rattle.clap.specs.declared.error.kind.ErrorKind.{ErrorKind}
 use Rattle.clap.specs.declared.error.kind.ErrorKind.TheVariants.{OutOfMemory}
-use Rattle.a429_console.specs.Ends.{EndsBy, EndsOrFails, FailsOnce, IsFailed, IsLeft, IsPassedOn, IsPutTo, IsWhole, Writing}
+use Rattle.a429_console.specs.Ends.{EndsBy, EndsOrFails, FailsOnce, IsFailed, IsLeft, IsPassedOn, IsPutTo, Writing}
 use Rattle.a429_console.specs.Outputs.{CountsFault, FailedCalls, IsMemoryReply, NoneFailed, failed_line, is_closing}
 use Rattle.a429_console.specs.Usage.{AreHelp, AreMistakes, IsReplyOfKind}
 use Rattle.a429_console.specs.declared.output.OutputFault.{OutputFault}

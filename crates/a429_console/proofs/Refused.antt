@@ -1,7 +1,6 @@
 -- Refusals that are handed on.
-use Rattle.std.proofs.Common.{◌≡◌, [], ◌∷◌, sym, subst, ℕ, List, inl, inr}
-use Rattle.std.specs.Prelude.{Option, Result, Ok, Err, IfOk, OnOk, MatchResult}
-use Rattle.a429_console.specs.FileReadings.{AreRead, IsFileRefusal, IsFirstUnread}
+use Rattle.std.proofs.Common.{◌≡◌, sym, subst, ℕ, List, inl, inr}
+use Rattle.std.specs.Prelude.{Result, Ok, Err, IfOk, OnOk, MatchResult}
 use Rattle.a429_console.specs.Tables.{IsTableFault, IsTableRefusal}
 use Rattle.a429_console.specs.RefusalText.{IsToldOf, OrMemory}
 use Rattle.a429_console.specs.declared.refusals.CommandRefusal.{CommandRefusal}

@@ -15,7 +15,7 @@ use Rattle.a429_slots.specs.declared.senders.Due.{Due}
 use Rattle.a429_slots.specs.declared.answers.Answer.{Answer}
 use Rattle.a429_slots.specs.declared.answers.Answer.TheVariants.{Accepted, Sent, Changed, Published, Refused}
 use Rattle.a429_slots.specs.declared.answers.Refusal.TheVariants.{NoSuch, CountSpent, FrameEnd, MidFrame, SlotsSpent, StationDiffers}
-use Rattle.a429_slots.specs.Answers.{answer, answers, refusal_of}
+use Rattle.a429_slots.specs.Answers.{answer, refusal_of}
 use Rattle.a429_slots.specs.FrameStates.{FrameState, due_of, next_cell, after_cell, fits_next, turned}
 use Rattle.a429_core.specs.MachineStates.{IsWholeEvent, MachineState, StandsForHistory}
 

@@ -1,5 +1,5 @@
 -- The record that a table without faults states.
-use Rattle.std.specs.Prelude.{codes, ℕ, ◌^◌, ℤ, pos, negsuc, List, map, take, drop, Option, Some, None, option_map, unwrap_or, is_none, nat_lt, if◌then◌else◌}
+use Rattle.std.specs.Prelude.{codes, ℕ, ◌^◌, ℤ, pos, negsuc, List, map, Option, Some, None, option_map, unwrap_or, is_none, nat_lt, if◌then◌else◌}
 use Rattle.toml.specs.Data.{Data, get}
 use Rattle.a429_word.specs.Texts.{octal_number}
 use Rattle.a429_filter.specs.declared.filters.Filter.{Filter}

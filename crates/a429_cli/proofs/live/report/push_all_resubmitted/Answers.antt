@@ -1,9 +1,7 @@
-use Rattle.std.proofs.Common.{◌∙◌, ◌∷◌, ◌+◌, ◌<◌, ◌^◌, ℕ, List, ap, sym, subst, drop, length, rules}
+use Rattle.std.proofs.Common.{◌∙◌, ◌∷◌, ◌+◌, ◌<◌, ◌^◌, ℕ, ap, sym, drop, length, rules}
 use Rattle.std.proofs.Math.ListN.{drop_of_length-le}
 use Rattle.std.proofs.lemmas.Bool.{ltb-true}
 use Rattle.std.proofs.lemmas.List.{drop_more}
-use Rattle.a429_cli.specs.LiveReplies.{IsAppended}
-use Rattle.a429_cli.specs.Resubmitted.{IsAnswer}
 use Rattle.a429_cli.proofs.Resubmits.{all_told, none_told, one_told, some_answer}
 use Rattle.a429_cli.proofs.live.report.push_all_resubmitted.Goals as goal
 

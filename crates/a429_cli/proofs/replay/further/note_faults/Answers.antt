@@ -1,4 +1,4 @@
-use Rattle.std.proofs.Common.{◌≡◌, ◌∙◌, List, ℕ, ap, subst, sym}
+use Rattle.std.proofs.Common.{◌∙◌, List, ℕ, ap, subst, sym}
 use Rattle.a429_console.specs.Tables.{IsTakenBy}
 use Rattle.a429_slots.proofs.Rows.{all_below}
 use Rattle.a429_cli.proofs.replay.further.note_faults.Goals as goal

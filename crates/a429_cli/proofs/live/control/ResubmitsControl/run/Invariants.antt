@@ -1,4 +1,4 @@
-use Rattle.std.proofs.Common.{◌≡◌, [], ◌++◌, List, ℕ, drop}
+use Rattle.std.proofs.Common.{◌≡◌, [], ◌++◌, List, drop}
 use Rattle.a429_station.specs.Resubmitting.{GoesOn, Running}
 use Rattle.a429_console.specs.Files.{bytes_of}
 use Rattle.a429_cli.specs.declared.live.control.SubmitAnswer.{SubmitAnswer}

@@ -1,6 +1,3 @@
-use Rattle.std.specs.Prelude.{Ok}
-use Rattle.std.proofs.Common.{◌≡◌}
-use Rattle.a429_table.specs.Reading.{reading}
 use Rattle.a429_console.specs.RefusalText.{OrMemory}
 use Rattle.a429_console.specs.Tables.{IsProposedBy, IsTableRefusal}
 use Rattle.a429_cli.proofs.Taken.{no_cause, of_station}
