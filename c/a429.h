@@ -62,7 +62,7 @@ enum a429_status {
 
 /* A cell that was sent. */
 typedef struct a429_sent {
-    uint64_t slot;   /* counted from the station's first slot */
+    uint64_t slot;   /* absolute: the first cell of each group is in the slot `first_slot` of `a429_open` */
     uint32_t bus;    /* of the group, from 0 */
     uint32_t filled; /* 1 if the cell has a word, else 0 */
     uint32_t word;   /* the 32 bits of the word; 0 if there is none */
@@ -114,7 +114,7 @@ uint32_t a429_source_name(a429_station *station, size_t source, uint8_t *room, s
 uint32_t a429_receivers(a429_station *station, size_t *count);
 uint32_t a429_groups(a429_station *station, size_t *count);
 
-/* Gives how many buses a group has (0 to 16), or how many slots its frame has (1 to 8192), by the plan that is in force
+/* Gives how many buses a group has (1 to 16), or how many slots its frame has (1 to 8192), by the plan that is in force
  * for the group. A429_CLOSED, A429_NO_SUCH. */
 uint32_t a429_buses(a429_station *station, size_t group, uint32_t *buses);
 uint32_t a429_frame_slots(a429_station *station, size_t group, uint32_t *slots);

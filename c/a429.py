@@ -28,7 +28,7 @@ class _Sent(ctypes.Structure):
 
 
 class Sent(NamedTuple):
-    """A cell that was sent. The slot is counted from the station's first; the word is None if there is none."""
+    """A cell that was sent. The slot is absolute: the first cell of each group is in the first slot that the station was opened with. The word is None if there is none."""
     bus: int
     slot: int
     word: Optional[int]

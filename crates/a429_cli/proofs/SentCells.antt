@@ -16,9 +16,8 @@ use Rattle.a429_slots.specs.TakenFrames.{is_taken_after}
 use Rattle.a429_slots.specs.declared.senders.Due.{Due}
 use Rattle.a429_slots.proofs.Histories.{by_ends, new_frame, same_frame}
 use Rattle.a429_slots.proofs.SpacedTables.{row_of}
-use Rattle.a429_slots.specs.declared.answers.Answer.TheVariants.{Sent}
 use Rattle.a429_core.specs.MachineStates.{MachineState}
-use Rattle.a429_core.specs.MachineSteps.{after_asked, asked_cell, cell_asked, cell_sent, placed_cell, sent_in, sent_of, word_at}
+use Rattle.a429_core.specs.MachineSteps.{after_asked, asked_cell, cell_sent, placed_cell, sent_of, word_at}
 use Rattle.a429_core.specs.declared.sends.SentCell.{SentCell}
 use Rattle.a429_core.proofs.ComingRound.{comes_round}
 use Rattle.a429_cli.specs.Simulating.{Step, Asks, Comes, Turns, history_of, opening_of, source_in}
@@ -27,43 +26,11 @@ use Rattle.a429_cli.specs.Timeline.{table_of}
 use Rattle.a429_cli.specs.declared.simulate.machine.Run.{Run}
 use Rattle.a429_cli.proofs.SimulatedSteps.{table_at}
 
--- ---- what the machine says of a cell
+-- ---- what stands in the cell of a word that is sent
 
 abbrev asked_type : Type 0
 asked_type = Option (ℕ × ℕ × Option Due)
 
-sent_by : (v : MachineState) (g : ℕ) (s : SentCell) (asked : asked_type) → sent_of v g asked ≡ Some s → (sent_in v g asked).0 ≡ Sent s.bus s.slot (Some s.word)
-sent_by v g s None h = absurd (none-some s h)
-sent_by v g s (Some (bus, slot, None)) h = absurd (none-some s h)
-sent_by v g s (Some (bus, slot, Some due)) h = go (word_at v g slot due).0 h
-  where
-    go : (w : Option ℕ) → option_map (λ word. record { bus = bus; slot = slot; source = due.source; word = word }) w ≡ Some s → Sent bus slot w ≡ Sent s.bus s.slot (Some s.word)
-    go None e = absurd (none-some s e)
-    go (Some w) e = ap (λ (x : SentCell). Sent x.bus x.slot (Some x.word)) (same_Some (record { bus = bus; slot = slot; source = due.source; word = w }) s e)
-
-unsent_by : (v : MachineState) (g bus slot raw : ℕ) (asked : asked_type) → sent_of v g asked ≡ None → (sent_in v g asked).0 ≡ Sent bus slot (Some raw) → ⊥
-unsent_by v g bus slot raw None h is = cc
-unsent_by v g bus slot raw (Some (b, t, None)) h is = cc
-unsent_by v g bus slot raw (Some (b, t, Some due)) h is = go (word_at v g t due).0 h is
-  where
-    go : (w : Option ℕ) → option_map {U = SentCell} (λ word. record { bus = b; slot = t; source = due.source; word = word }) w ≡ None → Sent b t w ≡ Sent bus slot (Some raw) → ⊥
-    go None e is = cc
-    go (Some w) e is = absurd (none-some (record { bus = b; slot = t; source = due.source; word = w }) (sym e))
-
--- the same of a group that may be none
-pub sent_answer : (v : MachineState) (g : ℕ) (s : SentCell) → cell_sent v g ≡ Some s → (cell_asked v g).0 ≡ Sent s.bus s.slot (Some s.word)
-sent_answer v g s h = elim (cases_Bool (nat_lt g (length v.groups))) [
-  | inl there ↦ rw there (sent_by (record v { groups = after_asked v.groups g }) g s (asked_cell v.groups g) (rw there at h))
-  | inr none ↦ absurd (none-some s (rw none at h))
-]
-
-pub unsent_answer : (v : MachineState) (g bus slot raw : ℕ) → cell_sent v g ≡ None → (cell_asked v g).0 ≡ Sent bus slot (Some raw) → ⊥
-unsent_answer v g bus slot raw h is = elim (cases_Bool (nat_lt g (length v.groups))) [
-  | inl there ↦ unsent_by (record v { groups = after_asked v.groups g }) g bus slot raw (asked_cell v.groups g) (rw there at h) (rw there at is)
-  | inr none ↦ let other = rw none at is in cc
-]
-
--- what stands in the cell of a word that is sent
 record Stands (s : SentCell) (asked : asked_type) : Type 0 where
   pub due : Due
   pub cell : asked ≡ Some (s.bus, s.slot, Some due)

@@ -1,11 +1,11 @@
 //! Readers that refuse a file, and writers that fail.
 
-use crate::support::{ONE, memory_files, repeat_text};
+use crate::failing::{CutShort, Failing, Written, run_on};
+use crate::support::memory_files;
 use a429_cli::{CountedWriter, FileFault, FileReader, command};
 use a429_hints::HintLines;
 use std::alloc::Global;
-use std::io;
-use std::io::{ErrorKind, Write};
+use std::io::ErrorKind;
 use std::process::Abort;
 
 /// Gives empty files, and refuses the one that it is asked for after so many.
@@ -38,338 +38,310 @@ impl FileReader for Refusing {
     }
 }
 
+/// How a command ended: its status, how many files it read, what it wrote, and whether the other output has nothing.
+#[derive(Drop)]
+struct Ended {
+    status: u8,
+    reads: usize,
+    out: Vec<u8>,
+    is_quiet: bool,
+}
+
+impl Ended {
+    /// Whether it was refused with this line, after so many files.
+    fn is_refused(&self, given: usize, line: &str) -> bool {
+        self.status == 1
+            && self.is_quiet
+            && self.reads == given.saturating_add(1)
+            && self.out.as_slice() == line.as_bytes()
+    }
+}
+
+/// Does a command with a reader that refuses the file which it is asked for after so many.
+fn run_refused(alloc: Global, words: &[&str], given: usize, fault: FileFault) -> Ended {
+    let mut files = Refusing {
+        alloc,
+        given,
+        fault,
+        reads: 0,
+    };
+    let mut out = CountedWriter::new(Vec::new(alloc));
+    let mut err = CountedWriter::new(Vec::new(alloc));
+    let status = command(alloc, words, &HintLines, &mut files, &mut out, &mut err);
+    Ended {
+        status,
+        reads: files.reads,
+        out: out.writer,
+        is_quiet: err.writer.is_empty(),
+    }
+}
+
+/// A replay of four files.
+static REPLAY_OF_FOUR: [&str; 5] = ["replay", "t", "s", "u", "v"];
+
+/// A replay of four files that refuses one after so many tells this line.
+fn tells(rt: &impl Abort, alloc: Global, given: usize, fault: FileFault, line: &str) {
+    let ended = run_refused(alloc, &REPLAY_OF_FOUR, given, fault);
+    assert!(rt; ended.is_refused(given, line), "after {given} files");
+    drop(ended);
+}
+
+/// The lines of a replay, by how many files it read before one was refused.
+static REFUSED: [&str; 4] = [
+    "refused file t\n",
+    "refused file s\n",
+    "refused file u\n",
+    "refused file v\n",
+];
+
 #[test]
 fn a_reader_may_refuse_any_file(rt: HostRuntime) {
-    let names = ["t", "s", "u", "v"];
-    for given in 0..names.len() {
-        let file = format!(in rt.alloc(); "refused file {}\n", names[given]).expect(&rt, "memory");
-        for (fault, line) in [
-            (FileFault::Refused, file.as_str()),
-            (FileFault::NoMemory, "refused memory\n"),
-        ] {
-            let mut files = Refusing {
-                alloc: rt.alloc(),
-                given,
-                fault,
-                reads: 0,
-            };
-            let mut out = CountedWriter::new(Vec::new(rt.alloc()));
-            let mut err = CountedWriter::new(Vec::new(rt.alloc()));
-            let words = ["replay", "t", "s", "u", "v"];
-            let status = command(
-                rt.alloc(),
-                &words,
-                &HintLines,
-                &mut files,
-                &mut out,
-                &mut err,
-            );
-            assert!(rt; status == 1 && err.writer.is_empty(), "after {given} files");
-            assert!(rt;
-                out.writer.as_slice() == line.as_bytes(),
-                "after {given} files"
-            );
-            assert!(rt; files.reads == given + 1, "after {given} files");
-        }
+    for (given, line) in REFUSED.iter().enumerate() {
+        tells(&rt, rt.alloc(), given, FileFault::Refused, *line);
+        tells(
+            &rt,
+            rt.alloc(),
+            given,
+            FileFault::NoMemory,
+            "refused memory\n",
+        );
     }
+}
+
+/// Commands, and how many files each has.
+static COMMANDS: [(&[&str], usize); 12] = [
+    (&["word", "600000c1"], 0),
+    (&["lines", "t"], 1),
+    (&["import", "t"], 1),
+    (&["plan", "t"], 1),
+    (&["check", "t", "u"], 2),
+    (&["icd", "t"], 1),
+    (&["draw", "t"], 1),
+    (&["margin", "t"], 1),
+    (&["lint", "t"], 1),
+    (&["diff", "t", "u"], 2),
+    (&["replay", "t", "s", "u", "u"], 4),
+    (&["simulate", "t", "s"], 2),
+];
+
+/// How many files a command reads, if it is no mistake.
+fn count_reads(alloc: Global, words: &[&str]) -> Option<usize> {
+    let ended = run_refused(alloc, words, usize::MAX, FileFault::Refused);
+    if ended.status > 1 {
+        return None;
+    }
+    Some(ended.reads)
 }
 
 #[test]
 fn each_file_is_read_once(rt: HostRuntime) {
-    let commands: [(&[&str], usize); 12] = [
-        (&["word", "600000c1"], 0),
-        (&["lines", "t"], 1),
-        (&["import", "t"], 1),
-        (&["plan", "t"], 1),
-        (&["check", "t", "u"], 2),
-        (&["icd", "t"], 1),
-        (&["draw", "t"], 1),
-        (&["margin", "t"], 1),
-        (&["lint", "t"], 1),
-        (&["diff", "t", "u"], 2),
-        (&["replay", "t", "s", "u", "u"], 4),
-        (&["simulate", "t", "s"], 2),
-    ];
-    for (words, reads) in commands {
-        let mut files = Refusing {
-            alloc: rt.alloc(),
-            given: usize::MAX,
-            fault: FileFault::Refused,
-            reads: 0,
-        };
-        let mut out = CountedWriter::new(Vec::new(rt.alloc()));
-        let mut err = CountedWriter::new(Vec::new(rt.alloc()));
-        let status = command(
-            rt.alloc(),
-            words,
-            &HintLines,
-            &mut files,
-            &mut out,
-            &mut err,
-        );
-        assert!(rt; status <= 1, "{words:?}");
-        assert_eq!(rt; files.reads, reads, "{words:?}");
+    for (words, reads) in COMMANDS.iter() {
+        assert!(rt; count_reads(rt.alloc(), words) == Some(*reads));
     }
 }
 
-/// Takes so many bytes in one call, and fails with an error of this kind at the call, a flush too, that comes after so
-/// many.
-#[derive(Drop)]
-struct Failing {
-    taken: Vec<u8>,
-    piece: usize,
-    good_calls: usize,
-    kind: ErrorKind,
-    calls: usize,
-}
-
-impl Failing {
-    fn new(alloc: Global, piece: usize, good_calls: usize) -> Failing {
-        Failing {
-            taken: Vec::new(alloc),
-            piece,
-            good_calls,
-            kind: ErrorKind::WriteZero,
-            calls: 0,
-        }
-    }
-
-    fn call(&mut self) -> io::Result<()> {
-        self.calls = self.calls.saturating_add(1);
-        if self.calls > self.good_calls {
-            return Err(io::Error::from(self.kind));
-        }
-        Ok(())
-    }
-}
-
-impl Write for Failing {
-    fn write(&mut self, buf: &[u8]) -> io::Result<usize> {
-        self.call()?;
-        let count = self.piece.min(buf.len());
-        self.taken.extend_from_slice(&buf[..count])?;
-        Ok(count)
-    }
-
-    fn flush(&mut self) -> io::Result<()> {
-        self.call()
-    }
-}
-
-/// The status of a command, how many calls of the output and of the other failed, and the two writers.
-#[derive(Drop)]
-struct CutShort {
-    status: u8,
-    failures: u64,
-    untold: u64,
-    out: Failing,
-    err: Failing,
-}
-
-/// Does a command with these two writers.
-fn cut_short_by(
-    rt: &impl Abort,
-    alloc: Global,
-    words: &[&str],
-    script: &str,
-    out: Failing,
-    err: Failing,
-) -> CutShort {
-    let mut files = memory_files(rt, alloc, ONE, script);
-    let mut out = CountedWriter::new(out);
-    let mut err = CountedWriter::new(err);
-    let status = command(alloc, words, &HintLines, &mut files, &mut out, &mut err);
-    CutShort {
-        status,
-        failures: out.failures,
-        untold: err.failures,
-        out: out.writer,
-        err: err.writer,
-    }
-}
-
-/// Does a command whose two writers each fail after so many calls.
-fn run_cut_short(
-    rt: &impl Abort,
-    alloc: Global,
-    words: &[&str],
-    script: &str,
-    piece: usize,
-    good_calls: usize,
-) -> CutShort {
-    let out = Failing::new(alloc, piece, good_calls);
-    let err = Failing::new(alloc, piece, good_calls);
-    cut_short_by(rt, alloc, words, script, out, err)
-}
-
-/// What is told on standard error of an output that failed.
-const OUTPUT_FAILED: &[u8] = b"a429: standard output failed\n";
-
-/// Commands, scripts, how many bytes a writer takes in one call, and what is written.
-const WRITTEN: &[(&[&str], &str, usize, &str)] = &[
-    (
-        &["replay", "t", "s"],
-        "cell g\nframe g\n",
-        1,
-        "sent 0 0 none\nchanged 0\n",
-    ),
-    (&["replay", "t", "s"], "x\n", 1, "refused script line 1\n"),
-    (
-        &["simulate", "t", "s"],
-        "0 r 600000c1\n360 r 800000c1\n",
-        1,
-        "0 g 0 600000c1 s 360\n360 r 800000c1 refused parity\n360 g 0 600000c1 s 720\n720 g 0 600000c1 s 1080\n",
-    ),
-    (&["simulate", "t", "s"], "x\n", 1, "refused log line 1\n"),
-    (&["word", "12"], "", 1, "refused word-text\n"),
-    (
-        &["word", "600000c1"],
-        "",
-        usize::MAX,
-        "label 203 sdi 0 ssm 11 data 00000\nbnr 0 normal operation\nbcd 00000 minus\n",
-    ),
+/// Commands over the table `t` and the script `s`.
+static WRITTEN: [Written<'static>; 5] = [
+    Written {
+        words: &["replay", "t", "s"],
+        script: "cell g\nframe g\n",
+        piece: 1,
+        lines: b"sent 0 0 none\nchanged 0\n",
+    },
+    Written {
+        words: &["replay", "t", "s"],
+        script: "x\n",
+        piece: 1,
+        lines: b"refused script line 1\n",
+    },
+    Written {
+        words: &["simulate", "t", "s"],
+        script: "0 r 600000c1\n360 r 800000c1\n",
+        piece: 1,
+        lines: b"0 g 0 600000c1 s 360\n360 r 800000c1 refused parity\n360 g 0 600000c1 s 720\n720 g 0 600000c1 s 1080\n",
+    },
+    Written {
+        words: &["simulate", "t", "s"],
+        script: "x\n",
+        piece: 1,
+        lines: b"refused log line 1\n",
+    },
+    Written {
+        words: &["word", "12"],
+        script: "",
+        piece: 1,
+        lines: b"refused word-text\n",
+    },
 ];
+
+/// A command whose writers take all bytes in one call.
+static WORD: Written<'static> = Written {
+    words: &["word", "600000c1"],
+    script: "",
+    piece: usize::MAX,
+    lines: b"label 203 sdi 0 ssm 11 data 00000\nbnr 0 normal operation\nbcd 00000 minus\n",
+};
+
+/// Each of these commands ends with the call of its output that fails with an error of this kind.
+fn end_at_each_call(rt: &impl Abort, alloc: Global, kind: ErrorKind) {
+    for written in WRITTEN.iter() {
+        written.ends_at_each_call(rt, alloc, kind);
+    }
+    WORD.ends_at_each_call(rt, alloc, kind);
+}
 
 #[test]
 fn a_writer_may_fail_at_any_call(rt: HostRuntime) {
-    for (words, script, piece, lines) in WRITTEN {
-        let whole = run_cut_short(&rt, rt.alloc(), words, script, *piece, usize::MAX);
-        assert!(rt; whole.status == 0 || lines.starts_with("refused "));
-        assert!(rt;
-            whole.out.taken.as_slice() == lines.as_bytes(),
-            "for {words:?}"
-        );
-        assert!(rt; whole.failures == 0, "for {words:?}");
-        for good_calls in 0..whole.out.calls {
-            let cut = run_cut_short(&rt, rt.alloc(), words, script, *piece, good_calls);
-            assert!(rt; cut.status == 1, "for {words:?}, {good_calls}");
-            assert!(rt;
-                OUTPUT_FAILED.starts_with(&cut.err.taken),
-                "for {words:?}, {good_calls}"
-            );
-            assert!(rt;
-                cut.out.calls == good_calls + 1,
-                "for {words:?}, {good_calls}"
-            );
-            assert!(rt; cut.failures == 1, "for {words:?}, {good_calls}");
-            assert!(rt;
-                lines.as_bytes().starts_with(&cut.out.taken),
-                "for {words:?}, {good_calls}"
-            );
-        }
-    }
-}
-
-#[test]
-fn help_ends_where_the_output_fails(rt: HostRuntime) {
-    let whole = run_cut_short(&rt, rt.alloc(), &["--help"], "", 64, usize::MAX);
-    assert!(rt; whole.status == 0 && whole.err.calls == 0);
-    for good_calls in 0..whole.out.calls {
-        let cut = run_cut_short(&rt, rt.alloc(), &["--help"], "", 64, good_calls);
-        assert!(rt; cut.status == 1, "{good_calls}");
-        assert!(rt; OUTPUT_FAILED.starts_with(&cut.err.taken), "{good_calls}");
-        assert!(rt; cut.out.calls == good_calls + 1, "{good_calls}");
-    }
-}
-
-#[test]
-fn a_mistake_that_cannot_be_told_has_status_1(rt: HostRuntime) {
-    let whole = run_cut_short(&rt, rt.alloc(), &["odd"], "", 64, usize::MAX);
-    assert!(rt; whole.status == 2 && whole.out.calls == 0);
-    for good_calls in 0..whole.err.calls {
-        let cut = run_cut_short(&rt, rt.alloc(), &["odd"], "", 64, good_calls);
-        assert!(rt; cut.status == 1 && cut.out.calls == 0, "{good_calls}");
-        assert!(rt;
-            cut.err.calls == good_calls + 1 && cut.untold == 1,
-            "{good_calls}"
-        );
-    }
-}
-
-#[test]
-fn a_refusal_stays_where_its_hint_cannot_be_told(rt: HostRuntime) {
-    let out = Failing::new(rt.alloc(), 64, usize::MAX);
-    let err = Failing::new(rt.alloc(), 64, 0);
-    let cut = cut_short_by(&rt, rt.alloc(), &["plan", "u"], "", out, err);
-    assert!(rt; cut.status == 1 && cut.failures == 0);
-    assert!(rt; cut.out.taken.as_slice() == "refused file u\n".as_bytes());
-    assert!(rt; cut.err.calls == 1 && cut.untold == 1);
+    end_at_each_call(&rt, rt.alloc(), ErrorKind::WriteZero);
 }
 
 #[test]
 fn nobody_is_told_of_an_output_that_its_reader_closed(rt: HostRuntime) {
-    for (words, script, piece, _) in WRITTEN {
-        let whole = run_cut_short(&rt, rt.alloc(), words, script, *piece, usize::MAX);
-        for good_calls in 0..whole.out.calls {
-            let mut out = Failing::new(rt.alloc(), *piece, good_calls);
-            out.kind = ErrorKind::BrokenPipe;
-            let err = Failing::new(rt.alloc(), 64, usize::MAX);
-            let cut = cut_short_by(&rt, rt.alloc(), words, script, out, err);
-            assert!(rt;
-                cut.status == 1 && cut.failures == 1,
-                "for {words:?}, {good_calls}"
-            );
-            assert!(rt;
-                cut.out.calls == good_calls + 1 && cut.err.calls == 0,
-                "for {words:?}, {good_calls}"
-            );
-        }
+    end_at_each_call(&rt, rt.alloc(), ErrorKind::BrokenPipe);
+}
+
+/// What a command writes, which is done.
+fn lines_of(rt: &impl Abort, alloc: Global, words: &[&str], script: &str) -> Vec<u8> {
+    let mut files = memory_files(rt, alloc, script);
+    let mut out = CountedWriter::new(Vec::new(alloc));
+    let mut err = CountedWriter::new(Vec::new(alloc));
+    let status = command(alloc, words, &HintLines, &mut files, &mut out, &mut err);
+    // `drop` keeps the proof short: a drop in place goes through all parts.
+    drop(files);
+    assert!(rt; status == 0 && err.writer.is_empty());
+    out.writer
+}
+
+#[test]
+fn help_ends_where_the_output_fails(rt: HostRuntime) {
+    let lines = lines_of(&rt, rt.alloc(), &["--help"], "");
+    let help = Written {
+        words: &["--help"],
+        script: "",
+        piece: 64,
+        lines: lines.as_slice(),
+    };
+    help.ends_at_each_call(&rt, rt.alloc(), ErrorKind::WriteZero);
+}
+
+/// A mistake, which is told on the other output.
+static ODD: Written<'static> = Written {
+    words: &["odd"],
+    script: "",
+    piece: 64,
+    lines: b"",
+};
+
+/// Whether a mistake that could not be told has status 1, and nothing more was told.
+fn is_untold(cut: &CutShort, good_calls: usize) -> bool {
+    cut.status == 1
+        && cut.out.calls == 0
+        && cut.err.calls == good_calls.saturating_add(1)
+        && cut.untold == 1
+}
+
+#[test]
+fn a_mistake_that_cannot_be_told_has_status_1(rt: HostRuntime) {
+    let whole = ODD.run_alone(&rt, rt.alloc(), usize::MAX);
+    assert!(rt; whole.status == 2 && whole.out.calls == 0);
+    for good_calls in 0..whole.err.calls {
+        let cut = ODD.run_alone(&rt, rt.alloc(), good_calls);
+        assert!(rt; is_untold(&cut, good_calls));
     }
+}
+
+/// A refusal whose output takes all, and whose other output fails at once.
+fn cut_hint_off(rt: &impl Abort, alloc: Global) -> CutShort<'static> {
+    let mut files = memory_files(rt, alloc, "");
+    let out = Failing::new(b"refused file u\n", 64, usize::MAX);
+    let err = Failing::new(b"", 64, 0);
+    run_on(alloc, &["plan", "u"], &mut files, out, err)
+}
+
+#[test]
+fn a_refusal_stays_where_its_hint_cannot_be_told(rt: HostRuntime) {
+    let cut = cut_hint_off(&rt, rt.alloc());
+    assert!(rt; cut.status == 1 && cut.failures == 0 && cut.out.has_all());
+    assert!(rt; cut.err.calls == 1 && cut.untold == 1);
 }
 
 #[test]
 fn an_output_that_failed_is_told(rt: HostRuntime) {
-    let cut = run_cut_short(&rt, rt.alloc(), &["word", "600000c1"], "", usize::MAX, 1);
-    assert!(rt; cut.status == 1 && cut.failures == 1);
-    assert!(rt; cut.err.taken.as_slice() == OUTPUT_FAILED);
-    // a flush that fails is an output that failed
-    let cut = run_cut_short(&rt, rt.alloc(), &["--version"], "", usize::MAX, 1);
+    let cut = WORD.run_alone(&rt, rt.alloc(), 1);
+    assert!(rt; cut.status == 1 && cut.failures == 1 && cut.err.has_all());
+}
+
+/// A command whose output is flushed in its second call.
+static VERSION: Written<'static> = Written {
+    words: &["--version"],
+    script: "",
+    piece: usize::MAX,
+    lines: b"",
+};
+
+#[test]
+fn a_flush_that_fails_is_an_output_that_failed(rt: HostRuntime) {
+    let cut = VERSION.run_alone(&rt, rt.alloc(), 1);
     assert!(rt; cut.status == 1 && cut.failures == 1 && cut.out.calls == 2);
 }
 
+/// A refusal of a file whose name has bytes that no line can have.
+static UNUSUAL: Written<'static> = Written {
+    words: &["plan", "a\nb\u{1b}[2J\u{7f}\u{85}\u{e9} ?\r"],
+    script: "",
+    piece: usize::MAX,
+    lines: b"refused file a?b?[2J??\xc3\xa9 ??\n",
+};
+
 #[test]
 fn a_refusal_is_one_line_whatever_the_name(rt: HostRuntime) {
-    let words = ["plan", "a\nb\u{1b}[2J\u{7f}\u{85}\u{e9} ?\r"];
-    let whole = run_cut_short(&rt, rt.alloc(), &words, "", usize::MAX, usize::MAX);
-    assert!(rt; whole.status == 1);
-    let line = "refused file a?b?[2J??\u{e9} ??\n".as_bytes();
-    assert!(rt; whole.out.taken.as_slice() == line);
+    let whole = UNUSUAL.run_alone(&rt, rt.alloc(), usize::MAX);
+    assert!(rt; whole.status == 1 && whole.out.has_all());
+}
+
+/// The command writes these lines in pieces, and each of the calls may fail.
+fn is_written_in_pieces(
+    rt: &impl Abort,
+    alloc: Global,
+    words: &[&str],
+    script: &str,
+    lines: &[u8],
+) {
+    let written = Written {
+        words,
+        script,
+        piece: usize::MAX,
+        lines,
+    };
+    assert!(rt; written.ends_at_each_call(rt, alloc, ErrorKind::WriteZero) > 3);
+}
+
+/// A replay of the script, and a simulation of ten thousand frames.
+static REPLAY: [&str; 3] = ["replay", "t", "s"];
+
+static SIMULATE: [&str; 5] = ["simulate", "t", "s", "--until", "3600000"];
+
+/// Whether lines begin and end so.
+fn run_from_to(lines: &[u8], from: &[u8], to: &[u8]) -> bool {
+    lines.starts_with(from) && lines.ends_with(to)
 }
 
 #[test]
 fn many_answers_are_written_in_pieces(rt: HostRuntime) {
-    let script = repeat_text(&rt, rt.alloc(), "cell g\nframe g\n", 20000);
-    let words = ["replay", "t", "s"];
-    let whole = run_cut_short(&rt, rt.alloc(), &words, &script, usize::MAX, usize::MAX);
-    let lines = whole.out.taken.as_slice();
-    assert!(rt; whole.status == 0 && whole.out.calls > 3);
-    assert!(rt; lines.starts_with(b"sent 0 0 none\nchanged 0\nsent 0 1 none\n"));
-    assert!(rt; lines.ends_with(b"\nsent 0 19999 none\nchanged 0\n"));
-    for good_calls in 0..whole.out.calls {
-        let cut = run_cut_short(&rt, rt.alloc(), &words, &script, usize::MAX, good_calls);
-        assert!(rt;
-            cut.status == 1 && cut.out.calls == good_calls + 1,
-            "{good_calls}"
-        );
-        assert!(rt; lines.starts_with(&cut.out.taken), "{good_calls}");
-    }
+    let script = "cell g\nframe g\n"
+        .repeat(rt.alloc(), 20000)
+        .expect(&rt, "memory");
+    let lines = lines_of(&rt, rt.alloc(), &REPLAY, &script);
+    let from = b"sent 0 0 none\nchanged 0\nsent 0 1 none\n";
+    assert!(rt; run_from_to(&lines, from, b"\nsent 0 19999 none\nchanged 0\n"));
+    is_written_in_pieces(&rt, rt.alloc(), &REPLAY, &script, &lines);
 }
 
 #[test]
 fn many_sent_words_are_written_in_pieces(rt: HostRuntime) {
-    let words = ["simulate", "t", "s", "--until", "3600000"];
     let log = "0 r 600000c1\n";
-    let whole = run_cut_short(&rt, rt.alloc(), &words, log, usize::MAX, usize::MAX);
-    let lines = whole.out.taken.as_slice();
-    assert!(rt; whole.status == 0 && whole.out.calls > 3);
-    assert!(rt; lines.starts_with(b"0 g 0 600000c1 s 360\n360 g 0 600000c1 s 720\n"));
-    assert!(rt; lines.ends_with(b"\n3600000 g 0 600000c1 s 3600360\n"));
-    for good_calls in 0..whole.out.calls {
-        let cut = run_cut_short(&rt, rt.alloc(), &words, log, usize::MAX, good_calls);
-        assert!(rt;
-            cut.status == 1 && cut.out.calls == good_calls + 1,
-            "{good_calls}"
-        );
-        assert!(rt; lines.starts_with(&cut.out.taken), "{good_calls}");
-    }
+    let lines = lines_of(&rt, rt.alloc(), &SIMULATE, log);
+    let from = b"0 g 0 600000c1 s 360\n360 g 0 600000c1 s 720\n";
+    assert!(rt; run_from_to(&lines, from, b"\n3600000 g 0 600000c1 s 3600360\n"));
+    is_written_in_pieces(&rt, rt.alloc(), &SIMULATE, log, &lines);
 }

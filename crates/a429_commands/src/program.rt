@@ -6,6 +6,7 @@ use a429_console::arguments::requests::{LiveRequest, Request};
 use a429_console::hints::{Seen, tell_hints};
 use a429_console::refusals::CommandRefusal;
 use a429_hints::HintLines;
+use std::alloc::Global;
 use std::env::FillError;
 use std::sync::Wait;
 use std::thread::Threads;
@@ -39,8 +40,26 @@ impl Arguments for Given<'_, '_> {
     }
 }
 
-/// The status of the program on these words, and what it writes to both outputs.
-fn run_on<R: AllocGlobal + Threads + Wait>(rt: &R, words: &[&[u8]]) -> (u8, Vec<u8>, Vec<u8>) {
+/// The status of the program, and what it writes to both outputs.
+#[derive(Drop)]
+struct ProgramRun {
+    status: u8,
+    out: Vec<u8>,
+    err: Vec<u8>,
+}
+
+impl ProgramRun {
+    /// Whether it has this status and wrote this, and what it told begins with a text and goes on.
+    fn is(&self, status: u8, written: &[u8], told: &[u8]) -> bool {
+        self.status == status
+            && self.out.as_slice() == written
+            && self.err.len() > told.len()
+            && self.err.starts_with(told)
+    }
+}
+
+/// Runs the program on these words.
+fn run_on<R: AllocGlobal + Threads + Wait>(rt: &R, words: &[&[u8]]) -> ProgramRun {
     let mut files = MemoryFiles {
         files: Vec::new(rt.alloc()),
     };
@@ -56,38 +75,57 @@ fn run_on<R: AllocGlobal + Threads + Wait>(rt: &R, words: &[&[u8]]) -> (u8, Vec<
         &mut err,
         &NoProgress,
     );
-    (status, out.writer, err.writer)
+    ProgramRun {
+        status,
+        out: out.writer,
+        err: err.writer,
+    }
 }
 
 #[test]
 fn words_that_are_no_text_are_a_mistake(rt: HostRuntime) {
     let words: [&[u8]; 4] = [b"a429", b"word", b"600000c1", b"\xff"];
-    let (status, out, err) = run_on(&rt, &words);
-    assert!(rt; status == 2 && out.is_empty() && !err.is_empty());
+    let run = run_on(&rt, &words);
+    assert!(rt; run.is(2, b"", b""));
+    drop(run);
 }
 
 #[test]
 fn a_word_of_any_length_is_read(rt: HostRuntime) {
     let long = [b'0'; 600];
     let words: [&[u8]; 3] = [b"a429", b"word", &long];
-    let (status, out, err) = run_on(&rt, &words);
-    assert!(rt; status == 1 && out.as_slice() == b"refused word-text\n".as_slice());
-    assert!(rt; err.as_slice().starts_with(b"a429: \"000000000000"));
+    let run = run_on(&rt, &words);
+    assert!(rt; run.is(1, b"refused word-text\n", b"a429: \"000000000000"));
+    drop(run);
 }
 
-#[test]
-fn a_run_without_threads_tells_how_many_it_needs(rt: HostRuntime) {
-    let alloc = rt.alloc();
+/// What a run has seen whose threads are refused.
+fn seen_without_threads(alloc: Global) -> Seen {
+    let mut seen = Seen::nothing(alloc);
+    seen.refusal = Some(CommandRefusal::Join);
+    seen.threads = 3;
+    seen
+}
+
+/// What is told of a run that was refused.
+fn hint_of(alloc: Global, seen: &Seen) -> Vec<u8> {
     let request = Request::Live(LiveRequest {
         table: "t",
         words: "w",
         frames: 1,
         further: Vec::new(alloc),
     });
-    let mut seen = Seen::nothing(alloc);
-    seen.refusal = Some(CommandRefusal::Join);
-    seen.threads = 3;
     let mut err = CountedWriter::new(Vec::new(alloc));
-    tell_hints(alloc, &request, 1, &seen, &[], &HintLines, &mut err);
-    assert!(rt; err.writer.as_slice() == NO_THREADS);
+    tell_hints(alloc, &request, 1, seen, &[], &HintLines, &mut err);
+    // `drop` keeps the proof short: a drop in place goes through all parts.
+    drop(request);
+    err.writer
+}
+
+#[test]
+fn a_run_without_threads_tells_how_many_it_needs(rt: HostRuntime) {
+    let seen = seen_without_threads(rt.alloc());
+    let told = hint_of(rt.alloc(), &seen);
+    drop(seen);
+    assert!(rt; told.as_slice() == NO_THREADS);
 }

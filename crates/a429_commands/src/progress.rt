@@ -1,11 +1,20 @@
 //! How far a run of a station is, as it is told while it works.
 
-use crate::support::{ONE, memory_files, repeat_text};
+use crate::support::memory_files;
 use a429_cli::{CountedWriter, Progress, ProgressLine, command_live};
 use a429_hints::HintLines;
+use std::alloc::Global;
 use std::io;
 use std::io::Write;
+use std::process::Abort;
+use std::sync::Wait;
 use std::sync::atomic::{AtomicU64, Ordering};
+use std::thread::Threads;
+
+/// Whether a count has this value.
+fn has(count: &AtomicU64, value: u64) -> bool {
+    count.load(Ordering::SeqCst) == value
+}
 
 /// Adds up what it is told.
 #[derive(Drop)]
@@ -14,6 +23,25 @@ struct Sums {
     cells: AtomicU64,
     words: AtomicU64,
     ends: AtomicU64,
+}
+
+impl Sums {
+    fn new() -> Sums {
+        Sums {
+            all: AtomicU64::new(0),
+            cells: AtomicU64::new(0),
+            words: AtomicU64::new(0),
+            ends: AtomicU64::new(0),
+        }
+    }
+
+    /// Whether these cells were announced and sent, these words accepted, and the end was told once.
+    fn are(&self, all: u64, cells: u64, words: u64) -> bool {
+        has(&self.all, all)
+            && has(&self.cells, cells)
+            && has(&self.words, words)
+            && has(&self.ends, 1)
+    }
 }
 
 impl Progress for Sums {
@@ -34,35 +62,27 @@ impl Progress for Sums {
     }
 }
 
+/// The status of a run of 20000 frames over a file of words.
+fn run_live<R: Threads + Wait + Abort>(rt: &R, alloc: Global, text: &str, sums: &Sums) -> u8 {
+    let mut files = memory_files(rt, alloc, text);
+    let mut out = CountedWriter::new(Vec::new(alloc));
+    let mut err = CountedWriter::new(Vec::new(alloc));
+    let words = ["live", "t", "s", "20000"];
+    command_live(
+        rt, alloc, &words, &HintLines, &mut files, &mut out, &mut err, sums,
+    )
+}
+
 #[test]
 fn a_run_tells_cells_and_accepted_words_by_4096(rt: HostRuntime) {
     // each word twice, the second time with a false parity
-    let text = repeat_text(&rt, rt.alloc(), "r 600000c1\nr e00000c1\n", 9000);
-    let mut files = memory_files(&rt, rt.alloc(), ONE, &text);
-    let mut out = CountedWriter::new(Vec::new(rt.alloc()));
-    let mut err = CountedWriter::new(Vec::new(rt.alloc()));
-    let sums = Sums {
-        all: AtomicU64::new(0),
-        cells: AtomicU64::new(0),
-        words: AtomicU64::new(0),
-        ends: AtomicU64::new(0),
-    };
-    let words = ["live", "t", "s", "20000"];
-    let status = command_live(
-        &rt,
-        rt.alloc(),
-        &words,
-        &HintLines,
-        &mut files,
-        &mut out,
-        &mut err,
-        &sums,
-    );
-    assert!(rt; status == 0);
-    assert!(rt; sums.all.load(Ordering::SeqCst) == 20000);
-    assert!(rt; sums.cells.load(Ordering::SeqCst) == 16384);
-    assert!(rt; sums.words.load(Ordering::SeqCst) == 8192);
-    assert!(rt; sums.ends.load(Ordering::SeqCst) == 1);
+    let words = "r 600000c1\nr e00000c1\n"
+        .repeat(rt.alloc(), 9000)
+        .expect(&rt, "memory");
+    let sums = Sums::new();
+    assert!(rt; run_live(&rt, rt.alloc(), &words, &sums) == 0);
+    assert!(rt; sums.are(20000, 16384, 8192));
+    drop(sums);
 }
 
 /// Counts the pieces that are written to it, and their bytes.
@@ -70,6 +90,13 @@ fn a_run_tells_cells_and_accepted_words_by_4096(rt: HostRuntime) {
 struct Screen<'a> {
     pieces: &'a AtomicU64,
     bytes: &'a AtomicU64,
+}
+
+impl Screen<'_> {
+    /// Whether so many pieces were written, of so many bytes together.
+    fn shows(&self, pieces: u64, bytes: u64) -> bool {
+        has(self.pieces, pieces) && has(self.bytes, bytes)
+    }
 }
 
 impl Write for Screen<'_> {
@@ -84,6 +111,19 @@ impl Write for Screen<'_> {
     }
 }
 
+/// The line is written where the run begins, and again where half of the cells are sent.
+fn is_written_now_and_then(rt: &impl Abort, line: &impl Progress, screen: &Screen<'_>) {
+    line.begin(8388608);
+    // "\rcells sent 0 of 8388608, words accepted 0"
+    assert!(rt; screen.shows(1, 42));
+    line.tell_accepted(4096);
+    line.tell_sent(4194303);
+    assert!(rt; screen.shows(1, 42));
+    line.tell_sent(1);
+    // "\rcells sent 4194304 of 8388608, words accepted 4096"
+    assert!(rt; screen.shows(2, 93));
+}
+
 #[test]
 fn a_line_is_written_at_the_beginning_now_and_then_and_wiped(rt: HostRuntime) {
     let (pieces, bytes) = (AtomicU64::new(0), AtomicU64::new(0));
@@ -92,15 +132,8 @@ fn a_line_is_written_at_the_beginning_now_and_then_and_wiped(rt: HostRuntime) {
         bytes: &bytes,
     };
     let line = ProgressLine::new(rt.alloc(), screen);
-    line.begin(8388608);
-    // "\rcells sent 0 of 8388608, words accepted 0"
-    assert!(rt; pieces.load(Ordering::SeqCst) == 1 && bytes.load(Ordering::SeqCst) == 42);
-    line.tell_accepted(4096);
-    line.tell_sent(4194303);
-    assert!(rt; pieces.load(Ordering::SeqCst) == 1);
-    line.tell_sent(1);
-    // "\rcells sent 4194304 of 8388608, words accepted 4096"
-    assert!(rt; pieces.load(Ordering::SeqCst) == 2 && bytes.load(Ordering::SeqCst) == 93);
+    is_written_now_and_then(&rt, &line, &screen);
     line.end();
-    assert!(rt; pieces.load(Ordering::SeqCst) == 3 && bytes.load(Ordering::SeqCst) == 97);
+    assert!(rt; screen.shows(3, 97));
+    drop(line);
 }

@@ -22,15 +22,6 @@ min_us = 1
 max_us = 360
 "#;
 
-/// A text so many times.
-pub fn repeat_text(rt: &impl Abort, alloc: Global, text: &str, times: usize) -> String {
-    let mut all = String::new(alloc);
-    for _ in 0..times {
-        all.push_str(text).expect(rt, "memory");
-    }
-    all
-}
-
 /// A file of this name and text.
 fn file(rt: &impl Abort, alloc: Global, name: &str, text: &str) -> (String, Vec<u8>) {
     let name = String::from_str(alloc, name).expect(rt, "memory");
@@ -38,10 +29,12 @@ fn file(rt: &impl Abort, alloc: Global, name: &str, text: &str) -> (String, Vec<
     (name, bytes)
 }
 
-/// Files in memory: the table `t` and the script `s`.
-pub fn memory_files(rt: &impl Abort, alloc: Global, table: &str, script: &str) -> MemoryFiles {
-    let (table, script) = (file(rt, alloc, "t", table), file(rt, alloc, "s", script));
-    MemoryFiles {
-        files: vec![in alloc; table, script].expect(rt, "memory"),
-    }
+/// Files in memory: the table `t`, which is `ONE`, and the script `s`.
+pub fn memory_files(rt: &impl Abort, alloc: Global, script: &str) -> MemoryFiles {
+    let mut files = Vec::new(alloc);
+    files.push(file(rt, alloc, "t", ONE)).expect(rt, "memory");
+    files
+        .push(file(rt, alloc, "s", script))
+        .expect(rt, "memory");
+    MemoryFiles { files }
 }

@@ -127,3 +127,15 @@ abbrev pub CallsAreAnswered : Type 0
 CallsAreAnswered =
     (C : ℕ) (o : Opening) (E : List Event) (e : Event) (v : MachineState) → IsWholeEvent e → StandsForHistory C o E v
     → (stepped C v e).0 ≡ answer C o E e
+
+-- a cell that sends a word is answered so, with its bus, its slot and its word
+abbrev pub SentCellsAreAnswered : Type 0
+SentCellsAreAnswered =
+    (C : ℕ) (o : Opening) (E : List Event) (v : MachineState) (g : ℕ) (s : SentCell) → StandsForHistory C o E v → cell_sent v g ≡ Some s
+    → answer C o E (Cell g) ≡ Sent s.bus s.slot (Some s.word)
+
+-- and a cell that sends none is answered without a word
+abbrev pub OtherCellsHaveNoWord : Type 0
+OtherCellsHaveNoWord =
+    (C : ℕ) (o : Opening) (E : List Event) (v : MachineState) (g bus slot word : ℕ) → StandsForHistory C o E v → cell_sent v g ≡ None
+    → answer C o E (Cell g) ≡ Sent bus slot (Some word) → ⊥

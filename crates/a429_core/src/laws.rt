@@ -7,7 +7,7 @@ ghost use Rattle.a429_core.specs.Latency.{AcceptedWordsGoOutAnyway, AcceptedWord
 ghost use Rattle.a429_core.specs.LatencyExample.{MeetsPremises};
 ghost use Rattle.a429_core.specs.Spaced.{AreSpaced, LaterCellsAreFull, OnlyFirstCellsAreEmpty, OpeningCellsAreFull, SentWordsAreApart};
 ghost use Rattle.a429_core.specs.MachineStates.{GoesOnByEvents, IsWholeEvent, MachineState};
-ghost use Rattle.a429_core.specs.MachineSteps.{CallsAreAnswered, stepped};
+ghost use Rattle.a429_core.specs.MachineSteps.{CallsAreAnswered, OtherCellsHaveNoWord, SentCellsAreAnswered, stepped};
 ghost use Rattle.a429_core.specs.Sends.{CellsAreAnsweredInTurn, SentWordsWereAccepted, TakenFramesAreAnswered, TakenFramesFollowAllCells, WordsAreAcceptedOneByOne};
 
 use a429_slots::laws::{
@@ -22,6 +22,15 @@ pub fn calls_are_answered()
     ensures stands { (C : ℕ) (e : Event) (v : MachineState) → IsWholeEvent e → GoesOnByEvents C v (e ∷ []) (stepped C v e).1 }
 {
     sends_are_recalled();
+}
+
+/// What `send_cell` answers is what the definition of answers says of the cell: its bus, its slot and its word, or that the
+/// cell has no word or is refused, for every history that the state stands for.
+pub fn sent_cells_are_answered()
+    ensures sent { SentCellsAreAnswered }
+    ensures none { OtherCellsHaveNoWord }
+{
+    calls_are_answered();
 }
 
 /// A word that is sent is the latest that was accepted before for the source of the output that stands in

@@ -19,7 +19,7 @@ use crate::import::tables::table_text;
 use a429_table::read_equipment;
 pub use columns::COLUMNS as IMPORT_COLUMNS;
 pub use fault::{CsvFaultKind, ImportColumn, ImportFault};
-pub use lines::{CsvLine, csv_lines};
+pub use lines::{CsvLine, LineCount, csv_lines};
 use std::alloc::Global;
 
 /// The table that lines state, of which the first is the heading.

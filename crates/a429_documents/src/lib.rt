@@ -36,7 +36,8 @@ pub use diff::diff_text;
 pub use document::latency_us;
 pub use drawing::{DrawingFault, DrawingForm, draw_text};
 pub use import::{
-    CsvFaultKind, CsvLine, IMPORT_COLUMNS, ImportColumn, ImportFault, csv_lines, import_table,
+    CsvFaultKind, CsvLine, IMPORT_COLUMNS, ImportColumn, ImportFault, LineCount, csv_lines,
+    import_table,
 };
 pub use lint::lint_text;
 pub use margin::margin_text;

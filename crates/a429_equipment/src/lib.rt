@@ -2,7 +2,7 @@
 //!
 //! `Equipment` is made by `read_equipment` of `a429_table`. `receivers`, `sources`, `groups` and `outputs` are its
 //! rows, in table order, which number them from 0. `source_for` says for which source a word of a receiver is, or why
-//! for none. `same_station` compares two equipments as a change of plan does. All limits of the project are constants
+//! for none. `same_station` compares two equipments as a change of plan does. The limits of tables and runs are constants
 //! here.
 //!
 //! ```text

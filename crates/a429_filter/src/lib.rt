@@ -6,7 +6,7 @@
 //!
 //! ```text
 //! let mut filters = FilterSet::none();
-//! filters.add(Filter::parse("203")?)?;
+//! filters.add(Filter::parse("203/377")?)?;
 //! let mut socket = Socket::new(MemoryLine::from_words(words), filters);
 //! while let Some(word) = socket.recv()? { .. }
 //! ```

@@ -1,9 +1,8 @@
 //! Hints about tables with a fault.
 
-use crate::hint::HintText;
+use crate::hint::{HintText, LINES};
 use crate::keys::{form, is_faulty, kilobits};
 use crate::nearest::Nearest;
-use crate::plans::TOLD;
 use crate::rows::{TableRow, rows_at, say_found, say_row, short_text, text_at};
 use crate::twins::twin_of;
 use a429_equipment::TableVersion;
@@ -33,15 +32,12 @@ fn tell_places(root: &Value, kind: FaultKind, hint: &mut HintText) {
     let Ok(places) = places_of(hint.alloc, root, kind) else {
         return hint.give_up();
     };
-    for place in places.iter().take(TOLD) {
+    for place in places.iter().take(LINES) {
         if let Some(row) = TableRow::at(root, *place) {
             tell_row(kind, &row, hint);
         }
     }
-    if places.len() > TOLD {
-        hint.say_count("a429: and ", places.len() - TOLD);
-        hint.end(" more");
-    }
+    hint.leave_out(places.len().saturating_sub(LINES));
 }
 
 /// Begins a line about a row of a table.
@@ -166,7 +162,7 @@ fn tell_filter(kind: FaultKind, row: &TableRow, hint: &mut HintText) {
     for (number, filter) in rows_at(row.value, "filters").iter().enumerate() {
         if is_faulty_filter(kind, filter) {
             begin_row(row, ": filter ", hint);
-            hint.say_count("", number);
+            hint.say_count("", number.saturating_add(1));
             say_found(" is ", Some(filter), hint);
             return hint.end(
                 "; it is to be a text LLL/MMM, label and mask, each three octal digits from 000 to 377",

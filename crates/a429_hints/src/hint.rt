@@ -7,13 +7,19 @@ use std::fmt::Display;
 use std::io;
 use std::io::Write;
 
-/// The lines of a hint, in memory. If memory is refused for a part of them, none is put.
+/// The most lines of a hint: a terminal shows them at once. What follows is counted.
+pub const LINES: usize = 20;
+
+/// The lines of a hint, in memory. If memory is refused for a part of them, none is put. A control character is said as
+/// its number, since a text of someone else's file may be among them, and a terminal obeys what it has.
 #[derive(Drop)]
 pub struct HintText {
     pub alloc: Global,
     file: String,
     line: Option<usize>,
     lines: String,
+    said: usize,
+    left_out: u64,
     is_refused: bool,
 }
 
@@ -25,6 +31,8 @@ impl HintText {
             file: String::new(alloc),
             line: None,
             lines: String::new(alloc),
+            said: 0,
+            left_out: 0,
             is_refused: false,
         }
     }
@@ -34,7 +42,16 @@ impl HintText {
         if self.is_refused {
             return Err(io::Error::from(AllocError));
         }
-        err.write_all(self.lines.as_str().as_bytes())
+        err.write_all(self.lines.as_str().as_bytes())?;
+        match self.left_out {
+            0 => Ok(()),
+            more => writeln!(err, "a429: and {more} more"),
+        }
+    }
+
+    /// Whether all lines that are shown were said.
+    fn is_full(&self) -> bool {
+        self.said >= LINES
     }
 
     /// Memory was refused for something that the hint needs.
@@ -44,13 +61,24 @@ impl HintText {
 
     /// What `write!` calls.
     pub fn write_fmt<D: Display + Drop>(&mut self, value: D) {
-        if self.lines.write_fmt(value).is_err() {
+        if !self.is_full() && self.lines.write_fmt(value).is_err() {
             self.give_up();
         }
     }
 
     pub fn say(&mut self, words: &str) {
-        if self.lines.push_str(words).is_err() {
+        if self.is_full() {
+            return;
+        }
+        for c in words.chars() {
+            self.say_char(c);
+        }
+    }
+
+    fn say_char(&mut self, c: char) {
+        if c.is_control() {
+            write!(self, "\\u{{{:x}}}", u32::from(c));
+        } else if self.lines.push(c).is_err() {
             self.give_up();
         }
     }
@@ -106,6 +134,9 @@ impl HintText {
 
     /// Begins a line: says what it is about, and words.
     pub fn begin(&mut self, words: &str) {
+        if self.is_full() {
+            return;
+        }
         self.say("a429: ");
         if self.lines.push_str(self.file.as_str()).is_err() {
             self.give_up();
@@ -118,7 +149,19 @@ impl HintText {
 
     /// Says the last words of a line.
     pub fn end(&mut self, words: &str) {
-        self.say_text(words, "\n");
+        self.say(words);
+        if self.is_full() {
+            return self.leave_out(1);
+        }
+        if self.lines.push('\n').is_err() {
+            self.give_up();
+        }
+        self.said = self.said.saturating_add(1);
+    }
+
+    /// Leaves out lines, which are counted.
+    pub fn leave_out(&mut self, lines: usize) {
+        self.left_out = self.left_out.saturating_add(lines as u64);
     }
 
     /// Says the last words of a line, and a text after them.

@@ -7,7 +7,7 @@ use crate::nearest::Nearest;
 use crate::sheets::{Sheet, begin_column, begin_row, tell_field};
 use a429_console::hints::SeenRows;
 use a429_console::refusals::{CommandRefusal, CsvKind};
-use a429_documents::{CsvLine, IMPORT_COLUMNS, ImportColumn, csv_lines};
+use a429_documents::{CsvLine, IMPORT_COLUMNS, ImportColumn, LineCount, csv_lines};
 use a429_filter::Filter;
 use std::cmp::min;
 
@@ -142,15 +142,13 @@ fn tell_count(sheet: Sheet, row: &CsvLine, bytes: &[u8], hint: &mut HintText) {
 
 /// Whether quotes from a line to the end of a text are odd in number.
 fn has_open_quote(bytes: &[u8], line: u64) -> bool {
-    let mut number: u64 = 1;
+    let mut count = LineCount::new();
     let mut is_open = false;
     for byte in bytes {
-        if number >= line && *byte == b'"' {
+        if count.line() >= line && *byte == b'"' {
             is_open = !is_open;
         }
-        if *byte == b'\n' {
-            number = number.saturating_add(1);
-        }
+        count.pass(*byte);
     }
     is_open
 }

@@ -9,7 +9,7 @@ const COMMANDS: &str =
     "import plan check icd margin lint diff draw replay simulate live word lines help";
 
 /// The options, with spaces between them.
-const OPTIONS: &str = "--csv --group --slots --width --until --summary --help --version";
+const OPTIONS: &str = "--csv --group --slots --width --html --until --summary --help --version";
 
 /// Tells which command, or which option, may have been meant by a word that is none.
 pub fn tell_nearest_word(words: &[&str], hint: &mut HintText) {

@@ -1,14 +1,11 @@
 //! Hints about equipment that has no plan, and about groups.
 
-use crate::hint::HintText;
+use crate::hint::{HintText, LINES};
 use crate::lists::LISTED;
 use crate::periods::{Interval, tell_unfit, tell_unfit_briefly};
 use a429_console::refusals::names::{group_name, source_name};
 use a429_equipment::{Equipment, GroupRow};
 use a429_grid::grid_period;
-
-/// How many faults a hint tells at most.
-pub const TOLD: usize = 20;
 
 /// Tells which groups a table has.
 pub fn tell_groups(groups: &[GroupRow], hint: &mut HintText) {
@@ -39,10 +36,7 @@ pub fn tell_all_unfit(equipment: &Equipment, hint: &mut HintText) {
     for group in 0..equipment.groups().len() {
         count = tell_unfit_of(equipment, group, count, hint);
     }
-    if count > TOLD {
-        hint.say_count("a429: and ", count - TOLD);
-        hint.end(" more");
-    }
+    hint.leave_out(count.saturating_sub(LINES));
 }
 
 /// Tells of the outputs of a group that have no period, after so many that were found. Answers how many are found then.
@@ -61,7 +55,7 @@ fn tell_unfit_of(equipment: &Equipment, group: usize, before: usize, hint: &mut 
         if grid_period(interval.min_us, interval.max_us, rate).is_some() {
             continue;
         }
-        if count < TOLD {
+        if count < LINES {
             hint.begin(": group ");
             hint.say(group_name(equipment, group));
             hint.say_text(", output of source ", source_name(equipment, group, number));

@@ -96,7 +96,7 @@ impl<const N: usize> SumTable<N> {
 
     /// The demand whose stretch has `x`, none where `x` is not below the total; and how many running sums were
     /// read to find it. As the search halves the demands, it reads at most as many as their number has binary
-    /// digits, and at least one fewer; where `x` is not below the total it reads none.
+    /// digits, and at most one fewer than that; if `x` is not below the total it reads none.
     #[tactic(auto, using(crate::proofs::Halving::few_probes, crate::proofs::Halving::some_probes))]
     pub fn find_counted(&self, x: u32) -> (Option<usize>, u32)
         ensures found { IfSome result.0 (Holds self.now x) }

@@ -1,77 +1,59 @@
-//! Filters, and periods of the slot grid.
+//! Periods of the slot grid.
 
-use a429_filter::{Filter, FilterSet};
+use crate::support::row_holds;
 use a429_grid::{Period, fits, grid_period, reverse, spacing};
-use a429_word::Label;
+use std::process::Abort;
 
-#[test]
-fn filters_pass_what_their_masks_leave(rt: HostRuntime) {
-    let (group, one) = (Label::new(0o200), Label::new(0o203));
-    let mut none = FilterSet::none();
-    let all = FilterSet::all();
-    for value in 0..=255 {
-        assert!(rt; !none.passes(Label::new(value)) && all.passes(Label::new(value)));
+/// Least and greatest intervals in microseconds, rates in bit/s, and the slots of the grid period.
+static INTERVALS: [(u32, u32, u32, Option<u32>); 12] = [
+    (46080, 46080, 100000, Some(128)),
+    (46081, 90000, 100000, None),
+    (1, 359, 100000, None),
+    (1, 360, 100000, Some(1)),
+    (361, 719, 100000, None),
+    (361, 720, 100000, Some(2)),
+    (2949120, 6000000, 100000, Some(8192)),
+    (2949121, 6000000, 100000, None),
+    (24576000, 30000000, 12000, Some(8192)),
+    (24576001, 30000000, 12000, None),
+    (1, 9931, 14500, Some(2)),
+    (1, 9932, 14500, Some(4)),
+];
+
+/// How many slots the grid period of an interval has.
+fn slots_within(min_us: u32, max_us: u32, rate: u32) -> Option<u32> {
+    let period = grid_period(min_us, max_us, rate)?;
+    Some(period.slots())
+}
+
+/// Each interval has its grid period.
+fn have_periods(rt: &impl Abort, intervals: &[(u32, u32, u32, Option<u32>)]) {
+    for (min_us, max_us, rate, slots) in intervals {
+        row_holds(rt, *min_us, slots_within(*min_us, *max_us, *rate) == *slots);
     }
-    assert!(rt; all.list().is_none());
-    let eight = Filter {
-        label: group,
-        mask: 0o370,
-    };
-    none.add(eight).expect(&rt, "room");
-    assert!(rt; none.passes(Label::new(0o207)) && !none.passes(Label::new(0o210)));
-    let exact = Filter {
-        label: one,
-        mask: 0o377,
-    };
-    let mut only = FilterSet::all();
-    only.add(exact).expect(&rt, "room");
-    assert!(rt; only.passes(one) && !only.passes(Label::new(0o204)));
-    let mut many = FilterSet::none();
-    for _ in 0..32 {
-        many.add(exact).expect(&rt, "room");
-    }
-    assert!(rt; many.add(eight).is_err());
-    assert!(rt; many.passes(one) && !many.passes(group));
-    assert_eq!(rt; many.list().map(|filters| filters.len()), Some(32));
 }
 
 #[test]
 fn intervals_admit_their_greatest_period(rt: HostRuntime) {
-    // least and greatest interval in microseconds, rate in bit/s, slots of the grid period
-    let cases = [
-        (46080, 46080, 100000, Some(128)),
-        (46081, 90000, 100000, None),
-        (1, 359, 100000, None),
-        (1, 360, 100000, Some(1)),
-        (361, 719, 100000, None),
-        (361, 720, 100000, Some(2)),
-        (2949120, 6000000, 100000, Some(8192)),
-        (2949121, 6000000, 100000, None),
-        (24576000, 30000000, 12000, Some(8192)),
-        (24576001, 30000000, 12000, None),
-        (1, 9931, 14500, Some(2)),
-        (1, 9932, 14500, Some(4)),
-    ];
-    for (min_us, max_us, rate, slots) in cases {
-        let period = grid_period(min_us, max_us, rate).map(Period::slots);
-        assert!(rt; period == slots, "{min_us}/{max_us} at {rate}");
-    }
+    have_periods(&rt, &INTERVALS);
+}
+
+#[test]
+fn a_period_fits_within_its_interval(rt: HostRuntime) {
     let two = Period::of_digits(1);
-    assert_eq!(rt; (two.slots(), two.digits()), (2, 1));
-    let (late, soon) = (fits(two, 721, 800, 100000), fits(two, 1, 719, 100000));
-    assert!(rt; fits(two, 720, 720, 100000) && !late && !soon);
+    assert!(rt; fits(two, 720, 720, 100000));
+    assert!(rt; !fits(two, 721, 800, 100000) && !fits(two, 1, 719, 100000));
+}
+
+#[test]
+fn spacings_last_at_least_their_interval(rt: HostRuntime) {
     // at 100000 bit/s a slot is 360 us, at 12500 bit/s 2880 us
-    let one = (
-        spacing(1, 100000),
-        spacing(360, 100000),
-        spacing(2880, 12500),
-    );
-    let next = (
-        spacing(361, 100000),
-        spacing(720, 100000),
-        spacing(2881, 12500),
-    );
-    assert_eq!(rt; (one, next), ((1, 1, 1), (2, 2, 2)));
-    let small = (reverse(0, 0), reverse(1, 2), reverse(3, 4));
-    assert_eq!(rt; (small, reverse(1, 13)), ((0, 2, 12), 4096));
+    assert!(rt; spacing(360, 100000) == 1 && spacing(361, 100000) == 2);
+    assert!(rt; spacing(2880, 12500) == 1 && spacing(2881, 12500) == 2);
+}
+
+#[test]
+fn digits_are_reversed(rt: HostRuntime) {
+    assert!(rt; reverse(0, 0) == 0 && reverse(1, 2) == 2);
+    assert!(rt; reverse(3, 4) == 12 && reverse(1, 13) == 4096);
 }

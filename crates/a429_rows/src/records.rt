@@ -1,127 +1,217 @@
 //! The rows that tables without faults state.
 
-use crate::support::{LIMITED, ONE, replace_once};
-use a429_equipment::{Equipment, OutputRow};
-use a429_slots::{OUTPUTS, PlanFault, plan};
-use a429_table::read_equipment;
-use std::alloc::{AllocError, Global};
+use crate::support::{LIMITED, ONE, equipment_of, replace_once};
+use a429_equipment::{Equipment, GroupRow, OutputRow, ReceiverRow, SourceRow};
+use a429_filter::Filter;
+use std::alloc::Global;
+use std::fmt::Write;
 use std::process::Abort;
 
-/// The receiver `r` with the filter 200/370.
-fn has_receiver(rt: &impl Abort, equipment: &Equipment) {
-    assert!(rt; equipment.receivers().len() == 1);
-    let receiver = &equipment.receivers()[0];
-    assert_eq!(rt; receiver.name.as_str(), "r");
-    let filters = receiver.filters.list().expect(rt, "a list");
-    assert!(rt; filters.len() == 1);
-    assert_eq!(rt; (filters[0].label.value(), filters[0].mask), (0o200, 0o370));
+/// Whether there is just the receiver `r` with the filter 200/370.
+fn are_receivers(receivers: &[ReceiverRow]) -> bool {
+    match receivers {
+        [only] => only.name.as_str() == "r" && is_filter(only.filters.list()),
+        _ => false,
+    }
 }
 
-/// The source `s` of label 203 and any SDI.
-fn has_source(rt: &impl Abort, equipment: &Equipment) {
-    assert!(rt; equipment.sources().len() == 1);
-    let source = &equipment.sources()[0];
-    assert_eq!(rt; source.name.as_str(), "s");
-    assert_eq!(rt; (source.receiver, source.label.value()), (0, 0o203));
-    assert!(rt; source.sdi.is_none());
+/// Whether there is just the filter 200/370.
+fn is_filter(filters: Option<&[Filter]>) -> bool {
+    match filters {
+        Some([only]) => only.label.value() == 0o200 && only.mask == 0o370,
+        _ => false,
+    }
+}
+
+/// Whether there is just the source `s` of label 203 and any SDI.
+fn are_sources(sources: &[SourceRow]) -> bool {
+    match sources {
+        [only] => {
+            only.name.as_str() == "s"
+                && only.receiver == 0
+                && only.label.value() == 0o203
+                && only.sdi.is_none()
+        }
+        _ => false,
+    }
+}
+
+/// Whether there is just the group `g`.
+fn are_groups(groups: &[GroupRow]) -> bool {
+    match groups {
+        [only] => only.name.as_str() == "g",
+        _ => false,
+    }
+}
+
+/// Whether the first group has just this output.
+fn has_output(equipment: &Equipment, stated: &OutputRow) -> bool {
+    if equipment.groups().is_empty() {
+        return false;
+    }
+    match equipment.outputs(0) {
+        [only] => only == stated,
+        _ => false,
+    }
+}
+
+/// The output of `ONE`.
+static SENT_ALWAYS: OutputRow = OutputRow {
+    source: 0,
+    min_us: 1,
+    max_us: 360,
+    hold: None,
+};
+
+/// The equipment of `ONE` with the filter.
+fn filtered(rt: &impl Abort, alloc: Global) -> Equipment {
+    let filters = "name = \"r\"\nfilters = [\"200/370\"]";
+    let table = replace_once(rt, alloc, ONE, "name = \"r\"", filters);
+    equipment_of(rt, alloc, &table)
 }
 
 #[test]
 fn gives_the_rows(rt: HostRuntime) {
-    let filters = "name = \"r\"\nfilters = [\"200/370\"]";
-    let table = replace_once(&rt, rt.alloc(), ONE, "name = \"r\"", filters);
-    let equipment = read_equipment(rt.alloc(), table.as_bytes()).expect(&rt, "a table");
-    assert_eq!(rt; (equipment.version(), equipment.rate()), (1, Some(100000)));
-    has_receiver(&rt, &equipment);
-    has_source(&rt, &equipment);
-    assert!(rt; equipment.groups().len() == 1);
-    assert_eq!(rt; equipment.groups()[0].name.as_str(), "g");
-    let stated = OutputRow {
-        source: 0,
-        min_us: 1,
-        max_us: 360,
-        hold: None,
-    };
-    assert_eq!(rt; equipment.outputs(0), [stated].as_slice());
+    let equipment = filtered(&rt, rt.alloc());
+    assert!(rt; are_receivers(equipment.receivers()));
+    assert!(rt; are_sources(equipment.sources()));
+    assert!(rt; are_groups(equipment.groups()) && has_output(&equipment, &SENT_ALWAYS));
+    // `drop` keeps the proof short: a drop in place goes through all parts.
+    drop(equipment);
+}
+
+#[test]
+fn gives_rates_of_version_1(rt: HostRuntime) {
+    let equipment = equipment_of(&rt, rt.alloc(), ONE);
+    assert!(rt; equipment.version() == 1 && equipment.rate() == Some(100000));
+    drop(equipment);
+}
+
+/// The rate of the first group.
+fn first_rate(equipment: &Equipment) -> u32 {
+    if equipment.groups().is_empty() {
+        return 0;
+    }
+    equipment.group_rate(0)
+}
+
+/// The hold of the first output.
+fn first_hold(equipment: &Equipment) -> Option<u32> {
+    if equipment.groups().is_empty() || equipment.outputs(0).is_empty() {
+        return None;
+    }
+    equipment.hold(0, 0)
+}
+
+/// Whether version, rates and hold are those of `LIMITED`.
+fn is_limited(equipment: &Equipment) -> bool {
+    equipment.version() == 2
+        && equipment.rate().is_none()
+        && first_rate(equipment) == 12500
+        && first_hold(equipment) == Some(7)
 }
 
 #[test]
 fn gives_rates_and_holds_of_version_2(rt: HostRuntime) {
-    let equipment = read_equipment(rt.alloc(), LIMITED.as_bytes()).expect(&rt, "a table");
-    assert_eq!(rt; (equipment.version(), equipment.rate()), (2, None));
-    assert_eq!(rt; equipment.groups().len(), 1);
-    assert_eq!(rt; equipment.group_rate(0), 12500);
-    assert_eq!(rt; equipment.outputs(0).len(), 1);
-    assert_eq!(rt; equipment.hold(0, 0), Some(7));
+    let equipment = equipment_of(&rt, rt.alloc(), LIMITED);
+    assert!(rt; is_limited(&equipment));
+    drop(equipment);
 }
 
-/// Adds a piece of text to a table.
-fn add(rt: &impl Abort, table: &mut String, piece: Result<String, AllocError>) {
-    let piece = piece.expect(rt, "memory");
-    table.push_str(&piece).expect(rt, "memory");
+/// The end of a name, and 32 filters.
+const FILTERS: &str = r#""
+filters = [
+    "000/000", "000/000", "000/000", "000/000", "000/000", "000/000", "000/000", "000/000",
+    "000/000", "000/000", "000/000", "000/000", "000/000", "000/000", "000/000", "000/000",
+    "000/000", "000/000", "000/000", "000/000", "000/000", "000/000", "000/000", "000/000",
+    "000/000", "000/000", "000/000", "000/000", "000/000", "000/000", "000/000", "000/000",
+]
+"#;
+
+/// Adds a number to a table, in octal between two texts.
+fn add(rt: &impl Abort, table: &mut String, front: &str, number: u32, back: &str) {
+    write!(table, "{front}{number:03o}{back}").expect(rt, "memory");
 }
 
-/// The largest table, with outputs of this interval alone. Source k is at receiver k / 16 and has label k.
-fn largest(rt: &impl Abort, alloc: Global, interval: u32) -> String {
-    let mut table = String::from_str(alloc, "version = 1\nrate = 100000\n").expect(rt, "memory");
-    let filters = "\"000/000\",".repeat(alloc, 32).expect(rt, "memory");
-    for i in 0..16u32 {
-        let receiver = format!(in alloc;
-            "[[receiver]]\nname = \"receiver-{i}\"\nfilters = [{filters}]\n"
+/// Adds source k, which is at receiver k / 16 and has label k.
+fn add_source(rt: &impl Abort, table: &mut String, k: u32) {
+    add(
+        rt,
+        table,
+        "[[source]]\nsdi = \"any\"\nlabel = \"",
+        k,
+        "\"\n",
+    );
+    add(rt, table, "receiver = \"r", k / 16, "\"\n");
+    add(rt, table, "name = \"s", k, "\"\n");
+}
+
+/// Adds a group that sends the sources from the last on.
+fn add_group(rt: &impl Abort, table: &mut String, k: u32) {
+    add(rt, table, "[[group]]\nname = \"g", k, "\"\n");
+    for j in 0..128u32 {
+        let interval = "\"\nmin_us = 30000000\nmax_us = 30000000\n";
+        add(
+            rt,
+            table,
+            "[[group.output]]\nsource = \"s",
+            255 - j,
+            interval,
         );
-        add(rt, &mut table, receiver);
+    }
+}
+
+/// Adds all receivers, and all sources behind them.
+fn add_sources(rt: &impl Abort, table: &mut String) {
+    for k in 0..16u32 {
+        add(rt, table, "[[receiver]]\nname = \"r", k, FILTERS);
     }
     for k in 0..256u32 {
-        let source = format!(in alloc;
-            "[[source]]\nname = \"source-num-{k}\"\nreceiver = \"receiver-{}\"\nlabel = \"{k:03o}\"\nsdi = \"any\"\n",
-            k / 16
-        );
-        add(rt, &mut table, source);
+        add_source(rt, table, k);
     }
-    for i in 0..8u32 {
-        let group = format!(in alloc; "[[group]]\nname = \"group-{i}\"\n");
-        add(rt, &mut table, group);
-        for j in 0..128u32 {
-            let output = format!(in alloc;
-                "[[group.output]]\nsource = \"source-num-{}\"\nmin_us = {interval}\nmax_us = {interval}\n",
-                255 - j
-            );
-            add(rt, &mut table, output);
-        }
+}
+
+/// The largest table.
+fn largest(rt: &impl Abort, alloc: Global) -> String {
+    let mut table = String::from_str(alloc, "version = 1\nrate = 100000\n").expect(rt, "memory");
+    add_sources(rt, &mut table);
+    for k in 0..8u32 {
+        add_group(rt, &mut table, k);
     }
     table
 }
 
-#[test]
-fn takes_the_largest_table(rt: HostRuntime) {
-    let table = largest(&rt, rt.alloc(), 30000000);
-    let equipment = read_equipment(rt.alloc(), table.as_bytes()).expect(&rt, "a table");
-    assert_eq!(rt;
-        (equipment.receivers().len(), equipment.sources().len()),
-        (16, 256)
-    );
-    let source = &equipment.sources()[255];
-    assert_eq!(rt; (source.receiver, source.label.value()), (15, 255));
-    assert!(rt; equipment.groups().len() == 8);
-    let last = equipment.outputs(7);
-    assert!(rt; last.len() == 128);
-    assert_eq!(rt; (last[127].source, last[127].max_us), (128, 30000000));
+/// Whether there are 256 sources, and the last is as it was stated.
+fn are_all_sources(sources: &[SourceRow]) -> bool {
+    match sources.last() {
+        Some(last) => sources.len() == 256 && last.receiver == 15 && last.label.value() == 255,
+        None => false,
+    }
 }
 
-/// 128 outputs that are due in every slot fill 128 buses.
+/// Whether there are eight groups, and the last has 128 outputs.
+fn has_all_outputs(equipment: &Equipment) -> bool {
+    if equipment.groups().len() != 8 {
+        return false;
+    }
+    let outputs = equipment.outputs(7);
+    match outputs.last() {
+        Some(last) => outputs.len() == 128 && last.source == 128 && last.max_us == 30000000,
+        None => false,
+    }
+}
+
+/// Whether an equipment has as many rows as can be, and its last rows.
+fn is_largest(equipment: &Equipment) -> bool {
+    equipment.receivers().len() == 16
+        && are_all_sources(equipment.sources())
+        && has_all_outputs(equipment)
+}
+
 #[test]
-fn refuses_the_largest_want_of_buses(rt: HostRuntime) {
-    let table = largest(&rt, rt.alloc(), 360);
-    let equipment = read_equipment(rt.alloc(), table.as_bytes()).expect(&rt, "a table");
-    let _groups = equipment.groups();
-    let Err(fault) = plan::<OUTPUTS>(rt.alloc(), &equipment) else {
-        panic!(rt; "a plan");
-    };
-    assert!(rt;
-        fault
-            == PlanFault::TooManyBuses {
-                group: 0,
-                needed: 128,
-            }
-    );
+fn takes_the_largest_table(rt: HostRuntime) {
+    let table = largest(&rt, rt.alloc());
+    let equipment = equipment_of(&rt, rt.alloc(), &table);
+    assert!(rt; is_largest(&equipment));
+    drop(equipment);
 }

@@ -1,7 +1,6 @@
 //! Sockets on lines in memory, and on a source that fails once.
 
 use a429_filter::{Filter, FilterSet, LineSource, MemoryLine, Socket, SourceFault};
-use a429_line::{Symbol, write_slot};
 use a429_word::{Label, Word};
 use std::alloc::Global;
 use std::process::Abort;
@@ -12,6 +11,7 @@ const WORD: u32 = 0x6000_00c1;
 /// The same with another parity bit.
 const EVEN: u32 = 0xe000_00c1;
 
+/// A socket without filters on so many words of even parity, and behind them the word of the examples.
 fn socket_of(rt: &impl Abort, alloc: Global, evens: usize) -> Socket<MemoryLine> {
     let mut words = vec![in alloc; EVEN; evens].expect(rt, "memory");
     words.push(WORD).expect(rt, "memory");
@@ -23,48 +23,56 @@ fn raw(answer: Result<Option<Word>, SourceFault>) -> Result<Option<u32>, SourceF
     Ok(answer?.map(Word::raw))
 }
 
-#[test]
-fn a_call_looks_at_65536_words(rt: HostRuntime) {
-    let mut socket = socket_of(&rt, rt.alloc(), 65536);
-    assert_eq!(rt; raw(socket.recv()), Err(SourceFault::Skipped));
-    assert_eq!(rt; raw(socket.recv()), Ok(Some(WORD)));
-    assert_eq!(rt; raw(socket.recv()), Ok(None));
-    let mut socket = socket_of(&rt, rt.alloc(), 65535);
-    assert_eq!(rt; raw(socket.recv()), Ok(Some(WORD)));
-    assert_eq!(rt; raw(socket.recv()), Ok(None));
+/// The next call of a socket answers this.
+fn gives<L: LineSource>(
+    rt: &impl Abort,
+    socket: &mut Socket<L>,
+    stated: Result<Option<u32>, SourceFault>,
+) {
+    assert!(rt; raw(socket.recv()) == stated);
 }
 
 #[test]
-fn words_of_other_labels_are_skipped(rt: HostRuntime) {
-    let words = vec![in rt.alloc(); 0x8000_0021, WORD, 0x0000_00c1].expect(&rt, "memory");
+fn a_call_looks_at_65536_words(rt: HostRuntime) {
+    let mut socket = socket_of(&rt, rt.alloc(), 65536);
+    gives(&rt, &mut socket, Err(SourceFault::Skipped));
+    gives(&rt, &mut socket, Ok(Some(WORD)));
+    gives(&rt, &mut socket, Ok(None));
+    drop(socket);
+}
+
+#[test]
+fn a_call_passes_65535_words(rt: HostRuntime) {
+    let mut socket = socket_of(&rt, rt.alloc(), 65535);
+    gives(&rt, &mut socket, Ok(Some(WORD)));
+    gives(&rt, &mut socket, Ok(None));
+    drop(socket);
+}
+
+/// The filter that label 203 alone passes.
+fn exact_filter(rt: &impl Abort) -> FilterSet {
     let mut filters = FilterSet::all();
     let exact = Filter {
         label: Label::new(0o203),
         mask: 0o377,
     };
-    filters.add(exact).expect(&rt, "room");
-    let mut socket = Socket::new(MemoryLine::from_words(words), filters);
-    assert_eq!(rt; raw(socket.recv()), Ok(Some(WORD)));
-    assert_eq!(rt; raw(socket.recv()), Ok(Some(0x0000_00c1)));
-    assert_eq!(rt; raw(socket.recv()), Ok(None));
+    filters.add(exact).expect(rt, "room");
+    filters
+}
+
+/// A socket with that filter, on a word of label 204 and two of label 203.
+fn filtered_socket(rt: &impl Abort, alloc: Global) -> Socket<MemoryLine> {
+    let words = vec![in alloc; 0x8000_0021, WORD, 0x0000_00c1].expect(rt, "memory");
+    Socket::new(MemoryLine::from_words(words), exact_filter(rt))
 }
 
 #[test]
-fn symbols_give_the_words_of_either_parity(rt: HostRuntime) {
-    let word = Word::from_raw(WORD).expect(&rt, "a word");
-    let slot = write_slot(Some(word));
-    let mut even = slot;
-    even[35] = Symbol::Hi;
-    let mut symbols = Vec::new(rt.alloc());
-    for part in [&slot[..], &slot[..9], &even, &slot, &[Symbol::Null]] {
-        symbols.extend_from_slice(part).expect(&rt, "memory");
-    }
-    let mut line = MemoryLine::from_symbols(rt.alloc(), &symbols).expect(&rt, "memory");
-    assert_eq!(rt; line.next(), Ok(Some(WORD)));
-    assert_eq!(rt; line.next(), Ok(Some(EVEN)));
-    assert_eq!(rt; line.next(), Ok(Some(WORD)));
-    assert_eq!(rt; line.next(), Ok(None));
-    assert_eq!(rt; line.failures(), 0);
+fn words_of_other_labels_are_skipped(rt: HostRuntime) {
+    let mut socket = filtered_socket(&rt, rt.alloc());
+    gives(&rt, &mut socket, Ok(Some(WORD)));
+    gives(&rt, &mut socket, Ok(Some(0x0000_00c1)));
+    gives(&rt, &mut socket, Ok(None));
+    drop(socket);
 }
 
 /// Words in memory, with a failure in the call of this number, counted from 1.
@@ -104,18 +112,24 @@ impl LineSource for FailingLine {
     }
 }
 
-#[test]
-fn a_failed_call_loses_no_word(rt: HostRuntime) {
-    let words = vec![in rt.alloc(); WORD, 0x0000_00c1].expect(&rt, "memory");
+/// A socket on two words, with a failure in its second call.
+fn failing_socket(rt: &impl Abort, alloc: Global) -> Socket<FailingLine> {
+    let words = vec![in alloc; WORD, 0x0000_00c1].expect(rt, "memory");
     let line = FailingLine {
         line: MemoryLine::from_words(words),
         fails_in: 2,
         failures: 0,
         ended: false,
     };
-    let mut socket = Socket::new(line, FilterSet::all());
-    assert_eq!(rt; raw(socket.recv()), Ok(Some(WORD)));
-    assert_eq!(rt; raw(socket.recv()), Err(SourceFault::Failed));
-    assert_eq!(rt; raw(socket.recv()), Ok(Some(0x0000_00c1)));
-    assert_eq!(rt; raw(socket.recv()), Ok(None));
+    Socket::new(line, FilterSet::all())
+}
+
+#[test]
+fn a_failed_call_loses_no_word(rt: HostRuntime) {
+    let mut socket = failing_socket(&rt, rt.alloc());
+    gives(&rt, &mut socket, Ok(Some(WORD)));
+    gives(&rt, &mut socket, Err(SourceFault::Failed));
+    gives(&rt, &mut socket, Ok(Some(0x0000_00c1)));
+    gives(&rt, &mut socket, Ok(None));
+    drop(socket);
 }

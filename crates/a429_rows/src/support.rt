@@ -1,5 +1,8 @@
 //! Tables, and texts made of them.
 
+use a429_equipment::Equipment;
+use a429_table::read_equipment;
+use a429_word::Word;
 use std::alloc::Global;
 use std::process::Abort;
 
@@ -21,6 +24,22 @@ min_us = 1
 max_us = 360
 "#;
 
+/// Two outputs, `a` in every other slot and `b` in every fourth.
+pub const TWO: &str = r#"version = 1
+rate = 100000
+receiver = [{ name = "r" }]
+source = [
+    { name = "a", receiver = "r", label = "001", sdi = "any" },
+    { name = "b", receiver = "r", label = "002", sdi = "any" },
+]
+[[group]]
+name = "g"
+output = [
+    { source = "a", min_us = 1, max_us = 720 },
+    { source = "b", min_us = 1, max_us = 1440 },
+]
+"#;
+
 /// A table of version 2 with one output, at 12500 bit/s: 2881 us are more than one slot of 2880, and a period of
 /// two slots is the greatest within 5760.
 pub const LIMITED: &str = r#"version = 2
@@ -34,30 +53,20 @@ output = [{ source = "s", min_us = 2881, max_us = 5760, hold = 7 }]
 
 /// A text with one piece of it replaced, where it first stands.
 pub fn replace_once(rt: &impl Abort, alloc: Global, text: &str, old: &str, new: &str) -> String {
-    let (front, back) = text.split_once(old).expect(rt, "such a text");
-    format!(in alloc; "{front}{new}{back}").expect(rt, "memory")
+    text.replacen(alloc, old, new, 1).expect(rt, "memory")
 }
 
-/// Receiver `r`, sources `a`, `b`, `c` and so on of labels 001, 002, 003 and so on with any SDI, and group
-/// `g` that sends each in turn in these intervals, in microseconds.
-pub fn standard(rt: &impl Abort, alloc: Global, rate: u32, intervals: &[(u32, u32)]) -> String {
-    let mut table = format!(in alloc;
-        "version = 1\nrate = {rate}\n[[receiver]]\nname = \"r\"\n"
-    ).expect(rt, "memory");
-    for (label, name) in (1u32..=26).zip('a'..='z').take(intervals.len()) {
-        let source = format!(in alloc;
-            "[[source]]\nname = \"{name}\"\nreceiver = \"r\"\nlabel = \"{label:03o}\"\nsdi = \"any\"\n"
-        ).expect(rt, "memory");
-        table.push_str(&source).expect(rt, "memory");
-    }
-    table
-        .push_str("[[group]]\nname = \"g\"\n")
-        .expect(rt, "memory");
-    for (name, (min_us, max_us)) in ('a'..='z').zip(intervals.iter()) {
-        let output = format!(in alloc;
-            "[[group.output]]\nsource = \"{name}\"\nmin_us = {min_us}\nmax_us = {max_us}\n"
-        ).expect(rt, "memory");
-        table.push_str(&output).expect(rt, "memory");
-    }
-    table
+/// The equipment of a table.
+pub fn equipment_of(rt: &impl Abort, alloc: Global, table: &str) -> Equipment {
+    read_equipment(alloc, table.as_bytes()).expect(rt, "a table")
+}
+
+/// The word 600000c1, of label 203.
+pub fn word(rt: &impl Abort) -> Word {
+    Word::from_raw(0x6000_00c1).expect(rt, "a word")
+}
+
+/// Fails with the number that a row begins with, unless the row is as it was stated.
+pub fn row_holds(rt: &impl Abort, number: u32, is_so: bool) {
+    assert!(rt; is_so, "row {number:x}");
 }

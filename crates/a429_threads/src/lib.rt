@@ -4,6 +4,10 @@
 #[cfg(test)]
 mod boards;
 #[cfg(test)]
+mod devices;
+#[cfg(test)]
+mod ends;
+#[cfg(test)]
 mod runs;
 #[cfg(test)]
 mod stations;

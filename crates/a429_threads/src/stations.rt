@@ -1,313 +1,381 @@
 //! Stations that run, on threads of their own. The words: 00000080 has label 001, 00000040 has 002, 80000021 has 204.
+ghost use Rattle.std.specs.Prelude.{◌≡◌, length, vec_len};
+ghost use Rattle.a429_station.specs.Resubmitting.{GoesOn};
 
+mod holds;
 mod in_turn;
 mod spacing;
 mod stopping;
 
-use crate::support::{EVEN, FIRST, ONE, SECOND, TWO, three};
-use a429_filter::MemoryLine;
+use crate::devices::{FailingLine, FailingSink, line_of, sink_of};
+use crate::support::{EVEN, FIRST, ONE, SECOND, THREE, THREE_FASTER, TWO, let_go, read};
+use a429_equipment::Equipment;
 use a429_station::{Control, LiveFault, NoControl, ReplanFault, Report, Station, live};
-use a429_table::{FaultKind, TableFault, TablePlace, read_equipment};
+use a429_table::{FaultKind, TableFault, TablePlace};
 use a429_word::Word;
-use a429_workers::{Gate, GateFault, MemorySink, OpenGate, Point, Sent};
+use a429_workers::{Gate, OpenGate, ReceiveTotals, Sent};
+use holds::{CONTROL, Held, MarksRun, TURNS, gate};
+use spacing::count_spaced_words;
 use std::alloc::{AllocError, Global};
 use std::process::Abort;
 use std::sync::Wait;
 use std::sync::atomic::{AtomicU64, Ordering};
-use std::thread;
 use std::thread::Threads;
-use std::time::{Clock, Duration};
+use std::time::Clock;
 
-/// What a gate holds back.
+/// What a station is to do.
 #[derive(Clone, Copy)]
-enum Held {
-    /// The first word until a cell is asked for, that cell until the word was taken, the second word until the cell
-    /// was sent.
-    InTurn,
-    /// The first word of both receivers and the first cell of both groups, until all four and the control were entered.
-    UntilAll,
-    /// The first cell, until the control has its first answer.
-    UntilAnswered,
+struct Setup<'a> {
+    table: &'a str,
+    /// The words of each line.
+    words: &'a [&'a [u32]],
+    frames: u32,
+    /// Whether the second line fails in its first call, and each sink.
+    line_fails: bool,
+    sinks_fail: bool,
 }
 
-const CELL: u64 = 1;
-
-const TAKEN: u64 = 2;
-
-const SENT: u64 = 4;
-
-const WORD: u64 = 8;
-
-const SECOND_CELL: u64 = 16;
-
-const SECOND_WORD: u64 = 32;
-
-const CONTROL: u64 = 64;
-
-const ALL: u64 = CELL | WORD | SECOND_CELL | SECOND_WORD | CONTROL;
-
-/// The mark of a point, and the marks that it waits for.
-fn bits(held: Held, point: Point) -> (u64, u64) {
-    match (held, point) {
-        (Held::InTurn, Point::BeforeAccept(0, 0)) => (WORD, CELL),
-        (Held::InTurn, Point::AfterAccept(0, 0)) => (TAKEN, 0),
-        (Held::InTurn, Point::BeforeCell(0, 0)) => (CELL, TAKEN),
-        (Held::InTurn, Point::AfterCell(0, 0)) => (SENT, 0),
-        (Held::InTurn, Point::BeforeAccept(0, 1)) => (0, SENT),
-        (Held::UntilAll, Point::BeforeAccept(0, 0)) => (WORD, ALL),
-        (Held::UntilAll, Point::BeforeAccept(1, 0)) => (SECOND_WORD, ALL),
-        (Held::UntilAll, Point::BeforeCell(0, 0)) => (CELL, ALL),
-        (Held::UntilAll, Point::BeforeCell(1, 0)) => (SECOND_CELL, ALL),
-        (Held::UntilAnswered, Point::BeforeCell(0, 0)) => (CELL, CONTROL),
-        _ => (0, 0),
+/// What a station is to do whose devices do not fail.
+fn setup_of<'a>(table: &'a str, words: &'a [&'a [u32]], frames: u32) -> Setup<'a> {
+    Setup {
+        table,
+        words,
+        frames,
+        line_fails: false,
+        sinks_fail: false,
     }
 }
 
-/// How many turns a gate waits where other threads run.
-const TURNS: u64 = 10000;
-
-/// Holds back each point until the marks that it waits for were made, for at most so many turns of a millisecond.
-#[derive(Drop)]
-struct Holds<'a, R: Clock> {
-    rt: &'a R,
-    held: Held,
-    turns: u64,
-    made: &'a AtomicU64,
+/// Adds a line.
+fn push_line<R: Abort>(rt: &R, lines: &mut Vec<FailingLine>, line: FailingLine) {
+    lines.push(line).expect(rt, "memory");
 }
 
-impl<'a, R: Clock> Gate for Holds<'a, R> {
-    fn pass(&self, point: Point) -> Result<(), GateFault> {
-        let (own, awaited) = bits(self.held, point);
-        self.made.fetch_or(own, Ordering::SeqCst);
-        for _ in 0..self.turns {
-            if self.made.load(Ordering::SeqCst) & awaited == awaited {
-                return Ok(());
-            }
-            thread::sleep(self.rt, Duration::from_millis(1));
-        }
-        Err(GateFault)
-    }
-}
-
-/// Makes the mark of the control, and publishes nothing.
-#[derive(Drop)]
-struct MarksRun<'a> {
-    made: &'a AtomicU64,
-}
-
-impl<'a> MarksRun<'a> {
-    fn mark(&self) {
-        self.made.fetch_or(CONTROL, Ordering::SeqCst);
-    }
-}
-
-impl<'a, R: Wait> Control<R> for MarksRun<'a> {
-    fn run(&mut self, _station: &mut Station<'_, R>) -> Result<(), AllocError> {
-        self.mark();
-        Ok(())
-    }
-}
-
-/// Lines that give these words.
-fn lines_of<R: Abort>(rt: &R, alloc: Global, words: &[&[u32]]) -> Vec<MemoryLine> {
+fn lines_of<R: Abort>(rt: &R, alloc: Global, setup: &Setup<'_>) -> Vec<FailingLine> {
     let mut lines = Vec::new(alloc);
-    for one in words {
-        let mut given = Vec::new(alloc);
-        for word in *one {
-            given.push(*word).expect(rt, "memory");
-        }
-        lines
-            .push(MemoryLine::from_words(given))
-            .expect(rt, "memory");
+    for words in setup.words {
+        let fails = setup.line_fails && lines.len() == 1;
+        push_line(rt, &mut lines, line_of(rt, alloc, *words, u64::from(fails)));
     }
     lines
 }
 
-/// So many empty sinks.
-fn empty_sinks<R: Abort>(rt: &R, alloc: Global, count: usize) -> Vec<MemorySink> {
+fn sinks_of<R: Abort>(rt: &R, alloc: Global, count: usize, fail: bool) -> Vec<FailingSink> {
     let mut sinks = Vec::new(alloc);
     for _ in 0..count {
-        sinks.push(MemorySink::new(alloc)).expect(rt, "memory");
+        sinks
+            .push(sink_of(alloc, u64::from(fail)))
+            .expect(rt, "memory");
     }
     sinks
 }
 
-/// Runs the station of a table, with these words for its receivers.
-fn run_station<R: Threads + Wait + Abort, G: Gate + Sync, K: Control<R>>(
+/// The lines of all receivers.
+fn lines_for<R: Abort>(
     rt: &R,
     alloc: Global,
-    table: &str,
-    words: &[&[u32]],
-    frames: u32,
+    setup: &Setup<'_>,
+    equipment: &Equipment,
+) -> Vec<FailingLine>
+    ensures { vec_len result ≡ length equipment.now.receivers }
+{
+    let lines = lines_of(rt, alloc, setup);
+    assert!(rt; lines.len() == equipment.receivers().len());
+    lines
+}
+
+/// The sinks of all groups.
+fn sinks_for<R: Abort>(
+    rt: &R,
+    alloc: Global,
+    setup: &Setup<'_>,
+    equipment: &Equipment,
+) -> Vec<FailingSink>
+    ensures { vec_len result ≡ length equipment.now.groups }
+{
+    let sinks = sinks_of(rt, alloc, equipment.groups().len(), setup.sinks_fail);
+    assert!(rt; sinks.len() == equipment.groups().len());
+    sinks
+}
+
+type Devices = Report<FailingLine, FailingSink>;
+
+/// Runs a station of this equipment.
+fn run_with<R: Threads + Wait + Abort, G: Gate + Sync, K: Control<R>>(
+    rt: &R,
+    alloc: Global,
+    equipment: &Equipment,
+    setup: &Setup<'_>,
     gate: &G,
     control: &mut K,
-) -> Result<Report<MemoryLine, MemorySink>, LiveFault> {
-    let equipment = read_equipment(alloc, table.as_bytes()).expect(rt, "a table");
-    let lines = lines_of(rt, alloc, words);
-    let sinks = empty_sinks(rt, alloc, equipment.groups().len());
-    assert!(rt; lines.len() == equipment.receivers().len());
-    assert!(rt; sinks.len() == equipment.groups().len());
-    live(rt, alloc, &equipment, lines, sinks, frames, gate, control)
+) -> Result<Devices, LiveFault> {
+    let lines = lines_for(rt, alloc, setup, equipment);
+    let sinks = sinks_for(rt, alloc, setup, equipment);
+    live(
+        rt,
+        alloc,
+        equipment,
+        lines,
+        sinks,
+        setup.frames,
+        gate,
+        control,
+    )
 }
 
-/// How many words a receiver accepted, and how many cells the sink of a group took.
-fn accepted(report: &Report<MemoryLine, MemorySink>, receiver: usize) -> Option<u64> {
-    Some(report.receivers.get(receiver)?.accepted)
+/// A cell: bus, slot and word.
+type CellRow = (u32, u64, Option<u32>);
+
+/// What a run came to.
+#[derive(Clone, Copy)]
+struct Outcome {
+    fault: Option<LiveFault>,
+    /// The marks of its gate.
+    marks: u64,
+    /// How many words two receivers accepted, and how many cells the sinks of two groups took.
+    accepted: (u64, u64),
+    cells: (usize, usize),
+    /// Of the first receiver, the words of even parity and those without a source.
+    refused: (u64, u64),
+    /// Of the first group, the words and the plan in force at the end.
+    words: u64,
+    plan: u64,
+    /// The first cell of the first group, and how many of its cells have a word, where those are two slots apart.
+    first: Option<CellRow>,
+    spaced: usize,
 }
 
-fn cells(report: &Report<MemoryLine, MemorySink>, group: usize) -> Option<usize> {
-    Some(report.sinks.get(group)?.sent().len())
+const NOTHING: Outcome = Outcome {
+    fault: None,
+    marks: 0,
+    accepted: (0, 0),
+    cells: (0, 0),
+    refused: (0, 0),
+    words: 0,
+    plan: 0,
+    first: None,
+    spaced: 0,
+};
+
+fn heard(report: &Devices, receiver: usize) -> ReceiveTotals {
+    match report.receivers.get(receiver) {
+        Some(totals) => *totals,
+        None => ReceiveTotals {
+            accepted: 0,
+            parity: 0,
+            filtered: 0,
+            no_source: 0,
+            spent: 0,
+        },
+    }
 }
 
-/// The first cell that the first sink took.
-fn first_cell(report: &Report<MemoryLine, MemorySink>) -> Option<Sent> {
-    report.sinks.get(0)?.sent().get(0).copied()
+/// The cells that the sink of a group took.
+fn sent(report: &Devices, group: usize) -> &[Sent] {
+    match report.sinks.get(group) {
+        Some(sink) => sink.sink.sent(),
+        None => &[],
+    }
 }
+
+fn first_cell(report: &Devices) -> Option<CellRow> {
+    let cell = sent(report, 0).get(0)?;
+    Some((cell.bus, cell.slot, cell.word.map(Word::raw)))
+}
+
+/// The words of the first group, and the plan in force at the end.
+fn words_and_plan(report: &Devices) -> (u64, u64) {
+    match report.groups.get(0) {
+        Some(totals) => (totals.words, totals.plan),
+        None => (0, 0),
+    }
+}
+
+fn outcome_of(report: &Devices) -> Outcome {
+    let first = heard(report, 0);
+    let (words, plan) = words_and_plan(report);
+    Outcome {
+        accepted: (first.accepted, heard(report, 1).accepted),
+        cells: (sent(report, 0).len(), sent(report, 1).len()),
+        refused: (first.parity, first.no_source),
+        words,
+        plan,
+        first: first_cell(report),
+        spaced: count_spaced_words(sent(report, 0)),
+        ..NOTHING
+    }
+}
+
+/// What a run came to that has this answer.
+fn outcome_after(answer: Result<Devices, LiveFault>) -> Outcome {
+    match answer {
+        Ok(report) => {
+            let outcome = outcome_of(&report);
+            let_go(report);
+            outcome
+        }
+        Err(fault) => Outcome {
+            fault: Some(fault),
+            ..NOTHING
+        },
+    }
+}
+
+/// Runs a station.
+fn run<R: Threads + Wait + Abort, G: Gate + Sync, K: Control<R>>(
+    rt: &R,
+    alloc: Global,
+    setup: &Setup<'_>,
+    gate: &G,
+    control: &mut K,
+) -> Outcome {
+    let equipment = read(rt, alloc, setup.table);
+    let answer = run_with(rt, alloc, &equipment, setup, gate, control);
+    let_go(equipment);
+    outcome_after(answer)
+}
+
+/// Runs a station at a gate that holds so, with a control that makes its mark.
+fn run_held<R: Threads + Wait + Clock + Abort + Sync>(
+    rt: &R,
+    alloc: Global,
+    setup: &Setup<'_>,
+    held: Held,
+) -> Outcome {
+    let gate = gate(rt, held, TURNS);
+    let mut control = MarksRun { made: &gate.made };
+    let outcome = run(rt, alloc, setup, &gate, &mut control);
+    let marks = gate.made.load(Ordering::SeqCst);
+    let_go(gate);
+    Outcome { marks, ..outcome }
+}
+
+/// A word for each of two receivers.
+const WORDS: &[&[u32]] = &[&[0x00000080], &[0x00000040]];
+
+/// Two words for the one receiver, and one.
+const TWO_WORDS: &[&[u32]] = &[&[FIRST, SECOND]];
+
+const ONE_WORD: &[&[u32]] = &[&[FIRST]];
 
 #[test]
 fn word_taken_before_a_cell_goes_out_in_it(rt: HostRuntime) {
-    let made = AtomicU64::new(0);
-    let gate = Holds {
-        rt: &rt,
-        held: Held::InTurn,
-        turns: TURNS,
-        made: &made,
-    };
-    let words: &[&[u32]] = &[&[FIRST, SECOND]];
-    let report = run_station(&rt, rt.alloc(), ONE, words, 1, &gate, &mut NoControl).expect(
-        &rt, "a report",
-    );
-    assert_eq!(rt; accepted(&report, 0), Some(2));
-    assert_eq!(rt; cells(&report, 0), Some(1));
-    let first = first_cell(&report).expect(&rt, "a cell");
-    assert_eq!(rt; (first.bus, first.slot), (0, 0));
-    assert_eq!(rt; first.word.map(Word::raw), Some(FIRST));
+    let outcome = run_held(&rt, rt.alloc(), &setup_of(ONE, TWO_WORDS, 1), Held::InTurn);
+    assert!(rt; outcome.accepted == (2, 0) && outcome.cells == (1, 0));
+    assert!(rt; outcome.first == Some((0, 0, Some(FIRST))));
 }
 
 #[test]
 fn workers_and_control_run_at_once(rt: HostRuntime) {
-    let made = AtomicU64::new(0);
-    let gate = Holds {
-        rt: &rt,
-        held: Held::UntilAll,
-        turns: TURNS,
-        made: &made,
-    };
-    let words: &[&[u32]] = &[&[0x00000080], &[0x00000040]];
-    let mut control = MarksRun { made: &made };
-    let report = run_station(&rt, rt.alloc(), TWO, words, 1, &gate, &mut control).expect(
-        &rt, "a report",
-    );
-    assert_eq!(rt;
-        (accepted(&report, 0), accepted(&report, 1)),
-        (Some(1), Some(1))
-    );
-    assert_eq!(rt; (cells(&report, 0), cells(&report, 1)), (Some(1), Some(1)));
+    let outcome = run_held(&rt, rt.alloc(), &setup_of(TWO, WORDS, 1), Held::UntilAll);
+    assert!(rt; outcome.accepted == (1, 1) && outcome.cells == (1, 1));
 }
 
 #[test]
 fn frames_of_one_run_are_few(rt: HostRuntime) {
-    let words: &[&[u32]] = &[&[FIRST]];
-    let answer = run_station(
-        &rt,
-        rt.alloc(),
-        ONE,
-        words,
-        1000001,
-        &OpenGate,
-        &mut NoControl,
-    );
-    assert!(rt; answer.err() == Some(LiveFault::TooMuch));
-    let report = run_station(&rt, rt.alloc(), ONE, words, 0, &OpenGate, &mut NoControl).expect(
-        &rt, "a report",
-    );
-    assert_eq!(rt;
-        (accepted(&report, 0), cells(&report, 0)),
-        (Some(1), Some(0))
-    );
+    let setup = Setup {
+        table: TWO,
+        words: WORDS,
+        frames: 1000001,
+        line_fails: true,
+        sinks_fail: true,
+    };
+    let outcome = run_held(&rt, rt.alloc(), &setup, Held::UntilAll);
+    // No worker came to the gate, and the control did not run.
+    assert!(rt; outcome.fault == Some(LiveFault::TooMuch) && outcome.marks == 0);
 }
 
 #[test]
+fn a_run_of_no_frames_takes_its_words(rt: HostRuntime) {
+    let setup = setup_of(ONE, ONE_WORD, 0);
+    let outcome = run(&rt, rt.alloc(), &setup, &OpenGate, &mut NoControl);
+    assert!(rt; outcome.accepted == (1, 0) && outcome.cells == (0, 0));
+}
+
+/// A word of label 001, one of even parity, and one of a label without a source.
+const MIXED_WORDS: &[&[u32]] = &[&[0x00000080, EVEN, 0x80000021]];
+
+#[test]
 fn words_and_cells_are_counted(rt: HostRuntime) {
-    // A frame has four slots of one bus.
-    let table = three(&rt, rt.alloc(), (1, 720), (1, 1440), (1, 1440));
-    let words: &[&[u32]] = &[&[0x00000080, EVEN, 0x80000021]];
-    let report = run_station(
-        &rt,
-        rt.alloc(),
-        table.as_str(),
-        words,
-        2,
-        &OpenGate,
-        &mut NoControl,
-    )
-    .expect(&rt, "a report");
-    let heard = report.receivers.get(0).copied().expect(&rt, "a receiver");
-    assert_eq!(rt; (heard.accepted, heard.parity, heard.filtered), (1, 1, 0));
-    assert_eq!(rt; (heard.no_source, heard.spent), (1, 0));
-    assert_eq!(rt; cells(&report, 0), Some(8));
-    let sent = report.groups.get(0).copied().expect(&rt, "a group");
-    assert_eq!(rt; (sent.cells, sent.plan), (8, 0));
+    let setup = setup_of(THREE, MIXED_WORDS, 2);
+    let outcome = run(&rt, rt.alloc(), &setup, &OpenGate, &mut NoControl);
+    assert!(rt; outcome.accepted == (1, 0) && outcome.refused == (1, 1));
+    assert!(rt; outcome.cells == (8, 0) && outcome.plan == 0);
 }
 
 /// Submits a table of its station, then one of another station and one that is no table.
 #[derive(Drop)]
 struct MixedTables<'a> {
-    faster: &'a str,
     made: &'a AtomicU64,
-    number: Option<u64>,
-    differs: bool,
-    unread: bool,
+    published: bool,
+    refused: bool,
+}
+
+/// Whether the faster table is published as plan 1.
+fn publishes_faster<R: Wait>(station: &mut Station<'_, R>) -> bool
+    ensures after { GoesOn station.old station.new }
+{
+    matches!(station.resubmit(THREE_FASTER.as_bytes()), Ok(1))
+}
+
+/// Whether a table of another station is refused.
+fn refuses_other_station<R: Wait>(station: &mut Station<'_, R>) -> bool
+    ensures after { GoesOn station.old station.new }
+{
+    matches!(
+        station.resubmit(ONE.as_bytes()),
+        Err(ReplanFault::StationDiffers)
+    )
+}
+
+/// Whether a text that is no table is refused.
+fn refuses_no_table<R: Wait>(station: &mut Station<'_, R>) -> bool
+    ensures after { GoesOn station.old station.new }
+{
+    let answer = station.resubmit(b"x");
+    matches!(
+        answer,
+        Err(ReplanFault::Table(TableFault::At(FaultKind::NotToml, TablePlace::Root)))
+    )
 }
 
 impl<'a, R: Wait> Control<R> for MixedTables<'a> {
     fn run(&mut self, station: &mut Station<'_, R>) -> Result<(), AllocError> {
-        let first = station.resubmit(self.faster.as_bytes());
+        self.published = publishes_faster(station);
         self.made.fetch_or(CONTROL, Ordering::SeqCst);
-        self.number = first.ok();
-        let second = station.resubmit(ONE.as_bytes());
-        self.differs = matches!(second, Err(ReplanFault::StationDiffers));
-        let third = station.resubmit(b"x");
-        self.unread = matches!(
-            third,
-            Err(ReplanFault::Table(TableFault::At(FaultKind::NotToml, TablePlace::Root)))
-        );
+        let differs = refuses_other_station(station);
+        let unread = refuses_no_table(station);
+        self.refused = differs && unread;
         Ok(())
     }
 }
 
-#[test]
-fn resubmitted_plans_come_into_force(rt: HostRuntime) {
-    let table = three(&rt, rt.alloc(), (1, 720), (1, 1440), (1, 1440));
-    // The same station, by a plan of two buses and eight cells.
-    let faster = three(&rt, rt.alloc(), (1, 720), (1, 720), (1, 1440));
-    let made = AtomicU64::new(0);
-    let gate = Holds {
-        rt: &rt,
-        held: Held::UntilAnswered,
-        turns: TURNS,
-        made: &made,
-    };
+/// Runs two frames of the station while those tables are submitted, and says whether they were answered so.
+fn run_mixed<R: Threads + Wait + Clock + Abort + Sync>(rt: &R, alloc: Global) -> (Outcome, bool) {
+    let gate = gate(rt, Held::UntilAnswered, TURNS);
     let mut control = MixedTables {
-        faster: faster.as_str(),
-        made: &made,
-        number: None,
-        differs: false,
-        unread: false,
+        made: &gate.made,
+        published: false,
+        refused: false,
     };
-    let words: &[&[u32]] = &[&[]];
-    let report = run_station(
-        &rt,
-        rt.alloc(),
-        table.as_str(),
-        words,
-        2,
+    let outcome = run(
+        rt,
+        alloc,
+        &setup_of(THREE, NO_WORDS, 2),
         &gate,
         &mut control,
-    )
-    .expect(&rt, "a report");
-    let sent = report.groups.get(0).copied().expect(&rt, "a group");
-    assert_eq!(rt; (sent.cells, sent.words, sent.plan), (12, 0, 1));
-    assert_eq!(rt; control.number, Some(1));
-    assert!(rt; control.differs && control.unread);
+    );
+    let answered = control.published && control.refused;
+    let_go(control);
+    let_go(gate);
+    (outcome, answered)
+}
+
+const NO_WORDS: &[&[u32]] = &[&[]];
+
+#[test]
+fn resubmitted_plans_come_into_force(rt: HostRuntime) {
+    let (outcome, answered) = run_mixed(&rt, rt.alloc());
+    // Four cells by the table, then eight of two buses by the plan that was published.
+    assert!(rt; answered && outcome.cells == (12, 0) && outcome.words == 0 && outcome.plan == 1);
 }

@@ -1,13 +1,12 @@
-//! Ends of a hub on one thread and on two.
+//! Ends of a hub on one thread. Labels 001, 002 and 204 have the words 00000080, 00000040 and 80000021.
 ghost use Rattle.std.specs.Prelude.{◌≡◌, ◌<◌, ◌≤◌, length};
 
-use crate::support::{EVEN, FIRST, SECOND, TWO};
-use a429_table::read_equipment;
-use a429_values::{Accept, Hub, HubFault, Receiver, Transmitter};
-use a429_word::Word;
+use crate::ends::{Ends, open_ends};
+use crate::support::{EVEN, FIRST, SECOND, TWO, let_go, read};
+use a429_equipment::Equipment;
+use a429_values::{Accept, Desk, Hub, Receiver, Transmitter};
 use std::alloc::Global;
 use std::process::Abort;
-use std::thread::join;
 
 /// One receiver with a filter, one source of label 203 and any SDI, and one group that sends it.
 const FILTERED: &str = r#"version = 1
@@ -28,25 +27,6 @@ min_us = 1
 max_us = 360
 "#;
 
-/// A station of one receiver, one source and one group: its two ends.
-fn ends<R: Abort, const C: u32>(rt: &R, alloc: Global) -> (Receiver, Transmitter)
-    requires { (1 ≤ C) × (C ≤ 41) }
-    ensures { (result.0.at ≡ result.1.at) × (0 < length result.1.at.station.sources) }
-{
-    let equipment = read_equipment(alloc, FILTERED.as_bytes()).expect(rt, "a table");
-    assert_eq!(rt; equipment.receivers().len(), 1);
-    assert_eq!(rt; equipment.sources().len(), 1);
-    assert_eq!(rt; equipment.groups().len(), 1);
-    let (hub, mut desk) = Hub::<256, C>::open(alloc, &equipment).expect(rt, "a hub");
-    let receiver = desk.receiver(alloc, &hub, 0).expect(rt, "a receiver");
-    let transmitter = desk.transmitter(&hub, 0).expect(rt, "a transmitter");
-    let again = desk.receiver(alloc, &hub, 0).err();
-    assert!(rt; again == Some(HubFault::AlreadyTaken));
-    let again = desk.transmitter(&hub, 0).err();
-    assert!(rt; again == Some(HubFault::AlreadyTaken));
-    (receiver, transmitter)
-}
-
 /// Whether these raw words, one after another, are answered so.
 fn answers(receiver: &mut Receiver, words: &[(u32, Accept)]) -> bool
     ensures { receiver.new.at ≡ receiver.old.at }
@@ -58,39 +38,50 @@ fn answers(receiver: &mut Receiver, words: &[(u32, Accept)]) -> bool
     as_said
 }
 
-fn load(transmitter: &mut Transmitter, source: usize) -> Option<(u64, u32)>
-    requires { source < length transmitter.old.at.station.sources }
-    ensures { transmitter.new.at ≡ transmitter.old.at }
-{
-    let (count, word) = transmitter.load_numbered(source)?;
-    Some((count, word.raw()))
-}
+impl Ends {
+    /// Whether the receiver answers these raw words so.
+    fn answer(&mut self, words: &[(u32, Accept)]) -> bool {
+        let Ends { receiver, .. } = self;
+        answers(receiver, words)
+    }
 
-fn meet(transmitter: &mut Transmitter, receiver: &mut Receiver)
-    requires { receiver.old.at ≡ transmitter.old.at }
-    ensures { (transmitter.new.at ≡ transmitter.old.at) × (receiver.new.at ≡ receiver.old.at) }
-{
-    transmitter.meet(receiver);
+    /// Whether the loads before a word, after it was accepted and met, and after the next word are as they should be.
+    fn loads_the_last(&mut self) -> bool {
+        let none = self.load() == None && self.answer(&[(FIRST, Accept::Accepted(0))]);
+        self.meet();
+        let met = self.load() == Some((1, FIRST));
+        // Without a meeting: the load reads the shared word and no copy.
+        let next = self.answer(&[(SECOND, Accept::Accepted(0))]);
+        none && met && next && self.load() == Some((2, SECOND))
+    }
 }
 
 #[test]
 fn a_load_is_the_last_accepted_word(rt: HostRuntime) {
-    let (mut receiver, mut transmitter) = ends::<_, 41>(&rt, rt.alloc());
-    let before = load(&mut transmitter, 0);
-    let first = answers(&mut receiver, &[(FIRST, Accept::Accepted(0))]);
-    meet(&mut transmitter, &mut receiver);
-    let met = load(&mut transmitter, 0);
-    // Without a meeting: the load reads the shared word and no copy.
-    let second = answers(&mut receiver, &[(SECOND, Accept::Accepted(0))]);
-    let word = transmitter.load(0).map(Word::raw);
-    assert!(rt; first && second);
-    assert_eq!(rt; (before, met, word), (None, Some((1, FIRST)), Some(SECOND)));
-    assert_eq!(rt; (receiver.number(), transmitter.number()), (0, 0));
+    let mut ends = open_ends::<_, 41>(&rt, rt.alloc(), FILTERED);
+    let last = ends.loads_the_last();
+    let_go(ends);
+    assert!(rt; last);
+}
+
+/// Whether the receiver answers these raw words so, where words are counted in C bits; and the load after them.
+fn load_after<R: Abort, const C: u32>(
+    rt: &R,
+    alloc: Global,
+    words: &[(u32, Accept)],
+) -> (bool, Option<(u64, u32)>)
+    requires { (1 ≤ C) × (C ≤ 41) }
+{
+    let mut ends = open_ends::<R, C>(rt, alloc, FILTERED);
+    let as_said = ends.answer(words);
+    ends.meet();
+    let load = ends.load();
+    let_go(ends);
+    (as_said, load)
 }
 
 #[test]
 fn refused_words_change_nothing(rt: HostRuntime) {
-    let (mut receiver, mut transmitter) = ends::<_, 1>(&rt, rt.alloc());
     // Label 001 is outside the filter, label 204 within it, without a source.
     let words = [
         (FIRST, Accept::Accepted(0)),
@@ -99,94 +90,118 @@ fn refused_words_change_nothing(rt: HostRuntime) {
         (0x80000021, Accept::NoSource),
         (SECOND, Accept::CountSpent),
     ];
-    assert!(rt; answers(&mut receiver, &words));
-    meet(&mut transmitter, &mut receiver);
-    assert_eq!(rt; load(&mut transmitter, 0), Some((1, FIRST)));
+    assert!(rt; load_after::<_, 1>(&rt, rt.alloc(), &words) == (true, Some((1, FIRST))));
 }
 
 #[test]
 fn words_are_counted_to_the_last(rt: HostRuntime) {
-    let (mut receiver, mut transmitter) = ends::<_, 2>(&rt, rt.alloc());
     let words = [
         (FIRST, Accept::Accepted(0)),
         (SECOND, Accept::Accepted(0)),
         (FIRST, Accept::Accepted(0)),
         (SECOND, Accept::CountSpent),
     ];
-    assert!(rt; answers(&mut receiver, &words));
-    assert_eq!(rt; load(&mut transmitter, 0), Some((3, FIRST)));
+    assert!(rt; load_after::<_, 2>(&rt, rt.alloc(), &words) == (true, Some((3, FIRST))));
 }
 
-/// Whether the transmitter loads the words of both sources, once it met one receiver and then the other.
-fn loads_both(transmitter: &mut Transmitter, one: &mut Receiver, other: &mut Receiver) -> bool
-    requires one { one.old.at ≡ transmitter.old.at }
-    requires other { other.old.at ≡ transmitter.old.at }
-    requires sources { length transmitter.old.at.station.sources ≡ 2 }
-    ensures one { one.new.at ≡ one.old.at }
-    ensures other { other.new.at ≡ other.old.at }
+/// The receivers of a station of two receivers, two sources and two groups, and the desk that gives out its transmitters.
+#[derive(Drop)]
+struct TwoReceivers {
+    hub: Hub<256, 41>,
+    desk: Desk,
+    one: Receiver,
+    other: Receiver,
+    ghost desk_at: { desk.at ≡ hub },
+    ghost one_at: { one.at ≡ hub },
+    ghost other_at: { other.at ≡ hub },
+    ghost sources: { length hub.station.sources ≡ 2 },
+    ghost groups: { length hub.station.groups ≡ 2 },
+}
+
+/// The receiver of this number.
+fn receiver_of<R: Abort>(
+    rt: &R,
+    alloc: Global,
+    hub: &Hub<256, 41>,
+    desk: &mut Desk,
+    number: usize,
+) -> Receiver
+    requires hub { desk.old.at ≡ hub.now }
+    requires number { number < length hub.now.station.receivers }
+    ensures desk { desk.new.at ≡ desk.old.at }
+    ensures receiver { result.at ≡ hub.now }
 {
-    meet(transmitter, one);
-    meet(transmitter, other);
-    let first = load(transmitter, 0) == Some((1, 0x00000080));
-    let second = load(transmitter, 1) == Some((1, 0x00000040));
-    first && second
+    desk.receiver(alloc, hub, number).expect(rt, "a receiver")
+}
+
+/// The equipment of that station.
+fn read_two<R: Abort>(rt: &R, alloc: Global) -> Equipment
+    ensures ends { (length result.receivers ≡ 2) × (length result.groups ≡ 2) }
+    ensures sources { length result.sources ≡ 2 }
+{
+    let equipment = read(rt, alloc, TWO);
+    assert!(rt; equipment.receivers().len() == 2 && equipment.groups().len() == 2);
+    assert!(rt; equipment.sources().len() == 2);
+    equipment
+}
+
+fn two_receivers<R: Abort>(rt: &R, alloc: Global) -> TwoReceivers {
+    let equipment = read_two(rt, alloc);
+    let (hub, mut desk) = Hub::<256, 41>::open(alloc, &equipment).expect(rt, "a hub");
+    let_go(equipment);
+    let one = receiver_of(rt, alloc, &hub, &mut desk, 0);
+    let other = receiver_of(rt, alloc, &hub, &mut desk, 1);
+    TwoReceivers {
+        hub,
+        desk,
+        one,
+        other,
+    }
+}
+
+/// Whether this is what a transmitter loads for a source.
+fn loads(transmitter: &mut Transmitter, source: usize, word: u32) -> bool
+    requires { source < length transmitter.old.at.station.sources }
+    ensures { transmitter.new.at ≡ transmitter.old.at }
+{
+    match transmitter.load_numbered(source) {
+        Some((count, found)) => count == 1 && found.raw() == word,
+        None => false,
+    }
+}
+
+impl TwoReceivers {
+    /// Whether the receivers accept a word each.
+    fn accept(&mut self) -> bool {
+        let TwoReceivers { one, other, .. } = self;
+        answers(one, &[(0x00000080, Accept::Accepted(0))])
+            && answers(other, &[(0x00000040, Accept::Accepted(1))])
+    }
+
+    /// Whether the transmitter of this group loads the words of both sources, once it met both receivers.
+    fn loads_both<R: Abort>(&mut self, rt: &R, group: usize) -> bool
+        requires { group < 2 }
+    {
+        let TwoReceivers {
+            hub,
+            desk,
+            one,
+            other,
+            ..
+        } = self;
+        let mut transmitter = desk.transmitter(hub, group).expect(rt, "a transmitter");
+        transmitter.meet(one);
+        transmitter.meet(other);
+        let both = loads(&mut transmitter, 0, 0x00000080) && loads(&mut transmitter, 1, 0x00000040);
+        let_go(transmitter);
+        both
+    }
 }
 
 #[test]
 fn every_transmitter_meets_every_receiver(rt: HostRuntime) {
-    let equipment = read_equipment(rt.alloc(), TWO.as_bytes()).expect(&rt, "a table");
-    assert_eq!(rt; equipment.receivers().len(), 2);
-    assert_eq!(rt; equipment.sources().len(), 2);
-    assert_eq!(rt; equipment.groups().len(), 2);
-    let (hub, mut desk) = Hub::<256, 41>::open(rt.alloc(), &equipment).expect(&rt, "a hub");
-    let mut r = desk.receiver(rt.alloc(), &hub, 0).expect(&rt, "a receiver");
-    let mut q = desk.receiver(rt.alloc(), &hub, 1).expect(&rt, "a receiver");
-    let mut g = desk.transmitter(&hub, 0).expect(&rt, "a transmitter");
-    let mut h = desk.transmitter(&hub, 1).expect(&rt, "a transmitter");
-    let accepted = answers(&mut r, &[(0x00000080, Accept::Accepted(0))])
-        && answers(&mut q, &[(0x00000040, Accept::Accepted(1))]);
-    assert!(rt; accepted);
-    assert!(rt; loads_both(&mut g, &mut r, &mut q) && loads_both(&mut h, &mut q, &mut r));
-}
-
-fn accept_all(mut receiver: Receiver, words: &[(u32, Accept)]) -> (Receiver, bool)
-    ensures { result.0.at ≡ receiver.at }
-{
-    let as_said = answers(&mut receiver, words);
-    (receiver, as_said)
-}
-
-/// Loads the first source so often. Whether each load was none or one of the two words, and none went back
-/// in their order.
-fn load_many(mut transmitter: Transmitter, times: u32) -> (Transmitter, bool)
-    requires { 0 < length transmitter.at.station.sources }
-    ensures { result.0.at ≡ transmitter.at }
-{
-    let mut last = 0;
-    let mut rises = true;
-    for _ in 0..times {
-        let (count, word) = load(&mut transmitter, 0).unwrap_or((0, 0));
-        let known = matches!((count, word), (0, 0) | (1, FIRST) | (2, SECOND));
-        rises = rises && known && last <= count;
-        last = count;
-    }
-    (transmitter, rises)
-}
-
-#[test]
-fn loads_beside_accepts_never_go_back(rt: HostRuntime) {
-    let (receiver, transmitter) = ends::<_, 41>(&rt, rt.alloc());
-    let words = [
-        (FIRST, Accept::Accepted(0)),
-        (EVEN, Accept::Parity),
-        (SECOND, Accept::Accepted(0)),
-    ];
-    let ((mut receiver, as_said), (mut transmitter, rises)) = join(
-        &rt,
-        || accept_all(receiver, &words),
-        || load_many(transmitter, 100),
-    );
-    assert!(rt; as_said && rises);
-    meet(&mut transmitter, &mut receiver);
-    assert_eq!(rt; load(&mut transmitter, 0), Some((2, SECOND)));
+    let mut station = two_receivers(&rt, rt.alloc());
+    let both = station.accept() && station.loads_both(&rt, 0) && station.loads_both(&rt, 1);
+    let_go(station);
+    assert!(rt; both);
 }

@@ -1,17 +1,15 @@
 //! A transmitter over a hub and a board, and the loops over devices. The word 800000c0 has label 003.
-ghost use Rattle.std.specs.Prelude.{◌≡◌, IfOk, length};
-ghost use Rattle.a429_workers.specs.Receives.{IsSameReceiver};
+ghost use Rattle.std.specs.Prelude.{◌≡◌, IfOk};
 ghost use Rattle.a429_workers.specs.Transmitting.{IsSameGroup};
 
-mod devices;
-mod loops;
+pub mod loops;
 
-use crate::support::{FIRST, one_of, plan_of, three};
-use a429_board::{Board, Planner};
-use a429_equipment::Equipment;
-use a429_slots::{OUTPUTS, Plan};
-use a429_table::read_equipment;
-use a429_values::{Accept, Hub, Receiver, Transmitter};
+use crate::ends::{Ends, open_ends};
+use crate::support::{
+    FIRST, SPACED, SPACED_FASTER, THREE, THREE_FASTER, let_go, one_of, open_board, publish,
+};
+use a429_board::Planner;
+use a429_values::{Accept, Receiver, Transmitter};
 use a429_word::Word;
 use a429_workers::{ChangeFault, FrameEnd, OpenFault, Transmit};
 use std::alloc::Global;
@@ -37,75 +35,63 @@ max_us = 360
 hold = 2
 "#;
 
-/// The equipment of a table.
-fn read<R: Abort>(rt: &R, alloc: Global, table: &str) -> Equipment
-    ensures { (length result.receivers ≡ 1) × (length result.groups ≡ 1) }
-{
-    let equipment = read_equipment(alloc, table.as_bytes()).expect(rt, "a table");
-    assert_eq!(rt; equipment.receivers().len(), 1);
-    assert_eq!(rt; equipment.groups().len(), 1);
-    equipment
+/// The receiver and the transmitter of a station of one receiver and one group, and the planner of its board.
+pub struct Workers {
+    pub receiver: Receiver,
+    pub transmit: Transmit,
+    planner: Planner,
+    ghost one_hub: { receiver.at ≡ transmit.transmitter.at },
+    ghost one_board: { transmit.watcher.book ≡ planner.book },
 }
 
-/// The equipment of the sources a, b and c, each sent within these intervals in us.
-fn standard<R: Abort>(
-    rt: &R,
-    alloc: Global,
-    a: (u32, u32),
-    b: (u32, u32),
-    c: (u32, u32),
-) -> Equipment
-    ensures { (length result.receivers ≡ 1) × (length result.groups ≡ 1) }
-{
-    let table = three(rt, alloc, a, b, c);
-    read(rt, alloc, table.as_str())
-}
-
-/// The two ends of a station of one receiver and one group.
-fn ends<R: Abort>(rt: &R, alloc: Global, equipment: &Equipment) -> (Receiver, Transmitter)
-    requires { (length equipment.now.receivers ≡ 1) × (length equipment.now.groups ≡ 1) }
-    ensures { (result.0.at ≡ result.1.at) × (result.1.number ≡ 0) }
-{
-    assert!(rt; equipment.sources().len() <= 256);
-    let (hub, mut desk) = Hub::<256, 41>::open(alloc, equipment).expect(rt, "a hub");
-    let receiver = desk.receiver(alloc, &hub, 0).expect(rt, "a receiver");
-    let transmitter = desk.transmitter(&hub, 0).expect(rt, "a transmitter");
-    (receiver, transmitter)
-}
-
-/// A transmitter of the group that begins with this plan at this slot, where slots are left, and the planner of its board.
+/// A transmitter of the group that begins with a table's plan at this slot, where slots are left, and the planner of its
+/// board.
 fn open_transmit<R: Wait + Abort>(
     rt: &R,
     alloc: Global,
+    table: &str,
     transmitter: Transmitter,
-    plan: Plan<OUTPUTS>,
     first_slot: u64,
 ) -> (Result<Transmit, OpenFault>, Planner)
     requires { transmitter.number ≡ 0 }
     ensures { IfOk result.0 (λ t. (t.transmitter ≡ transmitter) × (t.watcher.book ≡ result.1.book) × (t.frame.sent ≡ 0)) }
 {
-    let (planner, mut watchers) = Board::open(rt, alloc, plan, 1).expect(rt, "a board");
+    let (planner, mut watchers) = open_board(rt, alloc, table, 0, 1);
     let watcher = one_of(&mut watchers, &planner).expect(rt, "a watcher");
+    let_go(watchers);
     assert!(rt; watcher.opened().groups() > 0);
     let transmit = Transmit::open(alloc, transmitter, watcher, 0, first_slot);
     (transmit, planner)
 }
 
-/// The receiver of an equipment, the transmitter of its group by the equipment's plan from slot 0 on, and the planner of
-/// its board.
-fn open_workers<R: Wait + Abort>(
-    rt: &R,
-    alloc: Global,
-    equipment: &Equipment,
-) -> (Receiver, Transmit, Planner)
-    requires { (length equipment.now.receivers ≡ 1) × (length equipment.now.groups ≡ 1) }
-    ensures receiver { result.0.at ≡ result.1.transmitter.at }
-    ensures group { (result.1.watcher.book ≡ result.2.book) × (result.1.frame.sent ≡ 0) }
+/// Those of a table's station, by the table's plan from this slot on.
+pub fn open_workers<R: Wait + Abort>(rt: &R, alloc: Global, table: &str, first_slot: u64) -> Workers
+    ensures { result.transmit.frame.sent ≡ 0 }
 {
-    let plan = plan_of(rt, alloc, equipment);
-    let (receiver, transmitter) = ends(rt, alloc, equipment);
-    let (transmit, planner) = open_transmit(rt, alloc, transmitter, plan, 0);
-    (receiver, transmit.expect(rt, "a transmitter"), planner)
+    let Ends {
+        receiver,
+        transmitter,
+        ..
+    } = open_ends::<R, 41>(rt, alloc, table);
+    let (transmit, planner) = open_transmit(rt, alloc, table, transmitter, first_slot);
+    Workers {
+        receiver,
+        transmit: transmit.expect(rt, "a transmitter"),
+        planner,
+    }
+}
+
+/// Whether no transmitter of a table's station begins at this slot, since the slots of its first frame cannot be counted.
+fn are_slots_spent<R: Wait + Abort>(rt: &R, alloc: Global, table: &str, first_slot: u64) -> bool {
+    let Ends {
+        receiver,
+        transmitter,
+        ..
+    } = open_ends::<R, 41>(rt, alloc, table);
+    let_go(receiver);
+    let (transmit, planner) = open_transmit(rt, alloc, table, transmitter, first_slot);
+    planner.close(rt);
+    transmit.err() == Some(OpenFault::SlotsSpent)
 }
 
 /// A cell as a row says it: bus, slot and word.
@@ -134,38 +120,60 @@ fn sends(transmit: &mut Transmit, cells: &[CellRow]) -> bool
     as_said
 }
 
-/// Whether a change is answered so.
-fn changes(transmit: &mut Transmit, answer: Result<u64, ChangeFault>) -> bool
-    ensures { IsSameGroup transmit.old transmit.new }
-{
-    transmit.change() == answer
-}
+impl Workers {
+    /// Whether the next cells are these.
+    fn sends(&mut self, cells: &[CellRow]) -> bool {
+        let Workers { transmit, .. } = self;
+        sends(transmit, cells)
+    }
 
-/// Accepts a word and meets the receiver.
-fn accept_and_meet(transmit: &mut Transmit, receiver: &mut Receiver, raw: u32) -> Accept
-    requires { receiver.old.at ≡ transmit.old.transmitter.at }
-    ensures group { IsSameGroup transmit.old transmit.new }
-    ensures receiver { IsSameReceiver receiver.old receiver.new }
-{
-    let answer = receiver.accept(raw);
-    transmit.meet(receiver);
-    answer
-}
+    /// Whether the frame is over.
+    fn is_over(&mut self) -> bool {
+        let Workers { transmit, .. } = self;
+        transmit.cell() == Err(FrameEnd)
+    }
 
-/// Publishes a plan and tells the transmitter.
-fn publish_and_tell<R: Wait>(
-    rt: &R,
-    transmit: &mut Transmit,
-    planner: &mut Planner,
-    plan: Plan<OUTPUTS>,
-) -> Option<u64>
-    requires { transmit.old.watcher.book ≡ planner.old.book }
-    ensures group { IsSameGroup transmit.old transmit.new }
-    ensures planner { planner.new.book ≡ planner.old.book }
-{
-    let number = planner.publish(rt, plan).ok();
-    transmit.told(planner);
-    number
+    /// Whether a change is answered so.
+    fn changes(&mut self, answer: Result<u64, ChangeFault>) -> bool {
+        let Workers { transmit, .. } = self;
+        transmit.change() == answer
+    }
+
+    /// Whether the receiver accepts a word for this source; then the transmitter meets the receiver.
+    fn accepts(&mut self, raw: u32, source: usize) -> bool {
+        let Workers {
+            receiver,
+            transmit,
+            ..
+        } = self;
+        let answer = receiver.accept(raw);
+        transmit.meet(receiver);
+        answer == Accept::Accepted(source)
+    }
+
+    /// Publishes the plan of a table and tells the transmitter.
+    fn publish<R: Wait + Abort>(&mut self, rt: &R, alloc: Global, table: &str) -> Option<u64> {
+        let Workers {
+            transmit,
+            planner,
+            ..
+        } = self;
+        let number = publish(rt, alloc, planner, table);
+        transmit.told(planner);
+        number
+    }
+
+    /// Ends the board.
+    pub fn close<R: Wait>(self, rt: &R) {
+        let Workers {
+            receiver,
+            transmit,
+            planner,
+        } = self;
+        planner.close(rt);
+        let_go(transmit);
+        let_go(receiver);
+    }
 }
 
 /// The word of c, and the first frame, in which it goes out last.
@@ -185,82 +193,90 @@ const EMPTY: &[CellRow] = &[
     (1, 7, None),
 ];
 
-/// A transmitter that has sent its first frame, with c in these intervals in us, and the planner that has published a
-/// plan of two buses meanwhile.
-fn after_a_frame<R: Wait + Abort>(rt: &R, alloc: Global, c: (u32, u32)) -> (Transmit, Planner) {
-    let next = plan_of(rt, alloc, &standard(rt, alloc, (1, 720), (1, 720), c));
-    let equipment = standard(rt, alloc, (1, 720), (1, 1440), c);
-    let (mut receiver, mut transmit, mut planner) = open_workers(rt, alloc, &equipment);
-    let accepted = accept_and_meet(&mut transmit, &mut receiver, WORD);
-    let number = publish_and_tell(rt, &mut transmit, &mut planner, next);
-    assert!(rt; accepted == Accept::Accepted(2) && number == Some(1));
-    assert!(rt; sends(&mut transmit, FRAME));
-    (transmit, planner)
+/// The workers of a table after their first frame, in which the plan of another table was published.
+fn after_a_frame<R: Wait + Abort>(rt: &R, alloc: Global, table: &str, next: &str) -> Workers {
+    let mut workers = open_workers(rt, alloc, table, 0);
+    assert!(rt; workers.accepts(WORD, 2));
+    assert!(rt; workers.publish(rt, alloc, next) == Some(1) && workers.sends(FRAME));
+    workers
+}
+
+impl Workers {
+    /// Whether the plan of two buses comes into force where the frame is over, and no other within the next frame.
+    fn changes_at_an_end(&mut self) -> bool {
+        self.is_over()
+            && self.changes(Ok(1))
+            && self.sends(&[(0, 4, None), (1, 4, Some(WORD))])
+            && self.changes(Err(ChangeFault::MidFrame))
+            && self.transmit.plan() == 1
+    }
+
+    /// Whether the word of c goes out in the second frame of the plan of two buses. Its first cell under that plan is one
+    /// slot after its last: too close.
+    fn keeps_spacing(&mut self) -> bool {
+        self.changes(Ok(1))
+            && self.sends(EMPTY)
+            && self.changes(Ok(1))
+            && self.sends(&[(0, 8, None), (1, 8, Some(WORD))])
+    }
+
+    /// Whether a word goes out in the cells of two frames, and not in the next.
+    fn sends_twice(&mut self) -> bool {
+        let cells = [(0, 0, Some(FIRST)), (0, 1, Some(FIRST)), (0, 2, None)];
+        let mut as_said = true;
+        for cell in cells {
+            as_said = self.sends(&[cell]) && self.changes(Ok(0)) && as_said;
+        }
+        as_said
+    }
 }
 
 #[test]
 fn a_plan_comes_into_force_at_a_frames_end(rt: HostRuntime) {
-    let (mut transmit, planner) = after_a_frame(&rt, rt.alloc(), (1, 1440));
-    let over = transmit.cell() == Err(FrameEnd);
-    let changed = changes(&mut transmit, Ok(1));
-    let after = sends(&mut transmit, &[(0, 4, None), (1, 4, Some(WORD))]);
-    let mid = changes(&mut transmit, Err(ChangeFault::MidFrame));
-    let force = transmit.plan();
-    planner.close(&rt);
-    assert!(rt; over && changed && after && mid && force == 1);
+    let mut workers = after_a_frame(&rt, rt.alloc(), THREE, THREE_FASTER);
+    let changed = workers.changes_at_an_end();
+    workers.close(&rt);
+    assert!(rt; changed);
 }
 
 #[test]
 fn words_keep_their_least_spacing_across_plans(rt: HostRuntime) {
-    let (mut transmit, planner) = after_a_frame(&rt, rt.alloc(), (720, 1440));
-    let changed = changes(&mut transmit, Ok(1));
-    // The first cell of c under the new plan is one slot after its last: too close.
-    let close = sends(&mut transmit, EMPTY);
-    let again = changes(&mut transmit, Ok(1));
-    let after = sends(&mut transmit, &[(0, 8, None), (1, 8, Some(WORD))]);
-    planner.close(&rt);
-    assert!(rt; changed && close && again && after);
+    let mut workers = after_a_frame(&rt, rt.alloc(), SPACED, SPACED_FASTER);
+    let spaced = workers.keeps_spacing();
+    workers.close(&rt);
+    assert!(rt; spaced);
 }
 
 #[test]
 fn a_word_is_sent_as_often_as_it_may_be_held(rt: HostRuntime) {
-    let alloc = rt.alloc();
-    let equipment = read(&rt, alloc, HELD);
-    let (mut receiver, mut transmit, planner) = open_workers(&rt, alloc, &equipment);
-    let first = accept_and_meet(&mut transmit, &mut receiver, FIRST);
-    let once = sends(&mut transmit, &[(0, 0, Some(FIRST))]) && changes(&mut transmit, Ok(0));
-    let twice = sends(&mut transmit, &[(0, 1, Some(FIRST))]) && changes(&mut transmit, Ok(0));
-    let held = sends(&mut transmit, &[(0, 2, None)]);
+    let mut workers = open_workers(&rt, rt.alloc(), HELD, 0);
+    let twice = workers.accepts(FIRST, 0) && workers.sends_twice();
     // An equal word that is accepted again is another one.
-    let second = accept_and_meet(&mut transmit, &mut receiver, FIRST);
-    let anew = changes(&mut transmit, Ok(0)) && sends(&mut transmit, &[(0, 3, Some(FIRST))]);
-    planner.close(&rt);
-    assert_eq!(rt; (first, second), (Accept::Accepted(0), Accept::Accepted(0)));
-    assert!(rt; once && twice && held && anew);
+    let anew = workers.accepts(FIRST, 0) && workers.sends(&[(0, 3, Some(FIRST))]);
+    workers.close(&rt);
+    assert!(rt; twice && anew);
 }
+
+/// The first slot of the last frame that can be counted, and the cells of that frame.
+const LAST: u64 = u64::MAX - 4;
+
+const LAST_FRAME: &[CellRow] = &[
+    (0, LAST, None),
+    (0, LAST + 1, None),
+    (0, LAST + 2, None),
+    (0, LAST + 3, None),
+];
 
 #[test]
 fn slots_are_counted_to_the_last(rt: HostRuntime) {
-    let alloc = rt.alloc();
-    let equipment = standard(&rt, alloc, (1, 720), (1, 1440), (1, 1440));
-    let (_, transmitter) = ends(&rt, alloc, &equipment);
-    let opening = plan_of(&rt, alloc, &equipment);
-    let first = u64::MAX - 4;
-    let (transmit, planner) = open_transmit(&rt, alloc, transmitter, opening, first);
-    let mut transmit = transmit.expect(&rt, "a transmitter");
-    let cells = [
-        (0, first, None),
-        (0, first + 1, None),
-        (0, first + 2, None),
-        (0, first + 3, None),
-    ];
-    let sent = sends(&mut transmit, &cells);
-    let spent = changes(&mut transmit, Err(ChangeFault::SlotsSpent));
-    let over = transmit.cell() == Err(FrameEnd);
-    planner.close(&rt);
-    assert!(rt; sent && spent && over);
-    let (_, transmitter) = ends(&rt, alloc, &equipment);
-    let (refused, planner) = open_transmit(&rt, alloc, transmitter, opening, first + 1);
-    planner.close(&rt);
-    assert!(rt; refused.err() == Some(OpenFault::SlotsSpent));
+    let mut workers = open_workers(&rt, rt.alloc(), THREE, LAST);
+    let sent = workers.sends(LAST_FRAME);
+    let spent = workers.changes(Err(ChangeFault::SlotsSpent)) && workers.is_over();
+    workers.close(&rt);
+    assert!(rt; sent && spent);
+}
+
+#[test]
+fn no_transmitter_begins_whose_slots_are_spent(rt: HostRuntime) {
+    assert!(rt; are_slots_spent(&rt, rt.alloc(), THREE, LAST + 1));
 }

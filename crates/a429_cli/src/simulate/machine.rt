@@ -8,7 +8,7 @@ use crate::opening::open_machine;
 use crate::simulate::lines::SentWord;
 use crate::simulate::log::LogWord;
 use a429_console::refusals::CommandRefusal;
-use a429_core::laws::calls_are_answered;
+use a429_core::laws::{calls_are_answered, sent_cells_are_answered};
 use a429_core::{Answer, StationState};
 use a429_slots::{OUTPUTS, Proposal};
 use std::alloc::Global;
@@ -69,6 +69,7 @@ impl Run {
         ensures after { (slot : ℕ) → RunGoesOn self.old (Asks group slot ∷ []) self.new }
     {
         calls_are_answered();
+        sent_cells_are_answered();
         match self.state.send_cell(group) {
             None => None,
             Some(cell) => Some(SentWord {

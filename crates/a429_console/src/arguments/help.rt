@@ -4,7 +4,8 @@ pub const PROGRAM: &str =
     "ARINC 429 data concentrator: takes in words, and sends them on by planned slots";
 
 pub const PROGRAM_END: &str = "\
-A table (TOML, version 2) has, each as often as it needs:
+A table is TOML. It begins with `version = 2`, and has, each as often as it
+needs:
   [[receiver]]      name, filters (may be left out)
   [[source]]        name, receiver, label, sdi
   [[group]]         name, rate (bit/s)

@@ -4,12 +4,14 @@ ghost use Rattle.clap.specs.Words.{kind_of};
 ghost use Rattle.a429_console.specs.Outputs.{CountsFault, HasFailed, IsPut, OrNoMemory};
 ghost use Rattle.a429_console.specs.Usage.{ExplainsKind, IsHelpReply, IsMistakeUntold, IsPassedOnUnless, IsWarned, TellsMistake};
 
+use crate::files::reading::printable_char;
 use crate::hints::Hints;
 use crate::output::endings::{finish, put_whole, refuse_memory};
 use crate::output::{Output, OutputFault};
 use clap::Error;
 use clap::error::ErrorKind;
-use std::alloc::Global;
+use std::alloc::{AllocError, Global};
+use std::io;
 use std::io::Write;
 
 /// Answers words that are no request, by the error that their parser gave. Help that was asked for is put, with
@@ -64,14 +66,29 @@ fn tell_mistake<H: Hints, O: Output, V: Output>(
     ensures failed { IfOk result (λ status. (status ≡ 1) ⊎ (V.failures err.new ≡ V.failures err.old)) }
     ensures once { (V.failures err.new).count ≤ (V.failures err.old).count + 1 }
 {
-    let mut text = Vec::new(alloc);
-    match write!(text, "{mistake}") {
-        Ok(()) => {
+    match mistake_text(alloc, mistake) {
+        Ok(mut text) => {
             add_suggestion(alloc, words, hints, &mut text);
             Ok(warn(&text, err))
         }
         Err(_) => refuse_memory(out),
     }
+}
+
+/// The text of a mistake. Words of the command line may be in it.
+fn mistake_text(alloc: Global, mistake: &Error) -> io::Result<Vec<u8>> {
+    let mut text = Vec::new(alloc);
+    write!(text, "{mistake}")?;
+    Ok(printable_text(alloc, str::from_utf8(&text).unwrap_or(""))?)
+}
+
+/// A text of several lines with `?` for each other control character: a terminal would obey those of a word.
+fn printable_text(alloc: Global, text: &str) -> Result<Vec<u8>, AllocError> {
+    let mut shown = String::new(alloc);
+    for c in text.chars() {
+        shown.push(if c == '\n' { c } else { printable_char(c) })?;
+    }
+    Ok(shown.into_bytes())
 }
 
 /// Appends what may have been meant by words that are a mistake, if memory suffices.

@@ -10,7 +10,7 @@ use crate::refusals::CommandRefusal;
 use std::alloc::{AllocError, Global};
 
 /// A character as a refusal tells it: a control character, such as a line feed, as `?`.
-fn printable_char(c: char) -> char
+pub(crate) fn printable_char(c: char) -> char
     ensures { result ≡ printable_char c }
 {
     if c.is_control() { '?' } else { c }

@@ -34,38 +34,73 @@ impl CsvLine {
     }
 }
 
-/// The line of the first of some bytes that ends no line. The bytes begin on a line of this number.
-fn first_line(bytes: &[u8], line: u64) -> u64 {
-    let mut line = line;
-    for byte in bytes {
-        match byte {
-            b'\n' => line = line.saturating_add(1),
-            b'\r' => {}
-            _ => return line,
-        }
-    }
-    line
+/// Counts the lines of a text. A line ends with a line feed, with a carriage return, or with both in this order.
+#[derive(Clone, Copy)]
+pub struct LineCount {
+    at: usize,
+    line: u64,
+    is_after_return: bool,
 }
 
-/// The line on which a row of a text begins. The library `csv` says where it began to read the row: empty lines may
-/// follow there.
-fn line_number(text: &[u8], fields: &ByteRecord) -> u64 {
-    let Some(position) = fields.position() else {
-        return 1;
-    };
-    match text.get(position.byte() as usize..) {
-        Some(bytes) => first_line(bytes, position.line()),
-        None => position.line(),
+impl LineCount {
+    /// Before the first byte of a text.
+    pub fn new() -> LineCount {
+        LineCount {
+            at: 0,
+            line: 1,
+            is_after_return: false,
+        }
+    }
+
+    /// The line of the next byte, counted from 1.
+    pub fn line(&self) -> u64 {
+        self.line
+    }
+
+    /// Goes on by one byte.
+    pub fn pass(&mut self, byte: u8) {
+        let ends_line = byte == b'\r' || byte == b'\n' && !self.is_after_return;
+        if ends_line {
+            self.line = self.line.saturating_add(1);
+        }
+        self.is_after_return = byte == b'\r';
+        self.at = self.at.saturating_add(1);
+    }
+
+    /// Goes on to a byte of the text, and from there over line ends.
+    fn pass_to(&mut self, text: &[u8], byte: usize) {
+        for passed in text.get(self.at..byte).unwrap_or(&[]) {
+            self.pass(*passed);
+        }
+        for passed in text.get(byte..).unwrap_or(&[]) {
+            if !matches!(passed, b'\r' | b'\n') {
+                return;
+            }
+            self.pass(*passed);
+        }
+    }
+
+    /// The line on which a row begins, after those before it. The library `csv` says where it began to read the row: empty lines
+    /// may follow there.
+    fn line_of_row(&mut self, text: &[u8], fields: &ByteRecord) -> u64 {
+        if let Some(position) = fields.position() {
+            self.pass_to(text, position.byte() as usize);
+        }
+        self.line
     }
 }
 
 /// What the library `csv` reads, as a line. It refuses no row, so that its error is that memory was refused.
-fn line_of(text: &[u8], row: Result<ByteRecord, Error>) -> Result<CsvLine, AllocError>
+fn line_of(
+    text: &[u8],
+    count: &mut LineCount,
+    row: Result<ByteRecord, Error>,
+) -> Result<CsvLine, AllocError>
     ensures { option_map (λ line. line.fields) (result_ok result) ≡ result_ok row }
 {
     match row {
         Ok(fields) => Ok(CsvLine {
-            number: line_number(text, &fields),
+            number: count.line_of_row(text, &fields),
             fields,
         }),
         Err(_) => Err(AllocError),
@@ -81,9 +116,10 @@ pub fn csv_lines(alloc: Global, text: &[u8]) -> Result<Vec<CsvLine>, AllocError>
         .has_headers(false)
         .flexible(true)
         .from_reader(alloc, text);
+    let mut count = LineCount::new();
     let mut lines = Vec::new(alloc);
     for row in reader.into_byte_records() {
-        let line = line_of(text, row)?;
+        let line = line_of(text, &mut count, row)?;
         lines.push(line)?;
     }
     Ok(lines)

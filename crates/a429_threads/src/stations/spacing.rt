@@ -1,13 +1,16 @@
 //! A station whose plan changes again and again.
+ghost use Rattle.a429_station.specs.Resubmitting.{GoesOn};
 
-use super::run_station;
-use crate::support::three;
+use super::{Outcome, run, setup_of};
+use crate::support::{SPACED, SPACED_FASTER, let_go};
 use a429_station::{Control, Station};
 use a429_workers::{Gate, GateFault, Point, Sent};
-use std::alloc::AllocError;
+use std::alloc::{AllocError, Global};
+use std::process::Abort;
 use std::sync::Wait;
 use std::sync::atomic::{AtomicU64, Ordering};
 use std::thread;
+use std::thread::Threads;
 use std::time::{Clock, Duration};
 
 /// A word of label 003.
@@ -23,8 +26,8 @@ const CELLS: u64 = 40;
 #[derive(Drop)]
 struct Course<'a, R: Clock> {
     rt: &'a R,
-    made: &'a AtomicU64,
-    cells: &'a AtomicU64,
+    made: AtomicU64,
+    cells: AtomicU64,
 }
 
 /// Whether a number comes up to another, within 10000 turns of a millisecond.
@@ -56,7 +59,7 @@ impl<'a, R: Clock> Gate for Course<'a, R> {
                 self.made.fetch_or(TAKEN, Ordering::SeqCst);
                 true
             }
-            Point::BeforeCell(_, cell) => comes(self.rt, self.made, marks_before(cell)),
+            Point::BeforeCell(_, cell) => comes(self.rt, &self.made, marks_before(cell)),
             Point::AfterCell(_, cell) => {
                 self.cells.store(cell.saturating_add(1), Ordering::SeqCst);
                 true
@@ -71,86 +74,105 @@ impl<'a, R: Clock> Gate for Course<'a, R> {
 #[derive(Drop)]
 struct Alternates<'a, R: Clock> {
     course: &'a Course<'a, R>,
-    table: &'a str,
-    faster: &'a str,
     published: bool,
 }
 
-impl<'a, R: Clock> Alternates<'a, R> {
-    /// Tells that a plan was published, once the word was taken, and waits until so many cells went out.
-    fn marks(&self, mark: u64, cells: u64) {
-        let course = self.course;
-        comes(course.rt, course.made, TAKEN);
-        course.made.fetch_or(mark, Ordering::SeqCst);
-        comes(course.rt, course.cells, cells);
-    }
+/// Tells by its mark that a plan was published, once the word was taken, and waits until so many cells went out.
+fn mark<R: Clock>(course: &Course<'_, R>, mark: u64, cells: u64) {
+    comes(course.rt, &course.made, TAKEN);
+    course.made.fetch_or(mark, Ordering::SeqCst);
+    comes(course.rt, &course.cells, cells);
+}
+
+/// Resubmits a table, makes its mark, and waits until so many cells went out.
+fn publish<R: Wait, C: Clock>(
+    station: &mut Station<'_, R>,
+    course: &Course<'_, C>,
+    table: &str,
+    own: u64,
+    cells: u64,
+) -> bool
+    ensures after { GoesOn station.old station.new }
+{
+    let published = station.resubmit(table.as_bytes()).is_ok();
+    mark(course, own, cells);
+    published
+}
+
+/// Resubmits the faster table and then the first, each with its mark and the number of cells that it waits for.
+fn publish_both<R: Wait, C: Clock>(
+    station: &mut Station<'_, R>,
+    course: &Course<'_, C>,
+    faster: (u64, u64),
+    first: (u64, u64),
+) -> bool
+    ensures after { GoesOn station.old station.new }
+{
+    let one = publish(station, course, SPACED_FASTER, faster.0, faster.1);
+    let other = publish(station, course, SPACED, first.0, first.1);
+    one && other
 }
 
 impl<'a, R: Wait, C: Clock> Control<R> for Alternates<'a, C> {
     fn run(&mut self, station: &mut Station<'_, R>) -> Result<(), AllocError> {
-        let first = station.resubmit(self.faster.as_bytes()).is_ok();
-        self.marks(2, CELLS);
-        let second = station.resubmit(self.table.as_bytes()).is_ok();
-        self.marks(4, 2 * CELLS);
-        let third = station.resubmit(self.faster.as_bytes()).is_ok();
-        self.marks(8, 3 * CELLS);
-        let fourth = station.resubmit(self.table.as_bytes()).is_ok();
-        self.marks(16, 0);
-        self.published = first && second && third && fourth;
+        let course = self.course;
+        let early = publish_both(station, course, (2, CELLS), (4, 2 * CELLS));
+        let late = publish_both(station, course, (8, 3 * CELLS), (16, 0));
+        self.published = early && late;
         Ok(())
     }
 }
 
-/// How many cells have the word, where they are two slots apart.
-fn count_spaced_words(sent: &[Sent]) -> Option<usize> {
+/// How many cells have a word, where those are two slots apart; else 0.
+pub fn count_spaced_words(sent: &[Sent]) -> usize {
     let mut words: usize = 0;
-    let mut earlier: Option<u64> = None;
+    // The first slot in which the next word may stand.
+    let mut next: u64 = 0;
     for cell in sent {
         if cell.word.is_none() {
             continue;
         }
-        if let Some(slot) = earlier {
-            if cell.slot < slot.saturating_add(2) {
-                return None;
-            }
+        if cell.slot < next {
+            return 0;
         }
-        earlier = Some(cell.slot);
+        next = cell.slot.saturating_add(2);
         words = words.saturating_add(1);
     }
-    Some(words)
+    words
 }
 
-#[test]
-fn words_keep_their_spacing_as_plans_change(rt: HostRuntime) {
-    let table = three(&rt, rt.alloc(), (1, 720), (1, 1440), (720, 1440));
-    let faster = three(&rt, rt.alloc(), (1, 720), (1, 720), (720, 1440));
-    let (made, cells) = (AtomicU64::new(0), AtomicU64::new(0));
+/// Runs 50 frames of the station while its plan changes. What they came to, and whether all plans were published.
+fn run_changing<R: Threads + Wait + Clock + Abort + Sync>(
+    rt: &R,
+    alloc: Global,
+) -> (Outcome, bool) {
     let course = Course {
-        rt: &rt,
-        made: &made,
-        cells: &cells,
+        rt,
+        made: AtomicU64::new(0),
+        cells: AtomicU64::new(0),
     };
     let mut control = Alternates {
         course: &course,
-        table: table.as_str(),
-        faster: faster.as_str(),
         published: false,
     };
-    let words: &[&[u32]] = &[&[WORD]];
-    let report = run_station(
-        &rt,
-        rt.alloc(),
-        table.as_str(),
-        words,
-        50,
+    let outcome = run(
+        rt,
+        alloc,
+        &setup_of(SPACED, LINE, 50),
         &course,
         &mut control,
-    )
-    .expect(&rt, "a report");
-    let sent = report.groups.get(0).copied().expect(&rt, "a group");
-    let sink = report.sinks.get(0).expect(&rt, "a sink");
+    );
+    let published = control.published;
+    let_go(control);
+    let_go(course);
+    (outcome, published)
+}
+
+const LINE: &[&[u32]] = &[&[WORD]];
+
+#[test]
+fn words_keep_their_spacing_as_plans_change(rt: HostRuntime) {
+    let (outcome, published) = run_changing(&rt, rt.alloc());
     // Each of the 50 frames has one cell of the word, of which a change of the plan may empty one.
-    let words = count_spaced_words(sink.sent());
-    assert!(rt; control.published && sent.plan == 4);
-    assert!(rt; words.is_some_and(|count| count >= 46));
+    assert!(rt; published && outcome.plan == 4 && outcome.spaced >= 46);
 }

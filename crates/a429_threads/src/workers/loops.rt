@@ -1,49 +1,45 @@
 //! The loops of a station over devices.
 ghost use Rattle.std.specs.Prelude.{◌≡◌, ◌<◌, length};
 
-use super::devices::{FailingLine, FailingSink, ShutGate};
-use super::{ends, open_workers, standard};
-use crate::support::{EVEN, FIRST, ONE, SECOND};
-use a429_equipment::Equipment;
+use super::open_workers;
+use crate::devices::{FailingLine, ShutGate, line_of, sink_of};
+use crate::ends::{Ends, open_ends};
+use crate::support::{EVEN, FIRST, ONE, SECOND, THREE, let_go};
 use a429_filter::MemoryLine;
 use a429_values::{Accept, Receiver, Transmitter};
 use a429_word::Word;
 use a429_workers::{
-    CountSink, Gate, MemorySink, OpenGate, Point, ReceiveFault, ReceiveTotals, SendFault,
-    SendTotals, WORDS, receive_all, send_frames,
+    CountSink, Gate, OpenGate, Point, ReceiveFault, ReceiveTotals, SendFault, SendTotals, WORDS,
+    receive_all, send_frames,
 };
 use std::alloc::Global;
 use std::process::Abort;
 use std::sync::Wait;
-use std::thread::join;
-
-/// The ends of a station of one receiver, one source and one group.
-fn one<R: Abort>(rt: &R, alloc: Global) -> (Receiver, Transmitter)
-    ensures { (result.0.at ≡ result.1.at) × (0 < length result.1.at.station.sources) }
-{
-    let equipment = super::read(rt, alloc, ONE);
-    let (receiver, transmitter) = ends(rt, alloc, &equipment);
-    assert!(rt; transmitter.sources() == 1);
-    (receiver, transmitter)
-}
-
-/// What the source loads once the transmitter met the receiver.
-fn load_after_meeting(transmitter: &mut Transmitter, receiver: &mut Receiver) -> Option<u32>
-    requires { (receiver.old.at ≡ transmitter.old.at) × (0 < length transmitter.old.at.station.sources) }
-{
-    transmitter.meet(receiver);
-    transmitter.load(0).map(Word::raw)
-}
+use std::thread::{Threads, join};
 
 /// Takes the words of a line in a thread of its own.
 fn take_all(
     mut receiver: Receiver,
-    mut line: MemoryLine,
+    mut line: FailingLine,
 ) -> (Receiver, Result<ReceiveTotals, ReceiveFault>)
     ensures { result.0.at ≡ receiver.at }
 {
     let answer = receive_all(&mut line, &mut receiver, 0, &OpenGate);
     (receiver, answer)
+}
+
+/// Whether a load of the first source is none, or one of the two words with its number; and that number.
+fn load_known(transmitter: &mut Transmitter) -> (bool, u64)
+    requires { 0 < length transmitter.old.at.station.sources }
+    ensures { transmitter.new.at ≡ transmitter.old.at }
+{
+    match transmitter.load_numbered(0) {
+        None => (true, 0),
+        Some((count, word)) => (
+            matches!((count, word.raw()), (1, FIRST) | (2, SECOND)),
+            count,
+        ),
+    }
 }
 
 /// Loads the source so often. Whether each load was none or one of the two words, and none went back in their order.
@@ -54,28 +50,49 @@ fn load_many(mut transmitter: Transmitter, times: u32) -> (Transmitter, bool)
     let mut last = 0;
     let mut rises = true;
     for _ in 0..times {
-        let place = match transmitter.load(0).map(Word::raw) {
-            None => 0,
-            Some(FIRST) => 1,
-            Some(SECOND) => 2,
-            Some(_) => 3,
-        };
-        rises = rises && last <= place && place < 3;
-        last = place;
+        let (known, count) = load_known(&mut transmitter);
+        rises = rises && known && last <= count;
+        last = count;
     }
     (transmitter, rises)
 }
 
-#[test]
-fn a_receiver_takes_its_line_beside_loads(rt: HostRuntime) {
-    let (receiver, transmitter) = one(&rt, rt.alloc());
-    let words = vec![in rt.alloc(); FIRST, EVEN, SECOND].expect(&rt, "memory");
-    let line = MemoryLine::from_words(words);
-    let ((mut receiver, answer), (mut transmitter, rises)) = join(
-        &rt,
+/// A receiver takes the words of a line beside a hundred loads. What it answers, whether the loads never went back, and
+/// the last load.
+fn take_beside_loads<R: Threads>(
+    rt: &R,
+    ends: Ends,
+    line: FailingLine,
+) -> (
+    Result<ReceiveTotals, ReceiveFault>,
+    bool,
+    Option<(u64, u32)>,
+) {
+    let Ends {
+        receiver,
+        transmitter,
+        ..
+    } = ends;
+    let ((receiver, answer), (transmitter, rises)) = join(
+        rt,
         || take_all(receiver, line),
         || load_many(transmitter, 100),
     );
+    let mut ends = Ends {
+        receiver,
+        transmitter,
+    };
+    ends.meet();
+    let last = ends.load();
+    let_go(ends);
+    (answer, rises, last)
+}
+
+#[test]
+fn a_receiver_takes_its_line_beside_loads(rt: HostRuntime) {
+    let ends = open_ends::<_, 41>(&rt, rt.alloc(), ONE);
+    let line = line_of(&rt, rt.alloc(), &[FIRST, EVEN, SECOND], 0);
+    let (answer, rises, last) = take_beside_loads(&rt, ends, line);
     let totals = ReceiveTotals {
         accepted: 2,
         parity: 1,
@@ -83,119 +100,167 @@ fn a_receiver_takes_its_line_beside_loads(rt: HostRuntime) {
         no_source: 0,
         spent: 0,
     };
-    assert!(rt; rises && answer == Ok(totals));
-    assert_eq!(rt;
-        load_after_meeting(&mut transmitter, &mut receiver),
-        Some(SECOND)
-    );
+    assert!(rt; rises && answer == Ok(totals) && last == Some((2, SECOND)));
+}
+
+/// What a receiver of number 7 answers to a line of two words that fails in this call, and the word that is loaded after
+/// it.
+fn take_two<R: Abort, G: Gate>(
+    rt: &R,
+    alloc: Global,
+    fails_in: u64,
+    gate: &G,
+) -> (Result<ReceiveTotals, ReceiveFault>, Option<u32>) {
+    let mut ends = open_ends::<_, 41>(rt, alloc, ONE);
+    let mut line = line_of(rt, alloc, &[FIRST, SECOND], fails_in);
+    let answer = receive_all(&mut line, &mut ends.receiver, 7, gate);
+    let_go(line);
+    ends.meet();
+    let word = ends.transmitter.load(0).map(Word::raw);
+    let_go(ends);
+    (answer, word)
 }
 
 #[test]
 fn what_was_taken_before_a_fault_stays(rt: HostRuntime) {
-    let (mut receiver, mut transmitter) = one(&rt, rt.alloc());
-    let words = vec![in rt.alloc(); FIRST, SECOND].expect(&rt, "memory");
-    let mut line = FailingLine {
-        line: MemoryLine::from_words(words),
-        fails_in: 2,
-        failures: 0,
-        ended: false,
-    };
-    let answer = receive_all(&mut line, &mut receiver, 0, &OpenGate);
-    assert!(rt; answer == Err(ReceiveFault::Source));
-    assert_eq!(rt;
-        load_after_meeting(&mut transmitter, &mut receiver),
-        Some(FIRST)
-    );
+    let (answer, word) = take_two(&rt, rt.alloc(), 2, &OpenGate);
+    assert!(rt; answer == Err(ReceiveFault::Source) && word == Some(FIRST));
 }
 
 #[test]
 fn a_shut_gate_ends_a_receiver(rt: HostRuntime) {
-    let (mut receiver, mut transmitter) = one(&rt, rt.alloc());
-    let words = vec![in rt.alloc(); FIRST, SECOND].expect(&rt, "memory");
-    let mut line = MemoryLine::from_words(words);
     let gate = ShutGate {
         at: Point::AfterAccept(7, 0),
     };
-    let answer = receive_all(&mut line, &mut receiver, 7, &gate);
-    assert!(rt; answer == Err(ReceiveFault::Gate));
-    assert_eq!(rt;
-        load_after_meeting(&mut transmitter, &mut receiver),
-        Some(FIRST)
-    );
+    let (answer, word) = take_two(&rt, rt.alloc(), 0, &gate);
+    assert!(rt; answer == Err(ReceiveFault::Gate) && word == Some(FIRST));
+}
+
+/// A line of a million words of even parity and two that are accepted.
+fn long_line<R: Abort>(rt: &R, alloc: Global) -> MemoryLine {
+    let mut words = vec![in alloc; EVEN; WORDS as usize].expect(rt, "memory");
+    for word in [FIRST, SECOND] {
+        words.push(word).expect(rt, "memory");
+    }
+    MemoryLine::from_words(words)
+}
+
+/// Whether a receiver gets that line's first accepted word back with the count of the others, and then takes the rest.
+fn takes_long_line(receiver: &mut Receiver, line: &mut MemoryLine) -> bool {
+    let (raw, parity) = match receive_all(line, receiver, 0, &OpenGate) {
+        Err(ReceiveFault::TooMuch { raw, totals }) => (raw, totals.parity),
+        _ => (0, 0),
+    };
+    let accepted = receiver.accept(raw) == Accept::Accepted(0);
+    let rest = match receive_all(line, receiver, 0, &OpenGate) {
+        Ok(totals) => totals.accepted,
+        Err(_) => 0,
+    };
+    raw == FIRST && parity == WORDS && accepted && rest == 1
 }
 
 #[test]
 fn a_line_goes_on_after_a_million_words(rt: HostRuntime) {
-    let (mut receiver, _) = one(&rt, rt.alloc());
-    let mut words = vec![in rt.alloc(); EVEN; WORDS as usize].expect(&rt, "memory");
-    words.push(FIRST).expect(&rt, "memory");
-    words.push(SECOND).expect(&rt, "memory");
-    let mut line = MemoryLine::from_words(words);
-    let Err(ReceiveFault::TooMuch { raw, totals }) = receive_all(
-        &mut line,
-        &mut receiver,
-        0,
-        &OpenGate,
-    ) else {
-        panic!(rt; "the line gave a word after a million")
-    };
-    assert!(rt; raw == FIRST && totals.parity == WORDS);
-    assert_eq!(rt; receiver.accept(raw), Accept::Accepted(0));
-    let rest = receive_all(&mut line, &mut receiver, 0, &OpenGate).expect(&rt, "the rest");
-    assert_eq!(rt; rest.accepted, 1);
+    let Ends {
+        mut receiver,
+        transmitter,
+        ..
+    } = open_ends::<_, 41>(&rt, rt.alloc(), ONE);
+    let_go(transmitter);
+    let mut line = long_line(&rt, rt.alloc());
+    let taken = takes_long_line(&mut receiver, &mut line);
+    let_go(line);
+    let_go(receiver);
+    assert!(rt; taken);
 }
 
-/// What two frames of a group come to, which sends a, b and c to a sink that fails in this call, or in none; and how
-/// many cells the sink took.
+/// What two frames of the group come to, which sends a, b and c to a sink that fails in this call; and how many cells
+/// the sink took.
 fn two_frames<R: Wait + Abort, G: Gate>(
     rt: &R,
     alloc: Global,
-    equipment: &Equipment,
     fails_in: u64,
     gate: &G,
-) -> (Result<SendTotals, SendFault>, usize)
-    requires { (length equipment.now.receivers ≡ 1) × (length equipment.now.groups ≡ 1) }
-{
-    let (_, mut transmit, planner) = open_workers(rt, alloc, equipment);
-    let mut sink = FailingSink {
-        sink: MemorySink::new(alloc),
-        fails_in,
-        failures: 0,
-    };
-    let answer = send_frames(&mut transmit, &mut sink, 0, 2, gate);
-    planner.close(rt);
-    (answer, sink.sink.sent().len())
+) -> (Result<SendTotals, SendFault>, u64) {
+    let mut workers = open_workers(rt, alloc, THREE, 0);
+    let mut sink = sink_of(alloc, fails_in);
+    let answer = send_frames(&mut workers.transmit, &mut sink, 0, 2, gate);
+    workers.close(rt);
+    let took = sink.sink.sent().len() as u64;
+    let_go(sink);
+    (answer, took)
+}
+
+/// Whether a sink that fails in this call took all cells before it.
+fn takes_until<R: Wait + Abort>(rt: &R, alloc: Global, call: u64) -> bool {
+    let (answer, took) = two_frames(rt, alloc, call, &OpenGate);
+    answer == Err(SendFault::Sink) && took == call.saturating_sub(1)
 }
 
 #[test]
 fn a_sink_takes_all_cells_before_it_fails(rt: HostRuntime) {
-    let equipment = standard(&rt, rt.alloc(), (1, 720), (1, 1440), (1, 1440));
     for call in 1u64..9 {
-        let (answer, took) = two_frames(&rt, rt.alloc(), &equipment, call, &OpenGate);
-        assert!(rt; answer == Err(SendFault::Sink));
-        assert_eq!(rt; took as u64, call.saturating_sub(1));
+        assert!(rt; takes_until(&rt, rt.alloc(), call));
     }
-    let (answer, took) = two_frames(&rt, rt.alloc(), &equipment, 0, &OpenGate);
+}
+
+#[test]
+fn a_sink_that_does_not_fail_takes_all_cells(rt: HostRuntime) {
+    let (answer, took) = two_frames(&rt, rt.alloc(), 0, &OpenGate);
     let totals = SendTotals {
         cells: 8,
         words: 0,
         plan: 0,
     };
     assert!(rt; answer == Ok(totals) && took == 8);
+}
+
+#[test]
+fn a_shut_gate_ends_a_group(rt: HostRuntime) {
     let gate = ShutGate {
         at: Point::BeforeCell(0, 3),
     };
-    let (answer, took) = two_frames(&rt, rt.alloc(), &equipment, 0, &gate);
+    let (answer, took) = two_frames(&rt, rt.alloc(), 0, &gate);
     assert!(rt; answer == Err(SendFault::Gate) && took == 3);
+}
+
+/// How many cells three frames of the group come to, by the loop and by its sink.
+fn count_cells<R: Wait + Abort>(rt: &R, alloc: Global) -> (u64, u64) {
+    let mut workers = open_workers(rt, alloc, THREE, 0);
+    let mut sink = CountSink::new();
+    let cells = match send_frames(&mut workers.transmit, &mut sink, 0, 3, &OpenGate) {
+        Ok(totals) => totals.cells,
+        Err(_) => 0,
+    };
+    workers.close(rt);
+    (cells, sink.count())
 }
 
 #[test]
 fn a_count_sink_counts(rt: HostRuntime) {
-    let equipment = standard(&rt, rt.alloc(), (1, 720), (1, 1440), (1, 1440));
-    let (_, mut transmit, planner) = open_workers(&rt, rt.alloc(), &equipment);
+    assert!(rt; count_cells(&rt, rt.alloc()) == (12, 12));
+}
+
+/// Whether the loop of a receiver comes to the end of a line of one word.
+fn hears_one<R: Abort, G: Gate>(rt: &R, alloc: Global, receiver: &mut Receiver, gate: &G) -> bool
+    ensures { receiver.new.at ≡ receiver.old.at }
+{
+    let mut line = line_of(rt, alloc, &[FIRST], 0);
+    let heard = receive_all(&mut line, receiver, 0, gate).is_ok();
+    let_go(line);
+    heard
+}
+
+/// Whether the loops of a receiver and of a group come to their ends, one after the other on the calling thread.
+pub fn loops_end_in_turn<R: Wait + Abort, G: Gate>(
+    rt: &R,
+    alloc: Global,
+    gate: &G,
+) -> (bool, bool) {
+    let mut workers = open_workers(rt, alloc, ONE, 0);
+    let heard = hears_one(rt, alloc, &mut workers.receiver, gate);
     let mut sink = CountSink::new();
-    let answer = send_frames(&mut transmit, &mut sink, 0, 3, &OpenGate);
-    planner.close(&rt);
-    assert_eq!(rt; answer.expect(&rt, "totals").cells, 12);
-    assert_eq!(rt; sink.count(), 12);
+    let sent = send_frames(&mut workers.transmit, &mut sink, 0, 1, gate).is_ok();
+    workers.close(rt);
+    (heard, sent)
 }

@@ -1,14 +1,27 @@
 //! Devices that fail in one call and go on after it, and a gate that is shut at one point.
 use a429_filter::{LineSource, MemoryLine, SourceFault};
 use a429_workers::{BusSink, Gate, GateFault, MemorySink, Point, Sent, SinkFault};
+use std::alloc::Global;
+use std::process::Abort;
 
-/// Words in memory, with a failure in the call of this number, counted from 1.
+/// Words in memory, with a failure in the call of this number, counted from 1; by 0 in none.
 #[derive(Drop)]
 pub struct FailingLine {
     pub line: MemoryLine,
     pub fails_in: u64,
     pub failures: u64,
     pub ended: bool,
+}
+
+/// The line of these words.
+pub fn line_of<R: Abort>(rt: &R, alloc: Global, words: &[u32], fails_in: u64) -> FailingLine {
+    let given = Vec::from_slice(alloc, words).expect(rt, "memory");
+    FailingLine {
+        line: MemoryLine::from_words(given),
+        fails_in,
+        failures: 0,
+        ended: false,
+    }
 }
 
 impl LineSource for FailingLine {
@@ -39,12 +52,21 @@ impl LineSource for FailingLine {
     }
 }
 
-/// A sink in memory, with a failure in the call of this number, counted from 1.
+/// A sink in memory, with a failure in the call of this number, counted from 1; by 0 in none.
 #[derive(Drop)]
 pub struct FailingSink {
     pub sink: MemorySink,
     pub fails_in: u64,
     pub failures: u64,
+}
+
+/// An empty sink.
+pub fn sink_of(alloc: Global, fails_in: u64) -> FailingSink {
+    FailingSink {
+        sink: MemorySink::new(alloc),
+        fails_in,
+        failures: 0,
+    }
 }
 
 impl BusSink for FailingSink {
