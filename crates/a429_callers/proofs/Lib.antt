@@ -8,3 +8,4 @@ pub mod Origins
 pub mod RunPlaces
 pub mod KnownWords
 pub mod Icd
+pub mod NextSends

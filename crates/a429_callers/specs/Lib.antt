@@ -3,3 +3,4 @@ pub mod Serving
 pub mod Origins
 pub mod KnownWords
 pub mod ImportedIcd
+pub mod NextSends

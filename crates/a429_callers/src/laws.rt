@@ -1,7 +1,10 @@
-//! What holds of the documents of a plan and of what is imported from them.
+//! What holds of the documents of a plan, of what is imported from them, and of the gap between two plans.
 ghost use Rattle.a429_callers.specs.ImportedIcd.{ImportedIcdIsSamePlan};
+ghost use Rattle.a429_callers.specs.NextSends.{NextSendIsAGapLater};
 
-use a429_slots::laws::plans_are_unique;
+use a429_slots::laws::{
+    plans_are_unique, plans_in_force_are_spaced, spacing_empties_first_cells_only, words_are_spaced,
+};
 
 /// If `import_table` is given what `icd_csv` answers for a table of version 2 without filters, it answers a table that is
 /// read with the same groups and outputs, in order, each with the same source and receiver, and the text of its plan is the
@@ -11,4 +14,15 @@ pub fn imported_icd_is_same_plan()
     ensures { ImportedIcdIsSamePlan }
 {
     plans_are_unique();
+}
+
+/// If a group goes on from one plan to another that has an output of the source too, and the last cell of the source by
+/// the first plan was sent, then the source is sent next just `gap_of` slots later, which is the gap that `diff` prints.
+/// No hold may empty a cell of the source meanwhile: one that has run out makes the gap longer.
+pub fn next_send_is_a_gap_later()
+    ensures { NextSendIsAGapLater }
+{
+    words_are_spaced();
+    spacing_empties_first_cells_only();
+    plans_in_force_are_spaced();
 }

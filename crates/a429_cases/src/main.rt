@@ -1,14 +1,15 @@
 //! Commands of the program `a429` that are played over files in memory, each case as data.
 //!
-//! The arguments are files. One whose name ends in `.cases` has cases: they are played, each that fails is told
+//! The arguments are files. One whose name ends in `.cases` has cases: they are played, each that fails is reported
 //! in a line, and then how many there are. Any other file is a text that the cases of later files may name. The
-//! status is 1 where a case failed.
+//! status is 1 if a case failed.
 //!
-//! How a file of cases is read stands in `data/README.md`.
+//! `data/README.md` says how a file of cases is read.
 #![tactic(auto)]
 
 mod malformed;
 mod parts;
+mod pieces;
 mod playing;
 mod rows;
 mod spelling;
@@ -28,25 +29,22 @@ fn take_file<R: Files + Print + AllocGlobal + Threads + Wait>(
     rt: &R,
     player: &mut Player<'_, R>,
     path: &str,
-) -> io::Result<()> {
-    let name = path.rsplit_once('/').map_or(path, |(_, name)| name);
-    let bytes = match fs::read(rt, path) {
-        Ok(bytes) => bytes,
-        Err(_) => return player.tell(name, Malformed::File),
+) {
+    let name = match path.rsplit_once('/') {
+        Some((_, name)) => name,
+        None => path,
     };
-    if !name.ends_with(".cases") {
-        return player.keep(name, bytes);
-    }
-    match str::from_utf8(&bytes) {
-        Ok(text) => player.play_file(name, text),
-        Err(_) => player.tell(name, Malformed::File),
+    match fs::read(rt, path) {
+        Ok(bytes) if name.ends_with(".cases") => player.play_file(name, &bytes),
+        Ok(bytes) => player.keep(name, bytes),
+        Err(_) => player.report(name, Err(Malformed::File)),
     }
 }
 
 fn main(rt: HostRuntime) -> io::Result<ExitCode> {
     let mut player = Player::new(&rt);
     for path in env::args(&rt)?.skip(1) {
-        take_file(&rt, &mut player, &path)?;
+        take_file(&rt, &mut player, &path);
     }
     Ok(ExitCode::from(u8::from(player.has_failed())))
 }

@@ -1,90 +1,120 @@
-//! The bytes of a part of a case.
+//! The bytes of a part of a case, and the files that have them.
 
 use crate::malformed::Malformed;
-use crate::spelling::{apply_edits, bytes_of_spelling};
-use a429_cli::{FileFault, FileReader, MemoryFiles};
+use crate::pieces::{name_and_rest, number_before};
+use crate::spelling::{apply_edits, bytes_of_spelling, push_spelling};
+use a429_cli::MemoryFiles;
 use std::alloc::{AllocError, Global};
 
-/// The first line of a text, and the lines below it, if there are any.
-pub fn head_and_lines(text: &str) -> (&str, Option<&str>) {
-    match text.split_once('\n') {
-        Some((head, lines)) => (head, Some(lines)),
-        None => (text, None),
+/// The bytes of the file of this name.
+fn find_file<'a>(files: &'a MemoryFiles, name: &str) -> Option<&'a [u8]> {
+    for file in &files.files {
+        if file.0.as_str() == name {
+            return Some(file.1.as_slice());
+        }
     }
+    None
 }
 
-/// The name with which a head begins, and what stands behind it.
-pub fn name_and_rest(head: &str) -> (&str, &str) {
-    head.split_once(' ').unwrap_or((head, ""))
+/// Keeps a file under its name, which no other file may have.
+pub fn keep_file(
+    alloc: Global,
+    files: &mut MemoryFiles,
+    name: &str,
+    bytes: Vec<u8>,
+) -> Result<(), Malformed> {
+    if find_file(files, name).is_some() {
+        return Err(Malformed::Twice);
+    }
+    Ok(push_file(alloc, files, name, bytes)?)
 }
 
-/// Whether there is a file of this name.
-pub fn has_file(files: &MemoryFiles, name: &str) -> bool {
-    files.files.iter().any(|file| file.0.as_str() == name)
+fn push_file(
+    alloc: Global,
+    files: &mut MemoryFiles,
+    name: &str,
+    bytes: Vec<u8>,
+) -> Result<(), AllocError> {
+    let name = String::from_str(alloc, name)?;
+    files.files.push((name, bytes))?;
+    Ok(())
 }
 
-/// The bytes of a part: its lines, or what `how` says, the rest of its head.
-pub fn part_bytes(
+/// Keeps a text that cases share: its name and its form are in the head.
+pub fn share_text(
     alloc: Global,
     texts: &mut MemoryFiles,
-    how: &str,
+    head: &str,
+    lines: Option<&str>,
+) -> Result<(), Malformed> {
+    let (name, form) = name_and_rest(head);
+    let bytes = part_bytes(alloc, texts, form, lines)?;
+    keep_file(alloc, texts, name, bytes)
+}
+
+/// The bytes of a part: its lines, or what the form says that is in its head.
+pub fn part_bytes(
+    alloc: Global,
+    texts: &MemoryFiles,
+    form: &str,
     lines: Option<&str>,
 ) -> Result<Vec<u8>, Malformed> {
-    if how.is_empty() {
-        return lines_bytes(alloc, lines);
+    match lines {
+        None => form_bytes(alloc, texts, form),
+        Some(lines) if form.is_empty() => lines_bytes(alloc, lines),
+        Some(_) => Err(Malformed::Part),
     }
-    if lines.is_some() {
-        return Err(Malformed::Lines);
+}
+
+/// The bytes of a part without lines.
+fn form_bytes(alloc: Global, texts: &MemoryFiles, form: &str) -> Result<Vec<u8>, Malformed> {
+    if let Some(text) = form.strip_prefix("is ") {
+        return shared_bytes(alloc, texts, text);
     }
-    if let Some(text) = how.strip_prefix("has ") {
-        return bytes_of_spelling(alloc, text);
-    }
-    match how.strip_prefix("is ") {
-        Some(text) => shared_bytes(alloc, texts, text),
+    match form.strip_prefix("has ") {
+        Some(text) => bytes_of_spelling(alloc, text),
+        None if form.is_empty() => Ok(Vec::new(alloc)),
         None => Err(Malformed::Part),
     }
 }
 
-/// The bytes of lines, each with its line feed, but for those that begin with a backslash: what stands behind it
-/// is spelled, and no line feed follows.
-fn lines_bytes(alloc: Global, lines: Option<&str>) -> Result<Vec<u8>, Malformed> {
+/// The bytes of lines, each with its line feed. The rest of a line that begins with a backslash is spelled, and no line
+/// feed follows it.
+fn lines_bytes(alloc: Global, lines: &str) -> Result<Vec<u8>, Malformed> {
     let mut bytes = Vec::new(alloc);
-    let Some(lines) = lines else {
-        return Ok(bytes);
-    };
     for line in lines.split('\n') {
-        match line.strip_prefix('\\') {
-            Some(text) => bytes.extend_from_slice(&bytes_of_spelling(alloc, text)?)?,
-            None => {
-                bytes.extend_from_slice(line.as_bytes())?;
-                bytes.push(b'\n')?;
-            }
-        }
+        push_line(alloc, &mut bytes, line)?;
     }
     Ok(bytes)
 }
 
-/// The bytes of `NAME`, of `NAME with EDITS`, or of `N bytes of NAME`.
-fn shared_bytes(alloc: Global, texts: &mut MemoryFiles, text: &str) -> Result<Vec<u8>, Malformed> {
-    if let Some((name, edits)) = text.split_once(" with ") {
-        return apply_edits(alloc, bytes_of_name(texts, name)?, edits);
+fn push_line(alloc: Global, bytes: &mut Vec<u8>, line: &str) -> Result<(), Malformed> {
+    if let Some(text) = line.strip_prefix('\\') {
+        return push_spelling(alloc, bytes, text);
     }
-    let Some((count, name)) = text.split_once(" bytes of ") else {
-        return bytes_of_name(texts, text);
-    };
-    let bytes = bytes_of_name(texts, name)?;
-    let count = match count.parse::<usize>() {
-        Ok(count) => count,
-        Err(_) => return Err(Malformed::Bytes),
-    };
-    let first = bytes.get(..count).ok_or(Malformed::Bytes)?;
-    Ok(Vec::from_slice(alloc, first)?)
+    bytes.extend_from_slice(line.as_bytes())?;
+    Ok(bytes.extend_from_slice(b"\n")?)
 }
 
-fn bytes_of_name(texts: &mut MemoryFiles, name: &str) -> Result<Vec<u8>, Malformed> {
-    match texts.read(name) {
-        Ok(bytes) => Ok(bytes),
-        Err(FileFault::Refused) => Err(Malformed::Name),
-        Err(FileFault::NoMemory) => Err(Malformed::Memory(AllocError)),
+/// The bytes of `NAME`, of `NAME with EDITS`, or of `N bytes of NAME`.
+fn shared_bytes(alloc: Global, texts: &MemoryFiles, text: &str) -> Result<Vec<u8>, Malformed> {
+    if let Some((name, edits)) = text.split_once(" with ") {
+        return match find_file(texts, name) {
+            Some(bytes) => apply_edits(alloc, bytes, edits),
+            None => Err(Malformed::Name),
+        };
     }
+    let found = match number_before(text, " bytes of ") {
+        Some((count, name)) => first_bytes(texts, count, name),
+        None => find_file(texts, text),
+    };
+    match found {
+        Some(bytes) => Ok(Vec::from_slice(alloc, bytes)?),
+        None => Err(Malformed::Name),
+    }
+}
+
+/// So many bytes of a text, from its beginning.
+fn first_bytes<'a>(texts: &'a MemoryFiles, count: usize, name: &str) -> Option<&'a [u8]> {
+    find_file(texts, name)?.get(..count)
 }

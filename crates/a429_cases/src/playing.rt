@@ -1,11 +1,11 @@
-//! Cases are played one by one, and those that fail are told.
+//! Cases are played one by one, and those that fail are reported.
 
 use crate::malformed::Malformed;
-use crate::parts::{has_file, head_and_lines, name_and_rest, part_bytes};
-use crate::rows::{fill_row, has_place, row_range};
-use crate::stated::{Case, Outcome};
+use crate::parts::{keep_file, share_text};
+use crate::pieces::head_and_lines;
+use crate::rows::{fill_row, has_place};
+use crate::stated::Case;
 use a429_cli::MemoryFiles;
-use std::io;
 use std::sync::Wait;
 use std::thread::Threads;
 
@@ -30,126 +30,113 @@ impl<'a, R: Print + AllocGlobal + Threads + Wait> Player<'a, R> {
         }
     }
 
-    /// Whether a case failed, of any file.
+    /// Whether a case of any file failed, or what is to be printed was not.
     pub fn has_failed(&self) -> bool {
         self.failures > 0
     }
 
-    /// Keeps a text under a name, for the cases of all files to come.
-    pub fn keep(&mut self, name: &str, bytes: Vec<u8>) -> io::Result<()> {
-        let name = String::from_str(self.rt.alloc(), name)?;
-        self.texts.files.push((name, bytes))?;
-        Ok(())
+    /// Keeps a text under its name for the cases of later files.
+    pub fn keep(&mut self, name: &str, bytes: Vec<u8>) {
+        let kept = keep_file(self.rt.alloc(), &mut self.texts, name, bytes);
+        self.report(name, kept);
     }
 
-    /// Plays the cases of a file, and tells how many there are. The texts that it shares are forgotten then.
-    pub fn play_file(&mut self, name: &str, text: &str) -> io::Result<()> {
+    /// Plays the cases of a file, and prints how many there are. The texts that it shares are forgotten then.
+    pub fn play_file(&mut self, name: &str, bytes: &[u8]) {
         let kept = self.texts.files.len();
         self.cases = 0;
-        for (at, section) in text.split("\n=== ").enumerate() {
-            let section = section.trim_end_matches('\n');
-            if at == 0 {
-                self.read_head(name, section)?;
-            } else {
-                self.play_section(section)?;
-            }
+        match str::from_utf8(bytes) {
+            Ok(text) => self.play_text(name, text),
+            Err(_) => self.report(name, Err(Malformed::File)),
         }
         self.texts.files.truncate(kept);
         let (rt, cases) = (self.rt, self.cases);
-        println!(rt; "{name}: {cases} cases")
-    }
-
-    /// Before the first case stand comments alone.
-    fn read_head(&mut self, name: &str, head: &str) -> io::Result<()> {
-        if head
-            .split('\n')
-            .any(|line| !line.is_empty() && !line.starts_with('#'))
-        {
-            return self.tell(name, Malformed::Head);
+        if println!(rt; "{name}: {cases} cases").is_err() {
+            self.failures = self.failures.saturating_add(1);
         }
-        Ok(())
     }
 
-    /// A section is a text that is shared, a case, or a case for each of its rows.
-    fn play_section(&mut self, section: &str) -> io::Result<()> {
+    fn play_text(&mut self, name: &str, text: &str) {
+        let mut sections = text.split("\n=== ");
+        if let Some(head) = sections.next() {
+            self.report(name, check_head(head));
+        }
+        for section in sections {
+            self.play_section(section.trim_end_matches('\n'));
+        }
+    }
+
+    /// A section is a text that is shared, or cases.
+    fn play_section(&mut self, section: &str) {
         let (title, text) = head_and_lines(section);
-        if let Some(head) = title.strip_prefix("text ") {
-            return self.share(head, text);
-        }
-        let text = text.unwrap_or("");
-        match text.split_once("\n--- rows\n") {
-            Some((text, rows)) => self.play_rows(title, text, rows),
-            None => self.play(title, text),
-        }
-    }
-
-    fn share(&mut self, head: &str, lines: Option<&str>) -> io::Result<()> {
-        let (name, how) = name_and_rest(head);
-        if has_file(&self.texts, name) {
-            return self.tell(head, Malformed::Twice);
-        }
-        match part_bytes(self.rt.alloc(), &mut self.texts, how, lines) {
-            Ok(bytes) => self.keep(name, bytes),
-            Err(malformed) => self.tell(head, malformed),
+        match title.strip_prefix("text ") {
+            Some(head) => {
+                let shared = share_text(self.rt.alloc(), &mut self.texts, head, text);
+                self.report(head, shared);
+            }
+            None => self.play_cases(title, text.unwrap_or("")),
         }
     }
 
-    fn play_rows(&mut self, title: &str, text: &str, rows: &str) -> io::Result<()> {
-        // A part behind the rows would be taken for rows.
-        if !has_place(text) || rows.split('\n').any(|row| row.starts_with("--- ")) {
-            return self.tell(title, Malformed::Rows);
-        }
-        let alloc = self.rt.alloc();
+    /// Plays one case, or a case for each of its rows.
+    fn play_cases(&mut self, title: &str, text: &str) {
+        let Some((text, rows)) = text.split_once("\n--- rows\n") else {
+            return self.play(title, "", text);
+        };
         for row in rows.split('\n') {
-            match row_range(row) {
-                Some((first, last, rest)) if first <= last => {
-                    for number in first..=last {
-                        let row = format!(in alloc; "{number}{rest}")?;
-                        self.play_row(title, text, &row)?;
-                    }
-                }
-                Some(_) => self.tell(title, Malformed::Rows)?,
-                None if row.is_empty() => (),
-                None => self.play_row(title, text, row)?,
-            }
+            self.play_row(title, text, row);
         }
-        Ok(())
     }
 
-    fn play_row(&mut self, title: &str, text: &str, row: &str) -> io::Result<()> {
-        let alloc = self.rt.alloc();
-        let title = format!(in alloc; "{title}: {row}")?;
-        let text = fill_row(alloc, text, row)?;
-        self.play(&title, &text)
+    fn play_row(&mut self, title: &str, text: &str, row: &str) {
+        // A part below the rows would be taken for a row.
+        if row.starts_with("--- ") || !has_place(text) {
+            return self.report(title, Err(Malformed::Rows));
+        }
+        match fill_row(self.rt.alloc(), text, row) {
+            Ok(text) => self.play(title, row, text.as_str()),
+            Err(_) => self.report(title, Err(Malformed::Memory)),
+        }
     }
 
-    /// Plays a case, and tells of it where it fails.
-    fn play(&mut self, title: &str, text: &str) -> io::Result<()> {
-        let alloc = self.rt.alloc();
+    /// Plays a case, and reports it if it fails.
+    fn play(&mut self, title: &str, row: &str, text: &str) {
         self.cases = self.cases.saturating_add(1);
-        match Case::of(alloc, &mut self.texts, text) {
-            Err(malformed) => self.tell(title, malformed),
-            Ok(mut case) => {
-                let outcome = case.play(self.rt);
-                if case.is_met(&outcome) {
-                    return Ok(());
-                }
-                self.tell_outcome(title, &outcome)
-            }
+        let mut case = Case::empty(self.rt.alloc());
+        match case.read(self.rt.alloc(), &self.texts, text) {
+            Ok(()) => self.play_read(title, row, &mut case),
+            Err(malformed) => self.fail(title, row, malformed),
         }
     }
 
-    /// Tells what is wrong with a case, or a file of cases.
-    pub fn tell(&mut self, title: &str, malformed: Malformed) -> io::Result<()> {
-        self.failures = self.failures.saturating_add(1);
-        let rt = self.rt;
-        println!(rt; "{title}: {malformed}")
+    fn play_read(&mut self, title: &str, row: &str, case: &mut Case<'_>) {
+        case.play(self.rt);
+        if !case.is_met() {
+            self.failures = self.failures.saturating_add(1);
+            case.print_outcome(self.rt, title, row);
+        }
     }
 
-    fn tell_outcome(&mut self, title: &str, outcome: &Outcome) -> io::Result<()> {
-        self.failures = self.failures.saturating_add(1);
-        let (rt, status) = (self.rt, outcome.status);
-        let (out, err) = (outcome.out.escape_ascii(), outcome.err.escape_ascii());
-        println!(rt; "{title}: status {status}, wrote \"{out}\", on standard error \"{err}\"")
+    /// Reports what is wrong with a section or a file, if anything is.
+    pub fn report(&mut self, title: &str, done: Result<(), Malformed>) {
+        if let Err(malformed) = done {
+            self.fail(title, "", malformed);
+        }
     }
+
+    fn fail(&mut self, title: &str, row: &str, malformed: Malformed) {
+        self.failures = self.failures.saturating_add(1);
+        let (rt, text) = (self.rt, malformed.text());
+        let _ = println!(rt; "{title} {row}: {text}");
+    }
+}
+
+/// Before the first case are comments alone.
+fn check_head(head: &str) -> Result<(), Malformed> {
+    for line in head.split('\n') {
+        if !line.is_empty() && !line.starts_with('#') {
+            return Err(Malformed::Head);
+        }
+    }
+    Ok(())
 }

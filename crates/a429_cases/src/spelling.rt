@@ -1,51 +1,59 @@
 //! Texts that are spelled in one line, and their edits.
 
 use crate::malformed::Malformed;
+use crate::pieces::{cut_around, number_before};
 use std::alloc::{AllocError, Global};
 
 /// The bytes that a spelled text means: `;` is a line feed, `\xHH` the byte with these hexadecimal digits, and
-/// `N of PART` is so many copies of the part.
+/// `N of PART` is the part N times.
 pub fn bytes_of_spelling(alloc: Global, text: &str) -> Result<Vec<u8>, Malformed> {
-    let (count, part) = count_and_part(text);
-    let mut once = Vec::new(alloc);
-    for (at, piece) in part.split('\\').enumerate() {
-        if at == 0 {
-            push_plain(&mut once, piece)?;
-        } else {
-            push_escaped(&mut once, piece)?;
-        }
-    }
-    Ok(copies(alloc, &once, count)?)
+    let mut bytes = Vec::new(alloc);
+    push_spelling(alloc, &mut bytes, text)?;
+    Ok(bytes)
 }
 
-/// So many copies of a text: as many thousands as there are, and the rest one by one.
-fn copies(alloc: Global, text: &[u8], count: usize) -> Result<Vec<u8>, AllocError> {
-    let mut thousand = Vec::new(alloc);
+/// Appends the bytes that a spelled text means.
+pub fn push_spelling(alloc: Global, bytes: &mut Vec<u8>, text: &str) -> Result<(), Malformed> {
+    let Some((count, part)) = number_before(text, " of ") else {
+        return push_once(bytes, text);
+    };
     if count >= 1000 {
-        push_copies(&mut thousand, text, 1000)?;
+        push_thousands(alloc, bytes, part, count / 1000)?;
     }
-    let mut all = Vec::new(alloc);
-    push_copies(&mut all, &thousand, count / 1000)?;
-    push_copies(&mut all, text, count % 1000)?;
-    Ok(all)
+    push_times(bytes, part, count % 1000)
 }
 
-fn push_copies(bytes: &mut Vec<u8>, text: &[u8], count: usize) -> Result<(), AllocError> {
+/// Appends a part, a thousand times for each of the count: a text of 16 MiB is not spelled byte by byte.
+fn push_thousands(
+    alloc: Global,
+    bytes: &mut Vec<u8>,
+    part: &str,
+    count: usize,
+) -> Result<(), Malformed> {
+    let mut thousand = Vec::new(alloc);
+    push_times(&mut thousand, part, 1000)?;
     for _ in 0..count {
-        bytes.extend_from_slice(text)?;
+        bytes.extend_from_slice(&thousand)?;
     }
     Ok(())
 }
 
-/// How many copies a spelled text asks for, and of what.
-fn count_and_part(text: &str) -> (usize, &str) {
-    let Some((count, part)) = text.split_once(" of ") else {
-        return (1, text);
-    };
-    match count.parse::<usize>() {
-        Ok(count) => (count, part),
-        Err(_) => (1, text),
+fn push_times(bytes: &mut Vec<u8>, part: &str, count: usize) -> Result<(), Malformed> {
+    for _ in 0..count {
+        push_once(bytes, part)?;
     }
+    Ok(())
+}
+
+fn push_once(bytes: &mut Vec<u8>, part: &str) -> Result<(), Malformed> {
+    let mut pieces = part.split('\\');
+    if let Some(plain) = pieces.next() {
+        push_plain(bytes, plain)?;
+    }
+    for piece in pieces {
+        push_escaped(bytes, piece)?;
+    }
+    Ok(())
 }
 
 fn push_plain(bytes: &mut Vec<u8>, text: &str) -> Result<(), AllocError> {
@@ -55,44 +63,44 @@ fn push_plain(bytes: &mut Vec<u8>, text: &str) -> Result<(), AllocError> {
     Ok(())
 }
 
-/// Appends what stands behind a backslash.
+/// Appends the byte after a backslash, and the text after its digits.
 fn push_escaped(bytes: &mut Vec<u8>, text: &str) -> Result<(), Malformed> {
-    let digits = text.strip_prefix('x').ok_or(Malformed::Escape)?;
-    let (digits, rest) = digits.split_at_checked(2).ok_or(Malformed::Escape)?;
-    match u8::from_str_radix(digits, 16) {
-        Ok(byte) => bytes.push(byte)?,
-        Err(_) => return Err(Malformed::Escape),
-    }
-    push_plain(bytes, rest)?;
-    Ok(())
+    let Some((digits, rest)) = text.split_at_checked(3) else {
+        return Err(Malformed::Escape);
+    };
+    let Some(digits) = digits.strip_prefix('x') else {
+        return Err(Malformed::Escape);
+    };
+    let Ok(byte) = u8::from_str_radix(digits, 16) else {
+        return Err(Malformed::Escape);
+    };
+    bytes.extend_from_slice(&[byte])?;
+    Ok(push_plain(bytes, rest)?)
 }
 
-/// The bytes before and after the first place where a part stands.
-pub fn cut_around<'a>(bytes: &'a [u8], part: &[u8]) -> Option<(&'a [u8], &'a [u8])> {
-    if part.is_empty() {
-        return None;
-    }
-    let at = bytes.windows(part.len()).position(|window| window == part)?;
-    let (front, back) = bytes.split_at_checked(at)?;
-    Some((front, back.strip_prefix(part)?))
-}
-
-/// A text after edits `OLD => NEW`, which stand between bars. Each is made where OLD first stands.
-pub fn apply_edits(alloc: Global, text: Vec<u8>, edits: &str) -> Result<Vec<u8>, Malformed> {
-    let mut text = text;
+/// A text after edits `OLD => NEW`, with bars between them. Each is made at the first OLD.
+pub fn apply_edits(alloc: Global, text: &[u8], edits: &str) -> Result<Vec<u8>, Malformed> {
+    let mut all = Vec::from_slice(alloc, text)?;
     for edit in edits.split('|') {
-        text = apply_edit(alloc, &text, edit)?;
+        all = apply_edit(alloc, &all, edit)?;
     }
-    Ok(text)
+    Ok(all)
 }
 
 fn apply_edit(alloc: Global, text: &[u8], edit: &str) -> Result<Vec<u8>, Malformed> {
-    let (old, new) = edit.split_once("=>").ok_or(Malformed::Edit)?;
+    let Some((old, new)) = edit.split_once("=>") else {
+        return Err(Malformed::Edit);
+    };
     let old = bytes_of_spelling(alloc, old.trim())?;
-    let new = bytes_of_spelling(alloc, new.trim())?;
-    let (front, back) = cut_around(text, &old).ok_or(Malformed::Edit)?;
+    match cut_around(text, &old) {
+        Some((front, back)) => put_between(alloc, front, new.trim(), back),
+        None => Err(Malformed::Edit),
+    }
+}
+
+fn put_between(alloc: Global, front: &[u8], new: &str, back: &[u8]) -> Result<Vec<u8>, Malformed> {
     let mut all = Vec::from_slice(alloc, front)?;
-    all.extend_from_slice(&new)?;
+    push_spelling(alloc, &mut all, new)?;
     all.extend_from_slice(back)?;
     Ok(all)
 }

@@ -1,10 +1,10 @@
 //! What a case states, and whether a command does it.
 
 use crate::malformed::Malformed;
-use crate::parts::{has_file, head_and_lines, name_and_rest, part_bytes};
+use crate::parts::{keep_file, part_bytes};
+use crate::pieces::{cut_around, head_and_lines, name_and_rest};
 use crate::rows::has_place;
-use crate::spelling::cut_around;
-use crate::words::{CaseWords, words_of};
+use crate::words::CaseWords;
 use a429_cli::{CountedWriter, MemoryFiles, NoProgress, run_program};
 use a429_hints::HintLines;
 use std::alloc::Global;
@@ -13,207 +13,216 @@ use std::thread::Threads;
 
 /// What a command wrote, and its status.
 #[derive(Drop)]
-pub struct Outcome {
-    pub out: Vec<u8>,
-    pub err: Vec<u8>,
-    pub status: u8,
-}
-
-/// What a command is to write to standard output, and its status.
-#[derive(Drop)]
-struct Wanted {
+struct Outcome {
+    out: CountedWriter<Vec<u8>>,
+    err: CountedWriter<Vec<u8>>,
     status: u8,
-    start: Vec<u8>,
-    /// What the output ends with, where anything may stand behind the start.
-    end: Option<Vec<u8>>,
 }
 
-impl Wanted {
-    /// A line `...` stands for anything.
-    fn of(alloc: Global, status: u8, text: Vec<u8>) -> Result<Wanted, Malformed> {
-        let Some((start, end)) = cut_around(&text, b"...\n") else {
-            return Ok(Wanted {
-                status,
-                start: text,
-                end: None,
-            });
-        };
-        Ok(Wanted {
-            status,
-            start: Vec::from_slice(alloc, start)?,
-            end: Some(Vec::from_slice(alloc, end)?),
-        })
-    }
-
-    fn is_met(&self, out: &[u8], status: u8) -> bool {
-        let written = match (&self.end, out.strip_prefix(&self.start)) {
-            (Some(end), Some(rest)) => rest.ends_with(end),
-            (None, Some(rest)) => rest.is_empty(),
-            (_, None) => false,
-        };
-        written && status == self.status
-    }
-}
-
-/// The parts of a case, as far as they are read.
-#[derive(Drop)]
-struct Parts {
-    files: MemoryFiles,
-    out: Option<Wanted>,
-    err: Option<Vec<u8>>,
-}
-
-impl Parts {
-    fn take(
-        &mut self,
-        alloc: Global,
-        texts: &mut MemoryFiles,
-        part: &str,
-    ) -> Result<(), Malformed> {
-        let (head, lines) = head_and_lines(part);
-        let (name, how) = name_and_rest(head);
-        match name {
-            "rows" => Err(Malformed::Rows),
-            "out" => {
-                let (status, how) = name_and_rest(how);
-                let text = part_bytes(alloc, texts, how, lines)?;
-                self.take_out(alloc, status, text)
-            }
-            "err" => {
-                let text = part_bytes(alloc, texts, how, lines)?;
-                self.take_err(text)
-            }
-            _ => {
-                let bytes = part_bytes(alloc, texts, how, lines)?;
-                self.take_file(alloc, name.trim_matches('"'), bytes)
-            }
-        }
-    }
-
-    fn take_out(&mut self, alloc: Global, status: &str, text: Vec<u8>) -> Result<(), Malformed> {
-        if self.out.is_some() {
-            return Err(Malformed::Twice);
-        }
-        let status = match status.parse::<u8>() {
-            Ok(status) => status,
-            Err(_) => return Err(Malformed::Status),
-        };
-        self.out = Some(Wanted::of(alloc, status, text)?);
-        Ok(())
-    }
-
-    fn take_err(&mut self, text: Vec<u8>) -> Result<(), Malformed> {
-        if self.err.is_some() {
-            return Err(Malformed::Twice);
-        }
-        self.err = Some(text);
-        Ok(())
-    }
-
-    fn take_file(&mut self, alloc: Global, name: &str, bytes: Vec<u8>) -> Result<(), Malformed> {
-        if has_file(&self.files, name) {
-            return Err(Malformed::Twice);
-        }
-        let name = String::from_str(alloc, name)?;
-        self.files.files.push((name, bytes))?;
-        Ok(())
-    }
-}
-
-/// The words of a command, its files, and what it is to write.
+/// The words of a command, its files, what it is to write, and what it wrote.
 #[derive(Drop)]
 pub struct Case<'a> {
-    words: Vec<&'a str>,
+    words: CaseWords<'a>,
     files: MemoryFiles,
-    wanted: Wanted,
-    /// Texts, one a line, that stand in what is written to standard error. None where hints are all that may be
-    /// written there, and only behind a refusal.
+    /// The status. None if no part `out` is read so far.
+    status: Option<u8>,
+    /// Standard output. A line `...` is for anything.
+    out: Vec<u8>,
+    /// Texts, one a line, that are found on standard error. None if hints are all that may be there, and these only
+    /// with a refusal.
     err: Option<Vec<u8>>,
+    outcome: Outcome,
 }
 
 impl<'a> Case<'a> {
-    /// The case that a text states, from the line of its words on.
-    pub fn of(
-        alloc: Global,
-        texts: &mut MemoryFiles,
-        text: &'a str,
-    ) -> Result<Case<'a>, Malformed> {
-        if has_place(text) {
-            return Err(Malformed::Rows);
-        }
-        let (words, all) = text.split_once("\n--- ").ok_or(Malformed::NoOut)?;
-        let words = words_of(alloc, words)?;
-        let mut parts = Parts {
+    /// A case that is not read yet.
+    pub fn empty(alloc: Global) -> Case<'a> {
+        Case {
+            words: CaseWords {
+                words: Vec::new(alloc),
+            },
             files: MemoryFiles {
                 files: Vec::new(alloc),
             },
-            out: None,
+            status: None,
+            out: Vec::new(alloc),
             err: None,
-        };
-        for part in all.split("\n--- ") {
-            parts.take(alloc, texts, part)?;
+            outcome: Outcome {
+                out: CountedWriter::new(Vec::new(alloc)),
+                err: CountedWriter::new(Vec::new(alloc)),
+                status: 0,
+            },
         }
-        let Parts { files, out, err } = parts;
-        let wanted = out.ok_or(Malformed::NoOut)?;
-        Ok(Case {
-            words,
-            files,
-            wanted,
-            err,
-        })
+    }
+
+    /// Reads the case that a text states, from the line of its words on.
+    pub fn read(
+        &mut self,
+        alloc: Global,
+        texts: &MemoryFiles,
+        text: &'a str,
+    ) -> Result<(), Malformed> {
+        if has_place(text) {
+            return Err(Malformed::Rows);
+        }
+        let Some((words, parts)) = text.split_once("\n--- ") else {
+            return Err(Malformed::NoOut);
+        };
+        self.words.read(words)?;
+        self.take_parts(alloc, texts, parts)?;
+        match self.status {
+            Some(_) => Ok(()),
+            None => Err(Malformed::NoOut),
+        }
+    }
+
+    fn take_parts(
+        &mut self,
+        alloc: Global,
+        texts: &MemoryFiles,
+        parts: &str,
+    ) -> Result<(), Malformed> {
+        for part in parts.split("\n--- ") {
+            self.take(alloc, texts, part)?;
+        }
+        Ok(())
+    }
+
+    fn take(&mut self, alloc: Global, texts: &MemoryFiles, part: &str) -> Result<(), Malformed> {
+        let (head, lines) = head_and_lines(part);
+        let (name, form) = name_and_rest(head);
+        if name == "out" {
+            let (status, form) = name_and_rest(form);
+            self.take_status(status)?;
+            self.out = part_bytes(alloc, texts, form, lines)?;
+            return Ok(());
+        }
+        let bytes = part_bytes(alloc, texts, form, lines)?;
+        self.take_file(alloc, name, bytes)
+    }
+
+    /// Takes the status of the one part `out`.
+    fn take_status(&mut self, status: &str) -> Result<(), Malformed> {
+        if self.status.is_some() {
+            return Err(Malformed::Twice);
+        }
+        match status.parse::<u8>() {
+            Ok(status) => self.status = Some(status),
+            Err(_) => return Err(Malformed::Status),
+        }
+        Ok(())
+    }
+
+    /// Takes the texts of the part `err`, or a file.
+    fn take_file(&mut self, alloc: Global, name: &str, bytes: Vec<u8>) -> Result<(), Malformed> {
+        match name {
+            "rows" => Err(Malformed::Rows),
+            "err" if self.err.is_some() => Err(Malformed::Twice),
+            "err" => {
+                self.err = Some(bytes);
+                Ok(())
+            }
+            _ => keep_file(alloc, &mut self.files, name.trim_matches('"'), bytes),
+        }
     }
 
     /// Runs the program on the words of the case.
-    pub fn play<R: AllocGlobal + Threads + Wait>(&mut self, rt: &R) -> Outcome {
-        let alloc = rt.alloc();
-        let mut out = CountedWriter::new(Vec::new(alloc));
-        let mut err = CountedWriter::new(Vec::new(alloc));
-        let Case { words, files, .. } = self;
-        let given = CaseWords { words };
-        let status = run_program(
-            rt,
-            &given,
-            &HintLines,
+    pub fn play<R: AllocGlobal + Threads + Wait>(&mut self, rt: &R) {
+        let Case {
+            words,
             files,
-            &mut out,
-            &mut err,
-            &NoProgress,
+            outcome,
+            ..
+        } = self;
+        let Outcome { out, err, status } = outcome;
+        *status = run_program(rt, &*words, &HintLines, files, out, err, &NoProgress);
+    }
+
+    /// Whether the program did what the case states.
+    pub fn is_met(&self) -> bool {
+        self.status == Some(self.outcome.status)
+            && is_output(&self.out, &self.outcome.out.writer)
+            && self.has_errors()
+    }
+
+    /// Whether standard error has what the case states.
+    fn has_errors(&self) -> bool {
+        let err = text_of(&self.outcome.err.writer);
+        if let Some(texts) = &self.err {
+            return !err.is_empty() && has_lines(err, text_of(texts));
+        }
+        err.is_empty() || self.may_hint() && are_hints(err)
+    }
+
+    fn may_hint(&self) -> bool {
+        self.status == Some(1) || refuses_a_table(text_of(&self.outcome.out.writer))
+    }
+
+    /// Prints what the program did, in one line.
+    pub fn print_outcome<R: Print>(&self, rt: &R, title: &str, row: &str) {
+        let Outcome { out, err, status } = &self.outcome;
+        let (out, err) = (out.writer.escape_ascii(), err.writer.escape_ascii());
+        let _ = println!(rt;
+            "{title} {row}: status {status}, wrote \"{out}\", on standard error \"{err}\""
         );
-        let CountedWriter { writer: out, .. } = out;
-        let CountedWriter { writer: err, .. } = err;
-        Outcome { out, err, status }
-    }
-
-    /// Whether this is what the case states.
-    pub fn is_met(&self, outcome: &Outcome) -> bool {
-        self.wanted.is_met(&outcome.out, outcome.status) && self.has_told(outcome)
-    }
-
-    fn has_told(&self, outcome: &Outcome) -> bool {
-        let err = outcome.err.as_slice();
-        let Some(texts) = &self.err else {
-            let may_tell = self.wanted.status == 1 || refuses_a_table(&outcome.out);
-            return err.is_empty() || may_tell && are_hints(err);
-        };
-        !err.is_empty()
-            && texts
-                .split(|byte| *byte == b'\n')
-                .all(|text| text.is_empty() || cut_around(err, text).is_some())
     }
 }
 
-/// Whether a line says that a table is refused, a further one while the command goes on.
-fn refuses_a_table(out: &[u8]) -> bool {
-    out.split(|byte| *byte == b'\n').any(|line| {
-        line.starts_with(b"refused table ")
-            || line.starts_with(b"refused unfit ")
-            || line.starts_with(b"refused too-many-buses ")
-            || line.starts_with(b"refused station-differs")
-    })
+/// Whether an output is the stated one. A line `...` is for anything.
+fn is_output(stated: &[u8], out: &[u8]) -> bool {
+    let Some((start, end)) = cut_around(stated, b"...\n") else {
+        return stated == out;
+    };
+    match out.strip_prefix(start) {
+        Some(rest) => rest.ends_with(end),
+        None => false,
+    }
+}
+
+/// An output as text. One that is no text has no line that a case asks for.
+fn text_of(bytes: &[u8]) -> &str {
+    match str::from_utf8(bytes) {
+        Ok(text) => text,
+        Err(_) => "not UTF-8",
+    }
+}
+
+/// Whether each line of the texts is found in a text.
+fn has_lines(text: &str, lines: &str) -> bool {
+    for line in lines.split('\n') {
+        if !text.contains(line) {
+            return false;
+        }
+    }
+    true
+}
+
+/// How a line begins that refuses a table, a further one while the command goes on.
+static TABLE_REFUSALS: [&str; 4] = [
+    "refused table ",
+    "refused unfit ",
+    "refused too-many-buses ",
+    "refused station-differs",
+];
+
+/// Whether a line refuses a table.
+fn refuses_a_table(out: &str) -> bool {
+    for line in out.split('\n') {
+        for start in &TABLE_REFUSALS {
+            if line.starts_with(*start) {
+                return true;
+            }
+        }
+    }
+    false
 }
 
 /// Whether each line is a hint.
-fn are_hints(err: &[u8]) -> bool {
-    err.split(|byte| *byte == b'\n')
-        .all(|line| line.is_empty() || line.starts_with(b"a429: "))
+fn are_hints(err: &str) -> bool {
+    for line in err.split('\n') {
+        if !line.is_empty() && !line.starts_with("a429: ") {
+            return false;
+        }
+    }
+    true
 }

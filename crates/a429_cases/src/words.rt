@@ -3,14 +3,26 @@
 ghost use Rattle.std.specs.Io.{WritesAtMost};
 
 use crate::malformed::Malformed;
+use crate::pieces::number_before;
 use a429_cli::Arguments;
-use std::alloc::{AllocError, Global};
+use std::alloc::AllocError;
 use std::env::FillError;
 
 /// The words of a case, given as those of a program are: at place 0 stands the program's name.
-#[derive(Clone, Copy)]
+#[derive(Drop)]
 pub struct CaseWords<'a> {
-    pub words: &'a [&'a str],
+    pub words: Vec<&'a str>,
+}
+
+impl<'a> CaseWords<'a> {
+    /// Reads the words of a line. Between quotes is one word, which may have spaces or be empty; `N*WORD` is the word N
+    /// times.
+    pub fn read(&mut self, line: &'a str) -> Result<(), Malformed> {
+        if line.contains('\n') || line.starts_with("--- ") {
+            return Err(Malformed::Words);
+        }
+        Ok(push_words(&mut self.words, line)?)
+    }
 }
 
 impl Arguments for CaseWords<'_> {
@@ -36,40 +48,36 @@ impl Arguments for CaseWords<'_> {
     }
 }
 
-/// The words of a line. Between quotes stands one word, which may have spaces or be empty; `N*WORD` is so many.
-pub fn words_of<'a>(alloc: Global, line: &'a str) -> Result<Vec<&'a str>, Malformed> {
-    if line.contains('\n') || line.starts_with("--- ") {
-        return Err(Malformed::Words);
-    }
-    let mut words = Vec::new(alloc);
-    for (at, piece) in line.split('"').enumerate() {
-        if at % 2 == 1 {
+fn push_words<'a>(words: &mut Vec<&'a str>, line: &'a str) -> Result<(), AllocError> {
+    let mut is_quoted = false;
+    for piece in line.split('"') {
+        if is_quoted {
             words.push(piece)?;
         } else {
-            push_words(&mut words, piece)?;
+            push_plain(words, piece)?;
         }
+        is_quoted = !is_quoted;
     }
-    Ok(words)
+    Ok(())
 }
 
-fn push_words<'a>(words: &mut Vec<&'a str>, text: &'a str) -> Result<(), AllocError> {
+/// Appends words with spaces between them.
+fn push_plain<'a>(words: &mut Vec<&'a str>, text: &'a str) -> Result<(), AllocError> {
     for word in text.split(' ') {
         if !word.is_empty() {
-            let (count, word) = count_and_word(word);
-            for _ in 0..count {
-                words.push(word)?;
-            }
+            push_word(words, word)?;
         }
     }
     Ok(())
 }
 
-fn count_and_word(word: &str) -> (usize, &str) {
-    let Some((count, rest)) = word.split_once('*') else {
-        return (1, word);
+fn push_word<'a>(words: &mut Vec<&'a str>, word: &'a str) -> Result<(), AllocError> {
+    let (count, word) = match number_before(word, "*") {
+        Some(both) => both,
+        None => (1, word),
     };
-    match count.parse::<usize>() {
-        Ok(count) => (count, rest),
-        Err(_) => (1, word),
+    for _ in 0..count {
+        words.push(word)?;
     }
+    Ok(())
 }

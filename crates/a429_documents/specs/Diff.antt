@@ -1,5 +1,5 @@
 -- What changes from one proposal to another: the text of `diff` (profile: diff text).
-use Rattle.std.specs.Prelude.{ℕ, ◌+◌, ◌-◌, ◌^◌, ◌==◌, ◌&&◌, Bool, true, false, List, [], ◌∷◌, ◌++◌, Option, None, Some, codes, if◌then◌else◌, is_some, length, max, position, slice_get, slice_index_or}
+use Rattle.std.specs.Prelude.{ℕ, ◌+◌, ◌-◌, ◌^◌, ◌==◌, ◌&&◌, Bool, true, false, List, [], ◌∷◌, ◌++◌, Option, None, Some, codes, if◌then◌else◌, is_some, length, nat_lt, position, slice_get, slice_index_or}
 use Rattle.std.specs.Fmt.{decimal}
 use Rattle.std.specs.List.{flat_map}
 use Rattle.std.specs.Option.{option_map_or}
@@ -80,11 +80,13 @@ abbrev pub same_output : Placed → Placed → Bool
 same_output x y =
     x.place.period == y.place.period && (x.place.bus == y.place.bus && (x.place.offset == y.place.offset && same_hold x.limits.hold y.limits.hold))
 
--- The greatest number of slots from the last send of a source by the first plan to its next by the second, if neither holds its words: the period
--- of the first, or the least spacing of the second if that is more, and the period of the second, less one. A word that is accepted before the
--- change goes out in so many slots at most, it or a later one, also by a plan that holds words.
+-- how many slots after its last cell by the first plan an output has its first by the second (`gap` of `a429_slots`)
+abbrev pub cell_gap : Placed → Placed → ℕ
+cell_gap x y = 2 ^ x.place.period - x.place.offset + y.place.offset
+
+-- how many slots after its last send it is sent next (law `next_send_is_a_gap_later` of `a429_callers`): in that cell, unless spacing empties it
 abbrev pub gap_of : Placed → Placed → ℕ
-gap_of x y = max (2 ^ x.place.period) y.limits.spacing + 2 ^ y.place.period - 1
+gap_of x y = if nat_lt (cell_gap x y) y.limits.spacing then cell_gap x y + 2 ^ y.place.period else cell_gap x y
 
 abbrev pub hold_field : Option ℕ → Option ℕ → List ℕ
 hold_field from to = if same_hold from to then [] else codes " hold " ++ (limit_text from ++ (codes " to " ++ limit_text to))

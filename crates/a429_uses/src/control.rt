@@ -1,5 +1,5 @@
 //! What the calling thread does while a station runs.
-ghost use Rattle.std.specs.Prelude.{◌≡◌};
+ghost use Rattle.std.specs.Prelude.{◌≡◌, IfOk};
 ghost use Rattle.std.specs.List.{AllByRecursion};
 ghost use Rattle.a429_workers.specs.Transmitting.{IsKnownPlan};
 
@@ -7,12 +7,26 @@ use crate::pacing::Marks;
 use a429_board::Planner;
 use a429_equipment::Equipment;
 use a429_equipment::laws::one_station_is_equality;
-use a429_slots::plan;
+use a429_slots::{OUTPUTS, Plan, plan};
 use a429_table::read_equipment;
 use anyhow::bail;
 use std::alloc::Global;
 use std::sync::Wait;
 use std::sync::atomic::Ordering;
+
+/// The plan of a further table of the station. Refused if the table has a fault or no plan, is of another station, or
+/// memory is refused.
+fn further_plan(alloc: Global, station: &Equipment, table: &[u8]) -> anyhow::Result<Plan<OUTPUTS>>
+    ensures { IfOk result (IsKnownPlan station.now) }
+{
+    one_station_is_equality();
+    let next = read_equipment(alloc, table)?;
+    if !station.same_station(&next) {
+        bail!("the table is of another station");
+    }
+    let _sound = next.rate();
+    Ok(plan(alloc, &next)?)
+}
 
 /// Publishes the plan of a further table of the station, which the group takes at its next frame, and answers the plan's
 /// number. Refused if the table has a fault or no plan, is of another station, or memory is refused: then no plan is
@@ -28,13 +42,7 @@ pub fn publish<R: Wait>(
     ensures plans { AllByRecursion (IsKnownPlan station.now) planner.new.list }
     ensures board { planner.new.book ≡ planner.old.book }
 {
-    one_station_is_equality();
-    let next = read_equipment(alloc, table)?;
-    if !station.same_station(&next) {
-        bail!("the table is of another station");
-    }
-    let _sound = next.rate();
-    let plan = plan(alloc, &next)?;
+    let plan = further_plan(alloc, station, table)?;
     Ok(planner.publish(rt, plan)?)
 }
 

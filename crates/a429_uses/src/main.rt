@@ -23,6 +23,9 @@
 //! | `showing.rt` | what else this program prints | nothing |
 #![tactic(auto)]
 
+ghost use Rattle.std.specs.Prelude.{◌≡◌, ◌<◌, [], length};
+ghost use Rattle.a429_uses.specs.Histories.{items_of};
+
 mod bus;
 mod calls;
 mod control;
@@ -40,13 +43,17 @@ use crate::line::HexLine;
 use crate::pacing::{LateStart, Marks};
 use crate::showing::{show_alone, show_answers, show_started};
 use crate::station::run_printing;
+use a429_equipment::Equipment;
 use a429_table::read_equipment;
 use anyhow::ensure;
 use std::env::Env;
 use std::fs::Files;
-use std::io::BufReader;
+use std::io::{BufRead, BufReader, Write};
 use std::process::ExitCode;
-use std::{env, fs};
+use std::sync::Wait;
+use std::thread::Threads;
+use std::time::Clock;
+use std::{env, fs, io};
 
 const USAGE: &str = "usage: a429_uses TABLE NEXT FRAMES WORDS < LINES";
 
@@ -59,13 +66,19 @@ struct UseArguments {
     words: u64,
 }
 
+/// The words of the command line, with the program's name.
+fn given_words<R: Env + AllocGlobal>(rt: &R) -> io::Result<Vec<String>> {
+    let mut words = Vec::new(rt.alloc());
+    for word in env::args(rt)? {
+        words.push(word)?;
+    }
+    Ok(words)
+}
+
 /// Reads the command line and the tables. None if the words of the command line are others than these four.
 fn read_arguments<R: Env + Files + AllocGlobal>(rt: &R) -> anyhow::Result<Option<UseArguments>> {
-    let mut words = env::args(rt)?.skip(1);
-    let (Some(table), Some(next)) = (words.next(), words.next()) else {
-        return Ok(None);
-    };
-    let (Some(frames), Some(count), None) = (words.next(), words.next(), words.next()) else {
+    let words = given_words(rt)?;
+    let [_, table, next, frames, count] = words.as_slice() else {
         return Ok(None);
     };
     let (Ok(frames), Ok(words)) = (frames.parse(), count.parse()) else {
@@ -79,9 +92,48 @@ fn read_arguments<R: Env + Files + AllocGlobal>(rt: &R) -> anyhow::Result<Option
     }))
 }
 
+/// Runs the station of a table on two devices, and prints what its threads answered.
+fn run_devices<
+    R: Print + AllocGlobal + Clock + Threads + Wait + Sync,
+    I: BufRead + Send + Drop,
+    W: Write + Send + Drop,
+>(
+    rt: &R,
+    request: &UseArguments,
+    equipment: &Equipment,
+    line: &mut HexLine<I>,
+    bus: &mut PrintBus<W>,
+) -> anyhow::Result<()>
+    requires receiver { length equipment.now.receivers ≡ 1 }
+    requires group { 0 < length equipment.now.groups }
+    requires begin { items_of bus.old.taken ≡ [] }
+{
+    let marks = Marks::none();
+    let gate = LateStart {
+        rt,
+        words: request.words,
+        marks: &marks,
+    };
+    let control = PublishControl {
+        table: &request.next,
+        marks: &marks,
+    };
+    let done = run_printing(
+        rt,
+        rt.alloc(),
+        equipment,
+        line,
+        bus,
+        request.frames,
+        &gate,
+        &control,
+    )?;
+    show_answers(rt, done)
+}
+
 fn main(rt: HostRuntime) -> anyhow::Result<ExitCode> {
     let Some(request) = read_arguments(&rt)? else {
-        eprintln!(rt; "{USAGE}")?;
+        rt.eprintln(USAGE)?;
         return Ok(ExitCode::from(2));
     };
     let equipment = read_equipment(rt.alloc(), &request.table)?;
@@ -92,28 +144,8 @@ fn main(rt: HostRuntime) -> anyhow::Result<ExitCode> {
     );
     show_alone(&rt, &request.table)?;
     show_started(&rt, &equipment)?;
-    let marks = Marks::none();
-    let gate = LateStart {
-        rt: &rt,
-        words: request.words,
-        marks: &marks,
-    };
-    let control = PublishControl {
-        table: &request.next,
-        marks: &marks,
-    };
     let mut line = HexLine::new(BufReader::new(rt.alloc(), rt.reader())?);
     let mut bus = PrintBus::new(rt.stdout());
-    let done = run_printing(
-        &rt,
-        rt.alloc(),
-        &equipment,
-        &mut line,
-        &mut bus,
-        request.frames,
-        &gate,
-        &control,
-    )?;
-    show_answers(&rt, done)?;
+    run_devices(&rt, &request, &equipment, &mut line, &mut bus)?;
     Ok(ExitCode::SUCCESS)
 }

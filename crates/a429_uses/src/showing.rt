@@ -2,17 +2,19 @@
 ghost use Rattle.std.specs.Prelude.{◌≡◌, ◌<◌, length};
 
 use crate::calls::{plan_table, simulate, slot_of};
+use crate::listening::LineCount;
 use crate::started::run_all;
 use crate::station::StationAnswers;
 use a429_core::{Answer, Event};
 use a429_equipment::Equipment;
 use a429_filter::{LineSource, MemoryLine};
 use a429_line::write_slot;
-use a429_slots::{OUTPUTS, Proposal};
-use a429_word::{Label, Word};
-use a429_workers::MemorySink;
-use anyhow::Context;
+use a429_slots::{OUTPUTS, Plan, Proposal};
+use a429_word::Label;
+use a429_workers::{MemorySink, SendTotals};
+use anyhow::bail;
 use std::alloc::Global;
+use std::io;
 use std::sync::Wait;
 use std::thread::Threads;
 
@@ -21,6 +23,28 @@ fn line_of_one_word(alloc: Global) -> anyhow::Result<MemoryLine> {
     let mut symbols = Vec::from_array(alloc, slot_of(Label::new(0o203), 8000)?)?;
     symbols.extend_from_slice(&write_slot(None))?;
     Ok(MemoryLine::from_symbols(alloc, &symbols)?)
+}
+
+/// Prints a number after its name.
+fn show_number<R: Print>(rt: &R, name: &str, number: u64) -> io::Result<()> {
+    println!(rt; "{name} {number}")
+}
+
+/// Prints what the machine answered to an event.
+fn show_answer<R: Print>(rt: &R, answer: Answer) -> io::Result<()> {
+    match answer {
+        Answer::Accepted { source } => show_number(rt, "simulated accepted", source as u64),
+        Answer::Sent { bus, slot, word } => {
+            let raw = match word {
+                Some(word) => word.raw(),
+                None => 0,
+            };
+            println!(rt; "simulated bus {bus} slot {slot} word {raw:08x}")
+        }
+        Answer::Changed { plan } => show_number(rt, "simulated changed", plan),
+        Answer::Published { plan } => show_number(rt, "simulated published", plan),
+        Answer::Refused(refusal) => println!(rt; "simulated refused {refusal}"),
+    }
 }
 
 /// Prints what the machine answers when a word comes in and a frame goes out.
@@ -36,30 +60,15 @@ fn show_simulation<R: Print + AllocGlobal>(
         Event::Cell { group: 0 },
         Event::Frame { group: 0 },
     ]?;
-    for answer in simulate(rt.alloc(), proposal, events)? {
-        match answer {
-            Answer::Accepted { source } => println!(rt; "simulated accepted {source}")?,
-            Answer::Sent { bus, slot, word } => {
-                println!(rt;
-                    "simulated bus {bus} slot {slot} word {:08x}",
-                    word.map_or(0, Word::raw)
-                )?
-            }
-            Answer::Changed { plan } => println!(rt; "simulated changed {plan}")?,
-            Answer::Published { plan } => println!(rt; "simulated published {plan}")?,
-            Answer::Refused(refusal) => println!(rt; "simulated refused {refusal}")?,
-        }
+    let answers = simulate(rt.alloc(), proposal, events)?;
+    for answer in &answers {
+        show_answer(rt, *answer)?;
     }
     Ok(())
 }
 
-/// Prints what the calls without threads answer for a table.
-pub fn show_alone<R: Print + AllocGlobal>(rt: &R, table: &[u8]) -> anyhow::Result<()> {
-    if let Some(raw) = line_of_one_word(rt.alloc())?.next()? {
-        println!(rt; "slot has {raw:08x}")?;
-    }
-    let proposal = plan_table(rt.alloc(), table).context("the table has no plan")?;
-    let plan = proposal.plan();
+/// Prints the buses and the slots of each group.
+fn show_plan<R: Print>(rt: &R, plan: &Plan<OUTPUTS>) -> io::Result<()> {
     for group in 0..plan.groups() {
         let slots = plan.group(group);
         println!(rt;
@@ -68,6 +77,25 @@ pub fn show_alone<R: Print + AllocGlobal>(rt: &R, table: &[u8]) -> anyhow::Resul
             slots.frame()
         )?;
     }
+    Ok(())
+}
+
+/// Prints the word that a reader finds in a slot.
+fn show_slot<R: Print + AllocGlobal>(rt: &R) -> anyhow::Result<()> {
+    let mut line = line_of_one_word(rt.alloc())?;
+    if let Some(raw) = line.next()? {
+        println!(rt; "slot has {raw:08x}")?;
+    }
+    Ok(())
+}
+
+/// Prints what the calls without threads answer for a table.
+pub fn show_alone<R: Print + AllocGlobal>(rt: &R, table: &[u8]) -> anyhow::Result<()> {
+    show_slot(rt)?;
+    let Some(proposal) = plan_table(rt.alloc(), table) else {
+        bail!("the table has no plan");
+    };
+    show_plan(rt, proposal.plan())?;
     show_simulation(rt, proposal)
 }
 
@@ -79,16 +107,25 @@ pub fn show_started<R: Print + AllocGlobal + Threads + Wait>(
     requires receivers { length equipment.now.receivers ≡ 1 }
     requires groups { length equipment.now.groups ≡ 1 }
 {
-    let lines = vec![in rt.alloc(); line_of_one_word(rt.alloc())?]?;
-    let buses = vec![in rt.alloc(); MemorySink::new(rt.alloc())]?;
-    let report = run_all(rt, rt.alloc(), equipment, lines, buses, 1)?;
+    let alloc = rt.alloc();
+    let lines = vec![in alloc; line_of_one_word(alloc)?]?;
+    let buses = vec![in alloc; MemorySink::new(alloc)]?;
+    let report = run_all(rt, alloc, equipment, lines, buses, 1)?;
     for totals in &report.receivers {
-        println!(rt; "started accepted {}", totals.accepted)?;
+        show_number(rt, "started accepted", totals.accepted)?;
     }
     for totals in &report.groups {
-        println!(rt; "started cells {}", totals.cells)?;
+        show_number(rt, "started cells", totals.cells)?;
     }
     Ok(())
+}
+
+/// Prints the number under which the further plan was published, or why it was not.
+fn show_published<R: Print>(rt: &R, published: anyhow::Result<u64>) -> io::Result<()> {
+    match published {
+        Ok(number) => show_number(rt, "published", number),
+        Err(fault) => println!(rt; "refused {fault}"),
+    }
 }
 
 /// Prints what the threads of a station answered. The error is that of a thread.
@@ -98,16 +135,10 @@ pub fn show_answers<R: Print>(rt: &R, done: StationAnswers) -> anyhow::Result<()
         sent,
         published,
     } = done;
-    match published {
-        Ok(number) => println!(rt; "published {number}")?,
-        Err(fault) => println!(rt; "refused {fault}")?,
-    }
-    let heard = heard?;
-    println!(rt; "accepted {} refused {}", heard.accepted, heard.refused)?;
-    let sent = sent?;
-    println!(rt;
-        "cells {} words {} plan {}",
-        sent.cells, sent.words, sent.plan
-    )?;
+    show_published(rt, published)?;
+    let LineCount { accepted, refused } = heard?;
+    println!(rt; "accepted {accepted} refused {refused}")?;
+    let SendTotals { cells, words, plan } = sent?;
+    println!(rt; "cells {cells} words {words} plan {plan}")?;
     Ok(())
 }

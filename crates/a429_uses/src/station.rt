@@ -1,5 +1,5 @@
 //! A station of one receiver and one group on threads.
-ghost use Rattle.std.specs.Prelude.{◌≡◌, ◌<◌, [], All, IfOk, IfSome, length};
+ghost use Rattle.std.specs.Prelude.{◌≡◌, ◌<◌, ◌∷◌, [], All, IfOk, IfSome, length};
 ghost use Rattle.std.specs.List.{AllByRecursion};
 ghost use Rattle.a429_slots.specs.Planned.{IsPlanOf};
 ghost use Rattle.a429_board.specs.Lists.{beginner};
@@ -18,8 +18,8 @@ use a429_board::{Board, Planner, Watcher};
 use a429_equipment::laws::numbers_in_range;
 use a429_equipment::{COUNT_BITS, Equipment, SOURCES};
 use a429_filter::LineSource;
-use a429_slots::plan;
-use a429_values::{Hub, Receiver, Transmitter};
+use a429_slots::{OUTPUTS, Plan, plan};
+use a429_values::{Hub, HubFault, Receiver, Transmitter};
 use a429_workers::{BusSink, Gate, SendFault, SendTotals, Transmit, send_frames};
 use anyhow::bail;
 use std::alloc::Global;
@@ -36,7 +36,7 @@ pub struct StationAnswers {
 }
 
 /// Opens the current values of a station: the ends of its receiver and of its first group.
-fn open_values(alloc: Global, equipment: &Equipment) -> anyhow::Result<(Receiver, Transmitter)>
+fn open_values(alloc: Global, equipment: &Equipment) -> Result<(Receiver, Transmitter), HubFault>
     requires receiver { 0 < length equipment.now.receivers }
     requires group { 0 < length equipment.now.groups }
     ensures { IfOk result (λ ends. AreFresh equipment.now ends.0 ends.1) }
@@ -74,6 +74,28 @@ fn open_group(
     Ok(Transmit::open(alloc, transmitter, watcher, 0, 0)?)
 }
 
+/// Opens a board that begins with a plan, and the group's transmitter at slot 0 on it.
+fn open_board<R: Wait>(
+    rt: &R,
+    alloc: Global,
+    plan: Plan<OUTPUTS>,
+    transmitter: Transmitter,
+) -> anyhow::Result<(Transmit, Planner)>
+    requires number { (transmitter.number ≡ 0) × (transmitter.loads ≡ []) }
+    requires group { 0 < length plan.groups }
+    ensures begun { IfOk result (λ ends. GroupIsBegun transmitter ends.1 ends.0) }
+    ensures plans { IfOk result (λ ends. ends.1.list ≡ plan ∷ []) }
+{
+    let (planner, mut watchers) = Board::open(rt, alloc, plan, 1)?;
+    match open_group(alloc, transmitter, &mut watchers, &planner) {
+        Ok(transmit) => Ok((transmit, planner)),
+        Err(fault) => {
+            planner.close(rt);
+            Err(fault)
+        }
+    }
+}
+
 /// The ends of a station of one receiver and one group.
 struct StationEnds {
     receiver: Receiver,
@@ -94,18 +116,12 @@ fn open_station<R: Wait>(
     let _sound = equipment.rate();
     let plan = plan(alloc, equipment)?;
     let (receiver, transmitter) = open_values(alloc, equipment)?;
-    let (planner, mut watchers) = Board::open(rt, alloc, plan, 1)?;
-    match open_group(alloc, transmitter, &mut watchers, &planner) {
-        Ok(transmit) => Ok(StationEnds {
-            receiver,
-            transmit,
-            planner,
-        }),
-        Err(fault) => {
-            planner.close(rt);
-            Err(fault)
-        }
-    }
+    let (transmit, planner) = open_board(rt, alloc, plan, transmitter)?;
+    Ok(StationEnds {
+        receiver,
+        transmit,
+        planner,
+    })
 }
 
 /// Sends so many frames of a group.

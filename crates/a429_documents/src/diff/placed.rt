@@ -97,12 +97,16 @@ pub fn are_same(x: &PlacedOutput, y: &PlacedOutput) -> bool
         && have_same_hold(x, y)
 }
 
-/// The greatest number of slots from the last send of an output to its next, if a plan follows that has it at the
-/// second place.
+/// How many slots after its last send a source is sent next, if a plan with the second output follows one with the
+/// first, and no hold has run out.
 pub fn gap(x: &PlacedOutput, y: &PlacedOutput) -> u64
     ensures { result ≡ gap_of x.now y.now }
 {
-    let period = u64::from(x.place.period.slots());
-    let spacing = u64::from(y.limits.spacing);
-    period.max(spacing) + u64::from(y.place.period.slots()) - 1
+    let left = x.place.period.slots().saturating_sub(x.place.offset);
+    let first = u64::from(left) + u64::from(y.place.offset);
+    if first < u64::from(y.limits.spacing) {
+        first + u64::from(y.place.period.slots())
+    } else {
+        first
+    }
 }

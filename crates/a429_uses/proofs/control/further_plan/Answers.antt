@@ -1,0 +1,12 @@
+use Rattle.std.proofs.Common.{rules, ◌≡◌, true, List, length, ap}
+use Rattle.a429_equipment.specs.SameStation.{same_station}
+use Rattle.a429_equipment.specs.declared.rows.SourceRow.{SourceRow}
+use Rattle.a429_workers.proofs.Known.{plan_known}
+use Rattle.a429_uses.proofs.control.further_plan.Goals as goal
+
+pub returns : goal.returns
+returns c =
+    let t = c.args.station.now in
+    let same : same_station t c.in_ok-next.next ≡ true = search rules in
+    let sources = ((c.one_station_is_equality.ensures t c.in_ok-next.next).0 same).1 in
+    plan_known t c.in_ok-next.next c.in_ok-plan.field-0 (ap (λ (s : List SourceRow). length s) sources) c.rate-sound.ensures.sound c.in_ok-plan.ensures.planned
