@@ -1,1 +1,3 @@
 pub mod ToTheEnd
+pub mod AllWords
+pub mod RequestAnswers

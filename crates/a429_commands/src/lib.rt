@@ -1,5 +1,5 @@
-//! A caller of commands that concludes from what they promise, and tests of commands whose readers refuse files or whose
-//! writers fail, of what a run tells while it works, and of the program on words of its own.
+//! Callers of commands and of the program that conclude from what they promise, and tests of commands whose readers
+//! refuse files or whose writers fail, of what a run tells while it works, and of the program on words of its own.
 #![tactic(auto)]
 
 #[cfg(test)]
@@ -13,3 +13,4 @@ mod progress;
 pub mod replays;
 #[cfg(test)]
 mod support;
+pub mod words;

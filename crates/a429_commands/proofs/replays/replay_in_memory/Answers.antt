@@ -1,9 +1,10 @@
-use Rattle.std.proofs.Common.{rules, ◌≡◌, ◌∙◌, ◌++◌, ℕ, List, [], refl, sym, subst, ap}
+use Rattle.std.proofs.Common.{rules, ◌≡◌, ◌∙◌, ℕ, [], refl, ap}
 use Rattle.std.specs.declared.vec.Vec.{Vec}
 use Rattle.std.specs.declared.alloc.Global.{Global}
 use Rattle.a429_console.specs.MemoryFile.{file_of}
 use Rattle.a429_console.specs.Requests.{Command, Replay}
 use Rattle.a429_cli.specs.Replies.{IsReplyOrMemory}
+use Rattle.a429_commands.proofs.RequestAnswers.{all_is_put}
 use Rattle.a429_commands.proofs.ToTheEnd.{played_to_the_end}
 use Rattle.a429_commands.proofs.replays.replay_in_memory.Goals as goal
 
@@ -11,9 +12,9 @@ pub returns-clause-replied : goal.returns-clause-replied
 returns-clause-replied c =
     let told = c.command-status.ensures.replied (Replay c.args.table.now c.args.script.now [])
     (c.plain_words_ask.ensures (Command (Replay c.args.table.now c.args.script.now [])) (c.requires.table, c.requires.script, tt)) refl (search rules) in
-    let old : c.new-out.result.writer.items ≡ [] = ap (λ (v : Vec ℕ Global). v.items) c.new-out.ensures.writer ∙ c.new.ensures.items in
-    let new : c.command-status.new.out.writer.items ≡ told.0 = told.2 ∙ ap (λ (xs : List ℕ). xs ++ told.0) old in
-    subst (λ (bs : List ℕ). IsReplyOrMemory (file_of c.args.files.now.files.items) (Replay c.args.table.now c.args.script.now []) c.command-status.result bs) (sym new) told.1
+    let none : c.new-out.result.writer.items ≡ [] = ap (λ (v : Vec ℕ Global). v.items) c.new-out.ensures.writer ∙ c.new.ensures.items in
+    all_is_put (IsReplyOrMemory (file_of c.args.files.now.files.items) (Replay c.args.table.now c.args.script.now [])) c.command-status.result c.new-out.result.writer.items
+    c.command-status.new.out.writer.items none told
 
 pub returns-clause-done : goal.returns-clause-done
 returns-clause-done c done =

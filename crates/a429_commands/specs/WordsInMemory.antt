@@ -1,0 +1,28 @@
+-- Words in memory, given to the program.
+use Rattle.std.specs.Prelude.{◌≡◌, ◌⊎◌, ℕ, List, Option, Some, None, drop, slice_get}
+use Rattle.std.specs.List.{AllByRecursion}
+use Rattle.std.specs.Str.{IsUtf8}
+use Rattle.a429_console.specs.Ends.{IsMistakeTold, Writing}
+use Rattle.a429_cli.specs.ProgramRuns.{IsDoneOrRefused, Reader}
+
+-- the word at this place has just these bytes
+abbrev pub IsWordAt : List (List ℕ) → ℕ → List ℕ → Type 0
+IsWordAt words place bytes = slice_get words place ≡ Some bytes
+
+-- there is no word at this place
+abbrev pub HasNoWordAt : List (List ℕ) → ℕ → Type 0
+HasNoWordAt words place = slice_get words place ≡ None
+
+-- the words that follow the path of the program, in order
+abbrev pub after_path : List (List ℕ) → List (List ℕ)
+after_path words = drop 1 words
+
+-- each word is UTF-8
+abbrev pub AreTexts : List (List ℕ) → Type 0
+AreTexts words = AllByRecursion IsUtf8 words
+
+-- the words that follow the path, all of them and unaltered, went to the command that the first of them names, or memory was refused; or they are not
+-- all UTF-8, which is a mistake
+abbrev pub ProgramGetsItsWords : {X Y : Type 0} → List (List ℕ) → Reader → (((List ℕ → Option (List ℕ)) → Type 0) → Type 0) → Writing X → Writing Y → ℕ → Type 0
+ProgramGetsItsWords words reader Reads out err status =
+    IsDoneOrRefused (after_path words) reader Reads out err status ⊎ ((¬ (AreTexts (after_path words))) × IsMistakeTold out err status)
