@@ -9,3 +9,4 @@ pub mod RunPlaces
 pub mod KnownWords
 pub mod Icd
 pub mod NextSends
+pub mod ChangesExample

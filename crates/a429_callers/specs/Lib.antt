@@ -4,3 +4,4 @@ pub mod Origins
 pub mod KnownWords
 pub mod ImportedIcd
 pub mod NextSends
+pub mod ChangesExample

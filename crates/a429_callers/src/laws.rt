@@ -1,4 +1,5 @@
 //! What holds of the documents of a plan, of what is imported from them, and of the gap between two plans.
+ghost use Rattle.a429_callers.specs.ChangesExample.{MeetsPremisesOfAChange};
 ghost use Rattle.a429_callers.specs.ImportedIcd.{ImportedIcdIsSamePlan};
 ghost use Rattle.a429_callers.specs.NextSends.{NextSendIsAGapLater};
 
@@ -26,3 +27,8 @@ pub fn next_send_is_a_gap_later()
     spacing_empties_first_cells_only();
     plans_in_force_are_spaced();
 }
+
+/// What the laws of one change suppose can be met, also by a change to a plan with another period.
+pub fn laws_of_a_change_apply()
+    ensures { MeetsPremisesOfAChange }
+{}
