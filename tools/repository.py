@@ -16,9 +16,8 @@ class Crate:
     def __init__(self, line):
         head, _, uses = line.partition(":")
         self.line = line
-        self.name, *words = head.split()
+        self.name = head.split()[0]
         self.uses = uses.split()
-        self.is_archive = "staticlib" in words
         self.folder = os.path.join(ROOT, "crates", self.name)
         self.is_program = os.path.isfile(os.path.join(self.folder, "src", "main.rt"))
         # the statements of a library, which are all that a proof above it reads
@@ -117,4 +116,4 @@ def rattle_words(name, jobs):
         words += ["-L", "dependency=" + os.path.dirname(crates()[use].statements)]
     words += ["--antt-project", os.path.join(kit(), "rattle", "logic", "antt-project.json")]
     words += ["--logic-built", os.path.join(kit(), "logic_built"), "--jobs", str(jobs), "--links", name + "="]
-    return words + (["--crate-type", "staticlib"] if crate.is_archive else [])
+    return words
