@@ -329,7 +329,7 @@ fn document(table: &Table) -> Result<Vec<Vec<String>>, Fault> {
                 slots_us(table.rate, placed.period).to_string(),
                 output.min_us.to_string(),
                 output.max_us.to_string(),
-                "none".into(),
+                String::new(),
                 (output.min_us * table.rate).div_ceil(36_000_000).to_string(),
                 slots_us(table.rate, placed.period + 1).to_string(),
             ]);
@@ -338,15 +338,21 @@ fn document(table: &Table) -> Result<Vec<Vec<String>>, Fault> {
     Ok(rows)
 }
 
+/// A field in columns.
+fn shown(field: &str) -> &str {
+    if field.is_empty() { "-" } else { field }
+}
+
 fn columns_text(rows: &[Vec<String>]) -> Result<String, Fault> {
-    let widths: Vec<usize> = (0..COLUMNS.len()).map(|at| rows.iter().map(|row| row[at].len()).max().unwrap_or(0)).collect();
+    let columns = rows.first().map_or(0, Vec::len);
+    let widths: Vec<usize> = (0..columns).map(|at| rows.iter().map(|row| shown(&row[at]).len()).max().unwrap_or(0)).collect();
     let mut text = String::new();
     for row in rows {
         let (last, fields) = row.split_last().ok_or("no field")?;
         for (field, width) in fields.iter().zip(&widths) {
-            write!(text, "{field:<width$}  ")?;
+            write!(text, "{:<width$}  ", shown(field))?;
         }
-        writeln!(text, "{last}")?;
+        writeln!(text, "{}", shown(last))?;
     }
     Ok(text)
 }
@@ -381,33 +387,37 @@ fn choice(outputs: &[Placed], frame: u64, needed: u64) -> Option<Vec<bool>> {
     Some(chosen)
 }
 
+const MARGIN_COLUMNS: [&str; 13] = [
+    "group", "frame", "buses", "cells", "free", "excess", "bound", "source", "period", "next", "less", "max_us", "choose",
+];
+
 fn margin_text(table: &Table) -> Result<String, Fault> {
-    let mut text = String::new();
+    let mut rows = vec![MARGIN_COLUMNS.map(String::from).to_vec()];
     for group in &table.groups {
         let mut plan = plan(table, group)?;
         plan.placed.sort_unstable_by_key(|placed| placed.output);
-        let room = plan.buses * plan.frame;
+        let free = plan.buses * plan.frame - plan.demand;
         let excess = plan.demand - (plan.buses - 1) * plan.frame;
-        writeln!(text, "group {} frame {} buses {}", group.name, plan.frame, plan.buses)?;
-        writeln!(text, "cells {} of {room} free {}\nexcess {excess}", plan.demand, room - plan.demand)?;
         let chosen = if plan.buses > 1 { choice(&plan.placed, plan.frame, excess) } else { None };
-        if chosen.is_none() {
-            text.push_str("choose none\n");
+        let windows = plan.placed.iter().map(|placed| group.outputs[placed.output].max_us * table.rate / 36_000_000);
+        let bound = windows.map(|window| (1 << 32) / window).sum::<u64>().div_ceil(1 << 32);
+        let numbers = [plan.frame, plan.buses, plan.demand, free, excess, bound];
+        let mut row = vec![group.name.clone()];
+        row.extend(numbers.map(|number| number.to_string()));
+        row.resize(MARGIN_COLUMNS.len(), String::new());
+        rows.push(row);
+        for placed in plan.placed.iter().filter(|placed| plan.buses > 1 && placed.period < plan.frame) {
+            let (from, to) = (placed.period, 2 * placed.period);
+            let numbers = [from, to, plan.frame / to, slots_us(table.rate, to)];
+            let mut row = vec![group.name.clone()];
+            row.resize(7, String::new());
+            row.push(table.sources[group.outputs[placed.output].source].name.clone());
+            row.extend(numbers.map(|number| number.to_string()));
+            row.push(if chosen.as_ref().is_some_and(|it| it[placed.output]) { "yes" } else { "no" }.into());
+            rows.push(row);
         }
-        let mut bound = 0;
-        for placed in &plan.placed {
-            let output = &group.outputs[placed.output];
-            bound += (1 << 32) / (output.max_us * table.rate / 36_000_000);
-            if placed.period < plan.frame {
-                let verb = if chosen.as_ref().is_some_and(|it| it[placed.output]) { "choose" } else { "wider" };
-                let (name, from, to) = (&table.sources[output.source].name, placed.period, 2 * placed.period);
-                let (cells, lasting) = (plan.frame / to, slots_us(table.rate, to));
-                writeln!(text, "{verb} {name} period {from} to {to} cells {cells} max_us {lasting}")?;
-            }
-        }
-        writeln!(text, "raw bound {} of {}", u64::div_ceil(bound, 1 << 32), plan.buses)?;
     }
-    Ok(text)
+    columns_text(&rows)
 }
 
 /// The number of a text: decimal, without sign or leading zeros, of at most ten digits.

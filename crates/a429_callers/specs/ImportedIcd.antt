@@ -12,7 +12,9 @@ use Rattle.a429_table.specs.Reading.{reading}
 use Rattle.a429_cert.specs.PlanText.{plan_text_of}
 use Rattle.a429_documents.specs.declared.import.fault.ImportFault.{ImportFault}
 use Rattle.a429_documents.specs.declared.import.fault.ImportFault.TheVariants.{NoMemory}
-use Rattle.a429_documents.specs.Document.{csv_text_of, icd_rows}
+use Rattle.a429_text.specs.Sheets.{sheet_text}
+use Rattle.a429_text.specs.declared.sheets.SheetForm.TheVariants.{Csv}
+use Rattle.a429_documents.specs.Document.{icd_columns, icd_rows}
 use Rattle.a429_documents.specs.Imports.{IsImport}
 use Rattle.a429_documents.specs.Lint.{has_source}
 use Rattle.a429_documents.specs.Losses.{IsSent}
@@ -76,8 +78,12 @@ ImportsPlan a (Ok text) = IsReadAsPlanned text.items a
 ImportsPlan a (Err NoMemory) = Unit {0}
 ImportsPlan a (Err _) = ⊥
 
--- importing an interface control document gives the same plan
+-- an interface control document as comma-separated values
+abbrev pub icd_csv : Proposed → List ℕ
+icd_csv a = sheet_text Csv icd_columns (icd_rows a.station a.plan)
+
+-- importing it gives the same plan
 abbrev pub ImportedIcdIsSamePlan : Type 0
 ImportedIcdIsSamePlan =
     (bytes : List ℕ) (a : Proposed) (result : Result (Vec ℕ Global) ImportFault) → IsWholeInIcd bytes a
-    → IsImport (csv_text_of (icd_rows a.station a.plan)) result → ImportsPlan a result
+    → IsImport (icd_csv a) result → ImportsPlan a result

@@ -7,7 +7,7 @@ use a429_slots::laws::{
     plans_are_unique, plans_in_force_are_spaced, spacing_empties_first_cells_only, words_are_spaced,
 };
 
-/// If `import_table` is given what `icd_csv` answers for a table of version 2 without filters, it answers a table that is
+/// If `import_table` is given `icd_sheet` as comma-separated values, of a table of version 2 without filters, it answers a table that is
 /// read with the same groups and outputs, in order, each with the same source and receiver, and the text of its plan is the
 /// same. Only the numbers of sources and receivers may be others, and the sources that no group sends and the receivers
 /// that are left without a source are gone. The one error is that memory ran out.

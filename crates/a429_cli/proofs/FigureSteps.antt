@@ -1,210 +1,216 @@
--- The figures of a simulation, step by step.
-use Rattle.std.proofs.Common.{◌≡◌, ◌∙◌, ◌+◌, ◌%◌, ◌⊎◌, ℕ, Bool, true, false, inl, inr, List, [], ◌∷◌, ◌++◌, length, get_or, refl, sym, ap, subst, append-nil, append_assoc, eq-eqb}
-use Rattle.std.specs.Prelude.{◌==◌, ◌&&◌, Option, Some, None, if◌then◌else◌, option_and_then, option_map, slice_get, slice_set}
+-- The figures of a simulation, by what happens in it.
+use Rattle.std.proofs.Common.{◌≡◌, ◌∙◌, ◌+◌, ◌*◌, ◌<◌, ◌⊎◌, ℕ, zero, suc, Bool, true, false, inl, inr, List, [], ◌∷◌, ◌++◌, length, refl, sym, ap, subst, append-nil, eq-eqb, arith, replicate}
+use Rattle.std.specs.Prelude.{◌==◌, ◌&&◌, Option, Some, None, filter_map, if◌then◌else◌, nat_lt, option_and_then, slice_get, slice_set}
 use Rattle.std.specs.Option.{option_map_or}
-use Rattle.std.proofs.lemmas.Bool.{cases_eq, ne_eqb}
-use Rattle.std.proofs.lemmas.Option.{none-some, slice_get_within}
+use Rattle.std.proofs.lemmas.Bool.{and_parts, cases_eq, eqb-true, lt-ltb, ltb-true, ne_eqb}
+use Rattle.std.proofs.lemmas.List.{append_cancel_right}
+use Rattle.std.proofs.lemmas.List.Elements.{filter_map-append}
+use Rattle.std.proofs.lemmas.Option.{none-some, same_Some, slice_get_within}
 use Rattle.a429_word.proofs.Lists.{get_set_other, get_set_same}
-use Rattle.a429_equipment.specs.Arrivals.{SourcesAreApart}
-use Rattle.a429_slots.specs.Events.{Arrive}
+use Rattle.a429_equipment.specs.Agreement.{last_of}
+use Rattle.a429_equipment.proofs.Cutting.{last_push}
 use Rattle.a429_slots.specs.Proposed.{Proposed}
-use Rattle.a429_slots.specs.Tables.{Placed, cell_at, frame_of, outputs_of, placed_at}
 use Rattle.a429_slots.specs.declared.answers.Answer.{Answer}
 use Rattle.a429_slots.specs.declared.answers.Answer.TheVariants.{Accepted, Sent, Changed, Published, Refused}
-use Rattle.a429_cli.specs.Simulating.{Step, Asks, Comes, Turns, answer_after, event_of, turn_after}
-use Rattle.a429_cli.specs.SimulationRuns.{RunGoesOn, StandsAfter}
-use Rattle.a429_cli.specs.Summary.{is_output_at, send_after, send_by, sends_of}
-use Rattle.a429_cli.specs.SummaryRuns.{CountsSteps, HasFigures, counted, figures_after, figures_at, figures_of, groups_after, outputs_after}
-use Rattle.a429_cli.specs.Timeline.{rate_of, table_of}
+use Rattle.a429_slots.proofs.Histories.{by_ends}
+use Rattle.a429_cli.specs.Simulating.{Step, Asks, Comes, Turns, answer_after, happening_after, happening_by, happenings_of, last_word, listed, source_in, times_of, word_sent}
+use Rattle.a429_cli.specs.Summary.{send_in, sends_of}
+use Rattle.a429_cli.specs.SummaryRuns.{HasFigures, figures_after, figures_at, figures_more, figures_noted, figures_of, figures_with, nothing_sent, place_of}
+use Rattle.a429_cli.specs.Timeline.{rate_of}
 use Rattle.a429_cli.specs.declared.simulate.figures.OutputFigures.{OutputFigures}
 use Rattle.a429_cli.specs.declared.simulate.figures.OutputSend.{OutputSend}
-use Rattle.a429_cli.specs.declared.simulate.log.LogWord.{LogWord}
-use Rattle.a429_cli.specs.declared.simulate.machine.Run.{Run}
-use Rattle.a429_cli.specs.declared.simulate.summary.Summary.{Summary}
-use Rattle.a429_cli.proofs.CountedSteps.{accepted_kept, counted_at, counted_many, sends_kept, sends_more, sends_up_to}
-use Rattle.a429_cli.proofs.SendFigures.{figures_push}
+use Rattle.a429_cli.specs.declared.simulate.machine.Happening.{Happening}
+use Rattle.a429_cli.specs.declared.simulate.machine.Happening.TheVariants.{Refuses, Sends}
+use Rattle.a429_cli.specs.declared.simulate.machine.SentWord.{SentWord}
+use Rattle.a429_cli.proofs.SendFigures.{AreUpTo, figures_push, none_up_to, up_to_later, up_to_push}
+use Rattle.a429_cli.proofs.SimulatedSteps.{happenings_more, times_grow}
 
--- ---- one output of all
+-- ---- a group sends the words of a source in turn
 
-outputs_same : (figures : List OutputFigures) (o rate : ℕ) (s : OutputSend) (x : OutputFigures) → slice_get figures o ≡ Some x
-    → slice_get (outputs_after figures o rate s) o ≡ Some (figures_after rate x s)
-outputs_same figures o rate s x there =
-    let next : outputs_after figures o rate s ≡ slice_set figures o (figures_after rate x s) = rw there refl in
-    ap (λ (l : List OutputFigures). slice_get l o) next ∙ get_set_same figures o (figures_after rate x s) (slice_get_within figures o x there)
+-- nothing more of a source is sent, or the last accepted word of so many
+SendsOne : ℕ → List OutputSend → Type 0
+SendsOne n sends = (sends ≡ []) ⊎ ((s : OutputSend) × (sends ≡ s ∷ []) × (s.word ≡ n))
 
-outputs_other : (figures : List OutputFigures) (o rate : ℕ) (s : OutputSend) (k : ℕ) → (k ≡ o → ⊥) → slice_get (outputs_after figures o rate s) k ≡ slice_get figures k
-outputs_other figures o rate s k apart = by (slice_get figures o)
+sent_own : (g i : ℕ) (s : SentWord) (n : ℕ) → (s.source ≡ i → s.send.word ≡ n) → SendsOne n (sends_of g i (Sends s ∷ []))
+unfolding SendsOne
+sent_own g i s n is = by (s.group == g) (s.source == i) refl
   where
-    by : (x : Option OutputFigures) → slice_get (option_map_or (λ x. slice_set figures o (figures_after rate x s)) x figures) k ≡ slice_get figures k
-    by None = refl
-    by (Some x) = get_set_other figures o k (figures_after rate x s) apart
+    by : (a b : Bool) → (s.source == i) ≡ b → SendsOne n (filter_map (λ (x : Option OutputSend). x) ((if a && b then Some s.send else None) ∷ []))
+    by true true own = inr (s.send, refl, is (eqb-true s.source i own))
+    by true false own = inl refl
+    by false b own = inl refl
 
-module _ (groups : List (List OutputFigures)) (g o rate : ℕ) (s : OutputSend) where
-  next_is : (figures : List OutputFigures) → slice_get groups g ≡ Some figures → groups_after groups g o rate s ≡ slice_set groups g (outputs_after figures o rate s)
-  next_is figures there = rw there refl
+sent_by : (q : Proposed) (g i : ℕ) (times : ℕ → List ℕ) (step : Step) (a : Answer) → SendsOne (length (times i)) (sends_of g i (listed (happening_by q times step a)))
+unfolding SendsOne
+sent_by q g i times (Comes w) (Refused why) = inl refl
+sent_by q g i times (Comes w) (Accepted source) = inl refl
+sent_by q g i times (Comes w) (Sent bus slot word) = inl refl
+sent_by q g i times (Comes w) (Changed plan) = inl refl
+sent_by q g i times (Comes w) (Published plan) = inl refl
+sent_by q g i times (Turns h) a = inl refl
+sent_by q g i times (Asks h t) (Sent bus slot (Some raw)) =
+    sent_own g i (word_sent h t bus raw (source_in q h bus slot) (last_word (times (source_in q h bus slot)))) (length (times i)) (λ own. ap (λ (k : ℕ). length (times k)) own)
+sent_by q g i times (Asks h t) (Sent bus slot None) = inl refl
+sent_by q g i times (Asks h t) (Accepted source) = inl refl
+sent_by q g i times (Asks h t) (Changed plan) = inl refl
+sent_by q g i times (Asks h t) (Published plan) = inl refl
+sent_by q g i times (Asks h t) (Refused why) = inl refl
 
-  own_group : (figures : List OutputFigures) → slice_get groups g ≡ Some figures → slice_get (groups_after groups g o rate s) g ≡ Some (outputs_after figures o rate s)
-  own_group figures there =
-      ap (λ (l : List (List OutputFigures)). slice_get l g) (next_is figures there) ∙ get_set_same groups g (outputs_after figures o rate s) (slice_get_within groups g figures there)
+up_to_more : (n : ℕ) (sends more : List OutputSend) → SendsOne n more → AreUpTo n sends → AreUpTo n (sends ++ more)
+unfolding SendsOne
+up_to_more n sends more (inl none) U = subst (AreUpTo n) (sym (ap (λ (l : List OutputSend). sends ++ l) none ∙ append-nil sends)) U
+up_to_more n sends more (inr (s, one, word)) U =
+    subst (AreUpTo n) (sym (ap (λ (l : List OutputSend). sends ++ l) one))
+    (subst (λ (k : ℕ). AreUpTo k (sends ++ s ∷ [])) word (up_to_push sends s (subst (λ (k : ℕ). AreUpTo k sends) (sym word) U)))
 
-  pub after_same : (x : OutputFigures) → figures_at groups g o ≡ Some x → figures_at (groups_after groups g o rate s) g o ≡ Some (figures_after rate x s)
-  after_same x is = by (slice_get groups g) refl
-    where
-      by : (f : Option (List OutputFigures)) → slice_get groups g ≡ f → figures_at (groups_after groups g o rate s) g o ≡ Some (figures_after rate x s)
-      by None there = absurd (none-some x (sym (ap (λ (y : Option (List OutputFigures)). option_and_then (λ l. slice_get l o) y) there) ∙ is))
-      by (Some figures) there =
-          let own : slice_get figures o ≡ Some x = sym (ap (λ (y : Option (List OutputFigures)). option_and_then (λ l. slice_get l o) y) there) ∙ is in
-          ap (λ (y : Option (List OutputFigures)). option_and_then (λ l. slice_get l o) y) (own_group figures there) ∙ outputs_same figures o rate s x own
+sends_up_to : (q : Proposed) (g i : ℕ) (past : List Step) → AreUpTo (length (times_of q past i)) (sends_of g i (happenings_of q past))
+sends_up_to q g i =
+    by_ends (λ (past : List Step). AreUpTo (length (times_of q past i)) (sends_of g i (happenings_of q past)))
+    (none_up_to (length (times_of q [] i)))
+    (λ past s U.
+    let more = sends_of g i (listed (happening_after q past s)) in
+    let all : sends_of g i (happenings_of q (past ++ s ∷ [])) ≡ sends_of g i (happenings_of q past) ++ more =
+    ap (sends_of g i) (happenings_more q past s) ∙ filter_map-append (send_in g i) (happenings_of q past) (listed (happening_after q past s)) in
+    subst (AreUpTo (length (times_of q (past ++ s ∷ []) i))) (sym all)
+    (up_to_later (length (times_of q past i)) (length (times_of q (past ++ s ∷ []) i)) (sends_of g i (happenings_of q past) ++ more) (times_grow q past s i)
+    (up_to_more (length (times_of q past i)) (sends_of g i (happenings_of q past)) more (sent_by q g i (times_of q past) s (answer_after q past s)) U)))
 
-  pub after_other : (h k : ℕ) → (h ≡ g → k ≡ o → ⊥) → figures_at (groups_after groups g o rate s) h k ≡ figures_at groups h k
-  after_other h k apart = by (slice_get groups g) refl
-    where
-      by : (f : Option (List OutputFigures)) → slice_get groups g ≡ f → figures_at (groups_after groups g o rate s) h k ≡ figures_at groups h k
-      by None there = let same : groups_after groups g o rate s ≡ groups = rw there refl in ap (λ (l : List (List OutputFigures)). figures_at l h k) same
-      by (Some figures) there = elim (cases_eq h g) [
-        | inl same ↦
-            let own : figures_at (groups_after groups g o rate s) g k ≡ figures_at groups g k =
-            ap (λ (y : Option (List OutputFigures)). option_and_then (λ l. slice_get l k) y) (own_group figures there)
-            ∙ (outputs_other figures o rate s k (apart same) ∙ sym (ap (λ (y : Option (List OutputFigures)). option_and_then (λ l. slice_get l k) y) there)) in
-            subst (λ (n : ℕ). figures_at (groups_after groups g o rate s) n k ≡ figures_at groups n k) (sym same) own
-        | inr other ↦
-            ap (λ (l : List (List OutputFigures)). figures_at l h k) (next_is figures there)
-            ∙ ap (λ (y : Option (List OutputFigures)). option_and_then (λ l. slice_get l k) y) (get_set_other groups g h (outputs_after figures o rate s) other)
-      ]
+-- the number of a word that is sent
+word_by : (q : Proposed) (times : ℕ → List ℕ) (step : Step) (a : Answer) (s : SentWord) → happening_by q times step a ≡ Some (Sends s) → s.send.word ≡ length (times s.source)
+word_by q times (Comes w) (Refused why) s is = let other = same_Some (Refuses w why) (Sends s) is in absurd (cc other)
+word_by q times (Comes w) (Accepted source) s is = absurd (none-some (Sends s) is)
+word_by q times (Comes w) (Sent bus slot word) s is = absurd (none-some (Sends s) is)
+word_by q times (Comes w) (Changed plan) s is = absurd (none-some (Sends s) is)
+word_by q times (Comes w) (Published plan) s is = absurd (none-some (Sends s) is)
+word_by q times (Turns h) a s is = absurd (none-some (Sends s) is)
+word_by q times (Asks h t) (Sent bus slot (Some raw)) s is =
+    let same : word_sent h t bus raw (source_in q h bus slot) (last_word (times (source_in q h bus slot))) ≡ s = cc in
+    subst (λ (x : SentWord). x.send.word ≡ length (times x.source)) same refl
+word_by q times (Asks h t) (Sent bus slot None) s is = absurd (none-some (Sends s) is)
+word_by q times (Asks h t) (Accepted source) s is = absurd (none-some (Sends s) is)
+word_by q times (Asks h t) (Changed plan) s is = absurd (none-some (Sends s) is)
+word_by q times (Asks h t) (Published plan) s is = absurd (none-some (Sends s) is)
+word_by q times (Asks h t) (Refused why) s is = absurd (none-some (Sends s) is)
 
--- ---- what outputs send in a step
+-- what happened before is that of earlier steps
+next_by : (q : Proposed) (told : List Happening) (s : SentWord) (past : List Step) (x : Step) (h : Option Happening) → h ≡ happening_after q past x
+    → told ++ Sends s ∷ [] ≡ happenings_of q past ++ listed h → (told ++ Sends s ∷ [] ≡ happenings_of q past → AreUpTo s.send.word (sends_of s.group s.source told))
+    → AreUpTo s.send.word (sends_of s.group s.source told)
+next_by q told s past x None at is before = before (is ∙ append-nil (happenings_of q past))
+next_by q told s past x (Some y) at is before =
+    let end : ◌≡◌ {A = Option Happening} (Some (Sends s)) (Some y) = sym (last_push told (Sends s)) ∙ (ap last_of is ∙ last_push (happenings_of q past) y) in
+    let front : told ≡ happenings_of q past = append_cancel_right told (happenings_of q past) (Sends s ∷ []) (is ∙ ap (λ (h : Option Happening). happenings_of q past ++ listed h) (sym end)) in
+    let word : s.send.word ≡ length (times_of q past s.source) = word_by q (times_of q past) x (answer_after q past x) s (sym at ∙ sym end) in
+    subst (λ (n : ℕ). AreUpTo n (sends_of s.group s.source told)) (sym word)
+    (subst (λ (l : List Happening). AreUpTo (length (times_of q past s.source)) (sends_of s.group s.source l)) (sym front) (sends_up_to q s.group s.source past))
 
-own_send : (q : Proposed) (past : List Step) (g t bus slot raw o : ℕ) → cell_at (table_of q g) bus slot ≡ Some o
-    → send_by q g o past (Asks g t) (Sent bus slot (Some raw)) ≡ send_after q past (placed_at (table_of q g) o).source t ∷ []
-own_send q past g t bus slot raw o here =
-    let group : (g == g) ≡ true = eq-eqb g g refl in
-    let output : (o == o) ≡ true = eq-eqb o o refl in
-    rw (group, here, output) refl
+nothing_told : (told : List Happening) (h : Happening) → told ++ h ∷ [] ≡ [] → ⊥
+nothing_told [] h is = cc
+nothing_told (x ∷ told) h is = cc
 
-other_send : (q : Proposed) (past : List Step) (g t bus slot raw h k : ℕ) → (h ≡ g → is_output_at (table_of q g) k bus slot ≡ false)
-    → send_by q h k past (Asks g t) (Sent bus slot (Some raw)) ≡ []
-other_send q past g t bus slot raw h k not_own = elim (cases_eq h g) [
+-- a word that is sent after all of this was accepted no earlier than those of its source that its group sent
+pub next_in_turn : (q : Proposed) (told : List Happening) (s : SentWord) (steps : List Step) → told ++ Sends s ∷ [] ≡ happenings_of q steps
+    → AreUpTo s.send.word (sends_of s.group s.source told)
+next_in_turn q told s =
+    by_ends (λ (steps : List Step). told ++ Sends s ∷ [] ≡ happenings_of q steps → AreUpTo s.send.word (sends_of s.group s.source told))
+    (λ is. absurd (nothing_told told (Sends s) is))
+    (λ past x before is. next_by q told s past x (happening_after q past x) refl (is ∙ happenings_more q past x) before)
+
+-- ---- the figures of what happens next
+
+place_is : (g i : ℕ) → g < 8 → i < 256 → place_of g i ≡ Some (g * 256 + i)
+place_is g i group source =
+    let a : nat_lt g 8 ≡ true = lt-ltb g 8 group in
+    let b : nat_lt i 256 ≡ true = lt-ltb i 256 source in
+    rw (a, b) refl
+
+place_by : (g i at : ℕ) (b : Bool) → (nat_lt g 8 && nat_lt i 256) ≡ b → ◌≡◌ {A = Option ℕ} (if b then Some (g * 256 + i) else None) (Some at) → (at ≡ g * 256 + i) × (i < 256)
+place_by g i at true is there = let parts = and_parts (nat_lt g 8) (nat_lt i 256) is in (sym (same_Some (g * 256 + i) at there), ltb-true i 256 parts.1)
+place_by g i at false is there = absurd (none-some at there)
+
+-- the figures of another source, or of another group
+figures_other : (figures : List OutputFigures) (s : SentWord) (rate g i : ℕ) → g < 8 → i < 256 → (g ≡ s.group → i ≡ s.source → ⊥)
+    → figures_at (figures_with figures s rate) g i ≡ figures_at figures g i
+figures_other figures s rate g i group source apart =
+    let own = place_is g i group source in
+    ap (option_and_then (λ (k : ℕ). slice_get (figures_with figures s rate) k)) own ∙ (by (place_of s.group s.source) refl ∙ sym (ap (option_and_then (λ (k : ℕ). slice_get figures k)) own))
+  where
+    kept : (at : ℕ) (x : Option OutputFigures) → (g * 256 + i ≡ at → ⊥)
+        → slice_get (option_map_or (λ y. slice_set figures at (figures_after rate y s.send)) x figures) (g * 256 + i) ≡ slice_get figures (g * 256 + i)
+    kept at None other = refl
+    kept at (Some y) other = get_set_other figures at (g * 256 + i) (figures_after rate y s.send) other
+
+    by : (x : Option ℕ) → place_of s.group s.source ≡ x → slice_get (option_map_or (figures_more figures rate s.send) x figures) (g * 256 + i) ≡ slice_get figures (g * 256 + i)
+    by None there = refl
+    by (Some at) there =
+        let (is, within) = place_by s.group s.source at (nat_lt s.group 8 && nat_lt s.source 256) refl there in
+        kept at (slice_get figures at) (λ same. apart (omega (arith, same, is, within, source)) (omega (arith, same, is, within, source)))
+
+figures_own : (figures : List OutputFigures) (s : SentWord) (rate : ℕ) (x : OutputFigures) → s.group < 8 → s.source < 256 → figures_at figures s.group s.source ≡ Some x
+    → figures_at (figures_with figures s rate) s.group s.source ≡ Some (figures_after rate x s.send)
+figures_own figures s rate x group source there =
+    let own = place_is s.group s.source group source in
+    let at : ℕ = s.group * 256 + s.source in
+    let before : slice_get figures at ≡ Some x = sym (ap (option_and_then (λ (k : ℕ). slice_get figures k)) own) ∙ there in
+    let after : figures_with figures s rate ≡ slice_set figures at (figures_after rate x s.send) =
+    ap (λ (k : Option ℕ). option_map_or (figures_more figures rate s.send) k figures) own
+    ∙ ap (λ (y : Option OutputFigures). option_map_or (λ z. slice_set figures at (figures_after rate z s.send)) y figures) before in
+    ap (λ (l : List OutputFigures). figures_at l s.group s.source) after
+    ∙ (ap (option_and_then (λ (k : ℕ). slice_get (slice_set figures at (figures_after rate x s.send)) k)) own
+    ∙ get_set_same figures at (figures_after rate x s.send) (slice_get_within figures at x before))
+
+sends-append : (g i : ℕ) (told : List Happening) (h : Happening) → sends_of g i (told ++ h ∷ []) ≡ sends_of g i told ++ sends_of g i (h ∷ [])
+sends-append g i told h = filter_map-append (send_in g i) told (h ∷ [])
+
+own_send : (s : SentWord) → sends_of s.group s.source (Sends s ∷ []) ≡ s.send ∷ []
+own_send s =
+    let group : (s.group == s.group) ≡ true = eq-eqb s.group s.group refl in
+    let source : (s.source == s.source) ≡ true = eq-eqb s.source s.source refl in
+    rw (group, source) refl
+
+other_send : (g i : ℕ) (s : SentWord) → (g ≡ s.group → i ≡ s.source → ⊥) → sends_of g i (Sends s ∷ []) ≡ []
+other_send g i s apart = elim (cases_eq s.group g) [
   | inl same ↦
-      let no : is_output_at (table_of q h) k bus slot ≡ false = ap (λ (n : ℕ). is_output_at (table_of q n) k bus slot) same ∙ not_own same in
-      rw no (none_if (g == h) (send_after q past (placed_at (table_of q h) k).source t))
-  | inr other ↦
-      let no : (g == h) ≡ false = ne_eqb g h (λ is. other (sym is)) in
-      rw no refl
+      let group : (s.group == g) ≡ true = eq-eqb s.group g same in
+      let source : (s.source == i) ≡ false = ne_eqb s.source i (λ e. apart (sym same) (sym e)) in
+      rw (group, source) refl
+  | inr other ↦ let group : (s.group == g) ≡ false = ne_eqb s.group g other in rw group refl
 ]
+
+pub figures_next : (q : Proposed) (told : List Happening) (h : Happening) (figures : List OutputFigures) (steps : List Step) → told ++ h ∷ [] ≡ happenings_of q steps
+    → HasFigures q told figures → HasFigures q (told ++ h ∷ []) (figures_noted q figures h)
+figures_next q told (Refuses w why) figures steps is F = λ g i group source.
+    F g i group source ∙ ap (λ (l : List OutputSend). Some (figures_of (rate_of q g) l)) (sym (sends-append g i told (Refuses w why) ∙ append-nil (sends_of g i told)))
+figures_next q told (Sends s) figures steps is F = λ g i group source. by g i group source (cases_eq g s.group) (cases_eq i s.source)
   where
-    none_if : (b : Bool) (s : OutputSend) → (if b && false then s ∷ [] else []) ≡ []
-    none_if true s = refl
-    none_if false s = refl
+    own : s.group < 8 → s.source < 256 → figures_at (figures_with figures s (rate_of q s.group)) s.group s.source ≡ Some (figures_of (rate_of q s.group) (sends_of s.group s.source (told ++ Sends s ∷ [])))
+    own group source =
+        let sends = sends_of s.group s.source told in
+        figures_own figures s (rate_of q s.group) (figures_of (rate_of q s.group) sends) group source (F s.group s.source group source)
+        ∙ (ap (λ (x : OutputFigures). Some x) (sym (figures_push (rate_of q s.group) sends s.send (next_in_turn q told s steps is)))
+        ∙ ap (λ (l : List OutputSend). Some (figures_of (rate_of q s.group) l)) (sym (sends-append s.group s.source told (Sends s) ∙ ap (λ (l : List OutputSend). sends ++ l) (own_send s))))
 
-no_send : (q : Proposed) (h k : ℕ) (past : List Step) (g t : ℕ) (a : Answer) → ((bus slot raw : ℕ) → a ≡ Sent bus slot (Some raw) → ⊥) → send_by q h k past (Asks g t) a ≡ []
-no_send q h k past g t (Accepted source) none = refl
-no_send q h k past g t (Sent bus slot None) none = refl
-no_send q h k past g t (Sent bus slot (Some raw)) none = absurd (none bus slot raw refl)
-no_send q h k past g t (Changed plan) none = refl
-no_send q h k past g t (Published plan) none = refl
-no_send q h k past g t (Refused why) none = refl
+    other : (g i : ℕ) → g < 8 → i < 256 → (g ≡ s.group → i ≡ s.source → ⊥) → figures_at (figures_with figures s (rate_of q s.group)) g i ≡ Some (figures_of (rate_of q g) (sends_of g i (told ++ Sends s ∷ [])))
+    other g i group source apart =
+        figures_other figures s (rate_of q s.group) g i group source apart
+        ∙ (F g i group source ∙ ap (λ (l : List OutputSend). Some (figures_of (rate_of q g) l))
+        (sym (sends-append g i told (Sends s) ∙ (ap (λ (l : List OutputSend). sends_of g i told ++ l) (other_send g i s apart) ∙ append-nil (sends_of g i told)))))
 
--- ---- the figures one step later
+    by : (g i : ℕ) → g < 8 → i < 256 → (g ≡ s.group) ⊎ (g ≡ s.group → ⊥) → (i ≡ s.source) ⊎ (i ≡ s.source → ⊥)
+        → figures_at (figures_with figures s (rate_of q s.group)) g i ≡ Some (figures_of (rate_of q g) (sends_of g i (told ++ Sends s ∷ [])))
+    by g i group source (inl same) (inl own_source) =
+        let P : ℕ → ℕ → Type 0 = λ a b. figures_at (figures_with figures s (rate_of q s.group)) a b ≡ Some (figures_of (rate_of q a) (sends_of a b (told ++ Sends s ∷ []))) in
+        subst (λ (a : ℕ). P a i) (sym same) (subst (λ (b : ℕ). P s.group b) (sym own_source) (own (subst (λ (a : ℕ). a < 8) same group) (subst (λ (b : ℕ). b < 256) own_source source)))
+    by g i group source (inl same) (inr apart) = other g i group source (λ _ e. apart e)
+    by g i group source (inr apart) own_source = other g i group source (λ e _. apart e)
 
--- nothing is accepted, and nothing is sent
-figures_kept : (q : Proposed) (past : List Step) (step : Step) (s : Summary) → SourcesAreApart q.station.sources → ((r raw : ℕ) → event_of step ≡ Arrive r raw → ⊥)
-    → ((g o : ℕ) → send_by q g o past step (answer_after q past step) ≡ []) → HasFigures q past s → HasFigures q (past ++ step ∷ []) s
-figures_kept q past step s apart none quiet F = record {
-  many = F.many;
-  words = λ i. F.words i ∙ sym (accepted_kept q past step i apart none);
-  outputs = λ g o. F.outputs g o
-      ∙ ap (λ (l : List OutputSend). option_map (λ _. figures_of (rate_of q g) l) (slice_get (outputs_of (table_of q g)) o)) (sym (sends_kept q g o past step (quiet g o)));
-}
+nothing_at : (n at : ℕ) (x : OutputFigures) → at < n → slice_get (replicate n x) at ≡ Some x
+nothing_at zero at x below = absurd (omega (arith, below))
+nothing_at (suc n) zero x below = refl
+nothing_at (suc n) (suc at) x below = nothing_at n at x (omega (arith, below))
 
-pub figures_word : (q : Proposed) (past : List Step) (w : LogWord) (a : Answer) (s u : Summary) → SourcesAreApart q.station.sources → a ≡ answer_after q past (Comes w)
-    → u.words.items ≡ counted s.words.items a → u.groups.items ≡ s.groups.items → HasFigures q past s → HasFigures q (past ++ Comes w ∷ []) u
-figures_word q past w a s u apart is words groups F = record {
-  many = ap length words ∙ (counted_many s.words.items a ∙ F.many);
-  words = λ i. ap (λ (ns : List ℕ). get_or ns i 0) words ∙ counted_at q past w s.words.items a apart is F.many F.words i;
-  outputs = λ g o. ap (λ (l : List (List OutputFigures)). figures_at l g o) groups
-      ∙ (F.outputs g o ∙ ap (λ (l : List OutputSend). option_map (λ _. figures_of (rate_of q g) l) (slice_get (outputs_of (table_of q g)) o)) (sym (sends_kept q g o past (Comes w) refl)));
-}
-
--- a cell without a word
-pub figures_quiet : (q : Proposed) (past : List Step) (g t : ℕ) (s : Summary) → SourcesAreApart q.station.sources
-    → ((bus slot raw : ℕ) → answer_after q past (Asks g t) ≡ Sent bus slot (Some raw) → ⊥) → HasFigures q past s → HasFigures q (past ++ Asks g t ∷ []) s
-figures_quiet q past g t s apart none F =
-    figures_kept q past (Asks g t) s apart (λ r raw is. cc) (λ h k. no_send q h k past g t (answer_after q past (Asks g t)) none) F
-
--- a cell where no output stands
-pub figures_nowhere : (q : Proposed) (past : List Step) (g t bus slot raw : ℕ) (s : Summary) → SourcesAreApart q.station.sources
-    → answer_after q past (Asks g t) ≡ Sent bus slot (Some raw) → cell_at (table_of q g) bus slot ≡ None → HasFigures q past s → HasFigures q (past ++ Asks g t ∷ []) s
-figures_nowhere q past g t bus slot raw s apart is nowhere F =
-    figures_kept q past (Asks g t) s apart (λ r raw is. cc)
-    (λ h k. ap (send_by q h k past (Asks g t)) is ∙ other_send q past g t bus slot raw h k (λ same. ap (λ (x : Option ℕ). option_map_or (λ n. n == k) x false) nowhere)) F
-
--- a cell with a word of output o
-module _ (q : Proposed) (past : List Step) (g t bus slot raw o : ℕ) (p : Placed) (is : answer_after q past (Asks g t) ≡ Sent bus slot (Some raw))
-    (here : cell_at (table_of q g) bus slot ≡ Some o) (there : slice_get (outputs_of (table_of q g)) o ≡ Some p) where
-  abbrev own_word : OutputSend
-  own_word = send_after q past (placed_at (table_of q g) o).source t
-
-  own_sends : sends_of q g o (past ++ Asks g t ∷ []) ≡ sends_of q g o past ++ own_word ∷ []
-  own_sends = sends_more q g o past (Asks g t) ∙ ap (λ (l : List OutputSend). sends_of q g o past ++ l) (ap (send_by q g o past (Asks g t)) is ∙ own_send q past g t bus slot raw o here)
-
-  other_sends : (h k : ℕ) → (h ≡ g → k ≡ o → ⊥) → sends_of q h k (past ++ Asks g t ∷ []) ≡ sends_of q h k past
-  other_sends h k apart =
-      sends_kept q h k past (Asks g t) (ap (send_by q h k past (Asks g t)) is
-      ∙ other_send q past g t bus slot raw h k (λ same. ap (λ (x : Option ℕ). option_map_or (λ n. n == k) x false) here ∙ ne_eqb o k (λ e. apart same (sym e))))
-
-  abbrev given : ℕ → ℕ → Option OutputFigures
-  given h k = option_map (λ _. figures_of (rate_of q h) (sends_of q h k (past ++ Asks g t ∷ []))) (slice_get (outputs_of (table_of q h)) k)
-
-  outputs_sent : (s u : Summary) → u.groups.items ≡ groups_after s.groups.items g o (rate_of q g) own_word → HasFigures q past s
-      → (h k : ℕ) → figures_at u.groups.items h k ≡ given h k
-  outputs_sent s u groups F h k = by (cases_eq h g) (cases_eq k o)
-    where
-      own : figures_at u.groups.items g o ≡ given g o
-      own =
-          let rate = rate_of q g in
-          let before : figures_at s.groups.items g o ≡ Some (figures_of rate (sends_of q g o past)) =
-          F.outputs g o ∙ ap (λ (x : Option Placed). option_map (λ _. figures_of rate (sends_of q g o past)) x) there in
-          ap (λ (l : List (List OutputFigures)). figures_at l g o) groups
-          ∙ (after_same s.groups.items g o rate own_word (figures_of rate (sends_of q g o past)) before
-          ∙ (ap (λ (x : OutputFigures). Some x) (sym (figures_push rate (sends_of q g o past) own_word (sends_up_to q g o past)))
-          ∙ (ap (λ (l : List OutputSend). Some (figures_of rate l)) (sym own_sends)
-          ∙ sym (ap (λ (x : Option Placed). option_map (λ _. figures_of rate (sends_of q g o (past ++ Asks g t ∷ []))) x) there))))
-
-      other : (h ≡ g → k ≡ o → ⊥) → figures_at u.groups.items h k ≡ given h k
-      other apart =
-          ap (λ (l : List (List OutputFigures)). figures_at l h k) groups
-          ∙ (after_other s.groups.items g o (rate_of q g) own_word h k apart
-          ∙ (F.outputs h k ∙ ap (λ (l : List OutputSend). option_map (λ _. figures_of (rate_of q h) l) (slice_get (outputs_of (table_of q h)) k)) (sym (other_sends h k apart))))
-
-      by : (h ≡ g) ⊎ (h ≡ g → ⊥) → (k ≡ o) ⊎ (k ≡ o → ⊥) → figures_at u.groups.items h k ≡ given h k
-      by (inl group) (inl output) =
-          subst (λ (m : ℕ). figures_at u.groups.items m k ≡ given m k) (sym group) (subst (λ (n : ℕ). figures_at u.groups.items g n ≡ given g n) (sym output) own)
-      by (inl group) (inr apart) = other (λ _ e. apart e)
-      by (inr apart) output = other (λ e _. apart e)
-
-  pub figures_sent : (s u : Summary) → SourcesAreApart q.station.sources → u.words.items ≡ s.words.items → u.groups.items ≡ groups_after s.groups.items g o (rate_of q g) own_word
-      → HasFigures q past s → HasFigures q (past ++ Asks g t ∷ []) u
-  figures_sent s u apart words groups F = record {
-    many = ap length words ∙ F.many;
-    words = λ i. ap (λ (ns : List ℕ). get_or ns i 0) words ∙ (F.words i ∙ sym (accepted_kept q past (Asks g t) i apart (λ r raw e. cc)));
-    outputs = outputs_sent s u groups F;
-  }
-
--- ---- steps one after another
-
-pub counts_none : (q : Proposed) (run : Run) (s : Summary) → CountsSteps q [] run run s s
-counts_none q run s = λ past S F. (subst (λ (p : List Step). StandsAfter q p run) (sym (append-nil past)) S, subst (λ (p : List Step). HasFigures q p s) (sym (append-nil past)) F)
-
-pub counts_then : (q : Proposed) (xs ys : List Step) (a b c : Run) (s t u : Summary) → CountsSteps q xs a b s t → CountsSteps q ys b c t u → CountsSteps q (xs ++ ys) a c s u
-counts_then q xs ys a b c s t u first later = λ past S F.
-    let (stands, figures) = first past S F in
-    let (end, all) = later (past ++ xs) stands figures in
-    (subst (λ (p : List Step). StandsAfter q p c) (append_assoc past xs ys) end, subst (λ (p : List Step). HasFigures q p u) (append_assoc past xs ys) all)
-
-turn_figures : (q : Proposed) (past : List Step) (g : ℕ) (over : Bool) (s : Summary) → SourcesAreApart q.station.sources → HasFigures q past s
-    → HasFigures q (past ++ (if over then Turns g ∷ [] else [])) s
-turn_figures q past g true s apart F = figures_kept q past (Turns g) s apart (λ r raw e. cc) (λ h k. refl) F
-turn_figures q past g false s apart F = subst (λ (p : List Step). HasFigures q p s) (sym (append-nil past)) F
-
-pub counts_turn : (q : Proposed) (g t : ℕ) (a b : Run) (s : Summary) → RunGoesOn a (turn_after q g t) b → CountsSteps q (turn_after q g t) a b s s
-counts_turn q g t a b s goes = λ past S F. (goes q past S, turn_figures q past g ((t + 1) % frame_of (table_of q g) == 0) s S.state.apart F)
+-- before anything is sent
+pub no_figures : (q : Proposed) (figures : List OutputFigures) → figures ≡ replicate 2048 nothing_sent → HasFigures q [] figures
+no_figures q figures is = λ g i group source.
+    ap (λ (l : List OutputFigures). figures_at l g i) is
+    ∙ (ap (option_and_then (λ (k : ℕ). slice_get (replicate 2048 nothing_sent) k)) (place_is g i group source) ∙ nothing_at 2048 (g * 256 + i) nothing_sent (omega (arith, group, source)))

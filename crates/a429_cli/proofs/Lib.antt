@@ -23,13 +23,13 @@ pub mod LogTimes
 pub mod LogLines
 pub mod Timelines
 pub mod SimulatedSteps
-pub mod SimulatedLines
+pub mod Played
 pub mod ShortNames
 pub mod SentCells
 pub mod TrackOrder
 pub mod SimulationEnds
 pub mod SimulationPrinted
 pub mod SendFigures
-pub mod CountedSteps
 pub mod FigureSteps
 pub mod SummedUp
+pub mod LiveAnswers

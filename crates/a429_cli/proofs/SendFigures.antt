@@ -9,14 +9,10 @@ use Rattle.a429_equipment.specs.Agreement.{last_of}
 use Rattle.a429_equipment.proofs.Cutting.{last_push}
 use Rattle.a429_documents.specs.Document.{slots_us}
 use Rattle.a429_word.proofs.Lists.{all_push}
+use Rattle.a429_cli.specs.Simulating.{listed}
 use Rattle.a429_cli.specs.Summary.{greatest_in, is_first_of, lateness, latenesses, latenesses_from, least_in, times_after, times_between}
 use Rattle.a429_cli.specs.SummaryRuns.{figures_after, figures_of, greater, is_other, late_if_other, lesser, time_since}
 use Rattle.a429_cli.specs.declared.simulate.figures.OutputSend.{OutputSend}
-
--- a number, if there is one, as a list
-abbrev pub listed : Option ℕ → List ℕ
-listed None = []
-listed (Some n) = n ∷ []
 
 least_more : (xs : List ℕ) (y : Option ℕ) → least_in (xs ++ listed y) ≡ lesser (least_in xs) y
 least_more [] None = refl

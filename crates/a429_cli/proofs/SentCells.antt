@@ -9,7 +9,7 @@ use Rattle.a429_word.proofs.Lists.{get_within, none_cut}
 use Rattle.a429_slots.specs.Events.{Event}
 use Rattle.a429_slots.specs.FrameStates.{FrameState, due_of, frame_state_of, next_cell}
 use Rattle.a429_slots.specs.History.{Current, Opening, OpensWith, current, last_of, newest_table, numbers_left, proposal_for, published}
-use Rattle.a429_slots.specs.Planned.{IsPlanOf, IsPlannedAt, rated_outputs}
+use Rattle.a429_slots.specs.Planned.{IsPlannedAt, rated_outputs}
 use Rattle.a429_slots.specs.Proposed.{Proposed}
 use Rattle.a429_slots.specs.Tables.{Placed, SlotTable, frame_of, groups_of, output_in, source_at}
 use Rattle.a429_slots.specs.TakenFrames.{is_taken_after}
@@ -125,9 +125,9 @@ whole_frames o g p opens begins =
     ])
 
 -- the source is that of the plan's output in the cell
-pub sent_source : (q : Proposed) (past : List Step) (r : Run) (g : ℕ) (s : SentCell) → IsPlanOf q.station q.plan → HasPlannedGroup q g → StandsAfter q past r → cell_sent r.state g ≡ Some s
+pub sent_source : (q : Proposed) (past : List Step) (r : Run) (g : ℕ) (s : SentCell) → HasPlannedGroup q g → StandsAfter q past r → cell_sent r.state g ≡ Some s
     → s.source ≡ source_in q g s.bus s.slot
-sent_source q past r g s planned known S sent =
+sent_source q past r g s known S sent =
     let o = opening_of q in
     let E = history_of past in
     let (p, there) = get_within (groups_of q.plan) g known.1 in
@@ -140,7 +140,7 @@ sent_source q past r g s planned known S sent =
     let F = stands_in_frame (frame_state_of g f) (next_cell (frame_state_of g f)) s.bus s.slot A.due cell in
     let output : output_in p s.bus F.on ≡ Some F.output = subst (λ (t : SlotTable). output_in t s.bus F.on ≡ Some F.output) W.table F.there in
     let slot : s.slot ≡ W.times * frame_of p + F.on = F.counted ∙ ap (λ (n : ℕ). n + F.on) W.first in
-    let R = row_of (IsPlannedAt q.station.sources) (rated_outputs q.station) (groups_of q.plan) g p planned.groups there in
+    let R = row_of (IsPlannedAt q.station.sources) (rated_outputs q.station) (groups_of q.plan) g p S.planned.groups there in
     let round : source_at p s.bus (W.times * frame_of p + F.on) ≡ Some F.output.source = comes_round R.row.0 q.station.sources R.row.1 p W.times s.bus F.on F.output R.related output in
     let found : source_at (table_of q g) s.bus s.slot ≡ Some F.output.source =
     subst (λ (t : SlotTable). source_at t s.bus s.slot ≡ Some F.output.source) (sym (table_at q g p there)) (subst (λ (n : ℕ). source_at p s.bus n ≡ Some F.output.source) (sym slot) round) in

@@ -1,16 +1,15 @@
--- Steps of a simulation, one after another: their answers, and their lines.
-use Rattle.std.proofs.Common.{◌≡◌, ◌∙◌, ◌+◌, ◌<◌, ℕ, zero, suc, ◌-◌, ◌%◌, ◌^◌, Bool, true, false, inl, inr, List, [], ◌∷◌, ◌++◌, length, get_or, replicate, take, refl, sym, ap, subst, arith, append-nil, append_assoc, eq-eqb}
-use Rattle.std.specs.Prelude.{◌==◌, Option, Some, None, Result, Ok, Err, filter_map, if◌then◌else◌, nat_le, nat_lt, position, slice_get, slice_set, unwrap_or}
+-- Steps of a simulation, one after another: the words that are accepted, and what happens.
+use Rattle.std.proofs.Common.{◌≡◌, ◌∙◌, ◌+◌, ◌-◌, ◌<◌, ◌≤◌, ◌⊎◌, ◌%◌, ◌^◌, ℕ, Bool, true, false, inl, inr, List, [], ◌∷◌, ◌++◌, length, length-append, refl, sym, ap, subst, arith, append-nil, append_assoc, eq-eqb}
+use Rattle.std.specs.Prelude.{◌==◌, Option, Some, None, Result, Ok, Err, filter_map, if◌then◌else◌, get_or, min, nat_le, nat_lt, position, slice_get, slice_set}
 use Rattle.std.specs.Option.{option_map_or}
 use Rattle.std.proofs.lemmas.Bool.{cases_eq, ltb-true, ne_eqb}
-use Rattle.std.proofs.lemmas.List.{get_or-set_other, get_or-set_same, length-set, map-append}
+use Rattle.std.proofs.lemmas.List.{get_or-set_other, get_or-set_same, length-set, length-take, map-append}
 use Rattle.std.proofs.lemmas.List.Elements.{filter_map-append}
 use Rattle.std.proofs.lemmas.List.Concat.{flat_map-append}
-use Rattle.std.proofs.lemmas.Option.{cond_some}
+use Rattle.std.proofs.lemmas.Option.{cond_some, slice_get-get_or}
 use Rattle.std.specs.List.{position_or_len}
-use Rattle.a429_equipment.specs.Agreement.{last_of}
 use Rattle.a429_equipment.specs.Limits.{count_bits}
-use Rattle.a429_equipment.specs.Arrivals.{is_for, passes_at, sorted}
+use Rattle.a429_equipment.specs.Arrivals.{SourcesAreApart, is_for, passes_at, sorted}
 use Rattle.a429_equipment.specs.TableRecord.{TableRecord}
 use Rattle.a429_equipment.specs.declared.rows.SourceRow.{SourceRow}
 use Rattle.a429_equipment.specs.declared.arrivals.ArrivalRefusal.{ArrivalRefusal}
@@ -18,29 +17,34 @@ use Rattle.a429_equipment.specs.declared.arrivals.ArrivalRefusal.TheVariants.{Pa
 use Rattle.a429_word.specs.Bits.{has_odd_parity}
 use Rattle.a429_word.proofs.Lists.{same_Ok}
 use Rattle.a429_equipment.proofs.Cutting.{last_push}
+use Rattle.a429_slots.specs.Events.{Event, Arrive}
 use Rattle.a429_slots.specs.Proposed.{Proposed}
 use Rattle.a429_slots.specs.Answers.{source_answer}
-use Rattle.a429_slots.specs.History.{accepted_by}
+use Rattle.a429_slots.specs.History.{Opening, accepted_by, accepted_in as accepted_words}
 use Rattle.a429_slots.specs.Tables.{SlotTable, frame_of, groups_of}
 use Rattle.a429_slots.specs.declared.answers.Answer.{Answer}
+use Rattle.a429_slots.specs.declared.answers.Refusal.{Refusal}
 use Rattle.a429_slots.specs.declared.answers.Refusal.TheVariants.{CountSpent, NoSuch}
 use Rattle.a429_slots.specs.declared.answers.Answer.TheVariants.{Accepted, Sent, Changed, Published, Refused}
-use Rattle.a429_core.specs.MachineStates.{StandsForHistory}
-use Rattle.a429_cli.specs.Simulating.{Step, Comes, Turns, accepted_from, accepted_in, answer_after, event_of, heard_at, history_of, line_after, opening_of, steps_in, steps_of, text_after, text_of, time_for, turn_after}
+use Rattle.a429_slots.proofs.Histories.{by_ends}
+use Rattle.a429_core.specs.MachineStates.{GoesOnByEvents, IsWholeEvent, MachineState, StandsForHistory}
+use Rattle.a429_core.specs.MachineSteps.{CallsAreAnswered, stepped}
+use Rattle.a429_core.proofs.Accepting.{one_by_one}
+use Rattle.a429_core.proofs.Words.{words_in}
+use Rattle.a429_cli.specs.Simulating.{Step, Asks, Comes, Turns, accepted_from, accepted_in, answer_after, event_of, happening_after, happening_by, happenings_after, happenings_of, history_of, last_word, listed, opening_of, source_in, steps_in, steps_of, time_for, times_of, turn_after, word_sent}
 use Rattle.a429_cli.specs.Timeline.{table_of}
-use Rattle.a429_cli.specs.SimulationRuns.{StandsAfter, TakesFirst, TakesSteps, noted}
+use Rattle.a429_cli.specs.SimulationRuns.{StandsAfter, heard_at, noted, unheard}
 use Rattle.a429_cli.specs.declared.simulate.log.LogWord.{LogWord}
+use Rattle.a429_cli.specs.declared.simulate.machine.Happening.{Happening}
+use Rattle.a429_cli.specs.declared.simulate.machine.Happening.TheVariants.{Sends}
+use Rattle.a429_cli.specs.declared.simulate.machine.Heard.{Heard}
 use Rattle.a429_cli.specs.declared.simulate.machine.Run.{Run}
 use Rattle.a429_cli.specs.declared.simulate.moments.Moment.{Moment}
 
--- ---- texts
+pub history_more : (past : List Step) (s : Step) → history_of (past ++ s ∷ []) ≡ history_of past ++ event_of s ∷ []
+history_more past s = map-append event_of past (s ∷ [])
 
-pub text-append : (q : Proposed) (csv : Bool) (past xs ys : List Step) → text_after q csv past (xs ++ ys) ≡ text_after q csv past xs ++ text_after q csv (past ++ xs) ys
-text-append q csv past [] ys = ap (λ (p : List Step). text_after q csv p ys) (sym (append-nil past))
-text-append q csv past (x ∷ xs) ys =
-    ap (λ (t : List ℕ). line_after q csv past x ++ t) (text-append q csv (past ++ x ∷ []) xs ys)
-    ∙ (ap (λ (p : List Step). line_after q csv past x ++ (text_after q csv (past ++ x ∷ []) xs ++ text_after q csv p ys)) (append_assoc past (x ∷ []) xs)
-    ∙ sym (append_assoc (line_after q csv past x) (text_after q csv (past ++ x ∷ []) xs) (text_after q csv (past ++ x ∷ xs) ys)))
+-- ---- the times of the accepted words
 
 accepted-append : (q : Proposed) (past xs ys : List Step) → accepted_from q past (xs ++ ys) ≡ accepted_from q past xs ++ accepted_from q (past ++ xs) ys
 accepted-append q past [] ys = ap (λ (p : List Step). accepted_from q p ys) (sym (append-nil past))
@@ -50,52 +54,113 @@ accepted-append q past (x ∷ xs) ys =
     ∙ (ap (λ (p : List Step). one ++ (accepted_from q (past ++ x ∷ []) xs ++ accepted_from q p ys)) (append_assoc past (x ∷ []) xs)
     ∙ sym (append_assoc one (accepted_from q (past ++ x ∷ []) xs) (accepted_from q (past ++ x ∷ xs) ys)))
 
--- ---- times of accepted words
-
--- the time of the last word of a source
-abbrev pub last_heard : ℕ → List (ℕ × ℕ) → ℕ
-last_heard source words = unwrap_or (last_of (filter_map (time_for source) words)) 0
-
 more_accepted : (q : Proposed) (past : List Step) (s : Step) → accepted_from q [] (past ++ s ∷ []) ≡ accepted_from q [] past ++ accepted_in s (answer_after q past s)
 more_accepted q past s =
     accepted-append q [] past (s ∷ []) ∙ ap (λ (t : List (ℕ × ℕ)). accepted_from q [] past ++ t) (append-nil (accepted_in s (answer_after q past s)))
 
--- a step in which no word is accepted
-pub heard_kept : (q : Proposed) (past : List Step) (s : Step) (source : ℕ) → accepted_in s (answer_after q past s) ≡ [] → heard_at q (past ++ s ∷ []) source ≡ heard_at q past source
-unfolding heard_at
-heard_kept q past s source none =
-    ap (last_heard source) (more_accepted q past s ∙ (ap (λ (t : List (ℕ × ℕ)). accepted_from q [] past ++ t) none ∙ append-nil (accepted_from q [] past)))
-
-own_last : (words : List (ℕ × ℕ)) (source time : ℕ) → last_heard source (words ++ (source, time) ∷ []) ≡ time
-own_last words source time =
+own_time : (words : List (ℕ × ℕ)) (source time : ℕ) → filter_map (time_for source) (words ++ (source, time) ∷ []) ≡ filter_map (time_for source) words ++ time ∷ []
+own_time words source time =
     let own : (source == source) ≡ true = eq-eqb source source refl in
-    let with : filter_map (time_for source) (words ++ (source, time) ∷ []) ≡ filter_map (time_for source) words ++ time ∷ [] =
-    filter_map-append (time_for source) words ((source, time) ∷ []) ∙ rw own refl in
-    rw (with, last_push (filter_map (time_for source) words) time) refl
+    filter_map-append (time_for source) words ((source, time) ∷ []) ∙ rw own refl
 
-other_last : (words : List (ℕ × ℕ)) (source other time : ℕ) → (other ≡ source → ⊥) → last_heard source (words ++ (other, time) ∷ []) ≡ last_heard source words
-other_last words source other time apart =
+other_time : (words : List (ℕ × ℕ)) (source other time : ℕ) → (other ≡ source → ⊥) → filter_map (time_for source) (words ++ (other, time) ∷ []) ≡ filter_map (time_for source) words
+other_time words source other time apart =
     let no : (other == source) ≡ false = ne_eqb other source apart in
-    let with : filter_map (time_for source) (words ++ (other, time) ∷ []) ≡ filter_map (time_for source) words =
-    filter_map-append (time_for source) words ((other, time) ∷ []) ∙ rw (no, append-nil (filter_map (time_for source) words)) refl in
-    rw with refl
+    filter_map-append (time_for source) words ((other, time) ∷ []) ∙ rw (no, append-nil (filter_map (time_for source) words)) refl
+
+-- a step in which no word is accepted
+pub times_kept : (q : Proposed) (past : List Step) (s : Step) (source : ℕ) → accepted_in s (answer_after q past s) ≡ [] → times_of q (past ++ s ∷ []) source ≡ times_of q past source
+unfolding times_of
+times_kept q past s source none =
+    ap (filter_map (time_for source)) (more_accepted q past s ∙ (ap (λ (t : List (ℕ × ℕ)). accepted_from q [] past ++ t) none ∙ append-nil (accepted_from q [] past)))
 
 -- the step of an accepted word
-pub heard_own : (q : Proposed) (past : List Step) (w : LogWord) (source : ℕ) → answer_after q past (Comes w) ≡ Accepted source → heard_at q (past ++ Comes w ∷ []) source ≡ w.time
-unfolding heard_at
-heard_own q past w source is =
-    ap (last_heard source) (more_accepted q past (Comes w) ∙ ap (λ (a : Answer). accepted_from q [] past ++ accepted_in (Comes w) a) is) ∙ own_last (accepted_from q [] past) source w.time
+pub times_own : (q : Proposed) (past : List Step) (w : LogWord) (source : ℕ) → answer_after q past (Comes w) ≡ Accepted source
+    → times_of q (past ++ Comes w ∷ []) source ≡ times_of q past source ++ w.time ∷ []
+unfolding times_of
+times_own q past w source is =
+    ap (filter_map (time_for source)) (more_accepted q past (Comes w) ∙ ap (λ (a : Answer). accepted_from q [] past ++ accepted_in (Comes w) a) is)
+    ∙ own_time (accepted_from q [] past) source w.time
 
-pub heard_other : (q : Proposed) (past : List Step) (w : LogWord) (source other : ℕ) → answer_after q past (Comes w) ≡ Accepted other → (other ≡ source → ⊥)
-    → heard_at q (past ++ Comes w ∷ []) source ≡ heard_at q past source
-unfolding heard_at
-heard_other q past w source other is apart =
-    ap (last_heard source) (more_accepted q past (Comes w) ∙ ap (λ (a : Answer). accepted_from q [] past ++ accepted_in (Comes w) a) is) ∙ other_last (accepted_from q [] past) source other w.time apart
+times_other : (q : Proposed) (past : List Step) (w : LogWord) (source other : ℕ) → answer_after q past (Comes w) ≡ Accepted other → (other ≡ source → ⊥)
+    → times_of q (past ++ Comes w ∷ []) source ≡ times_of q past source
+unfolding times_of
+times_other q past w source other is apart =
+    ap (filter_map (time_for source)) (more_accepted q past (Comes w) ∙ ap (λ (a : Answer). accepted_from q [] past ++ accepted_in (Comes w) a) is)
+    ∙ other_time (accepted_from q [] past) source other w.time apart
+
+-- a step in which no word of the source is accepted
+times_by : (q : Proposed) (past : List Step) (w : LogWord) (source : ℕ) (a : Answer) → a ≡ answer_after q past (Comes w) → (a ≡ Accepted source → ⊥)
+    → times_of q (past ++ Comes w ∷ []) source ≡ times_of q past source
+times_by q past w source (Accepted other) is none = times_other q past w source other (sym is) (λ e. none (ap Accepted e))
+times_by q past w source (Sent bus slot word) is none = times_kept q past (Comes w) source (ap (accepted_in (Comes w)) (sym is))
+times_by q past w source (Changed plan) is none = times_kept q past (Comes w) source (ap (accepted_in (Comes w)) (sym is))
+times_by q past w source (Published plan) is none = times_kept q past (Comes w) source (ap (accepted_in (Comes w)) (sym is))
+times_by q past w source (Refused why) is none = times_kept q past (Comes w) source (ap (accepted_in (Comes w)) (sym is))
+
+times_same : (q : Proposed) (past : List Step) (s : Step) (source : ℕ) → (answer_after q past s ≡ Accepted source → ⊥) → times_of q (past ++ s ∷ []) source ≡ times_of q past source
+times_same q past (Comes w) source none = times_by q past w source (answer_after q past (Comes w)) refl none
+times_same q past (Asks g t) source none = times_kept q past (Asks g t) source refl
+times_same q past (Turns g) source none = times_kept q past (Turns g) source refl
+
+-- ---- how many they are
+
+pub times_grow : (q : Proposed) (past : List Step) (s : Step) (source : ℕ) → length (times_of q past source) ≤ length (times_of q (past ++ s ∷ []) source)
+unfolding times_of
+times_grow q past s source =
+    let more = accepted_in s (answer_after q past s) in
+    let all = ap (filter_map (time_for source)) (more_accepted q past s) ∙ filter_map-append (time_for source) (accepted_from q [] past) more in
+    omega (arith, ap length all, length-append (filter_map (time_for source) (accepted_from q [] past)) (filter_map (time_for source) more))
+
+few_accepted : (C : ℕ) (o : Opening) (i : ℕ) (E : List Event) → length (accepted_by C o i E) ≤ 2 ^ C - 1
+few_accepted C o i E = by (slice_get o.proposal.station.sources i)
+  where
+    by : (x : Option SourceRow) → length (option_map_or (λ s. accepted_words C o s E) x []) ≤ 2 ^ C - 1
+    by None = omega arith
+    by (Some s) = omega (arith, length-take (2 ^ C - 1) (words_in o s E))
+
+none_accepted : (q : Proposed) (i : ℕ) → length (accepted_by count_bits (opening_of q) i []) ≡ 0
+none_accepted q i = by (slice_get q.station.sources i)
+  where
+    by : (x : Option SourceRow) → length (option_map_or (λ s. accepted_words count_bits (opening_of q) s []) x []) ≡ 0
+    by None = refl
+    by (Some s) = omega (arith, length-take (2 ^ count_bits - 1) (words_in (opening_of q) s []))
+
+abbrev CountsWords : Proposed → ℕ → List Step → Type 0
+CountsWords q i past = length (times_of q past i) ≡ length (accepted_by count_bits (opening_of q) i (history_of past))
+
+count_own : (q : Proposed) (past : List Step) (s : Step) (i : ℕ) → answer_after q past s ≡ Accepted i → ((r raw : ℕ) → event_of s ≡ Arrive r raw → ⊥) ⊎ ((w : LogWord) × (s ≡ Comes w))
+count_own q past (Comes w) i is = inr (w, refl)
+count_own q past (Asks g t) i is = inl (λ r raw e. cc)
+count_own q past (Turns g) i is = inl (λ r raw e. cc)
+
+count_more : (q : Proposed) (i : ℕ) → SourcesAreApart q.station.sources → (past : List Step) (s : Step) → CountsWords q i past → CountsWords q i (past ++ s ∷ [])
+count_more q i apart past s before =
+    let o = opening_of q in
+    let E = history_of past in
+    let old = accepted_by count_bits o i E in
+    let next : accepted_by count_bits o i (history_of (past ++ s ∷ [])) ≡ accepted_by count_bits o i (E ++ event_of s ∷ []) = ap (accepted_by count_bits o i) (history_more past s) in
+    elim (one_by_one count_bits o E i (event_of s) apart) [
+      | inl W ↦ elim (count_own q past s i W.answered) [
+        | inl none ↦ absurd (none W.receiver W.word W.event)
+        | inr (w, same) ↦
+            let own : times_of q (past ++ s ∷ []) i ≡ times_of q past i ++ w.time ∷ [] =
+            subst (λ (x : Step). times_of q (past ++ x ∷ []) i ≡ times_of q past i ++ w.time ∷ []) (sym same) (times_own q past w i (subst (λ (x : Step). answer_after q past x ≡ Accepted i) same W.answered)) in
+            omega (arith, ap length own, length-append (times_of q past i) (w.time ∷ []), before, ap length next, ap length W.more, length-append old (W.word ∷ []))
+      ]
+      | inr N ↦ ap length (times_same q past s i N.other) ∙ (before ∙ sym (ap length (next ∙ N.same)))
+    ]
+
+none_in_time : (q : Proposed) (i : ℕ) → times_of q [] i ≡ []
+unfolding times_of
+none_in_time q i = refl
+
+few_times : (q : Proposed) (i : ℕ) → SourcesAreApart q.station.sources → (past : List Step) → length (times_of q past i) ≤ 2 ^ 41 - 1
+few_times q i apart past =
+    let same = by_ends (CountsWords q i) (ap length (none_in_time q i) ∙ sym (none_accepted q i)) (count_more q i apart) past in
+    omega (arith, same, few_accepted count_bits (opening_of q) i (history_of past))
 
 -- ---- the machine
-
-pub history_more : (past : List Step) (s : Step) → history_of (past ++ s ∷ []) ≡ history_of past ++ event_of s ∷ []
-history_more past s = map-append event_of past (s ∷ [])
 
 -- a source that accepts a word is one of the station
 position_below : (p : SourceRow → Bool) (xs : List SourceRow) (k : ℕ) → position p xs ≡ Some k → k < length xs
@@ -128,120 +193,126 @@ accepted_within q past w i is = by (nat_le (length q.station.receivers) w.receiv
         subst (λ (n : ℕ). n < length q.station.sources) (kept (nat_lt (length (accepted_by count_bits (opening_of q) j (history_of past))) (2 ^ count_bits - 1)) j h)
         (sorted_within q.station w.receiver w.raw j at)
 
--- the times after an answer to a word
-noted_at : (q : Proposed) (past : List Step) (w : LogWord) (times : List ℕ) (a : Answer) → a ≡ answer_after q past (Comes w) → length times ≡ length q.station.sources
-    → ((i : ℕ) → get_or times i 0 ≡ heard_at q past i) → (i : ℕ) → get_or (noted times a w.time) i 0 ≡ heard_at q (past ++ Comes w ∷ []) i
-noted_at q past w times (Accepted source) is many before i = elim (cases_eq i source) [
-  | inl same ↦ subst (λ (k : ℕ). get_or (slice_set times source w.time) k 0 ≡ heard_at q (past ++ Comes w ∷ []) k) (sym same)
-      (get_or-set_same times source w.time 0 (omega (arith, many, accepted_within q past w source (sym is))) ∙ sym (heard_own q past w source (sym is)))
-  | inr apart ↦ get_or-set_other times source i w.time 0 apart ∙ (before i ∙ sym (heard_other q past w i source (sym is) (λ e. apart (sym e))))
-]
-noted_at q past w times (Sent bus slot word) is many before i = before i ∙ sym (heard_kept q past (Comes w) i (ap (accepted_in (Comes w)) (sym is)))
-noted_at q past w times (Changed plan) is many before i = before i ∙ sym (heard_kept q past (Comes w) i (ap (accepted_in (Comes w)) (sym is)))
-noted_at q past w times (Published plan) is many before i = before i ∙ sym (heard_kept q past (Comes w) i (ap (accepted_in (Comes w)) (sym is)))
-noted_at q past w times (Refused why) is many before i = before i ∙ sym (heard_kept q past (Comes w) i (ap (accepted_in (Comes w)) (sym is)))
+-- the last accepted words after one more of a source
+word_more : (times : List ℕ) (time : ℕ) → length times ≤ 2 ^ 41 - 1 → ◌≡◌ {A = Heard} (record { word = min (length times + 1) (2 ^ 64 - 1); time = time }) (last_word (times ++ time ∷ []))
+word_more times time few =
+    let count : min (length times + 1) (2 ^ 64 - 1) ≡ length (times ++ time ∷ []) = omega (arith, length-append times (time ∷ []), few) in
+    rw (count, last_push times time) refl
 
-noted_many : (times : List ℕ) (a : Answer) (time : ℕ) → length (noted times a time) ≡ length times
-noted_many times (Accepted source) time = length-set times source time
-noted_many times (Sent bus slot word) time = refl
-noted_many times (Changed plan) time = refl
-noted_many times (Published plan) time = refl
-noted_many times (Refused why) time = refl
+noted_at : (q : Proposed) (past : List Step) (w : LogWord) (source : ℕ) (heard : List Heard) → SourcesAreApart q.station.sources → answer_after q past (Comes w) ≡ Accepted source
+    → length heard ≡ length q.station.sources → ((i : ℕ) → heard_at heard i ≡ last_word (times_of q past i))
+    → (i : ℕ) → heard_at (noted heard source w.time) i ≡ last_word (times_of q (past ++ Comes w ∷ []) i)
+noted_at q past w source heard apart is many before i =
+    let within : source < length heard = omega (arith, many, accepted_within q past w source is) in
+    let there : slice_get heard source ≡ Some (get_or heard source unheard) = slice_get-get_or heard source unheard within in
+    let next : Heard = record { word = min ((heard_at heard source).word + 1) (2 ^ 64 - 1); time = w.time } in
+    let after : noted heard source w.time ≡ slice_set heard source next = rw there refl in
+    ap (λ (hs : List Heard). heard_at hs i) after ∙ elim (cases_eq i source) [
+      | inl same ↦
+          subst (λ (k : ℕ). heard_at (slice_set heard source next) k ≡ last_word (times_of q (past ++ Comes w ∷ []) k)) (sym same)
+          (get_or-set_same heard source next unheard within
+          ∙ (ap (λ (h : Heard). record { word = min (h.word + 1) (2 ^ 64 - 1); time = w.time }) (before source)
+          ∙ (word_more (times_of q past source) w.time (few_times q source apart past) ∙ ap last_word (sym (times_own q past w source is)))))
+      | inr other ↦ get_or-set_other heard source i next unheard other ∙ (before i ∙ ap last_word (sym (times_other q past w i source is (λ e. other (sym e)))))
+    ]
 
--- a word came in
-pub stands_word : (q : Proposed) (past : List Step) (w : LogWord) (a : Answer) (old new : Run) → StandsAfter q past old → a ≡ answer_after q past (Comes w)
-    → StandsForHistory count_bits (opening_of q) (history_of past ++ event_of (Comes w) ∷ []) new.state → new.times.items ≡ noted old.times.items a w.time → StandsAfter q (past ++ Comes w ∷ []) new
-stands_word q past w a old new S is state times =
-    let all = noted_at q past w old.times.items a is S.many S.times in
-    record {
-      state = subst (λ E. StandsForHistory count_bits (opening_of q) E new.state) (sym (history_more past (Comes w))) state;
-      many = ap length times ∙ (noted_many old.times.items a w.time ∙ S.many);
-      times = λ i. ap (λ (ts : List ℕ). get_or ts i 0) times ∙ all i;
-    }
+noted_many : (heard : List Heard) (source time : ℕ) → length (noted heard source time) ≡ length heard
+noted_many heard source time = by (slice_get heard source)
+  where
+    by : (x : Option Heard) → length (option_map_or (λ own. slice_set heard source (record { word = min (own.word + 1) (2 ^ 64 - 1); time = time })) x heard) ≡ length heard
+    by None = refl
+    by (Some own) = length-set heard source (record { word = min (own.word + 1) (2 ^ 64 - 1); time = time })
 
--- a group was asked
-pub stands_asked : (q : Proposed) (past : List Step) (s : Step) (old new : Run) → StandsAfter q past old → ((a : Answer) → accepted_in s a ≡ [])
-    → StandsForHistory count_bits (opening_of q) (history_of past ++ event_of s ∷ []) new.state → new.times.items ≡ old.times.items → StandsAfter q (past ++ s ∷ []) new
-stands_asked q past s old new S none state times = record {
-  state = subst (λ E. StandsForHistory count_bits (opening_of q) E new.state) (sym (history_more past s)) state;
-  many = ap length times ∙ S.many;
-  times = λ i. ap (λ (ts : List ℕ). get_or ts i 0) times ∙ (S.times i ∙ sym (heard_kept q past s i (none (answer_after q past s))));
+-- a word came in, and was accepted
+pub stands_accepted : (q : Proposed) (past : List Step) (w : LogWord) (source : ℕ) (old new : Run) → StandsAfter q past old → answer_after q past (Comes w) ≡ Accepted source
+    → StandsForHistory count_bits (opening_of q) (history_of past ++ event_of (Comes w) ∷ []) new.state → new.heard.items ≡ noted old.heard.items source w.time → StandsAfter q (past ++ Comes w ∷ []) new
+stands_accepted q past w source old new S is state heard = record {
+  sound = S.sound;
+  planned = S.planned;
+  state = subst (λ E. StandsForHistory count_bits (opening_of q) E new.state) (sym (history_more past (Comes w))) state;
+  many = ap length heard ∙ (noted_many old.heard.items source w.time ∙ S.many);
+  heard = λ i. ap (λ (hs : List Heard). heard_at hs i) heard ∙ noted_at q past w source old.heard.items S.state.apart is S.many S.heard i;
 }
 
--- ---- steps and their lines
+-- no word was accepted
+pub stands_on : (q : Proposed) (past : List Step) (s : Step) (old new : Run) → StandsAfter q past old → accepted_in s (answer_after q past s) ≡ []
+    → StandsForHistory count_bits (opening_of q) (history_of past ++ event_of s ∷ []) new.state → new.heard.items ≡ old.heard.items → StandsAfter q (past ++ s ∷ []) new
+stands_on q past s old new S none state heard = record {
+  sound = S.sound;
+  planned = S.planned;
+  state = subst (λ E. StandsForHistory count_bits (opening_of q) E new.state) (sym (history_more past s)) state;
+  many = ap length heard ∙ S.many;
+  heard = λ i. ap (λ (hs : List Heard). heard_at hs i) heard ∙ (S.heard i ∙ ap last_word (sym (times_kept q past s i none)));
+}
 
-pub takes_none : (q : Proposed) (csv : Bool) (run : Run) (text : List ℕ) → TakesSteps q csv [] run run text text
-takes_none q csv run text = λ past S. (subst (λ p. StandsAfter q p run) (sym (append-nil past)) S, sym (append-nil text))
+-- what the machine answers, and that it goes on
+whole : (step : Step) → IsWholeEvent (event_of step)
+whole (Comes w) = tt
+whole (Asks g t) = tt
+whole (Turns g) = tt
 
-pub takes_then : (q : Proposed) (csv : Bool) (xs ys : List Step) (a b c : Run) (s t u : List ℕ) → TakesSteps q csv xs a b s t → TakesSteps q csv ys b c t u → TakesSteps q csv (xs ++ ys) a c s u
-takes_then q csv xs ys a b c s t u first later = λ past S.
-    let (stands, appended) = first past S in
-    let (end, more) = later (past ++ xs) stands in (
-      subst (λ p. StandsAfter q p c) (append_assoc past xs ys) end,
-      more ∙ (ap (λ (l : List ℕ). l ++ text_after q csv (past ++ xs) ys) appended
-          ∙ (append_assoc s (text_after q csv past xs) (text_after q csv (past ++ xs) ys) ∙ ap (λ (l : List ℕ). s ++ l) (sym (text-append q csv past xs ys)))),
+pub goes_on : CallsAreAnswered → ((C : ℕ) (e : Event) (v : MachineState) → IsWholeEvent e → GoesOnByEvents C v (e ∷ []) (stepped C v e).1)
+    → (q : Proposed) (past : List Step) (step : Step) (r : Run) → StandsAfter q past r → (v : MachineState) → v ≡ (stepped count_bits r.state (event_of step)).1
+    → ((stepped count_bits r.state (event_of step)).0 ≡ answer_after q past step) × StandsForHistory count_bits (opening_of q) (history_of past ++ event_of step ∷ []) v
+goes_on calls goes q past step r S v is =
+    let o = opening_of q in
+    let E = history_of past in
+    let e = event_of step in (
+      calls count_bits o E e r.state (whole step) S.state,
+      subst (StandsForHistory count_bits o (E ++ e ∷ [])) (sym is) (goes count_bits e r.state (whole step) o E S.state),
     )
 
--- steps up to a place behind others
-take_past : {X : Type 0} (n : ℕ) (xs ys : List X) → take (length xs + n) (xs ++ ys) ≡ xs ++ take n ys
-take_past n [] ys = ap (λ (m : ℕ). take m ys) (omega arith)
-take_past n (x ∷ xs) ys =
-    let count : length (x ∷ xs) + n ≡ suc (length xs + n) = omega arith in
-    ap (λ (m : ℕ). take m (x ∷ (xs ++ ys))) count ∙ ap (λ zs. x ∷ zs) (take_past n xs ys)
+-- ---- what happens
 
--- the first steps are first of more
-taken_front : {X : Type 0} (n : ℕ) (xs ys : List X) → (m : ℕ) × (take m (xs ++ ys) ≡ take n xs)
-taken_front zero xs ys = (zero, refl)
-taken_front (suc n) [] ys = (zero, refl)
-taken_front (suc n) (x ∷ xs) ys = let rest = taken_front n xs ys in (suc rest.0, ap (λ zs. x ∷ zs) rest.1)
+pub happenings-append : (q : Proposed) (past xs ys : List Step) → happenings_after q past (xs ++ ys) ≡ happenings_after q past xs ++ happenings_after q (past ++ xs) ys
+happenings-append q past [] ys = ap (λ (p : List Step). happenings_after q p ys) (sym (append-nil past))
+happenings-append q past (x ∷ xs) ys =
+    let one = listed (happening_after q past x) in
+    ap (λ (t : List Happening). one ++ t) (happenings-append q (past ++ x ∷ []) xs ys)
+    ∙ (ap (λ (p : List Step). one ++ (happenings_after q (past ++ x ∷ []) xs ++ happenings_after q p ys)) (append_assoc past (x ∷ []) xs)
+    ∙ sym (append_assoc one (happenings_after q (past ++ x ∷ []) xs) (happenings_after q (past ++ x ∷ xs) ys)))
 
-pub first_of_more : (q : Proposed) (csv : Bool) (xs ys : List Step) (a : Run) (s t : List ℕ) → TakesFirst q csv xs a s t → TakesFirst q csv (xs ++ ys) a s t
-first_of_more q csv xs ys a s t first = λ past S.
-    let (n, appended) = first past S in
-    let (m, same) = taken_front n xs ys in
-    (m, appended ∙ ap (λ (zs : List Step). s ++ text_after q csv past zs) (sym same))
+-- one step later
+pub happenings_more : (q : Proposed) (past : List Step) (s : Step) → happenings_of q (past ++ s ∷ []) ≡ happenings_of q past ++ listed (happening_after q past s)
+happenings_more q past s = happenings-append q [] past (s ∷ []) ∙ ap (λ (l : List Happening). happenings_of q past ++ l) (append-nil (listed (happening_after q past s)))
 
-pub first_then : (q : Proposed) (csv : Bool) (xs ys : List Step) (a b : Run) (s t u : List ℕ) → TakesSteps q csv xs a b s t → TakesFirst q csv ys b t u → TakesFirst q csv (xs ++ ys) a s u
-first_then q csv xs ys a b s t u first later = λ past S.
-    let (stands, appended) = first past S in
-    let (n, more) = later (past ++ xs) stands in (
-      length xs + n,
-      more ∙ (ap (λ (l : List ℕ). l ++ text_after q csv (past ++ xs) (take n ys)) appended
-          ∙ (append_assoc s (text_after q csv past xs) (text_after q csv (past ++ xs) (take n ys))
-          ∙ ap (λ (l : List ℕ). s ++ l) (sym (ap (text_after q csv past) (take_past n xs ys) ∙ text-append q csv past xs (take n ys))))),
-    )
+-- nothing happens where a word is answered otherwise than by a refusal
+pub quiet_word : (q : Proposed) (times : ℕ → List ℕ) (w : LogWord) (a : Answer) → ((why : Refusal) → a ≡ Refused why → ⊥) → None ≡ happening_by q times (Comes w) a
+quiet_word q times w (Accepted source) other = refl
+quiet_word q times w (Sent bus slot word) other = refl
+quiet_word q times w (Changed plan) other = refl
+quiet_word q times w (Published plan) other = refl
+quiet_word q times w (Refused why) other = absurd (other why refl)
 
--- one step
-pub takes_one : (q : Proposed) (csv : Bool) (step : Step) (a b : Run) (s t line : List ℕ) → ((past : List Step) → StandsAfter q past a → StandsAfter q (past ++ step ∷ []) b)
-    → ((past : List Step) → StandsAfter q past a → line ≡ line_after q csv past step) → t ≡ s ++ line → TakesSteps q csv (step ∷ []) a b s t
-takes_one q csv step a b s t line stands is appended = λ past S.
-    (stands past S, appended ∙ ap (λ (l : List ℕ). s ++ l) (is past S ∙ sym (append-nil (line_after q csv past step))))
+-- a cell with a word
+pub sends_word : (q : Proposed) (times : ℕ → List ℕ) (g t bus at raw source : ℕ) (heard : Heard) (a : Answer) → a ≡ Sent bus at (Some raw) → source ≡ source_in q g bus at
+    → heard ≡ last_word (times source) → Some (Sends (word_sent g t bus raw source heard)) ≡ happening_by q times (Asks g t) a
+sends_word q times g t bus at raw source heard a is from when =
+    ap (λ (h : Heard). Some (Sends (word_sent g t bus raw source h))) when
+    ∙ (ap (λ (i : ℕ). Some (Sends (word_sent g t bus raw i (last_word (times i))))) from ∙ sym (ap (happening_by q times (Asks g t)) is))
 
--- no step
-pub first_none : (q : Proposed) (csv : Bool) (steps : List Step) (a : Run) (s t : List ℕ) → t ≡ s → TakesFirst q csv steps a s t
-first_none q csv steps a s t same = λ past S. (zero, same ∙ sym (append-nil s))
+pub unaccepted : (w : LogWord) (a : Answer) → ((source : ℕ) → a ≡ Accepted source → ⊥) → accepted_in (Comes w) a ≡ []
+unaccepted w (Accepted source) other = absurd (other source refl)
+unaccepted w (Sent bus slot word) other = refl
+unaccepted w (Changed plan) other = refl
+unaccepted w (Published plan) other = refl
+unaccepted w (Refused why) other = refl
+
+-- nor where a cell has no word
+pub quiet_cell : (q : Proposed) (times : ℕ → List ℕ) (g t : ℕ) (a : Answer) → ((bus slot raw : ℕ) → a ≡ Sent bus slot (Some raw) → ⊥) → None ≡ happening_by q times (Asks g t) a
+quiet_cell q times g t (Accepted source) other = refl
+quiet_cell q times g t (Sent bus slot None) other = refl
+quiet_cell q times g t (Sent bus slot (Some raw)) other = absurd (other bus slot raw refl)
+quiet_cell q times g t (Changed plan) other = refl
+quiet_cell q times g t (Published plan) other = refl
+quiet_cell q times g t (Refused why) other = refl
 
 -- ---- the steps of a timeline
 
 pub steps_more : (q : Proposed) (M : List Moment) (m : Moment) → steps_of q (M ++ m ∷ []) ≡ steps_of q M ++ steps_in q m
 steps_more q M m = flat_map-append (steps_in q) M (m ∷ []) ∙ ap (λ (xs : List Step). steps_of q M ++ xs) (append-nil (steps_in q m))
 
-pub text_more : (q : Proposed) (csv : Bool) (M : List Moment) (m : Moment)
-    → text_of q csv (steps_of q (M ++ m ∷ [])) ≡ text_of q csv (steps_of q M) ++ text_after q csv (steps_of q M) (steps_in q m)
-text_more q csv M m = ap (text_of q csv) (steps_more q M m) ∙ text-append q csv [] (steps_of q M) (steps_in q m)
-
-pub text_in_part : (q : Proposed) (csv : Bool) (M : List Moment) (m : Moment) (n : ℕ)
-    → text_of q csv (take (length (steps_of q M) + n) (steps_of q (M ++ m ∷ []))) ≡ text_of q csv (steps_of q M) ++ text_after q csv (steps_of q M) (take n (steps_in q m))
-text_in_part q csv M m n =
-    ap (λ (xs : List Step). text_of q csv (take (length (steps_of q M) + n) xs)) (steps_more q M m)
-    ∙ (ap (text_of q csv) (take_past n (steps_of q M) (steps_in q m)) ∙ text-append q csv [] (steps_of q M) (take n (steps_in q m)))
-
 -- ---- groups
-
-pub zero_at : (n i : ℕ) → get_or (replicate {A = ℕ} n 0) i 0 ≡ 0
-zero_at zero i = refl
-zero_at (suc n) zero = refl
-zero_at (suc n) (suc i) = zero_at n i
 
 pub table_at : (q : Proposed) (g : ℕ) (p : SlotTable) → slice_get (groups_of q.plan) g ≡ Some p → table_of q g ≡ p
 table_at q g p there = rw there refl

@@ -5,8 +5,8 @@ use Rattle.std.specs.Io.KnownBytes.{Appends, append_known}
 use Rattle.a429_slots.specs.Proposed.{Proposed}
 use Rattle.a429_console.specs.Outputs.{OrNoMemory, ending, memory_refused, status_of}
 use Rattle.a429_console.specs.declared.refusals.CommandRefusal.TheVariants as refused
-use Rattle.a429_cli.specs.SimulationReplies.{AreSimulationFiles, IsPrinting, IsSimulated, IsSimulation, IsWritten, SimulationFiles, heading}
-use Rattle.a429_cli.specs.SimulationRuns.{ArePrinted}
+use Rattle.a429_cli.specs.SimulationReplies.{ArePrinted, AreSimulationFiles, IsPrinting, IsSimulated, IsSimulation, IsWritten, SimulationFiles, heading}
+use Rattle.a429_cli.specs.Simulating.{text_of}
 use Rattle.a429_cli.specs.Timeline.{end_of}
 use Rattle.a429_cli.specs.declared.simulate.SimulationForm.{SimulationForm}
 use Rattle.a429_cli.specs.declared.simulate.log.LogWord.{LogWord}
@@ -15,8 +15,8 @@ use Rattle.a429_cli.proofs.PlayedLines.{Appends-ended, Appends-text, Appends-the
 -- all lines, or the first ones, with their end
 pub printed_ended : (q : Proposed) (words : List LogWord) (last : ℕ) (csv all : Bool) (bytes : List ℕ) → ArePrinted q words last csv all bytes
     → IsPrinting q words last csv (status_of all) ((heading csv ++ bytes) ++ ending all)
-printed_ended q words last csv true bytes (moments, timeline, text) =
-    inl ((moments, timeline, append-nil (heading csv ++ bytes) ∙ ap (λ (bs : List ℕ). heading csv ++ bs) text), refl)
+printed_ended q words last csv true bytes (told, (moments, timeline, all), text) =
+    inl ((moments, timeline, append-nil (heading csv ++ bytes) ∙ ap (λ (bs : List ℕ). heading csv ++ bs) (text ∙ ap (text_of q csv) all)), refl)
 printed_ended q words last csv false bytes (moments, n, begun, text) =
     inr (heading csv ++ bytes, (moments, n, begun, ap (λ (bs : List ℕ). heading csv ++ bs) text), refl, sym (append_assoc (heading csv ++ bytes) memory_refused (10 ∷ [])))
 

@@ -1,16 +1,17 @@
 -- What the lines of a slot's cells have in common.
-use Rattle.std.specs.Prelude.{◌≡◌, ◌+◌, ◌≤◌, ◌++◌, ◌∷◌, [], ℕ, Bool, List, Option, None, Some, length}
+use Rattle.std.specs.Prelude.{◌≡◌, ◌+◌, ◌<◌, ◌≤◌, ◌++◌, ◌∷◌, [], ℕ, Bool, List, Result, OnErr, drop, length}
 use Rattle.std.specs.Fmt.{decimal}
 use Rattle.a429_word.specs.Hexadecimal.{hex}
+use Rattle.a429_word.specs.Written.{Gains}
 use Rattle.a429_documents.specs.Document.{slots_us}
-use Rattle.a429_slots.specs.Planned.{IsPlanOf}
 use Rattle.a429_slots.specs.Proposed.{Proposed}
 use Rattle.a429_console.specs.Names.{name_at, naming_of}
-use Rattle.a429_cli.specs.Simulating.{Step, Asks, line_after, sent_line, separator}
-use Rattle.a429_cli.specs.SimulationRuns.{HasPlannedGroup, StandsAfter}
+use Rattle.a429_cli.specs.Simulating.{line_of, separator}
+use Rattle.a429_cli.specs.SimulationReplies.{heading}
 use Rattle.a429_cli.specs.Timeline.{rate_of}
-use Rattle.a429_cli.specs.declared.simulate.lines.SentWord.{SentWord}
-use Rattle.a429_cli.specs.declared.simulate.machine.Run.{Run}
+use Rattle.a429_cli.specs.declared.simulate.lines.PendingLines.{PendingLines}
+use Rattle.a429_cli.specs.declared.simulate.lines.SlotBegin.{SlotBegin}
+use Rattle.a429_cli.specs.declared.simulate.machine.Happening.{Happening}
 
 -- what they begin with: the slot's beginning, and the group
 abbrev pub begin_of : Proposed → Bool → ℕ → ℕ → List ℕ
@@ -21,19 +22,27 @@ abbrev pub rest_of : Proposed → Bool → ℕ → ℕ → ℕ → ℕ → List 
 rest_of q csv bus raw source age =
     decimal bus ++ separator csv ++ hex raw ++ separator csv ++ name_at (naming_of q.station).sources source ++ separator csv ++ decimal age ++ 10 ∷ []
 
--- they begin with this, which is short, and the slot ends at this time
-pub record BeginsCells (q : Proposed) (csv : Bool) (g t : ℕ) (begin : List ℕ) (end : ℕ) : Type 0 where
-  pub begin_is : begin ≡ begin_of q csv g t
-  pub short : length begin ≤ 40
-  pub end_is : end ≡ slots_us (rate_of q g) (t + 1)
+-- this is what those of this slot begin with, which is short, and when the slot ends
+pub record BeginsSlot (q : Proposed) (csv : Bool) (g t : ℕ) (b : SlotBegin) : Type 0 where
+  pub group : b.group ≡ g
+  pub slot : b.slot ≡ t
+  pub room : length b.room ≡ 64
+  pub within : b.at ≤ 64
+  pub short : 24 ≤ b.at
+  pub begin_is : drop b.at b.room ≡ begin_of q csv g t
+  pub end_is : b.end ≡ slots_us (rate_of q g) (t + 1)
 
--- the line of a word that a group sends in a slot; if it sends none, nothing
-abbrev pub word_line : Proposed → Bool → ℕ → ℕ → Option SentWord → List ℕ
-word_line q csv g t None = []
-word_line q csv g t (Some s) = sent_line q csv g t s.bus s.raw s.source s.heard
+-- the same of the slot that it names, if a simulation has that one
+abbrev pub IsBeginOfSlot : Proposed → Bool → SlotBegin → Type 0
+IsBeginOfSlot q csv b = b.slot < 8192000000 → BeginsSlot q csv b.group b.slot b
 
--- whatever steps the machine has taken, a group sends this word in its next cell, or none
-abbrev pub SendsWord : Run → ℕ → Option SentWord → Type 0
-SendsWord r g sent =
-    (q : Proposed) (csv : Bool) (past : List Step) (t : ℕ) → IsPlanOf q.station q.plan → HasPlannedGroup q g → StandsAfter q past r
-    → word_line q csv g t sent ≡ line_after q csv past (Asks g t)
+-- the heading, and no slot
+pub record IsHeading (csv : Bool) (lines : PendingLines) : Type 0 where
+  pub text : lines.text.items ≡ heading csv
+  pub begin : (q : Proposed) → IsBeginOfSlot q csv lines.begin
+
+-- the line of what happens is appended; if memory is refused, nothing is
+pub record PushesLine {T E : Type 0} (q : Proposed) (csv : Bool) (h : Happening) (old new : PendingLines) (result : Result T E) : Type 0 where
+  pub line : Gains result old.text.items new.text.items (line_of q csv h)
+  pub kept : OnErr result (new.text.items ≡ old.text.items)
+  pub begin : IsBeginOfSlot q csv new.begin

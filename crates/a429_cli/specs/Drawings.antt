@@ -1,16 +1,17 @@
--- The command `draw`: what it writes, and its status (profile: output).
-use Rattle.std.specs.Prelude.{◌≡◌, ◌∷◌, [], ◌++◌, ◌⊎◌, ℕ, List, Bool, true, false, Option, Result, MatchResult, Some, None, option_map, position}
+-- The command `draw`: its status, and when it is refused (profile: output). A picture is written of a `Drawing` of `a429_documents`, whose marks are the
+-- cells of the plan; no clause says how it is spelled.
+use Rattle.std.specs.Prelude.{◌≡◌, ◌≤◌, ◌∷◌, [], ◌++◌, ◌⊎◌, ℕ, List, Bool, Option, Result, MatchResult, Some, None, option_map, position}
 use Rattle.std.specs.Str.{bytes_eq}
 use Rattle.std.specs.declared.vec.Vec.{Vec}
 use Rattle.std.specs.declared.alloc.Global.{Global}
 use Rattle.a429_equipment.specs.declared.rows.GroupRow.{GroupRow}
 use Rattle.a429_slots.specs.Proposed.{Proposed}
-use Rattle.a429_documents.specs.Drawing.{IsDrawingFault, IsImageText}
-use Rattle.a429_documents.specs.Page.{IsPageText}
+use Rattle.a429_documents.specs.Drawing.{IsDrawingFault, image_height}
 use Rattle.a429_documents.specs.declared.drawing.DrawingFault.{DrawingFault}
 use Rattle.a429_documents.specs.declared.drawing.DrawingFault.TheVariants as drawing
 use Rattle.a429_documents.specs.declared.drawing.DrawingForm.{DrawingForm}
 use Rattle.a429_console.specs.FileReadings.{readable}
+use Rattle.a429_console.specs.Requests.{OptionBytes}
 use Rattle.a429_console.specs.Replying.{HasReplied}
 use Rattle.a429_console.specs.declared.files.FileFault.{FileFault}
 use Rattle.a429_console.specs.declared.output.OutputFault.{OutputFault}
@@ -31,17 +32,13 @@ group_asked groups None = Some None
 group_asked groups (Some name) = option_map Some (group_numbered groups name)
 
 -- so many slots of each bus in rows of so many, and whether it is a page
-abbrev pub picture_of : Option ℕ → Option ℕ → Bool → Picture
-picture_of slots width is_page = record { form = record { slots = slots; width = width }; is_page = is_page }
+abbrev pub picture_of : OptionBytes → Picture
+picture_of o = record { form = record { slots = o.slots; width = o.width }; is_page = o.html }
 
--- a page, or the image alone
-abbrev pub IsPicture : Bool → Proposed → Option ℕ → DrawingForm → List ℕ → Type 0
-IsPicture true q number form text = IsPageText q.station q.plan number form text
-IsPicture false q number form text = IsImageText q.station q.plan number form text
-
--- the image of the plan of a proposal, of the group that was asked for
-abbrev pub IsImage : Proposed → Option (List ℕ) → Picture → List ℕ → Type 0
-IsImage q group picture text = (number : Option ℕ) × (group_asked q.station.groups group ≡ Some number) × IsPicture picture.is_page q number picture.form text
+-- the group that was asked for is in the plan of a proposal, and its image is not too high
+abbrev pub HasImage : Proposed → Option (List ℕ) → Picture → Type 0
+HasImage q group picture =
+    (number : Option ℕ) × (group_asked q.station.groups group ≡ Some number) × (image_height q.plan picture.form number ≤ 32767)
 
 -- no group has the name that was asked for
 abbrev pub IsNoGroup : List GroupRow → Option (List ℕ) → CommandRefusal → Type 0
@@ -49,31 +46,31 @@ IsNoGroup groups group refusal = (name : List ℕ) × (group ≡ Some name) × (
 
 -- or the image would be too high
 abbrev pub IsTooHigh : Proposed → Option ℕ → Picture → CommandRefusal → Type 0
-IsTooHigh q number picture refusal = IsDrawingFault q.plan number picture.form drawing.TooHigh × (refusal ≡ refused.TooMuch)
+IsTooHigh q number picture refusal = IsDrawingFault q.plan picture.form number drawing.TooHigh × (refusal ≡ refused.TooMuch)
 
 abbrev pub IsUndrawn : Proposed → Option (List ℕ) → Picture → CommandRefusal → Type 0
 IsUndrawn q group picture refusal =
     IsNoGroup q.station.groups group refusal
     ⊎ ((number : Option ℕ) × (group_asked q.station.groups group ≡ Some number) × IsTooHigh q number picture refusal)
 
--- the image of the plan of the table in a file
-abbrev pub IsImageOf : (List ℕ → Option (List ℕ)) → List ℕ → Option (List ℕ) → Picture → List ℕ → Type 0
-IsImageOf file name group picture text = (table : List ℕ) × (q : Proposed) × (readable (file name) ≡ Some table) × IsProposedBy table q × IsImage q group picture text
+-- the table in a file has a plan that can be drawn so
+abbrev pub HasImageOf : (List ℕ → Option (List ℕ)) → List ℕ → Option (List ℕ) → Picture → Type 0
+HasImageOf file name group picture = (table : List ℕ) × (q : Proposed) × (readable (file name) ≡ Some table) × IsProposedBy table q × HasImage q group picture
 
 -- why there is none: the file, or its table, or the plan of that, or its groups, or the image
 abbrev pub IsNoImage : (List ℕ → Option (List ℕ)) → List ℕ → Option (List ℕ) → Picture → CommandRefusal → Type 0
 IsNoImage file name group picture refusal =
     IsNoPlan file name refusal ⊎ ((table : List ℕ) × (q : Proposed) × (readable (file name) ≡ Some table) × IsProposedBy table q × IsUndrawn q group picture refusal)
 
--- what drawing the plan of the table in a file gives: an image, or why there is none
+-- drawing the plan of the table in a file gives a picture if there is one, or says why there is none
 abbrev pub IsDrawing : (List ℕ → Option (List ℕ)) → List ℕ → Option (List ℕ) → Picture → Result (Vec ℕ Global) CommandRefusal → Type 0
-IsDrawing file name group picture result = MatchResult result (λ text. IsImageOf file name group picture text.items) (OrMemory (IsNoImage file name group picture))
+IsDrawing file name group picture result = MatchResult result (λ _. HasImageOf file name group picture) (OrMemory (IsNoImage file name group picture))
 
--- what is written of the table in a file, and the status: the line of a refusal, or the image
+-- what is written of the table in a file, and the status: the line of a refusal, or a picture
 abbrev pub IsDrawReply : (List ℕ → Option (List ℕ)) → List ℕ → Option (List ℕ) → Picture → ℕ → List ℕ → Type 0
 IsDrawReply file name group picture status bytes =
     ((refusal : CommandRefusal) × OrMemory (IsNoImage file name group picture) refusal × (status ≡ 1) × (bytes ≡ refusal_line refusal ++ 10 ∷ []))
-    ⊎ (IsImageOf file name group picture bytes × (status ≡ 0))
+    ⊎ (HasImageOf file name group picture × (status ≡ 0))
 
 -- what `draw` answers of the files of a reader: the files are those that give what the reader answered in the call
 abbrev pub HasDrawn : {S X : Type 0} → (S → List ℕ → Result (List ℕ) FileFault → S → Type 0) → (X → Option (List ℕ)) → List ℕ → Option (List ℕ) → Picture → S → S → X → X → Result ℕ OutputFault → Type 0
@@ -83,18 +80,13 @@ HasDrawn Answers contents name group picture = HasReplied Answers contents (λ f
 abbrev pub GivesGroup : List GroupRow → Option (List ℕ) → Result (Option ℕ) CommandRefusal → Type 0
 GivesGroup groups group result = MatchResult result (λ number. group_asked groups group ≡ Some number) (OrMemory (IsNoGroup groups group))
 
--- the image of the plan of a proposal, of the group of this number or of all, or that it is too high
+-- a picture of the plan of a proposal, of the group of this number or of all, or that it is too high
 abbrev pub GivesNumbered : Proposed → Option ℕ → Picture → Result (Vec ℕ Global) CommandRefusal → Type 0
-GivesNumbered q number picture result = MatchResult result (λ text. IsPicture picture.is_page q number picture.form text.items) (OrMemory (IsTooHigh q number picture))
+GivesNumbered q number picture result = MatchResult result (λ _. image_height q.plan picture.form number ≤ 32767) (OrMemory (IsTooHigh q number picture))
 
--- the image of the plan of a proposal, or why there is none
+-- a picture of the plan of a proposal, or why there is none
 abbrev pub GivesNamedImage : Proposed → Option (List ℕ) → Picture → Result (Vec ℕ Global) CommandRefusal → Type 0
-GivesNamedImage q group picture result = MatchResult result (λ text. IsImage q group picture text.items) (OrMemory (IsUndrawn q group picture))
-
--- the same, or that it is too high, or that memory was refused
-abbrev pub GivesPicture : Proposed → Option ℕ → Picture → Result (Vec ℕ Global) DrawingFault → Type 0
-GivesPicture q number picture result =
-    MatchResult result (λ text. IsPicture picture.is_page q number picture.form text.items) (IsDrawingFault q.plan number picture.form)
+GivesNamedImage q group picture result = MatchResult result (λ _. HasImage q group picture) (OrMemory (IsUndrawn q group picture))
 
 -- the refusal of an image
 abbrev pub refusal_of : DrawingFault → CommandRefusal

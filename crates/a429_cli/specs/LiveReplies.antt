@@ -18,11 +18,11 @@ use Rattle.a429_workers.specs.declared.receiving.ReceiveTotals.{ReceiveTotals}
 use Rattle.a429_workers.specs.declared.sending.SendTotals.{SendTotals}
 use Rattle.a429_console.specs.Files.{bytes_of}
 use Rattle.a429_console.specs.FileReadings.{AreRead, IsFirstUnread}
-use Rattle.a429_console.specs.Replying.{HasReplied, RepliesByReader, RepliesToWords}
+use Rattle.a429_console.specs.Replying.{HasReplied}
 use Rattle.a429_console.specs.Outputs.{FailedCalls, OrNoMemory}
 use Rattle.a429_console.specs.declared.files.FileFault.{FileFault}
 use Rattle.a429_console.specs.declared.output.OutputFault.{OutputFault}
-use Rattle.a429_console.specs.Requests.{Live, LiveAsk}
+use Rattle.a429_console.specs.Requests.{AskedBytes}
 use Rattle.a429_console.specs.Names.{naming_of}
 use Rattle.a429_console.specs.RefusalText.{OrMemory, refusal_line}
 use Rattle.a429_console.specs.Tables.{IsProposedBy, IsTableRefusal, TakesAll}
@@ -47,11 +47,11 @@ pub record LiveFiles : Type 0 where
   pub further : List (List ℕ)
 
 -- they are those of the files that are asked for, which are all read before any is looked at
-abbrev pub AreLiveFiles : (List ℕ → Option (List ℕ)) → LiveAsk → LiveFiles → Type 0
-AreLiveFiles file r i = AreRead file (r.table ∷ r.words ∷ r.further) (i.table ∷ i.words ∷ i.further)
+abbrev pub AreLiveFiles : (List ℕ → Option (List ℕ)) → AskedBytes → LiveFiles → Type 0
+AreLiveFiles file r i = AreRead file (r.first ∷ r.second ∷ r.more) (i.table ∷ i.words ∷ i.further)
 
 -- the station of the table takes the plans of the further ones
-abbrev pub TakesLive : (List ℕ → Option (List ℕ)) → LiveAsk → Type 0
+abbrev pub TakesLive : (List ℕ → Option (List ℕ)) → AskedBytes → Type 0
 TakesLive file r = (i : LiveFiles) → AreLiveFiles file r i → TakesAll i.table i.further
 
 -- the table has a plan, and the file of words these
@@ -94,10 +94,10 @@ refusal_of live.Sink = refused.Sink
 refusal_of live.NoMemory = refused.Memory
 
 -- why there is no report, the first that stands: a file, the bytes, or the run
-abbrev pub IsLiveRefusal : (List ℕ → Option (List ℕ)) → LiveAsk → CommandRefusal → Type 0
+abbrev pub IsLiveRefusal : (List ℕ → Option (List ℕ)) → AskedBytes → CommandRefusal → Type 0
 IsLiveRefusal file r refusal =
-    IsFirstUnread file (r.table ∷ r.words ∷ r.further) refusal
-    ⊎ ((i : LiveFiles) × AreLiveFiles file r i × (IsNoLiveStart i refusal ⊎ IsLiveRunFault i r.frames refusal))
+    IsFirstUnread file (r.first ∷ r.second ∷ r.more) refusal
+    ⊎ ((i : LiveFiles) × AreLiveFiles file r i × (IsNoLiveStart i refusal ⊎ IsLiveRunFault i r.number refusal))
 
 -- ---- the report
 
@@ -186,11 +186,11 @@ abbrev pub IsRunReport : TableRecord → List Arrival → ℕ → List (List ℕ
 IsRunReport t arrivals frames further bytes = (totals : List ReceiveTotals) × (sent : List SendTotals) × HasLiveRun t arrivals frames further totals sent × IsReport t further totals sent bytes
 
 -- the report of a run of the station of the table in the file, with the words of the other
-abbrev pub IsReportOf : (List ℕ → Option (List ℕ)) → LiveAsk → List ℕ → Type 0
-IsReportOf file r bytes = (i : LiveFiles) × (q : Proposed) × (arrivals : List Arrival) × AreLiveFiles file r i × IsLiveStart i q arrivals × IsRunReport q.station arrivals r.frames i.further bytes
+abbrev pub IsReportOf : (List ℕ → Option (List ℕ)) → AskedBytes → List ℕ → Type 0
+IsReportOf file r bytes = (i : LiveFiles) × (q : Proposed) × (arrivals : List Arrival) × AreLiveFiles file r i × IsLiveStart i q arrivals × IsRunReport q.station arrivals r.number i.further bytes
 
 -- what is written, and the status: the line of a refusal, or the report
-abbrev pub IsLiveReply : (List ℕ → Option (List ℕ)) → LiveAsk → ℕ → List ℕ → Type 0
+abbrev pub IsLiveReply : (List ℕ → Option (List ℕ)) → AskedBytes → ℕ → List ℕ → Type 0
 IsLiveReply file r status bytes =
     ((refusal : CommandRefusal) × OrMemory (IsLiveRefusal file r) refusal × (status ≡ 1) × (bytes ≡ refusal_line refusal ++ 10 ∷ []))
     ⊎ (IsReportOf file r bytes × (status ≡ 0))
@@ -201,8 +201,8 @@ abbrev pub files_of : LiveInput → LiveFiles
 files_of i = record { table = i.table.items; words = i.words.items; further = bytes_of i.further.items }
 
 -- what reading the files gives: their bytes, or the first that cannot be read
-abbrev pub IsLiveReading : (List ℕ → Option (List ℕ)) → LiveAsk → Result LiveInput CommandRefusal → Type 0
-IsLiveReading file r result = MatchResult result (λ i. AreLiveFiles file r (files_of i)) (OrMemory (IsFirstUnread file (r.table ∷ r.words ∷ r.further)))
+abbrev pub IsLiveReading : (List ℕ → Option (List ℕ)) → AskedBytes → Result LiveInput CommandRefusal → Type 0
+IsLiveReading file r result = MatchResult result (λ i. AreLiveFiles file r (files_of i)) (OrMemory (IsFirstUnread file (r.first ∷ r.second ∷ r.more)))
 
 -- a station and its words, from which a run of these bytes starts
 abbrev pub IsPreparedLive : LiveFiles → PreparedRun → Type 0
@@ -225,21 +225,9 @@ abbrev pub IsRunResult : TableRecord → List Arrival → ℕ → List (List ℕ
 IsRunResult t arrivals frames further result = MatchResult result (λ text. IsRunReport t arrivals frames further text.items) (OrMemory (IsRunRefusal t arrivals frames))
 
 -- the text of the report of what is asked for, or why there is none
-abbrev pub IsLiving : (List ℕ → Option (List ℕ)) → LiveAsk → Result (Vec ℕ Global) CommandRefusal → Type 0
+abbrev pub IsLiving : (List ℕ → Option (List ℕ)) → AskedBytes → Result (Vec ℕ Global) CommandRefusal → Type 0
 IsLiving file r result = MatchResult result (λ text. IsReportOf file r text.items) (OrMemory (IsLiveRefusal file r))
 
 -- what `live` answers of the files of a reader: the files are those that give what the reader answered in the call
-abbrev pub HasToldRun : {S X : Type 0} → (S → List ℕ → Result (List ℕ) FileFault → S → Type 0) → (X → Option (List ℕ)) → LiveAsk → S → S → X → X → Result ℕ OutputFault → Type 0
+abbrev pub HasToldRun : {S X : Type 0} → (S → List ℕ → Result (List ℕ) FileFault → S → Type 0) → (X → Option (List ℕ)) → AskedBytes → S → S → X → X → Result ℕ OutputFault → Type 0
 HasToldRun Answers contents r = HasReplied Answers contents (λ file. IsLiveReply file r)
-
--- or want of memory, before anything else was written
-abbrev pub IsLiveReplyOrMemory : (List ℕ → Option (List ℕ)) → LiveAsk → ℕ → List ℕ → Type 0
-IsLiveReplyOrMemory file r = OrNoMemory (IsLiveReply file r)
-
--- what `command_live` answers to words that ask for a run, if the reader tells its files and no call of the output failed
-abbrev pub RepliesToLive : {S X : Type 0} → (S → Bool) → (S → List ℕ → Option (List ℕ)) → (X → Option (List ℕ)) → (X → FailedCalls) → List (List ℕ) → S → X → X → ℕ → Type 0
-RepliesToLive = RepliesToWords Live IsLiveReplyOrMemory
-
--- the same of a reader of any files
-abbrev pub RepliesToLiveByReader : {S X : Type 0} → (S → List ℕ → Result (List ℕ) FileFault → S → Type 0) → (X → Option (List ℕ)) → (X → FailedCalls) → List (List ℕ) → S → X → X → ℕ → Type 0
-RepliesToLiveByReader = RepliesByReader Live IsLiveReplyOrMemory

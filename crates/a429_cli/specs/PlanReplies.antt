@@ -7,9 +7,11 @@ use Rattle.a429_table.specs.Reading.{reading}
 use Rattle.a429_slots.specs.Proposed.{Proposed}
 use Rattle.a429_slots.specs.Tables.{PlanTable}
 use Rattle.a429_cert.specs.PlanText.{plan_text_of}
-use Rattle.a429_documents.specs.Aligned.{aligned_text}
-use Rattle.a429_documents.specs.Document.{csv_text_of, icd_rows}
-use Rattle.a429_documents.specs.Margins.{IsMarginText}
+use Rattle.a429_text.specs.Fields.{Field}
+use Rattle.a429_text.specs.Sheets.{sheet_text}
+use Rattle.a429_text.specs.declared.sheets.SheetForm.TheVariants as form
+use Rattle.a429_documents.specs.Document.{icd_columns, icd_rows}
+use Rattle.a429_documents.specs.Margins.{IsMargin, margin_columns}
 use Rattle.a429_cli.specs.declared.plan_texts.PlanText.{PlanText}
 use Rattle.a429_cli.specs.declared.plan_texts.PlanText.TheVariants.{Plan, Document, Sheet, Margin}
 use Rattle.a429_cert.specs.Due.{IsFirstUnfitOf}
@@ -32,9 +34,9 @@ use Rattle.a429_console.specs.declared.refusals.CommandRefusal.TheVariants as re
 -- the text tells this of a station's plan
 abbrev pub IsTextOf : PlanText → TableRecord → PlanTable → List ℕ → Type 0
 IsTextOf Plan e p text = text ≡ plan_text_of e p
-IsTextOf Document e p text = text ≡ aligned_text (icd_rows e p)
-IsTextOf Sheet e p text = text ≡ csv_text_of (icd_rows e p)
-IsTextOf Margin e p text = IsMarginText e p text
+IsTextOf Document e p text = text ≡ sheet_text form.Columns icd_columns (icd_rows e p)
+IsTextOf Sheet e p text = text ≡ sheet_text form.Csv icd_columns (icd_rows e p)
+IsTextOf Margin e p text = (rows : List (List Field)) × IsMargin e p rows × (text ≡ sheet_text form.Columns margin_columns rows)
 
 -- it tells this of the plan of the table in a file
 abbrev pub IsPlanTextOf : (List ℕ → Option (List ℕ)) → PlanText → List ℕ → List ℕ → Type 0

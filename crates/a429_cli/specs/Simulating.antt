@@ -1,5 +1,5 @@
--- What a simulation does and prints: steps of the machine by a timeline, each with its line.
-use Rattle.std.specs.Prelude.{◌==◌, ◌+◌, ◌-◌, ◌%◌, ◌++◌, ◌∷◌, [], ℕ, Bool, true, false, List, Option, Some, None, if◌then◌else◌, codes, filter_map, map, replicate, unwrap_or}
+-- What a simulation does and prints: steps of the machine by a timeline, what happens in them, and the lines of that.
+use Rattle.std.specs.Prelude.{◌==◌, ◌+◌, ◌-◌, ◌%◌, ◌++◌, ◌∷◌, [], ℕ, Bool, true, false, List, Option, Some, None, if◌then◌else◌, codes, filter_map, length, map, replicate, unwrap_or}
 use Rattle.std.specs.Fmt.{decimal}
 use Rattle.std.specs.List.{flat_map}
 use Rattle.a429_word.specs.Hexadecimal.{hex}
@@ -17,6 +17,10 @@ use Rattle.a429_console.specs.Names.{name_at, naming_of}
 use Rattle.a429_cli.specs.AnswerLines.{refusal_text}
 use Rattle.a429_cli.specs.Timeline.{rate_of, table_of}
 use Rattle.a429_cli.specs.declared.simulate.log.LogWord.{LogWord}
+use Rattle.a429_cli.specs.declared.simulate.machine.Happening.{Happening}
+use Rattle.a429_cli.specs.declared.simulate.machine.Happening.TheVariants.{Refuses, Sends}
+use Rattle.a429_cli.specs.declared.simulate.machine.Heard.{Heard}
+use Rattle.a429_cli.specs.declared.simulate.machine.SentWord.{SentWord}
 use Rattle.a429_cli.specs.declared.simulate.moments.Moment.{Moment}
 use Rattle.a429_cli.specs.declared.simulate.moments.Moment.TheVariants.{Word, Slot}
 
@@ -80,9 +84,53 @@ accepted_from q past (step ∷ steps) = accepted_in step (answer_after q past st
 abbrev pub time_for : ℕ → ℕ × ℕ → Option ℕ
 time_for source w = if w.0 == source then Some w.1 else None
 
--- the time of the last accepted word of a source after steps; 0 before the first one, when no word of it is sent
-unfoldable pub heard_at : Proposed → List Step → ℕ → ℕ
-heard_at q past source = unwrap_or (last_of (filter_map (time_for source) (accepted_from q [] past))) 0
+-- the times of the accepted words of a source in steps
+unfoldable pub times_of : Proposed → List Step → ℕ → List ℕ
+times_of q past source = filter_map (time_for source) (accepted_from q [] past)
+
+-- the last of so many words of a source: its number among them, and its time; 0 before the first one, when no word of the source is sent
+abbrev pub last_word : List ℕ → Heard
+last_word times = record { word = length times; time = unwrap_or (last_of times) 0 }
+
+-- ---- what happens
+
+-- the source of the output in a cell of a group
+abbrev pub source_in : Proposed → ℕ → ℕ → ℕ → ℕ
+source_in q g bus slot = unwrap_or (source_at (table_of q g) bus slot) 0
+
+-- a word of a source that a group sends on a bus in slot t, after so many accepted words of that source. An equal word that is accepted again is
+-- another word.
+abbrev pub word_sent : ℕ → ℕ → ℕ → ℕ → ℕ → Heard → SentWord
+word_sent g t bus raw source heard = record {
+  group = g;
+  bus = bus;
+  raw = raw;
+  source = source;
+  send = record { slot = t; word = heard.word; time = heard.time };
+}
+
+-- what happens in a step by its answer, where Times has those of the accepted words: a word is refused, or a cell has a word
+abbrev pub happening_by : Proposed → (ℕ → List ℕ) → Step → Answer → Option Happening
+happening_by q times (Comes w) (Refused why) = Some (Refuses w why)
+happening_by q times (Asks g t) (Sent bus slot (Some raw)) =
+    Some (Sends (word_sent g t bus raw (source_in q g bus slot) (last_word (times (source_in q g bus slot)))))
+happening_by q times _ _ = None
+
+abbrev pub happening_after : Proposed → List Step → Step → Option Happening
+happening_after q past step = happening_by q (times_of q past) step (answer_after q past step)
+
+abbrev pub listed : {X : Type 0} → Option X → List X
+listed None = []
+listed (Some x) = x ∷ []
+
+-- what happens in steps that come after these
+abbrev pub happenings_after : Proposed → List Step → List Step → List Happening
+happenings_after q past [] = []
+happenings_after q past (step ∷ steps) = listed (happening_after q past step) ++ happenings_after q (past ++ step ∷ []) steps
+
+-- what happens in steps from the begin of a simulation
+abbrev pub happenings_of : Proposed → List Step → List Happening
+happenings_of q steps = happenings_after q [] steps
 
 -- ---- lines
 
@@ -92,36 +140,22 @@ separator true = codes ","
 separator false = codes " "
 
 -- the slot's beginning, the group, the bus, the word, its source, and its age at the slot's end
-abbrev pub sent_line : Proposed → Bool → ℕ → ℕ → ℕ → ℕ → ℕ → ℕ → List ℕ
-sent_line q csv g t bus raw source heard =
-    decimal (slots_us (rate_of q g) t) ++ separator csv ++ name_at (naming_of q.station).groups g ++ separator csv ++ decimal bus ++ separator csv
-    ++ hex raw ++ separator csv ++ name_at (naming_of q.station).sources source ++ separator csv
-    ++ decimal (slots_us (rate_of q g) (t + 1) - heard) ++ 10 ∷ []
+abbrev pub sent_line : Proposed → Bool → SentWord → List ℕ
+sent_line q csv s =
+    decimal (slots_us (rate_of q s.group) s.send.slot) ++ separator csv ++ name_at (naming_of q.station).groups s.group ++ separator csv ++ decimal s.bus
+    ++ separator csv ++ hex s.raw ++ separator csv ++ name_at (naming_of q.station).sources s.source ++ separator csv
+    ++ decimal (slots_us (rate_of q s.group) (s.send.slot + 1) - s.send.time) ++ 10 ∷ []
 
 -- its time, the receiver, the word, and why it is refused
 abbrev pub refused_line : Proposed → LogWord → List ℕ → List ℕ
 refused_line q w reason =
     decimal w.time ++ codes " " ++ name_at (naming_of q.station).receivers w.receiver ++ codes " " ++ hex w.raw ++ codes " refused " ++ reason ++ 10 ∷ []
 
--- the source of the output in a cell of a group
-abbrev pub source_in : Proposed → ℕ → ℕ → ℕ → ℕ
-source_in q g bus slot = unwrap_or (source_at (table_of q g) bus slot) 0
+-- the line of a word that is sent, and of one that is refused, which comma-separated values leave out
+abbrev pub line_of : Proposed → Bool → Happening → List ℕ
+line_of q csv (Refuses w why) = if csv then [] else refused_line q w (refusal_text why)
+line_of q csv (Sends s) = sent_line q csv s
 
--- The line of a step by its answer, where Heard has the times of the last accepted words: of a cell with a word, and of a refused word, which
--- comma-separated values leave out.
-abbrev pub line_by : Proposed → Bool → (ℕ → ℕ) → Step → Answer → List ℕ
-line_by q csv heard (Comes w) (Refused why) = if csv then [] else refused_line q w (refusal_text why)
-line_by q csv heard (Asks g t) (Sent bus slot (Some raw)) = sent_line q csv g t bus raw (source_in q g bus slot) (heard (source_in q g bus slot))
-line_by q csv heard _ _ = []
-
-abbrev pub line_after : Proposed → Bool → List Step → Step → List ℕ
-line_after q csv past step = line_by q csv (heard_at q past) step (answer_after q past step)
-
--- the lines of steps that come after these
-abbrev pub text_after : Proposed → Bool → List Step → List Step → List ℕ
-text_after q csv past [] = []
-text_after q csv past (step ∷ steps) = line_after q csv past step ++ text_after q csv (past ++ step ∷ []) steps
-
--- the lines of steps from the begin of a simulation
-abbrev pub text_of : Proposed → Bool → List Step → List ℕ
-text_of q csv steps = text_after q csv [] steps
+-- the lines of what happens
+abbrev pub text_of : Proposed → Bool → List Happening → List ℕ
+text_of q csv happenings = flat_map (line_of q csv) happenings

@@ -1,27 +1,26 @@
 -- The command `simulate`: what it writes, and its status.
 use Rattle.std.specs.Prelude.{◌≡◌, ◌∷◌, [], ◌++◌, ◌⊎◌, ℕ, List, Bool, true, false, Option, Ok, Result, MatchResult, IfOk, codes, take}
-use Rattle.a429_equipment.specs.Sound.{OfEach}
 use Rattle.a429_slots.specs.Proposed.{Proposed}
 use Rattle.a429_console.specs.FileReadings.{AreRead, IsFirstUnread}
 use Rattle.a429_console.specs.Names.{naming_of}
-use Rattle.a429_console.specs.Outputs.{IsPut, OrNoMemory, memory_refused}
+use Rattle.a429_console.specs.Outputs.{AppendsPending, IsPut, OrNoMemory, memory_refused}
 use Rattle.a429_console.specs.RefusalText.{OrMemory, refusal_line}
 use Rattle.a429_console.specs.Tables.{IsProposedBy, IsTableRefusal}
 use Rattle.a429_console.specs.declared.refusals.CommandRefusal.{CommandRefusal}
 use Rattle.a429_console.specs.declared.refusals.CommandRefusal.TheVariants as refused
-use Rattle.a429_cli.specs.SimulationLog.{AreInTime, IsLogFault, log_words}
+use Rattle.a429_cli.specs.SimulationLog.{IsLogFault, log_words}
 use Rattle.a429_cli.specs.Timeline.{TimelineIsBegun, IsTimeline, SendsTooMuch, end_of}
-use Rattle.a429_cli.specs.Simulating.{steps_of, text_of}
-use Rattle.a429_cli.specs.SimulationRuns.{HasStationNames, StandsAfter}
+use Rattle.a429_cli.specs.Simulating.{happenings_of, steps_of, text_of}
+use Rattle.a429_cli.specs.SimulationRuns.{AreHappenings, CanBePlayed, HasPlayed, HasStationNames, IsBegin}
 use Rattle.a429_cli.specs.Summary.{summary_text}
-use Rattle.a429_cli.specs.Tracks.{HasTracks, IsTimelineAt, IsTrack}
-use Rattle.a429_cli.specs.declared.simulate.Beginning.{Beginning}
 use Rattle.a429_cli.specs.declared.simulate.Simulation.{Simulation}
 use Rattle.a429_cli.specs.declared.simulate.SimulationForm.{SimulationForm}
 use Rattle.a429_cli.specs.declared.simulate.SimulationInput.{SimulationInput}
-use Rattle.a429_cli.specs.declared.simulate.NamedProposal.{NamedProposal}
+use Rattle.a429_cli.specs.declared.simulate.lines.Setting.{Setting}
 use Rattle.a429_cli.specs.declared.simulate.log.LogWord.{LogWord}
+use Rattle.a429_cli.specs.declared.simulate.machine.Happening.{Happening}
 use Rattle.a429_cli.specs.declared.simulate.moments.Moment.{Moment}
+use Rattle.a429_cli.specs.declared.simulate.playing.Player.{Player}
 
 -- the bytes of the files that a simulation reads
 pub record SimulationFiles : Type 0 where
@@ -65,14 +64,16 @@ abbrev pub heading : Bool → List ℕ
 heading true = codes "time,group,bus,word,source,age_us" ++ 10 ∷ []
 heading false = []
 
--- the lines of the whole timeline were printed
+-- the lines of what happens in the whole timeline were printed
 abbrev pub IsPrinted : Proposed → List LogWord → ℕ → Bool → List ℕ → Type 0
-IsPrinted q words last csv bytes = (moments : List Moment) × IsTimeline q words last moments × (bytes ≡ heading csv ++ text_of q csv (steps_of q moments))
+IsPrinted q words last csv bytes =
+    (moments : List Moment) × IsTimeline q words last moments × (bytes ≡ heading csv ++ text_of q csv (happenings_of q (steps_of q moments)))
 
--- the lines of the first steps of a timeline were printed
+-- the lines of what happens first in a timeline were printed
 abbrev pub IsPrintedInPart : Proposed → List LogWord → ℕ → Bool → List ℕ → Type 0
 IsPrintedInPart q words last csv bytes =
-    (moments : List Moment) × (n : ℕ) × TimelineIsBegun q words last moments × (bytes ≡ heading csv ++ text_of q csv (take n (steps_of q moments)))
+    (moments : List Moment) × (n : ℕ) × TimelineIsBegun q words last moments
+    × (bytes ≡ heading csv ++ text_of q csv (take n (happenings_of q (steps_of q moments))))
 
 -- what a simulation that began writes, and its status: all lines, or the first ones and then that memory was refused
 abbrev pub IsPrinting : Proposed → List LogWord → ℕ → Bool → ℕ → List ℕ → Type 0
@@ -83,7 +84,7 @@ IsPrinting q words last csv status bytes =
 -- what a simulation that began writes in place of its lines, and its status: the summary of the whole timeline
 abbrev pub IsSummary : Proposed → List LogWord → ℕ → Bool → ℕ → List ℕ → Type 0
 IsSummary q words last csv status bytes =
-    (moments : List Moment) × IsTimeline q words last moments × (bytes ≡ summary_text q (steps_of q moments) csv) × (status ≡ 0)
+    (moments : List Moment) × IsTimeline q words last moments × (bytes ≡ summary_text q (happenings_of q (steps_of q moments)) csv) × (status ≡ 0)
 
 -- what it writes, by whether the summary is asked for
 abbrev pub IsWritten : Proposed → List LogWord → ℕ → Bool → Bool → ℕ → List ℕ → Type 0
@@ -108,50 +109,51 @@ IsSimulationReading file table log result =
     MatchResult result (λ i. AreSimulationFiles file table log (files_of i)) (OrMemory (IsFirstUnread file (table ∷ log ∷ [])))
 
 -- a station of a table's bytes, with its names
-abbrev pub IsStationOf : List ℕ → NamedProposal → Type 0
-IsStationOf table s = IsProposedBy table s.proposal × HasStationNames s.names s.proposal
-
--- a timeline where nothing has happened, with a machine to which nothing has happened
-pub record IsBegin (q : Proposed) (words : List LogWord) (last : ℕ) (b : Beginning) : Type 0 where
-  pub timeline : IsTimelineAt q words last [] b.timeline
-  pub run : StandsAfter q [] b.run
-  pub tracks : HasTracks q b.timeline.tracks.items
-  pub sound : OfEach IsTrack b.timeline.tracks.items
-
--- a beginning, or that a group would send too much
-abbrev pub IsBeginningOf : Proposed → List LogWord → ℕ → Result Beginning CommandRefusal → Type 0
-IsBeginningOf q words last result = MatchResult result (IsBegin q words last) (OrMemory (λ refusal. (refusal ≡ refused.TooMuch) × SendsTooMuch q last))
+abbrev pub IsSettingOf : List ℕ → Bool → Setting → Type 0
+IsSettingOf table csv s = IsProposedBy table s.proposal × HasStationNames s.names s.proposal × (s.csv ≡ csv)
 
 -- a beginning with the words of a log
-abbrev pub BeginsLog : NamedProposal → List ℕ → Option ℕ → Beginning → Type 0
-BeginsLog s log until b = (words : List LogWord) × (log_words s.names log ≡ Ok words) × IsBegin s.proposal words (end_of s.proposal words until) b
+abbrev pub BeginsLog : Setting → List ℕ → Option ℕ → Player → Type 0
+BeginsLog s log until p = (words : List LogWord) × (log_words s.names log ≡ Ok words) × IsBegin s.proposal words (end_of s.proposal words until) p
 
 -- why there is none: the log, or that a group would send too much
-abbrev pub BeginsNoLog : NamedProposal → List ℕ → Option ℕ → CommandRefusal → Type 0
+abbrev pub BeginsNoLog : Setting → List ℕ → Option ℕ → CommandRefusal → Type 0
 BeginsNoLog s log until refusal =
     IsLogFault s.names log refusal
     ⊎ ((words : List LogWord) × (log_words s.names log ≡ Ok words) × (refusal ≡ refused.TooMuch) × SendsTooMuch s.proposal (end_of s.proposal words until))
 
--- what these bytes simulate, at its begin
-pub record IsPreparedFor (i : SimulationFiles) (until : Option ℕ) (s : Simulation) : Type 0 where
-  pub words : List LogWord
-  pub simulated : IsSimulated i s.station.proposal words
-  pub names : HasStationNames s.station.names s.station.proposal
-  pub begin : IsBegin s.station.proposal words (end_of s.station.proposal words until) s.beginning
-
--- it has the names of its station, its groups and its words in time
+-- it has the names of its station, and can be played
 pub record SimulationIsReady (s : Simulation) : Type 0 where
-  pub names : HasStationNames s.station.names s.station.proposal
-  pub tracks : HasTracks s.station.proposal s.beginning.timeline.tracks.items
-  pub sound : OfEach IsTrack s.beginning.timeline.tracks.items
-  pub in_time : AreInTime s.beginning.timeline.words.items
+  pub names : HasStationNames s.setting.names s.setting.proposal
+  pub playable : CanBePlayed s.setting.proposal s.player
+
+-- what these bytes simulate, at its begin
+pub record IsPreparedFor (i : SimulationFiles) (form : SimulationForm) (s : Simulation) : Type 0 where
+  pub words : List LogWord
+  pub simulated : IsSimulated i s.setting.proposal words
+  pub csv : s.setting.csv ≡ form.csv
+  pub begin : HasPlayed s.setting.proposal words (end_of s.setting.proposal words form.until) [] s.player
+  pub ready : SimulationIsReady s
+
+-- these lines were printed by a simulation to its end, or where memory was refused those of what happened first
+abbrev pub ArePrinted : Proposed → List LogWord → ℕ → Bool → Bool → List ℕ → Type 0
+ArePrinted q words last csv true bytes = (told : List Happening) × AreHappenings q words last told × (bytes ≡ text_of q csv told)
+ArePrinted q words last csv false bytes =
+    (moments : List Moment) × (n : ℕ) × TimelineIsBegun q words last moments × (bytes ≡ text_of q csv (take n (happenings_of q (steps_of q moments))))
+
+-- a timeline is played on a station to which nothing has happened: the lines are put out, or appended to those that are yet to be; the answer says
+-- whether memory sufficed
+abbrev pub PutsLines : {X E : Type 0} → (X → Option (List ℕ)) → Proposed → Bool → Player → X → X → List ℕ → List ℕ → Result Bool E → Type 0
+PutsLines contents q csv player out out' text text' result =
+    (words : List LogWord) (last : ℕ) → HasPlayed q words last [] player
+    → IfOk result (λ sufficed. (bytes : List ℕ) × ArePrinted q words last csv sufficed bytes × AppendsPending (contents out) text (contents out') text' bytes)
 
 -- what a simulation that begins so prints was put, or that memory was refused before that
-abbrev pub HasPrinted : {E : Type 0} → Proposed → Bool → Bool → Beginning → Option (List ℕ) → Option (List ℕ) → Result ℕ E → Type 0
-HasPrinted q summary csv b old new result =
-    (words : List LogWord) (last : ℕ) → IsBegin q words last b
-    → IfOk result (λ status. IsPut (OrNoMemory (IsWritten q words last summary csv)) old new status)
+abbrev pub HasPrinted : {E : Type 0} → Simulation → Bool → Option (List ℕ) → Option (List ℕ) → Result ℕ E → Type 0
+HasPrinted s summary old new result =
+    (words : List LogWord) (last : ℕ) → HasPlayed s.setting.proposal words last [] s.player
+    → IfOk result (λ status. IsPut (OrNoMemory (IsWritten s.setting.proposal words last summary s.setting.csv)) old new status)
 
 -- the text is the summary of a simulation that begins so
-abbrev pub HasSummary : Proposed → Bool → Beginning → List ℕ → Type 0
-HasSummary q csv b text = (words : List LogWord) (last : ℕ) → IsBegin q words last b → IsSummary q words last csv 0 text
+abbrev pub HasSummary : Setting → Player → List ℕ → Type 0
+HasSummary s player text = (words : List LogWord) (last : ℕ) → HasPlayed s.proposal words last [] player → IsSummary s.proposal words last s.csv 0 text

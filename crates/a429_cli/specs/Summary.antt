@@ -1,50 +1,33 @@
 -- The summary of a simulation: of each output how many words it sent, and at which times.
-use Rattle.std.specs.Prelude.{◌==◌, ◌&&◌, ◌+◌, ◌-◌, ◌^◌, ◌++◌, ◌∷◌, [], ℕ, Bool, false, not, List, Option, Some, None, if◌then◌else◌, codes, length, map, max, min}
+use Rattle.std.specs.Prelude.{◌==◌, ◌&&◌, ◌+◌, ◌-◌, ◌^◌, ◌++◌, ◌∷◌, [], ℕ, Bool, not, List, Option, Some, None, filter_map, if◌then◌else◌, codes, length, map, max, min}
 use Rattle.std.specs.Fmt.{decimal}
 use Rattle.std.specs.List.{flat_map, fold, list_any, range_with_len}
-use Rattle.std.specs.Option.{option_map_or}
-use Rattle.a429_equipment.specs.Limits.{count_bits}
 use Rattle.a429_equipment.specs.TableRecord.{TableRecord}
 use Rattle.a429_documents.specs.Aligned.{aligned_text}
-use Rattle.a429_documents.specs.Document.{csv_text_of, latency_us, slots_us}
-use Rattle.a429_slots.specs.History.{accepted_by}
+use Rattle.a429_documents.specs.CsvLines.{csv_text_of}
+use Rattle.a429_documents.specs.Document.{latency_us, slots_us}
 use Rattle.a429_slots.specs.Proposed.{Proposed}
-use Rattle.a429_slots.specs.Tables.{Placed, SlotTable, cell_at, groups_of, outputs_of, placed_at}
-use Rattle.a429_slots.specs.declared.answers.Answer.{Answer}
-use Rattle.a429_slots.specs.declared.answers.Answer.TheVariants.{Sent}
+use Rattle.a429_slots.specs.Tables.{Placed, groups_of, outputs_of, placed_at}
 use Rattle.a429_console.specs.Names.{group_name, output_name}
-use Rattle.a429_cli.specs.Simulating.{Step, Asks, answer_after, heard_at, history_of, opening_of}
 use Rattle.a429_cli.specs.Timeline.{rate_of, table_of}
 use Rattle.a429_cli.specs.declared.simulate.figures.OutputSend.{OutputSend}
+use Rattle.a429_cli.specs.declared.simulate.machine.Happening.{Happening}
+use Rattle.a429_cli.specs.declared.simulate.machine.Happening.TheVariants.{Refuses, Sends}
 
 -- ---- the words that an output sent
 
--- How many words of a source were accepted in steps: it is the number of the last one. An equal word that is accepted again is another word.
-abbrev pub accepted_count : Proposed → List Step → ℕ → ℕ
-accepted_count q past source = length (accepted_by count_bits (opening_of q) source (history_of past))
+-- a word of this source that group g sends
+abbrev pub send_in : ℕ → ℕ → Happening → Option OutputSend
+send_in g source (Refuses w why) = None
+send_in g source (Sends s) = if s.group == g && s.source == source then Some s.send else None
 
--- output o stands on this bus in this slot
-abbrev pub is_output_at : SlotTable → ℕ → ℕ → ℕ → Bool
-is_output_at t o bus slot = option_map_or (λ k. k == o) (cell_at t bus slot) false
+-- what group g sends of a source, in order
+abbrev pub sends_of : ℕ → ℕ → List Happening → List OutputSend
+sends_of g source happenings = filter_map (send_in g source) happenings
 
--- a word of this source that is sent in slot t, after steps: its number, and its time in the log
-abbrev pub send_after : Proposed → List Step → ℕ → ℕ → OutputSend
-send_after q past source t = record { slot = t; word = accepted_count q past source; time = heard_at q past source }
-
--- what output o of group g sends in a step, by its answer: the word of a cell of this group where the output stands
-abbrev pub send_by : Proposed → ℕ → ℕ → List Step → Step → Answer → List OutputSend
-send_by q g o past (Asks h t) (Sent bus slot (Some raw)) =
-    if h == g && is_output_at (table_of q g) o bus slot then send_after q past (placed_at (table_of q g) o).source t ∷ [] else []
-send_by q g o past _ _ = []
-
--- what it sends in steps that come after these
-abbrev pub sends_from : Proposed → ℕ → ℕ → List Step → List Step → List OutputSend
-sends_from q g o past [] = []
-sends_from q g o past (step ∷ steps) = send_by q g o past step (answer_after q past step) ++ sends_from q g o (past ++ step ∷ []) steps
-
--- what it sends in steps from the begin of a simulation, in order
-abbrev pub sends_of : Proposed → ℕ → ℕ → List Step → List OutputSend
-sends_of q g o steps = sends_from q g o [] steps
+-- what output o of group g sends: the words of its source, since no two outputs of a group have one source
+abbrev pub output_sends : Proposed → ℕ → ℕ → List Happening → List OutputSend
+output_sends q g o happenings = sends_of g (placed_at (table_of q g) o).source happenings
 
 -- ---- their times, at the bit rate of the group
 
@@ -104,26 +87,26 @@ bound_fields rate placed = decimal (latency_us rate (2 ^ placed.place.period)) �
 abbrev pub name_fields : TableRecord → ℕ → ℕ → List (List ℕ)
 name_fields t g o = group_name t g ∷ output_name t g o ∷ []
 
--- output o of group g after steps
-abbrev pub summary_row : Proposed → List Step → ℕ → ℕ → List (List ℕ)
-summary_row q steps g o =
-    name_fields q.station g o ++ send_fields (rate_of q g) (sends_of q g o steps) ++ bound_fields (rate_of q g) (placed_at (table_of q g) o)
+-- output o of group g after all of this happened
+abbrev pub summary_row : Proposed → List Happening → ℕ → ℕ → List (List ℕ)
+summary_row q happenings g o =
+    name_fields q.station g o ++ send_fields (rate_of q g) (output_sends q g o happenings) ++ bound_fields (rate_of q g) (placed_at (table_of q g) o)
 
 -- the outputs of a group, in table order
-abbrev pub group_rows : Proposed → List Step → ℕ → List (List (List ℕ))
-group_rows q steps g = map (summary_row q steps g) (range_with_len 0 (length (outputs_of (table_of q g))))
+abbrev pub group_rows : Proposed → List Happening → ℕ → List (List (List ℕ))
+group_rows q happenings g = map (summary_row q happenings g) (range_with_len 0 (length (outputs_of (table_of q g))))
 
 abbrev pub summary_columns : List (List ℕ)
 summary_columns =
     codes "group" ∷ codes "source" ∷ codes "sent" ∷ codes "least_us" ∷ codes "greatest_us" ∷ codes "late_us" ∷ codes "bound_us" ∷ []
 
 -- the names of the columns, and a row for each output, groups and outputs in table order
-abbrev pub summary_rows : Proposed → List Step → List (List (List ℕ))
-summary_rows q steps = summary_columns ∷ flat_map (group_rows q steps) (range_with_len 0 (length (groups_of q.plan)))
+abbrev pub summary_rows : Proposed → List Happening → List (List (List ℕ))
+summary_rows q happenings = summary_columns ∷ flat_map (group_rows q happenings) (range_with_len 0 (length (groups_of q.plan)))
 
 -- rows in columns as `icd` has them, or as comma-separated values
 abbrev pub rows_text : Bool → List (List (List ℕ)) → List ℕ
 rows_text csv rows = if csv then csv_text_of rows else aligned_text rows
 
-unfoldable pub summary_text : Proposed → List Step → Bool → List ℕ
-summary_text q steps csv = rows_text csv (summary_rows q steps)
+unfoldable pub summary_text : Proposed → List Happening → Bool → List ℕ
+summary_text q happenings csv = rows_text csv (summary_rows q happenings)

@@ -1,26 +1,20 @@
 -- The summary of a simulation by the values of the program.
-use Rattle.std.specs.Prelude.{◌≡◌, ◌==◌, ◌+◌, ◌-◌, ◌^◌, ◌++◌, ◌∷◌, [], ℕ, Bool, true, not, List, Option, Some, None, if◌then◌else◌, length, map, max, min, option_and_then, option_map, replicate, slice_get, slice_index_or, slice_set, unwrap_or}
+use Rattle.std.specs.Prelude.{◌≡◌, ◌==◌, ◌&&◌, ◌+◌, ◌-◌, ◌*◌, ◌^◌, ◌<◌, ◌++◌, ◌∷◌, [], ℕ, Bool, true, not, List, Option, Some, None, if◌then◌else◌, length, map, max, min, nat_lt, option_and_then, option_map, slice_get, slice_set, unwrap_or}
 use Rattle.std.specs.Fmt.{decimal}
 use Rattle.std.specs.List.{flat_map, range_with_len}
 use Rattle.std.specs.Option.{option_map_or}
 use Rattle.a429_equipment.specs.Agreement.{last_of}
 use Rattle.a429_documents.specs.Document.{slots_us}
 use Rattle.a429_slots.specs.Proposed.{Proposed}
-use Rattle.a429_slots.specs.Tables.{SlotTable, groups_of, outputs_of, placed_at}
-use Rattle.a429_slots.specs.declared.answers.Answer.{Answer}
-use Rattle.a429_slots.specs.declared.answers.Answer.TheVariants.{Accepted}
-use Rattle.a429_cli.specs.Simulating.{Step, steps_of}
-use Rattle.a429_cli.specs.SimulationRuns.{StandsAfter}
-use Rattle.a429_cli.specs.Summary.{accepted_count, bound_fields, greatest_in, latenesses, lateness, least_in, name_fields, number_or_dash, sends_of, summary_columns, times_between}
-use Rattle.a429_cli.specs.Timeline.{IsTimeline, rate_of, table_of}
-use Rattle.a429_cli.specs.Tracks.{IsTimelineAt}
-use Rattle.a429_cli.specs.declared.simulate.log.LogWord.{LogWord}
-use Rattle.a429_cli.specs.declared.simulate.machine.Run.{Run}
-use Rattle.a429_cli.specs.declared.simulate.moments.Moment.{Moment}
-use Rattle.a429_cli.specs.declared.simulate.moments.Timeline.{Timeline}
-use Rattle.a429_cli.specs.declared.simulate.figures.OutputSend.{OutputSend}
+use Rattle.a429_slots.specs.Tables.{groups_of, outputs_of, placed_at}
+use Rattle.a429_cli.specs.Summary.{bound_fields, greatest_in, latenesses, lateness, least_in, name_fields, number_or_dash, sends_of, summary_columns, times_between}
+use Rattle.a429_cli.specs.Timeline.{rate_of, table_of}
 use Rattle.a429_cli.specs.declared.simulate.figures.OutputFigures.{OutputFigures}
-use Rattle.a429_cli.specs.declared.simulate.summary.Summary.{Summary}
+use Rattle.a429_cli.specs.declared.simulate.figures.OutputSend.{OutputSend}
+use Rattle.a429_cli.specs.declared.simulate.figures.Summary.{Summary}
+use Rattle.a429_cli.specs.declared.simulate.machine.Happening.{Happening}
+use Rattle.a429_cli.specs.declared.simulate.machine.Happening.TheVariants.{Refuses, Sends}
+use Rattle.a429_cli.specs.declared.simulate.machine.SentWord.{SentWord}
 
 -- ---- one output
 
@@ -69,46 +63,32 @@ figures_after rate x s = record {
 abbrev pub nothing_sent : OutputFigures
 nothing_sent = record { sent = 0; last = None; least = None; greatest = None; late = None }
 
--- ---- all outputs
+-- ---- all sources of all groups
 
--- what is kept of the outputs of a group before anything is sent
-abbrev pub unsent : SlotTable → List OutputFigures
-unsent t = replicate (length (outputs_of t)) nothing_sent
+-- where the figures of a source in a group are, if a station can have both
+abbrev pub place_of : ℕ → ℕ → Option ℕ
+place_of g source = if nat_lt g 8 && nat_lt source 256 then Some (g * 256 + source) else None
 
--- the outputs of a group after one of them sent
-abbrev pub outputs_after : List OutputFigures → ℕ → ℕ → OutputSend → List OutputFigures
-outputs_after figures o rate s = option_map_or (λ x. slice_set figures o (figures_after rate x s)) (slice_get figures o) figures
+-- what is kept of a source in a group
+abbrev pub figures_at : List OutputFigures → ℕ → ℕ → Option OutputFigures
+figures_at figures g source = option_and_then (λ at. slice_get figures at) (place_of g source)
 
--- the groups after an output of one of them sent
-abbrev pub groups_after : List (List OutputFigures) → ℕ → ℕ → ℕ → OutputSend → List (List OutputFigures)
-groups_after groups g o rate s = option_map_or (λ figures. slice_set groups g (outputs_after figures o rate s)) (slice_get groups g) groups
+-- one of them after one more send
+abbrev pub figures_more : List OutputFigures → ℕ → OutputSend → ℕ → List OutputFigures
+figures_more figures rate send at = option_map_or (λ x. slice_set figures at (figures_after rate x send)) (slice_get figures at) figures
 
--- what is kept of an output, if there is one of this number
-abbrev pub figures_at : List (List OutputFigures) → ℕ → ℕ → Option OutputFigures
-figures_at groups g o = option_and_then (λ figures. slice_get figures o) (slice_get groups g)
+-- all of them after a word is sent, at this bit rate
+abbrev pub figures_with : List OutputFigures → SentWord → ℕ → List OutputFigures
+figures_with figures s rate = option_map_or (figures_more figures rate s.send) (place_of s.group s.source) figures
 
--- how many words were accepted of each source after an answer, as far as 64 bits count
-abbrev pub counted : List ℕ → Answer → List ℕ
-counted counts (Accepted source) = option_map_or (λ n. slice_set counts source (min (n + 1) (2 ^ 64 - 1))) (slice_get counts source) counts
-counted counts _ = counts
+-- all of them after something happens
+abbrev pub figures_noted : Proposed → List OutputFigures → Happening → List OutputFigures
+figures_noted q figures (Refuses w why) = figures
+figures_noted q figures (Sends s) = figures_with figures s (rate_of q s.group)
 
--- these are the figures of steps: of each source the number of its last accepted word, and of each output what is kept of its sends
-pub record HasFigures (q : Proposed) (past : List Step) (s : Summary) : Type 0 where
-  pub many : length s.words.items ≡ length q.station.sources
-  pub words : (source : ℕ) → slice_index_or s.words.items source 0 ≡ accepted_count q past source
-  pub outputs : (g o : ℕ) → figures_at s.groups.items g o
-      ≡ option_map (λ _. figures_of (rate_of q g) (sends_of q g o past)) (slice_get (outputs_of (table_of q g)) o)
-
--- whatever steps the machine had taken, and whose figures these were, now it has taken these after them, and the figures are those of all
-abbrev pub CountsSteps : Proposed → List Step → Run → Run → Summary → Summary → Type 0
-CountsSteps q steps old new before after =
-    (past : List Step) → StandsAfter q past old → HasFigures q past before → StandsAfter q (past ++ steps) new × HasFigures q (past ++ steps) after
-
--- a timeline where nothing has happened is played to its end: the figures are those of its steps
-abbrev pub CountsTimeline : Proposed → Timeline → Run → Summary → Summary → Type 0
-CountsTimeline q timeline run before after =
-    (words : List LogWord) (last : ℕ) → IsTimelineAt q words last [] timeline → StandsAfter q [] run → HasFigures q [] before
-    → (moments : List Moment) × IsTimeline q words last moments × HasFigures q (steps_of q moments) after
+-- these are the figures of what was told
+abbrev pub HasFigures : Proposed → List Happening → List OutputFigures → Type 0
+HasFigures q told figures = (g source : ℕ) → g < 8 → source < 256 → figures_at figures g source ≡ Some (figures_of (rate_of q g) (sends_of g source told))
 
 -- ---- rows
 
@@ -116,13 +96,13 @@ CountsTimeline q timeline run before after =
 abbrev pub figure_fields : OutputFigures → List (List ℕ)
 figure_fields x = decimal x.sent ∷ number_or_dash x.least ∷ number_or_dash x.greatest ∷ number_or_dash x.late ∷ []
 
--- what is kept of an output
+-- what is kept of what a group sent of a source
 abbrev pub kept_at : Summary → ℕ → ℕ → OutputFigures
-kept_at s g o = unwrap_or (figures_at s.groups.items g o) nothing_sent
+kept_at s g source = unwrap_or (figures_at s.figures.items g source) nothing_sent
 
 -- output o of group g by what is kept of it
 abbrev pub kept_row : Proposed → Summary → ℕ → ℕ → List (List ℕ)
-kept_row q s g o = name_fields q.station g o ++ figure_fields (kept_at s g o) ++ bound_fields (rate_of q g) (placed_at (table_of q g) o)
+kept_row q s g o = name_fields q.station g o ++ figure_fields (kept_at s g (placed_at (table_of q g) o).source) ++ bound_fields (rate_of q g) (placed_at (table_of q g) o)
 
 abbrev pub kept_group : Proposed → Summary → ℕ → List (List (List ℕ))
 kept_group q s g = map (kept_row q s g) (range_with_len 0 (length (outputs_of (table_of q g))))

@@ -1,12 +1,13 @@
 //! The command that draws the plan of a table.
-ghost use Rattle.std.specs.Prelude.{◌≡◌, ◌≤◌, ◌<◌, IfOk, IfSome, IsTrue, OnOk, Some, length};
+ghost use Rattle.std.specs.Prelude.{◌≡◌, ◌≤◌, ◌<◌, IfErr, IfOk, IfSome, IsTrue, OnOk, Some, length};
 ghost use Rattle.std.specs.Option.{option_copied};
 ghost use Rattle.a429_console.specs.Readings.{HasRead};
 ghost use Rattle.a429_console.specs.Outputs.{CountsFault};
-ghost use Rattle.a429_cli.specs.Drawings.{GivesGroup, GivesNamedImage, GivesNumbered, GivesPicture, HasDrawn, IsDrawing, group_numbered, refusal_of};
+ghost use Rattle.a429_cli.specs.Drawings.{GivesGroup, GivesNamedImage, GivesNumbered, HasDrawn, IsDrawing, group_numbered, refusal_of};
+ghost use Rattle.a429_console.specs.declared.refusals.CommandRefusal.TheVariants.{Memory};
 ghost use Rattle.a429_slots.specs.Tables.{groups_of};
 
-use a429_console::arguments::requests::DrawRequest;
+use a429_console::arguments::requests::Options;
 use a429_console::files::FileReader;
 use a429_console::files::reading::read_file;
 use a429_console::hints::Seen;
@@ -14,7 +15,7 @@ use a429_console::output::endings::finish;
 use a429_console::output::{Output, OutputFault};
 use a429_console::refusals::tables::{no_group, propose};
 use a429_console::refusals::{CommandRefusal, refuse};
-use a429_documents::{DrawingFault, DrawingForm, draw_text, page_text};
+use a429_documents::{Drawing, DrawingFault, DrawingForm, draw_text, page_text};
 use a429_equipment::GroupRow;
 use a429_slots::{OUTPUTS, Proposal};
 use std::alloc::Global;
@@ -28,19 +29,20 @@ pub struct Picture {
 
 impl Picture {
     ghost use Rattle.std.specs.Prelude.{◌≡◌};
+    ghost use Rattle.a429_console.specs.Requests.{given_of};
     ghost use Rattle.a429_cli.specs.Drawings.{picture_of};
 
     /// What is asked for.
-    pub fn of(asked: &DrawRequest) -> Picture
-        ensures { result ≡ picture_of asked.now.slots asked.now.width asked.now.html }
+    pub fn of(options: &Options) -> Picture
+        ensures { result ≡ picture_of (given_of options.now) }
     {
         let form = DrawingForm {
-            slots: asked.slots,
-            width: asked.width,
+            slots: options.slots,
+            width: options.width,
         };
         Picture {
             form,
-            is_page: asked.html,
+            is_page: options.html,
         }
     }
 }
@@ -83,20 +85,22 @@ fn refusal_of(fault: DrawingFault) -> CommandRefusal
     }
 }
 
-/// The picture of a proposal's plan, of the group of this number or of all.
-fn picture_of(
+/// A picture of what is drawn: an image, or a page with it.
+fn picture_text(
     alloc: Global,
-    proposal: &Proposal<OUTPUTS>,
-    number: Option<usize>,
-    picture: Picture,
-) -> Result<Vec<u8>, DrawingFault>
-    requires { IfSome number (λ number. number < length (groups_of proposal.now.plan)) }
-    ensures { GivesPicture proposal.now number picture result }
+    drawing: &Drawing<'_>,
+    is_page: bool,
+) -> Result<Vec<u8>, CommandRefusal>
+    ensures { IfErr result (λ refusal. refusal ≡ Memory) }
 {
-    if picture.is_page {
-        page_text(alloc, proposal, number, picture.form)
+    let text = if is_page {
+        page_text(alloc, drawing)
     } else {
-        draw_text(alloc, proposal, number, picture.form)
+        draw_text(alloc, drawing)
+    };
+    match text {
+        Ok(text) => Ok(text),
+        Err(_) => Err(CommandRefusal::Memory),
     }
 }
 
@@ -110,8 +114,8 @@ fn image_numbered(
     requires { IfSome number (λ number. number < length (groups_of proposal.now.plan)) }
     ensures { GivesNumbered proposal.now number picture result }
 {
-    match picture_of(alloc, proposal, number, picture) {
-        Ok(text) => Ok(text),
+    match Drawing::of(alloc, proposal, number, picture.form) {
+        Ok(drawing) => picture_text(alloc, &drawing, picture.is_page),
         Err(fault) => Err(refusal_of(fault)),
     }
 }

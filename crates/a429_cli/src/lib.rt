@@ -24,11 +24,12 @@ mod pending;
 mod plan_texts;
 mod program;
 mod replay;
+mod runs;
 mod simulate;
 mod word;
 
 pub use a429_console::arguments::given::{Arguments, given_words};
-pub use a429_console::arguments::requests::Request;
+pub use a429_console::arguments::requests::Asked;
 pub use a429_console::files::disk::DiskFiles;
 pub use a429_console::files::memory::MemoryFiles;
 pub use a429_console::files::{FileFault, FileReader, FileTrouble, LARGEST_FILE};

@@ -17,9 +17,10 @@ use a429_console::output::endings::{finish, refuse_memory};
 use a429_console::output::{Output, OutputFault};
 use a429_console::refusals::tables::{propose, read_table, unfit};
 use a429_console::refusals::{CommandRefusal, refuse};
-use a429_documents::{icd_csv, icd_text, margin_text};
+use a429_documents::{icd_sheet, margin_sheet};
 use a429_equipment::Equipment;
 use a429_slots::{OUTPUTS, Proposal};
+use a429_text::SheetForm;
 use std::alloc::{AllocError, Global};
 use std::io;
 use std::io::Write;
@@ -58,9 +59,9 @@ fn text_of(
 {
     match kind {
         PlanText::Plan => plan_text(alloc, proposal),
-        PlanText::Document => icd_text(alloc, proposal),
-        PlanText::Sheet => icd_csv(alloc, proposal),
-        PlanText::Margin => margin_text(alloc, proposal),
+        PlanText::Document => icd_sheet(alloc, proposal).render(alloc, SheetForm::Columns),
+        PlanText::Sheet => icd_sheet(alloc, proposal).render(alloc, SheetForm::Csv),
+        PlanText::Margin => margin_sheet(alloc, proposal)?.render(alloc, SheetForm::Columns),
     }
 }
 

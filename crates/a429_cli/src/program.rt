@@ -1,9 +1,9 @@
 //! The whole program: from the words that it was given to a status.
-ghost use Rattle.std.specs.Prelude.{◌≡◌, map, string_bytes, IfOk};
+ghost use Rattle.std.specs.Prelude.{◌≡◌, false, map, string_bytes, true, IfOk};
 ghost use Rattle.a429_console.specs.Ends.{IsMemoryRefused, writing};
 ghost use Rattle.a429_console.specs.Files.{texts_of};
 ghost use Rattle.a429_console.specs.Readings.{HasReadFrom};
-ghost use Rattle.a429_cli.specs.ProgramRuns.{HasRunProgram, IsCommandDone, IsDoneOrRefused, IsLiveDone, is_live};
+ghost use Rattle.a429_cli.specs.ProgramRuns.{HasRunProgram, IsCallDone, IsDoneOrRefused, is_live};
 
 use crate::commands::command;
 use crate::live::commands::command_live;
@@ -73,7 +73,7 @@ fn answer_live<
     err: &mut V,
     progress: &P,
 ) -> u8
-    ensures { IsLiveDone (texts_of words.entry.now) (record { tells = F.tells files.old; file = F.file files.old })
+    ensures { IsCallDone true (texts_of words.entry.now) (record { tells = F.tells files.old; file = F.file files.old })
         (λ Says. HasReadFrom F.answers Says files.old)
         (writing O.contents O.failures O.is_flushed out.old out.new) (writing V.contents V.failures V.is_flushed err.old err.new) result }
 {
@@ -89,7 +89,7 @@ fn answer<'a, H: Hints, F: FileReader, O: Output, V: Output>(
     out: &mut O,
     err: &mut V,
 ) -> u8
-    ensures { IsCommandDone (texts_of words.entry.now) (record { tells = F.tells files.old; file = F.file files.old })
+    ensures { IsCallDone false (texts_of words.entry.now) (record { tells = F.tells files.old; file = F.file files.old })
         (λ Says. HasReadFrom F.answers Says files.old)
         (writing O.contents O.failures O.is_flushed out.old out.new) (writing V.contents V.failures V.is_flushed err.old err.new) result }
 {

@@ -1,16 +1,13 @@
 //! The command `simulate`.
 ghost use Rattle.std.specs.Prelude.{◌≡◌, ◌≤◌, false, true, IfOk, IsTrue, MatchResult, OnOk};
-ghost use Rattle.a429_equipment.specs.Sound.{OfEach};
 ghost use Rattle.a429_console.specs.Readings.{HasRead};
 ghost use Rattle.a429_console.specs.Outputs.{CountsFault};
 ghost use Rattle.a429_console.specs.RefusalText.{OrMemory};
 ghost use Rattle.a429_console.specs.Replying.{HasReplied};
 ghost use Rattle.a429_console.specs.Tables.{IsTableRefusal};
-ghost use Rattle.a429_cli.specs.SimulationLog.{AreInTime};
-ghost use Rattle.a429_cli.specs.SimulationReplies.{BeginsLog, BeginsNoLog, HasPrinted, HasSummary, IsBeginningOf, IsPreparedFor, SimulationIsReady, IsSimulation, IsSimulationReading, IsStationOf, IsUnsimulated, files_of, heading};
-ghost use Rattle.a429_cli.specs.SimulationRuns.{HasStationNames};
-ghost use Rattle.a429_cli.specs.Timeline.{end_of};
-ghost use Rattle.a429_cli.specs.Tracks.{HasTracks, IsTrack};
+ghost use Rattle.a429_cli.specs.CellLines.{IsBeginOfSlot};
+ghost use Rattle.a429_cli.specs.SimulationReplies.{BeginsLog, BeginsNoLog, HasPrinted, HasSummary, IsPreparedFor, IsSettingOf, IsSimulation, IsSimulationReading, IsUnsimulated, PutsLines, SimulationIsReady, files_of};
+ghost use Rattle.a429_cli.specs.SimulationRuns.{CanBePlayed, HasStationNames};
 
 pub mod figures;
 pub mod lines;
@@ -18,20 +15,17 @@ pub mod log;
 pub mod machine;
 pub mod moments;
 pub mod playing;
-pub mod summary;
 pub mod summary_rows;
 pub mod tracks;
 
 use crate::names::Names;
-use crate::simulate::lines::LineSetting;
-use crate::simulate::log::{LogWord, read_log};
-use crate::simulate::machine::Run;
-use crate::simulate::moments::Timeline;
-use crate::simulate::playing::{PendingLines, play_all};
-use crate::simulate::summary::{Summary, count_all};
+use crate::pending::put_if_full;
+use crate::simulate::figures::Summary;
+use crate::simulate::lines::{PendingLines, Setting};
+use crate::simulate::log::read_log;
+use crate::simulate::playing::Player;
 use crate::simulate::summary_rows::text_of;
-use crate::simulate::tracks::{end_of, tracks_of};
-use a429_console::arguments::requests::SimulateRequest;
+use a429_console::arguments::requests::Options;
 use a429_console::files::FileReader;
 use a429_console::files::reading::read_file;
 use a429_console::hints::Seen;
@@ -39,7 +33,6 @@ use a429_console::output::endings::{finish, refuse_memory};
 use a429_console::output::{Output, OutputFault};
 use a429_console::refusals::tables::propose;
 use a429_console::refusals::{CommandRefusal, refuse};
-use a429_slots::{OUTPUTS, Proposal};
 use std::alloc::{AllocError, Global};
 
 /// What a simulation prints, the summary or all lines, in columns or as comma-separated values; and until when in
@@ -55,13 +48,13 @@ impl SimulationForm {
     ghost use Rattle.std.specs.Prelude.{◌≡◌};
 
     /// What is asked for.
-    pub fn of(asked: &SimulateRequest) -> SimulationForm
-        ensures { result ≡ record { until = asked.now.until; summary = asked.now.summary; csv = asked.now.csv } }
+    pub fn of(options: &Options) -> SimulationForm
+        ensures { result ≡ record { until = options.now.until; summary = options.now.summary; csv = options.now.csv } }
     {
         SimulationForm {
-            until: asked.until,
-            summary: asked.summary,
-            csv: asked.csv,
+            until: options.until,
+            summary: options.summary,
+            csv: options.csv,
         }
     }
 }
@@ -73,25 +66,11 @@ struct SimulationInput {
     log: Vec<u8>,
 }
 
-/// A proposal, with the names of its station.
-#[derive(Drop)]
-struct NamedProposal {
-    proposal: Proposal<OUTPUTS>,
-    names: Names,
-}
-
-/// What a simulation begins with: a timeline and a machine to which nothing has happened.
-#[derive(Drop)]
-struct Beginning {
-    timeline: Timeline,
-    run: Run,
-}
-
-/// What is simulated.
+/// What is simulated, where nothing has happened: with what lines are written, and a timeline on a station.
 #[derive(Drop)]
 struct Simulation {
-    station: NamedProposal,
-    beginning: Beginning,
+    setting: Setting,
+    player: Player,
 }
 
 /// Reads the files of these names.
@@ -113,192 +92,124 @@ fn read_input<F: FileReader>(
 fn read_station(
     alloc: Global,
     table: &[u8],
+    csv: bool,
     seen: &mut Seen,
-) -> Result<NamedProposal, CommandRefusal>
-    ensures { MatchResult result (IsStationOf table.now) (OrMemory (IsTableRefusal table.now)) }
+) -> Result<Setting, CommandRefusal>
+    ensures { MatchResult result (IsSettingOf table.now csv) (OrMemory (IsTableRefusal table.now)) }
 {
     let proposal = propose(alloc, table, &mut seen.table)?;
     let names = Names::of(alloc, proposal.equipment())?;
-    Ok(NamedProposal { proposal, names })
+    Ok(Setting {
+        proposal,
+        names,
+        csv,
+    })
 }
 
-/// The begin of a simulation with slots up to this time, or to that which the words ask for. Refused is a group that would
-/// send too much.
-fn begin(
+/// A log on a station, with slots up to this time. Refused is the log, or a group that would send too much.
+fn read_player(
     alloc: Global,
-    proposal: &Proposal<OUTPUTS>,
-    words: Vec<LogWord>,
-    until: Option<u64>,
-) -> Result<Beginning, CommandRefusal>
-    requires { AreInTime words.items }
-    ensures { IsBeginningOf proposal.now words.items (end_of proposal.now words.items until) result }
-{
-    let tracks = tracks_of(alloc, proposal, end_of(proposal, &words, until))?;
-    let run = Run::open(alloc, proposal)?;
-    let timeline = Timeline {
-        words,
-        at: 0,
-        tracks,
-    };
-    Ok(Beginning { timeline, run })
-}
-
-/// The begin of a simulation of a log. Refused is the log, or a group that would send too much.
-fn begin_log(
-    alloc: Global,
-    station: &NamedProposal,
+    setting: &Setting,
     log: &[u8],
     until: Option<u64>,
     seen: &mut Seen,
-) -> Result<Beginning, CommandRefusal>
-    ensures { MatchResult result (BeginsLog station.now log.now until) (OrMemory (BeginsNoLog station.now log.now until)) }
+) -> Result<Player, CommandRefusal>
+    ensures { MatchResult result (BeginsLog setting.now log.now until) (OrMemory (BeginsNoLog setting.now log.now until)) }
 {
-    let words = read_log(alloc, &station.names, log, seen)?;
-    begin(alloc, &station.proposal, words, until)
+    let words = read_log(alloc, &setting.names, log, seen)?;
+    Player::open(alloc, &setting.proposal, words, until)
 }
 
 /// What is simulated. Refused is the table, its plan, the log, or a group that would send too much.
 fn prepare(
     alloc: Global,
     input: &SimulationInput,
-    until: Option<u64>,
+    form: SimulationForm,
     seen: &mut Seen,
 ) -> Result<Simulation, CommandRefusal>
-    ensures { MatchResult result (IsPreparedFor (files_of input.now) until) (OrMemory (IsUnsimulated (files_of input.now) until)) }
+    ensures { MatchResult result (IsPreparedFor (files_of input.now) form) (OrMemory (IsUnsimulated (files_of input.now) form.until)) }
 {
-    let station = read_station(alloc, &input.table, seen)?;
-    let beginning = begin_log(alloc, &station, &input.log, until, seen)?;
-    Ok(Simulation { station, beginning })
+    let setting = read_station(alloc, &input.table, form.csv, seen)?;
+    let player = read_player(alloc, &setting, &input.log, form.until, seen)?;
+    Ok(Simulation { setting, player })
 }
 
-/// The lines before those of the steps: with commas between fields the names of these.
-fn heading(alloc: Global, csv: bool) -> Result<PendingLines, AllocError>
-    ensures { IfOk result (λ lines. lines.text.items ≡ heading csv) }
-{
-    let mut lines = PendingLines::new(alloc);
-    if csv {
-        lines
-            .text
-            .extend_from_slice(b"time,group,bus,word,source,age_us\n")?;
-    }
-    Ok(lines)
-}
-
-/// Plays a timeline on the station, and puts the lines of that. If memory is refused in the midst, these lines end with the
-/// one that says so.
-fn play_words<O: Output>(
-    alloc: Global,
-    setting: &LineSetting<'_>,
-    beginning: &mut Beginning,
+/// Plays what is simulated to its end, and puts lines out when they have become many; those that are left are in `lines`.
+/// Whether memory sufficed for all.
+fn put_lines<O: Output>(
+    setting: &Setting,
+    player: &mut Player,
+    lines: &mut PendingLines,
     out: &mut O,
-) -> Result<u8, OutputFault>
-    requires names { HasStationNames setting.now.names.now setting.now.proposal.now }
-    requires tracks { HasTracks setting.now.proposal.now beginning.old.timeline.tracks.items }
-    requires sound { OfEach IsTrack beginning.old.timeline.tracks.items }
-    requires in_time { AreInTime beginning.old.timeline.words.items }
-    ensures printed { HasPrinted setting.now.proposal.now false setting.now.csv beginning.old
-        (O.contents out.old) (O.contents out.new) result }
-    ensures status { IfOk result (λ status. status ≤ 1) }
-    ensures flushed { OnOk result (IsTrue (O.is_flushed out.new)) }
+) -> Result<bool, OutputFault>
+    requires names { HasStationNames setting.now.names setting.now.proposal }
+    requires playable { CanBePlayed setting.now.proposal player.old }
+    requires begin { IsBeginOfSlot setting.now.proposal setting.now.csv lines.old.begin }
+    ensures put { PutsLines O.contents setting.now.proposal setting.now.csv player.old out.old out.new
+        lines.old.text.items lines.new.text.items result }
     ensures faults { CountsFault result (O.failures out.old) (O.failures out.new) }
 {
-    let Ok(mut lines) = heading(alloc, setting.csv) else {
-        return refuse_memory(out);
-    };
-    let sufficed = play_all(
-        setting,
-        &mut beginning.run,
-        &mut beginning.timeline,
-        &mut lines,
-        out,
-    )?;
-    finish(&lines.text, sufficed, out)
+    while let Some(happening) = player.next(&setting.proposal) {
+        let Ok(()) = setting.push(lines, happening) else {
+            return Ok(false);
+        };
+        put_if_full(&mut lines.text, out)?;
+    }
+    Ok(true)
 }
 
-/// Plays what is simulated, and puts the lines of that.
+/// Plays what is simulated, and puts the lines of that. If memory is refused in the midst, these lines end with the one that
+/// says so.
 fn print_lines<O: Output>(
     alloc: Global,
     simulation: &mut Simulation,
-    csv: bool,
     out: &mut O,
 ) -> Result<u8, OutputFault>
     requires { SimulationIsReady simulation.old }
-    ensures printed { HasPrinted simulation.old.station.proposal false csv simulation.old.beginning
-        (O.contents out.old) (O.contents out.new) result }
+    ensures printed { HasPrinted simulation.old false (O.contents out.old) (O.contents out.new) result }
     ensures status { IfOk result (λ status. status ≤ 1) }
     ensures flushed { OnOk result (IsTrue (O.is_flushed out.new)) }
     ensures faults { CountsFault result (O.failures out.old) (O.failures out.new) }
 {
-    let station = &simulation.station;
-    let setting = LineSetting {
-        proposal: &station.proposal,
-        names: &station.names,
-        csv,
+    let setting = &simulation.setting;
+    let Ok(mut lines) = PendingLines::open(alloc, setting.csv) else {
+        return refuse_memory(out);
     };
-    play_words(alloc, &setting, &mut simulation.beginning, out)
+    let sufficed = put_lines(setting, &mut simulation.player, &mut lines, out)?;
+    finish(&lines.text, sufficed, out)
 }
 
-/// Plays a timeline on the station of a proposal: the text of the summary of that. The error is that memory is refused.
-fn summarize(
-    alloc: Global,
-    proposal: &Proposal<OUTPUTS>,
-    beginning: &mut Beginning,
-    csv: bool,
-) -> Result<Vec<u8>, AllocError>
-    requires tracks { HasTracks proposal.now beginning.old.timeline.tracks.items }
-    requires sound { OfEach IsTrack beginning.old.timeline.tracks.items }
-    requires in_time { AreInTime beginning.old.timeline.words.items }
-    ensures { IfOk result (λ text. HasSummary proposal.now csv beginning.old text.items) }
+/// Plays what is simulated to its end: the text of the summary of that. The error is that memory is refused.
+fn summarize(alloc: Global, setting: &Setting, player: &mut Player) -> Result<Vec<u8>, AllocError>
+    requires { CanBePlayed setting.now.proposal player.old }
+    ensures { IfOk result (λ text. HasSummary setting.now player.old text.items) }
 {
-    let mut summary = Summary::open(alloc, proposal)?;
-    count_all(
-        proposal,
-        &mut beginning.run,
-        &mut beginning.timeline,
-        &mut summary,
-    );
-    text_of(alloc, proposal, &summary, csv)
-}
-
-/// Plays what is simulated, and puts the summary of that.
-fn print_summary<O: Output>(
-    alloc: Global,
-    simulation: &mut Simulation,
-    csv: bool,
-    out: &mut O,
-) -> Result<u8, OutputFault>
-    requires { SimulationIsReady simulation.old }
-    ensures printed { HasPrinted simulation.old.station.proposal true csv simulation.old.beginning
-        (O.contents out.old) (O.contents out.new) result }
-    ensures status { IfOk result (λ status. status ≤ 1) }
-    ensures flushed { OnOk result (IsTrue (O.is_flushed out.new)) }
-    ensures faults { CountsFault result (O.failures out.old) (O.failures out.new) }
-{
-    let proposal = &simulation.station.proposal;
-    match summarize(alloc, proposal, &mut simulation.beginning, csv) {
-        Ok(text) => finish(&text, true, out),
-        Err(_) => refuse_memory(out),
+    let mut summary = Summary::open(alloc)?;
+    while let Some(happening) = player.next(&setting.proposal) {
+        summary.note(&setting.proposal, happening);
     }
+    text_of(alloc, &setting.proposal, &summary, setting.csv)
 }
 
 /// Plays what is simulated, and puts the summary of that, or its lines.
 fn print_simulation<O: Output>(
     alloc: Global,
     simulation: &mut Simulation,
-    form: SimulationForm,
+    summary: bool,
     out: &mut O,
 ) -> Result<u8, OutputFault>
     requires { SimulationIsReady simulation.old }
-    ensures printed { HasPrinted simulation.old.station.proposal form.summary form.csv simulation.old.beginning
-        (O.contents out.old) (O.contents out.new) result }
+    ensures printed { HasPrinted simulation.old summary (O.contents out.old) (O.contents out.new) result }
     ensures status { IfOk result (λ status. status ≤ 1) }
     ensures flushed { OnOk result (IsTrue (O.is_flushed out.new)) }
     ensures faults { CountsFault result (O.failures out.old) (O.failures out.new) }
 {
-    if form.summary {
-        print_summary(alloc, simulation, form.csv, out)
-    } else {
-        print_lines(alloc, simulation, form.csv, out)
+    if !summary {
+        return print_lines(alloc, simulation, out);
+    }
+    match summarize(alloc, &simulation.setting, &mut simulation.player) {
+        Ok(text) => finish(&text, true, out),
+        Err(_) => refuse_memory(out),
     }
 }
 
@@ -324,8 +235,8 @@ pub fn simulate<F: FileReader, O: Output>(
         Ok(input) => input,
         Err(refusal) => return refuse(alloc, refusal, seen, out),
     };
-    match prepare(alloc, &input, form.until, seen) {
-        Ok(mut simulation) => print_simulation(alloc, &mut simulation, form, out),
+    match prepare(alloc, &input, form, seen) {
+        Ok(mut simulation) => print_simulation(alloc, &mut simulation, form.summary, out),
         Err(refusal) => refuse(alloc, refusal, seen, out),
     }
 }

@@ -9,7 +9,10 @@ use Rattle.std.specs.Str.{IsUtf8}
 use Rattle.a429_console.specs.Ends.{IsPutTo, IsWhole, Writing}
 use Rattle.a429_console.specs.Outputs.{IsPut}
 use Rattle.a429_console.specs.RequestRows.{AsksFor}
-use Rattle.a429_console.specs.Requests.{Command, CommandAsk, Replay}
+use Rattle.a429_console.specs.Requests.{AskedBytes, HasWords, IsName, asked_by_names}
+use Rattle.a429_console.specs.Usage.{is_run}
+use Rattle.a429_console.specs.declared.arguments.forms.Verb.TheVariants as verb
+use Rattle.a429_console.proofs.NoOptions.{can_give_nothing, nothing_given}
 use Rattle.a429_cli.specs.ProgramRuns.{IsDoneOrRefused, Reader, is_live}
 use Rattle.a429_cli.specs.Replies.{IsReplyOrMemory}
 use Rattle.a429_commands.specs.WordsInMemory.{AreTexts, ProgramGetsItsWords}
@@ -23,13 +26,16 @@ replay_is_text =
     IsUtf8-from_ascii (codes "replay")
     (IsAscii-from_all (codes "replay") (All-from_recursion (λ (b : ℕ). b < 128) (codes "replay") (lit< tt, (lit< tt, (lit< tt, (lit< tt, (lit< tt, (lit< tt, tt))))))))
 
+-- a replay of two names has words
+pub replay_has_words : (table script : List ℕ) → IsName table → IsName script → HasWords (asked_by_names verb.Replay table script [])
+replay_has_words table script a b = record { first = a; second = b; number = refl; more = tt; options = can_give_nothing; others = λ name none. nothing_given name }
+
 module _ {X Y : Type 0} (reader : Reader) (Reads : ((List ℕ → Option (List ℕ)) → Type 0) → Type 0) (out : Writing X) (err : Writing Y) (status : ℕ) where
   -- the words of a request went to `command`, which answered it
-  request_is_answered : (words : List (List ℕ)) (r : CommandAsk) → is_live words ≡ false → AsksFor words (Command r) → IsTrue reader.tells → IsWhole out
+  request_is_answered : (words : List (List ℕ)) (r : AskedBytes) → is_live words ≡ false → is_run r.verb ≡ false → AsksFor words r → IsTrue reader.tells → IsWhole out
       → IsDoneOrRefused words reader Reads out err status → IsPutTo (IsReplyOrMemory reader.file r) out status
-  request_is_answered words r other asks tells whole (inl (inl (live, done))) = absurd (false≢true (sym other ∙ live))
-  request_is_answered words r other asks tells whole (inl (inr (_, done))) = (done.answered r asks).1 tells whole
-  request_is_answered words r other asks tells whole (inr refused) =
+  request_is_answered words r other command asks tells whole (inl done) = (done.answered r (command ∙ sym other) asks).1 tells whole
+  request_is_answered words r other command asks tells whole (inr refused) =
       let told = refused.put whole in
       (told.0, inr told.1, told.2)
 
@@ -39,9 +45,9 @@ module _ {X Y : Type 0} (reader : Reader) (Reads : ((List ℕ → Option (List �
   texts_went path words texts (inr (none, told)) = absurd (none texts)
 
   -- the program answered a replay of these names
-  pub replay_is_answered : (path table script : List ℕ) → IsUtf8 table → IsUtf8 script → AsksFor (codes "replay" ∷ table ∷ script ∷ []) (Command (Replay table script [])) → IsTrue reader.tells
-      → IsWhole out → ProgramGetsItsWords (path ∷ codes "replay" ∷ table ∷ script ∷ []) reader Reads out err status → IsPutTo (IsReplyOrMemory reader.file (Replay table script [])) out status
+  pub replay_is_answered : (path table script : List ℕ) → IsUtf8 table → IsUtf8 script → AsksFor (codes "replay" ∷ table ∷ script ∷ []) (asked_by_names verb.Replay table script []) → IsTrue reader.tells
+      → IsWhole out → ProgramGetsItsWords (path ∷ codes "replay" ∷ table ∷ script ∷ []) reader Reads out err status → IsPutTo (IsReplyOrMemory reader.file (asked_by_names verb.Replay table script [])) out status
   replay_is_answered path table script table_text script_text asks tells whole gets =
       let words : List (List ℕ) = codes "replay" ∷ table ∷ script ∷ [] in
       let texts : AreTexts words = (replay_is_text, (table_text, (script_text, tt))) in
-      request_is_answered words (Replay table script []) refl asks tells whole (texts_went path words texts gets)
+      request_is_answered words (asked_by_names verb.Replay table script []) refl refl asks tells whole (texts_went path words texts gets)

@@ -1,11 +1,12 @@
 -- A replay of status 0 came to its end.
 use Rattle.std.proofs.Common.{inl, inr, ◌≡◌, ℕ, List, [], arith}
 use Rattle.std.specs.Prelude.{Option}
-use Rattle.a429_console.specs.Requests.{Replay}
+use Rattle.a429_console.specs.Requests.{asked_by_names}
+use Rattle.a429_console.specs.declared.arguments.forms.Verb.TheVariants as verb
 use Rattle.a429_cli.specs.Replies.{IsReplyOrMemory}
 use Rattle.a429_commands.specs.Replayed.{IsPlayedToTheEnd}
 
-pub played_to_the_end : (file : List ℕ → Option (List ℕ)) (table script bytes : List ℕ) (status : ℕ) → IsReplyOrMemory file (Replay table script []) status bytes → status ≡ 0
+pub played_to_the_end : (file : List ℕ → Option (List ℕ)) (table script bytes : List ℕ) (status : ℕ) → IsReplyOrMemory file (asked_by_names verb.Replay table script []) status bytes → status ≡ 0
     → IsPlayedToTheEnd file table script bytes
 played_to_the_end file table script bytes status (inr memory) done = absurd (omega (arith, memory.0, done))
 played_to_the_end file table script bytes status (inl (inl refused)) done = absurd (omega (arith, refused.2, done))

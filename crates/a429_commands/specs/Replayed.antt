@@ -1,7 +1,8 @@
 -- A replay that came to its end.
 use Rattle.std.specs.Prelude.{ℕ, List, [], Option}
 use Rattle.a429_slots.specs.Proposed.{Proposed}
-use Rattle.a429_console.specs.Requests.{Replay}
+use Rattle.a429_console.specs.Requests.{asked_by_names}
+use Rattle.a429_console.specs.declared.arguments.forms.Verb.TheVariants as verb
 use Rattle.a429_cli.specs.Replies.{IsReplyOrMemory}
 use Rattle.a429_cli.specs.Replaying.{IsInput, IsPlayed, IsStart, ReplayInput}
 use Rattle.a429_cli.specs.declared.replay.script.ScriptEvent.{ScriptEvent}
@@ -17,4 +18,4 @@ pub record IsPlayedToTheEnd (file : List ℕ → Option (List ℕ)) (table scrip
 
 -- the status and the bytes answer a replay of the files of these names
 abbrev pub IsReplayReply : (List ℕ → Option (List ℕ)) → List ℕ → List ℕ → ℕ → List ℕ → Type 0
-IsReplayReply file table script = IsReplyOrMemory file (Replay table script [])
+IsReplayReply file table script = IsReplyOrMemory file (asked_by_names verb.Replay table script [])

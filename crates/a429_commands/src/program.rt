@@ -2,7 +2,8 @@
 ghost use Rattle.std.specs.Io.{WritesAtMost};
 
 use a429_cli::{Arguments, CountedWriter, MemoryFiles, NoProgress, run_program};
-use a429_console::arguments::requests::{LiveRequest, Request};
+use a429_console::arguments::forms::Verb;
+use a429_console::arguments::requests::{Asked, Options};
 use a429_console::hints::{Seen, tell_hints};
 use a429_console::refusals::CommandRefusal;
 use a429_hints::HintLines;
@@ -109,16 +110,26 @@ fn seen_without_threads(alloc: Global) -> Seen {
 
 /// What is told of a run that was refused.
 fn hint_of(alloc: Global, seen: &Seen) -> Vec<u8> {
-    let request = Request::Live(LiveRequest {
-        table: "t",
-        words: "w",
-        frames: 1,
-        further: Vec::new(alloc),
-    });
+    let asked = Asked {
+        verb: Verb::Live,
+        first: "t",
+        second: "w",
+        number: 1,
+        more: Vec::new(alloc),
+        options: Options {
+            csv: false,
+            group: None,
+            slots: None,
+            width: None,
+            html: false,
+            until: None,
+            summary: false,
+        },
+    };
     let mut err = CountedWriter::new(Vec::new(alloc));
-    tell_hints(alloc, &request, 1, seen, &[], &HintLines, &mut err);
+    tell_hints(alloc, &asked, 1, seen, &[], &HintLines, &mut err);
     // `drop` keeps the proof short: a drop in place goes through all parts.
-    drop(request);
+    drop(asked);
     err.writer
 }
 

@@ -1,6 +1,6 @@
 //! A replay over files in memory: by the command, and by the whole program.
 ghost use Rattle.std.specs.Prelude.{◌≡◌, IfSome};
-ghost use Rattle.a429_console.specs.CommandLine.{IsName};
+ghost use Rattle.a429_console.specs.Requests.{IsName};
 ghost use Rattle.a429_console.specs.MemoryFile.{file_of};
 ghost use Rattle.a429_commands.specs.Replayed.{IsPlayedToTheEnd, IsReplayReply};
 

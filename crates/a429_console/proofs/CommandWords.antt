@@ -1,20 +1,19 @@
 -- What words that name a command come to, by what the words after the name come to.
-use Rattle.std.proofs.Common.{◌≡◌, ◌∙◌, ap, ap₂, refl, codes, true, false, List, [], ◌∷◌, fold}
-use Rattle.std.specs.Prelude.{ℕ, Option, Some, None, Bool, ◌&&◌, ◌||◌, find, is_some, not, option_map}
+use Rattle.std.proofs.Common.{◌≡◌, ◌∙◌, ap, ap₂, refl, codes, subst, sym, true, false, List, [], ◌∷◌, fold}
+use Rattle.std.specs.Prelude.{Option, Some, None, Bool, ◌&&◌, ◌||◌, find, is_some, not, option_map}
 use Rattle.std.specs.List.{list_all}
 use Rattle.std.specs.Option.{option_map_or}
 use Rattle.std.specs.Str.{bytes_eq}
 use Rattle.clap.specs.Words.{App, Row, Shape, Text, is_simple, is_simple_and_free, subcommand_of, takes}
-use Rattle.clap.specs.Walk.{Held, Names, Walk, after_step, answers_to, arg_by_index, finished, idle, nothing_held, stop_after, subcommand_met, subcommand_or_other, to_positional, value, walk, walk_from, walked}
+use Rattle.clap.specs.Walk.{Held, Names, Walk, after_step, answers_to, finished, idle, nothing_held, stop_after, subcommand_met, subcommand_or_other, walk, walk_from, walked}
 use Rattle.clap.specs.Simple.{argument_words, built, built_leaf, entered, inherited, label_of, names_of, rows_at}
 use Rattle.clap.specs.Takes.{built_takes, default_passes, entered_passes, is_valid, level_passes, other_passes, settle_passes, step_passes, turn_passes, walk_passes}
 use Rattle.clap.specs.declared.builder.value_parser.Reading.TheVariants.{AsWritten}
 use Rattle.clap.specs.declared.parser.matches.ValueSource.TheVariants.{CommandLine}
 use Rattle.clap.proofs.OnLiterals.{clap_on_literals}
-use Rattle.a429_console.specs.CommandLine.{command_line, top_shape}
-use Rattle.a429_console.specs.Requests.{RequestBytes}
-use Rattle.a429_console.specs.RequestRows.{AsksFor, found_by, request_by}
-use Rattle.a429_console.proofs.PlainWords.{IsPlainWord, at_word, for_none, turn_of_word, walked_word}
+use Rattle.a429_console.specs.CommandLine.{command_line, row_of, top_shape}
+use Rattle.a429_console.specs.Requests.{AskedBytes}
+use Rattle.a429_console.specs.RequestRows.{AsksFor, IsAskedBy, IsFound}
 use Rattle.a429_console.proofs.StoppedWords.{stopped_more, stopped_passes}
 
 pub is_simple_here : is_simple command_line ≡ true
@@ -124,12 +123,6 @@ goes_on s from next to word words turn step rest = record {
   comes = ap (λ (w : Walk). fold (walked s.rules []) w words) step ∙ rest.comes;
 }
 
--- a word that is a value of an argument
-pub value_walks : (s : Shape) (h : Held) (position : ℕ) (next to : Walk) (word : Text) (words : List Text) → IsPlainWord word → step_passes s position h value ≡ true
-    → to_positional s.rules (arg_by_index s.rules position) word (at_word h idle position) h ≡ next → Walks s next words to → Walks s (at_word h idle position) (word ∷ words) to
-value_walks s h position next to word words p passes step rest =
-    goes_on s (at_word h idle position) next to word words (turn_of_word s idle h position word for_none p ∙ passes) (walked_word s.rules idle h position word for_none p ∙ step) rest
-
 abbrev pub row_of_words : Text → List Text → Row
 row_of_words id words = record { id = id; values = words; count = None; source = Some CommandLine; reading = AsWritten }
 
@@ -137,19 +130,16 @@ row_of_words id words = record { id = id; values = words; count = None; source =
 abbrev pub row : Text → Text → Row
 row id word = row_of_words id (word ∷ [])
 
--- after the word of an argument, and after these rows
-abbrev pub held_last : List Row → Text → Text → Held
-held_last rows id t = record { rows = rows; pending = Some (id, t ∷ []); skip = 0 }
-
 -- what stands at the end of the words passes
 unfoldable pub ends_well : Shape → Walk → Bool
 ends_well s w = settle_passes s.rules s.args_override_self w.held && (list_all default_passes s.rules && is_valid s (finished s.rules w.held) false)
 
 -- the words ask for what their values ask for
-pub asks_for : (name : Text) (s : Shape) (words : List Text) (to : Walk) (r : RequestBytes) → IsNamed name s → Walks s (walk_from nothing_held) words to → ends_well s to ≡ true
-    → request_by name (finished s.rules to.held) ≡ Some r → AsksFor (name ∷ words) r
+pub asks_for : (name : Text) (s : Shape) (words : List Text) (to : Walk) (r : AskedBytes) → IsNamed name s → name ≡ (row_of r.verb).name → Walks s (walk_from nothing_held) words to → ends_well s to ≡ true
+    → IsAskedBy (finished s.rules to.held) r → AsksFor (name ∷ words) r
 unfolding AsksFor ends_well
-asks_for name s words to r n walks well is = (
+asks_for name s words to r n names walks well is = (
   line_takes name s words n (ap₂ (λ (a b : Bool). a && b) walks.passes (ap (λ (w : Walk). ends_well s w) walks.comes ∙ well)),
-  ap (found_by request_by) (line_found name s words n) ∙ (ap (λ (w : Walk). request_by name (finished s.rules w.held)) walks.comes ∙ is),
+  subst (λ (f : Option (Text × List Row)). IsFound f r) (sym (line_found name s words n))
+      (names, subst (λ (w : Walk). IsAskedBy (finished s.rules w.held) r) (sym walks.comes) is),
 )

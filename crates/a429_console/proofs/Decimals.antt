@@ -9,7 +9,7 @@ use Rattle.std.proofs.lemmas.Str.Parse.{without_leading_plus_none}
 use Rattle.clap.specs.ValueTests.{is_unsigned_in}
 use Rattle.clap.specs.declared.builder.value_parser.ValueParser.TheVariants as reads
 use Rattle.clap.proofs.ValueTestLemmas.{Accepts-accepts}
-use Rattle.a429_console.specs.CommandLine.{IsName}
+use Rattle.a429_console.specs.Requests.{IsName}
 use Rattle.a429_console.specs.RequestRows.{number_of}
 
 digits_are_name : (ds : List ℕ) → AllDigits 10 ds → IsName ds

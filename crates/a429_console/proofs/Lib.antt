@@ -1,15 +1,9 @@
 pub mod PlainWords
 pub mod StoppedWords
 pub mod CommandWords
-pub mod NameWords
-pub mod ManyWords
-pub mod RepeatedWords
-pub mod IcdWords
-pub mod DrawWords
-pub mod SimulateWords
+pub mod UsedRows
+pub mod SettledWords
 pub mod Decimals
-pub mod LiveWords
-pub mod AskedWords
 pub mod Elsewhere
 pub mod Found
 pub mod HexDigits
@@ -24,3 +18,8 @@ pub mod RefusalEndings
 pub mod SoFar
 pub mod EntryLines
 pub mod CallEnds
+pub mod OptionWords
+pub mod FoundRows
+pub mod CommandFacts
+pub mod AskedWords
+pub mod NoOptions

@@ -7,7 +7,7 @@ use Rattle.clap.specs.Words.{Rule, Shape, Text}
 use Rattle.clap.specs.Lexer.{long_of, short_of}
 use Rattle.clap.specs.Walk.{Held, Step, Waiting, value, idle, option, positional, Walk, walked, word_met, after_step, plain_word, option_word, to_positional, arg_by_id, arg_by_index}
 use Rattle.clap.specs.Takes.{turn_passes, step_passes}
-use Rattle.a429_console.specs.CommandLine.{IsName}
+use Rattle.a429_console.specs.Requests.{IsName}
 
 pub record IsPlainWord (t : Text) : Type 0 where
   pub no_end : bytes_eq t (45 ∷ 45 ∷ []) ≡ false

@@ -1,21 +1,25 @@
--- The command line of the program.
-use Rattle.std.specs.Prelude.{◌≡◌, ◌≢◌, ◌≤◌, ◌∷◌, ◌⊎◌, [], ℕ, List, true, false, Some, codes, fold, map, ⊤}
+-- The command line of the program: a row for each command, and what the rules of the command line make of the rows.
+use Rattle.std.specs.Prelude.{◌≡◌, ◌∷◌, [], ℕ, List, Option, true, false, Some, None, codes, fold, map, option_map}
 use Rattle.clap.specs.Words.{App, Rule, Shape, Text, new_app, new_rule, rule_of, with_rule, with_subcommand}
 use Rattle.clap.specs.declared.builder.arg.Arg.{Arg}
 use Rattle.clap.specs.declared.builder.action.ArgAction.TheVariants.{Append, SetTrue}
 use Rattle.clap.specs.declared.builder.value_parser.ValueParser.TheVariants as reads
 use Rattle.a429_equipment.specs.Limits.{most_frames}
-use Rattle.a429_console.specs.declared.arguments.forms.ArgumentForm.{ArgumentForm}
-use Rattle.a429_console.specs.declared.arguments.forms.ArgumentKind.{ArgumentKind}
 use Rattle.a429_console.specs.declared.arguments.forms.CommandForm.{CommandForm}
-use Rattle.a429_console.specs.declared.arguments.forms.ArgumentKind.TheVariants as given
+use Rattle.a429_console.specs.declared.arguments.forms.OptionForm.{OptionForm}
+use Rattle.a429_console.specs.declared.arguments.forms.OptionKind.{OptionKind}
+use Rattle.a429_console.specs.declared.arguments.forms.OptionKind.TheVariants as given
+use Rattle.a429_console.specs.declared.arguments.forms.Verb.{Verb}
+use Rattle.a429_console.specs.declared.arguments.forms.Verb.TheVariants as verb
+
+-- ---- the rule of each kind of argument
 
 abbrev pub required_rule : Text → Rule
 required_rule id = record (new_rule id) { required = true }
 
 -- a whole number up to the most
-abbrev pub number_rule : Text → ℕ → Rule
-number_rule id most = record (required_rule id) { parser = Some (reads.Unsigned 0 most) }
+abbrev pub number_rule : Text × ℕ → Rule
+number_rule number = record (required_rule number.0) { parser = Some (reads.Unsigned 0 number.1) }
 
 -- as many values as are given
 abbrev pub many_rule : Text → Rule
@@ -26,88 +30,102 @@ abbrev pub flag_rule : Text → Rule
 flag_rule name = record (new_rule name) { long = Some name; action = Some SetTrue }
 
 -- an option of this name, which has one value
-abbrev pub option_rule : Text → Rule
-option_rule name = record (new_rule name) { long = Some name; value_names = 1 }
+abbrev pub value_rule : Text → Rule
+value_rule name = record (new_rule name) { long = Some name; value_names = 1 }
 
 -- and whose value is a whole number from the least to the most
-abbrev pub number_option_rule : Text → ℕ → ℕ → Rule
-number_option_rule name least most = record (option_rule name) { parser = Some (reads.Unsigned least most) }
+abbrev pub number_value_rule : Text → ℕ → ℕ → Rule
+number_value_rule name least most = record (value_rule name) { parser = Some (reads.Unsigned least most) }
 
--- the rule of an argument for which this is given
-abbrev pub kind_rule : Text → ArgumentKind → Rule
-kind_rule id given.Required = required_rule id
-kind_rule id (given.Number most) = number_rule id most
-kind_rule id given.Repeated = many_rule id
-kind_rule id given.Flag = flag_rule id
-kind_rule id (given.Value value) = option_rule id
-kind_rule id (given.NumberValue value least most) = number_option_rule id least most
-
-abbrev pub form_rule : ArgumentForm → Rule
-form_rule form = kind_rule form.id.now form.kind
-
--- a command of this name with arguments of these forms
-abbrev pub command_app : Text → List ArgumentForm → App
-command_app name forms = fold with_rule (new_app name) (map form_rule forms)
-
-abbrev pub form_app : CommandForm → App
-form_app form = command_app form.name.now form.arguments.now
-
--- an argument of this rule, for one command alone
-abbrev pub HasRule : Arg → Rule → Type 0
-HasRule a rule = (rule_of a ≡ rule) × (a.global ≡ false)
-
-abbrev pub word_app : App
-word_app = with_rule (new_app (codes "word")) (required_rule (codes "HEX"))
-
-abbrev pub lines_app : App
-lines_app = with_rule (with_rule (new_app (codes "lines")) (required_rule (codes "FILE"))) (many_rule (codes "FILTER"))
-
-abbrev pub import_app : App
-import_app = with_rule (new_app (codes "import")) (required_rule (codes "FILE"))
-
-abbrev pub plan_app : App
-plan_app = with_rule (new_app (codes "plan")) (required_rule (codes "TABLE"))
-
-abbrev pub check_app : App
-check_app = with_rule (with_rule (new_app (codes "check")) (required_rule (codes "TABLE"))) (required_rule (codes "PLAN"))
-
-abbrev pub icd_app : App
-icd_app = with_rule (with_rule (new_app (codes "icd")) (required_rule (codes "TABLE"))) (flag_rule (codes "csv"))
-
-abbrev pub margin_app : App
-margin_app = with_rule (new_app (codes "margin")) (required_rule (codes "TABLE"))
-
-abbrev pub lint_app : App
-lint_app = with_rule (new_app (codes "lint")) (required_rule (codes "TABLE"))
-
-abbrev pub diff_app : App
-diff_app = with_rule (with_rule (new_app (codes "diff")) (required_rule (codes "TABLE"))) (required_rule (codes "OTHER"))
+-- ---- the options of all commands
 
 -- how many slots of a bus can be drawn
 abbrev pub most_slots : ℕ
 most_slots = 8192
 
-abbrev pub draw_app : App
-draw_app =
-    with_rule (with_rule (with_rule (with_rule (with_rule (new_app (codes "draw")) (required_rule (codes "TABLE"))) (option_rule (codes "group")))
-    (number_option_rule (codes "slots") 1 most_slots)) (option_rule (codes "width"))) (flag_rule (codes "html"))
-
-abbrev pub replay_app : App
-replay_app = with_rule (with_rule (with_rule (new_app (codes "replay")) (required_rule (codes "TABLE"))) (required_rule (codes "SCRIPT"))) (many_rule (codes "FURTHER"))
-
 -- the last microsecond until which cells can be asked for: fourteen digits
 abbrev pub last_time : ℕ
 last_time = 99999999999999
 
-abbrev pub simulate_app : App
-simulate_app =
-    with_rule (with_rule (with_rule (with_rule (with_rule (new_app (codes "simulate")) (required_rule (codes "TABLE"))) (required_rule (codes "LOG")))
-    (number_option_rule (codes "until") 0 last_time)) (flag_rule (codes "summary"))) (flag_rule (codes "csv"))
+pub data OptionName : Type 0 where
+  Csv : OptionName
+  Group : OptionName
+  Slots : OptionName
+  Width : OptionName
+  Html : OptionName
+  Until : OptionName
+  Summary : OptionName
 
-abbrev pub live_app : App
-live_app =
-    with_rule (with_rule (with_rule (with_rule (new_app (codes "live")) (required_rule (codes "TABLE"))) (required_rule (codes "WORDS"))) (number_rule (codes "FRAMES") most_frames))
-    (many_rule (codes "FURTHER"))
+abbrev pub option_rule : OptionName → Rule
+option_rule Csv = flag_rule (codes "csv")
+option_rule Group = value_rule (codes "group")
+option_rule Slots = number_value_rule (codes "slots") 1 most_slots
+option_rule Width = value_rule (codes "width")
+option_rule Html = flag_rule (codes "html")
+option_rule Until = number_value_rule (codes "until") 0 last_time
+option_rule Summary = flag_rule (codes "summary")
+
+-- ---- the commands
+
+-- the options of a command, in the order in which help lists them
+abbrev pub options_of : Verb → List OptionName
+options_of verb.Icd = Csv ∷ []
+options_of verb.Draw = Group ∷ Slots ∷ Width ∷ Html ∷ []
+options_of verb.Simulate = Until ∷ Summary ∷ Csv ∷ []
+options_of _ = []
+
+-- what a command is given: a name or two, perhaps a number up to the most, perhaps as many names as one likes, and options
+pub record CommandRow : Type 0 where
+  pub name : Text
+  pub first : Text
+  pub second : Option Text
+  pub number : Option (Text × ℕ)
+  pub more : Option Text
+  pub options : List Rule
+
+-- a command of this name that is given one name beside its options
+abbrev pub with_one : Verb → Text → Text → CommandRow
+with_one v name first = record { name = name; first = first; second = None; number = None; more = None; options = map option_rule (options_of v) }
+
+-- a command that is given a table
+abbrev pub with_table : Verb → Text → CommandRow
+with_table v name = with_one v name (codes "TABLE")
+
+abbrev pub row_of : Verb → CommandRow
+row_of verb.Word = with_one verb.Word (codes "word") (codes "HEX")
+row_of verb.Lines = record (with_one verb.Lines (codes "lines") (codes "FILE")) { more = Some (codes "FILTER") }
+row_of verb.Import = with_one verb.Import (codes "import") (codes "FILE")
+row_of verb.Plan = with_table verb.Plan (codes "plan")
+row_of verb.Check = record (with_table verb.Check (codes "check")) { second = Some (codes "PLAN") }
+row_of verb.Icd = with_table verb.Icd (codes "icd")
+row_of verb.Margin = with_table verb.Margin (codes "margin")
+row_of verb.Lint = with_table verb.Lint (codes "lint")
+row_of verb.Diff = record (with_table verb.Diff (codes "diff")) { second = Some (codes "OTHER") }
+row_of verb.Draw = with_table verb.Draw (codes "draw")
+row_of verb.Replay = record (with_table verb.Replay (codes "replay")) { second = Some (codes "SCRIPT"); more = Some (codes "FURTHER") }
+row_of verb.Simulate = record (with_table verb.Simulate (codes "simulate")) { second = Some (codes "LOG") }
+row_of verb.Live =
+    record (with_table verb.Live (codes "live")) { second = Some (codes "WORDS"); number = Some (codes "FRAMES", most_frames); more = Some (codes "FURTHER") }
+
+-- all of them, in the order in which help lists them
+abbrev pub verbs : List Verb
+verbs =
+    verb.Word ∷ verb.Lines ∷ verb.Import ∷ verb.Plan ∷ verb.Check ∷ verb.Icd ∷ verb.Margin ∷ verb.Lint ∷ verb.Diff ∷ verb.Draw ∷ verb.Replay ∷ verb.Simulate
+    ∷ verb.Live ∷ []
+
+-- ---- the command line
+
+-- with an argument of this rule more, if there is one
+abbrev pub with_any : {A : Type 0} → (A → Rule) → App → Option A → App
+with_any rule app None = app
+with_any rule app (Some x) = with_rule app (rule x)
+
+-- what is given beside options
+abbrev pub with_names : App → CommandRow → App
+with_names app row = with_any many_rule (with_any number_rule (with_any required_rule (with_rule app (required_rule row.first)) row.second) row.number) row.more
+
+abbrev pub row_app : CommandRow → App
+row_app row = fold with_rule (with_names (new_app row.name) row) row.options
 
 abbrev pub top_shape : Shape
 top_shape = record ((new_app (codes "a429")).top) { has_version = true; no_binary_name = true; subcommand_required = true }
@@ -117,27 +135,36 @@ abbrev pub bare_line : App
 bare_line = record { top = top_shape; subs = [] }
 
 -- with these commands more
-abbrev pub with_commands : App → List App → App
-with_commands line apps = fold (λ (a b : App). with_subcommand a b.top) line apps
+abbrev pub with_commands : App → List CommandRow → App
+with_commands line rows = fold (λ (a : App) (row : CommandRow). with_subcommand a (row_app row).top) line rows
 
 unfoldable pub command_line : App
-command_line =
-    with_commands bare_line
-    (word_app ∷ lines_app ∷ import_app ∷ plan_app ∷ check_app ∷ icd_app ∷ margin_app ∷ lint_app ∷ diff_app ∷ draw_app ∷ replay_app ∷ simulate_app ∷ live_app ∷ [])
+command_line = with_commands bare_line (map row_of verbs)
 
--- a name of a file, which no option can be
-abbrev pub IsName : Text → Type 0
-IsName [] = ⊤
-IsName (x ∷ xs) = x ≢ 45
+-- ---- by the values of the program
 
--- a number of slots that can be asked for
-abbrev pub IsPlainSlots : ℕ → Type 0
-IsPlainSlots n = (1 ≤ n) × (n ≤ most_slots)
+-- an argument of this rule, for one command alone
+abbrev pub HasRule : Arg → Rule → Type 0
+HasRule a rule = (rule_of a ≡ rule) × (a.global ≡ false)
 
--- how many slots wide the folds of a drawing can be
-abbrev pub IsWidth : ℕ → Type 0
-IsWidth n = (n ≡ 64) ⊎ ((n ≡ 128) ⊎ (n ≡ 256))
+abbrev pub kind_rule : Text → OptionKind → Rule
+kind_rule id given.Flag = flag_rule id
+kind_rule id (given.Text value) = value_rule id
+kind_rule id (given.Number value least most) = number_value_rule id least most
 
--- a time until which cells can be asked for, in microseconds
-abbrev pub IsPlainTime : ℕ → Type 0
-IsPlainTime n = n ≤ last_time
+abbrev pub form_rule : OptionForm → Rule
+form_rule form = kind_rule form.id.now form.kind
+
+abbrev pub form_row : CommandForm → CommandRow
+form_row form = record {
+  name = form.name.now;
+  first = form.first.id.now;
+  second = option_map (λ n. n.id.now) form.second;
+  number = option_map (λ n. (n.id.now, n.most)) form.number;
+  more = option_map (λ n. n.id.now) form.more;
+  options = map form_rule form.options.now;
+}
+
+-- the form is that of its command
+abbrev pub IsRow : CommandForm → Type 0
+IsRow form = form_row form ≡ row_of form.verb

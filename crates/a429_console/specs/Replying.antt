@@ -1,9 +1,10 @@
 -- How a command that reads files answers.
-use Rattle.std.specs.Prelude.{ℕ, List, Bool, Option, Result, IfOk, IsTrue}
+use Rattle.std.specs.Prelude.{◌≡◌, ℕ, List, Bool, Option, Result, IfOk, IsTrue}
 use Rattle.a429_console.specs.Outputs.{FailedCalls, IsPut, NoneFailed}
 use Rattle.a429_console.specs.Readings.{HasRead, HasReadFrom}
 use Rattle.a429_console.specs.RequestRows.{AsksFor}
-use Rattle.a429_console.specs.Requests.{RequestBytes}
+use Rattle.a429_console.specs.Requests.{AskedBytes}
+use Rattle.a429_console.specs.Usage.{is_run}
 use Rattle.a429_console.specs.declared.files.FileFault.{FileFault}
 use Rattle.a429_console.specs.declared.output.OutputFault.{OutputFault}
 
@@ -11,14 +12,14 @@ use Rattle.a429_console.specs.declared.output.OutputFault.{OutputFault}
 abbrev pub HasReplied : {S X : Type 0} → (S → List ℕ → Result (List ℕ) FileFault → S → Type 0) → (X → Option (List ℕ)) → ((List ℕ → Option (List ℕ)) → ℕ → List ℕ → Type 0) → S → S → X → X → Result ℕ OutputFault → Type 0
 HasReplied Answers contents Says files files' out out' result = HasRead Answers (λ file. IfOk result (IsPut (Says file) (contents out) (contents out'))) files files'
 
--- of each request for which words ask: if the reader tells its files and no call of the output failed, the status and the bytes put are as Says tells
-abbrev pub RepliesToWords : {R S X : Type 0} → (R → RequestBytes) → ((List ℕ → Option (List ℕ)) → R → ℕ → List ℕ → Type 0) → (S → Bool) → (S → List ℕ → Option (List ℕ)) → (X → Option (List ℕ)) → (X → FailedCalls) → List (List ℕ) → S → X → X → ℕ → Type 0
-RepliesToWords {R} asked Says tells file contents failures words files out out' status =
-    (r : R) → AsksFor words (asked r) → IsTrue (tells files) → NoneFailed (failures out) (failures out')
+-- of each request of this call for which words ask, `command_live` or the other: if the reader tells its files and no call of the output failed, the status and the bytes put are as Says tells
+abbrev pub RepliesToWords : {S X : Type 0} → Bool → ((List ℕ → Option (List ℕ)) → AskedBytes → ℕ → List ℕ → Type 0) → (S → Bool) → (S → List ℕ → Option (List ℕ)) → (X → Option (List ℕ)) → (X → FailedCalls) → List (List ℕ) → S → X → X → ℕ → Type 0
+RepliesToWords live Says tells file contents failures words files out out' status =
+    (r : AskedBytes) → is_run r.verb ≡ live → AsksFor words r → IsTrue (tells files) → NoneFailed (failures out) (failures out')
     → IsPut (Says (file files) r) (contents out) (contents out') status
 
 -- the same of a reader of any files, by files that give what it answered in this call
-abbrev pub RepliesByReader : {R S X : Type 0} → (R → RequestBytes) → ((List ℕ → Option (List ℕ)) → R → ℕ → List ℕ → Type 0) → (S → List ℕ → Result (List ℕ) FileFault → S → Type 0) → (X → Option (List ℕ)) → (X → FailedCalls) → List (List ℕ) → S → X → X → ℕ → Type 0
-RepliesByReader {R} asked Says Answers contents failures words files out out' status =
-    (r : R) → AsksFor words (asked r) → NoneFailed (failures out) (failures out')
+abbrev pub RepliesByReader : {S X : Type 0} → Bool → ((List ℕ → Option (List ℕ)) → AskedBytes → ℕ → List ℕ → Type 0) → (S → List ℕ → Result (List ℕ) FileFault → S → Type 0) → (X → Option (List ℕ)) → (X → FailedCalls) → List (List ℕ) → S → X → X → ℕ → Type 0
+RepliesByReader live Says Answers contents failures words files out out' status =
+    (r : AskedBytes) → is_run r.verb ≡ live → AsksFor words r → NoneFailed (failures out) (failures out')
     → HasReadFrom Answers (λ file. IsPut (Says file r) (contents out) (contents out') status) files

@@ -1,134 +1,154 @@
 -- What the words of a command line ask for.
-use Rattle.std.specs.Prelude.{◌≡◌, ◌≤◌, ◌∷◌, ◌++◌, [], ℕ, Bool, true, false, List, Option, Some, None, IfSome, Result, MatchResult, codes, option_map}
+use Rattle.std.specs.Prelude.{◌≡◌, ◌≤◌, ◌≢◌, ◌∷◌, ◌++◌, ◌⊎◌, [], ℕ, Bool, true, false, List, Option, Some, None, IfSome, MatchOption, Result, MatchResult, codes, if◌then◌else◌, option_map, ⊤}
 use Rattle.std.specs.Fmt.{decimal}
-use Rattle.std.specs.List.{AllByRecursion}
-use Rattle.clap.specs.Words.{kind_of}
+use Rattle.std.specs.List.{AllByRecursion, list_any}
+use Rattle.std.specs.Str.{bytes_eq}
+use Rattle.clap.specs.Words.{Text, kind_of}
+use Rattle.clap.specs.declared.builder.action.ArgAction.{ArgAction}
+use Rattle.clap.specs.declared.builder.action.ArgAction.TheVariants.{SetTrue}
 use Rattle.clap.specs.declared.error.Error.{Error}
 use Rattle.clap.specs.declared.error.kind.ErrorKind.TheVariants.{OutOfMemory}
-use Rattle.a429_equipment.specs.Limits.{most_frames}
-use Rattle.a429_console.specs.CommandLine.{IsName, IsPlainSlots, IsPlainTime, IsWidth}
+use Rattle.a429_console.specs.CommandLine.{Csv, Group, Html, OptionName, Slots, Summary, Until, Width, last_time, most_slots, option_rule, options_of, row_of}
 use Rattle.a429_console.specs.Files.{texts_of}
-use Rattle.a429_console.specs.declared.arguments.requests.CommandRequest.{CommandRequest}
-use Rattle.a429_console.specs.declared.arguments.requests.CommandRequest.TheVariants as asked
-use Rattle.a429_console.specs.declared.arguments.requests.LiveRequest.{LiveRequest}
-use Rattle.a429_console.specs.declared.arguments.requests.Request.{Request}
-use Rattle.a429_console.specs.declared.arguments.requests.Request.TheVariants as read
+use Rattle.a429_console.specs.declared.arguments.forms.Verb.{Verb}
+use Rattle.a429_console.specs.declared.arguments.forms.Verb.TheVariants as verb
+use Rattle.a429_console.specs.declared.arguments.requests.Asked.{Asked}
+use Rattle.a429_console.specs.declared.arguments.requests.Options.{Options}
 
--- what `command` is asked for, by the bytes of its texts
-pub data CommandAsk : Type 0 where
-  -- the word of a text
-  Word : List ℕ → CommandAsk
-  -- a line file and filters
-  Lines : List ℕ → List (List ℕ) → CommandAsk
-  -- a file of comma-separated values
-  Import : List ℕ → CommandAsk
-  -- a table
-  Plan : List ℕ → CommandAsk
-  -- a table and the text of a plan
-  Check : List ℕ → List ℕ → CommandAsk
-  -- a table, and whether it is told as comma-separated values
-  Icd : List ℕ → Bool → CommandAsk
-  -- a table
-  Margin : List ℕ → CommandAsk
-  -- a table
-  Lint : List ℕ → CommandAsk
-  -- a table, and the one that it becomes
-  Diff : List ℕ → List ℕ → CommandAsk
-  -- a table, the group that is drawn where one alone is, how many slots of each bus where that is said, how many side by side where that is said,
-  -- and whether a page is made of it
-  Draw : List ℕ → Option (List ℕ) → Option ℕ → Option ℕ → Bool → CommandAsk
-  -- a table, a script and further tables
-  Replay : List ℕ → List ℕ → List (List ℕ) → CommandAsk
-  -- a table and a log; until when cells are asked for where that is said, whether each output has one line, and whether lines are comma-separated values
-  Simulate : List ℕ → List ℕ → Option ℕ → Bool → Bool → CommandAsk
+-- what is given of the options of all commands, by the bytes of their texts; a command has some of them
+pub record OptionBytes : Type 0 where
+  -- as comma-separated values
+  pub csv : Bool
+  -- the group that is drawn, where one alone is
+  pub group : Option Text
+  -- how many slots of each bus are drawn, and how many of them side by side
+  pub slots : Option ℕ
+  pub width : Option ℕ
+  -- a page, in place of an image
+  pub html : Bool
+  -- until when cells are asked for, in microseconds
+  pub until : Option ℕ
+  -- one line for each output, in place of one for each word
+  pub summary : Bool
 
--- what `command_live` is asked for: a table, a file of words, how many frames, and further tables
-pub record LiveAsk : Type 0 where
-  pub table : List ℕ
-  pub words : List ℕ
-  pub frames : ℕ
-  pub further : List (List ℕ)
+-- What is asked for, by the bytes of its texts: what contracts see of an `Asked`. A command that is given one name has no second one, and so with the
+-- number (of frames) and further names.
+pub record AskedBytes : Type 0 where
+  pub verb : Verb
+  pub first : Text
+  pub second : Text
+  pub number : ℕ
+  pub more : List Text
+  pub options : OptionBytes
 
--- a request by the bytes of its texts: what contracts see of a `Request`
-pub data RequestBytes : Type 0 where
-  Command : CommandAsk → RequestBytes
-  Live : LiveAsk → RequestBytes
+-- no option is given
+abbrev pub no_options : OptionBytes
+no_options = record { csv = false; group = None; slots = None; width = None; html = false; until = None; summary = false }
 
--- the words of an option that has a value, where it is given
-abbrev pub option_words : List ℕ → Option (List ℕ) → List (List ℕ)
+-- a command with these names, and without a number or options
+abbrev pub asked_by_names : Verb → Text → Text → List Text → AskedBytes
+asked_by_names v first second more = record { verb = v; first = first; second = second; number = 0; more = more; options = no_options }
+
+-- ---- its words
+
+-- the word of an option that is a flag
+abbrev pub flag_word : Bool → Option Text
+flag_word false = None
+flag_word true = Some (codes "true")
+
+-- what is given of an option, as a word: a number in decimal digits, and of a flag that it is given
+abbrev pub word_given : OptionBytes → OptionName → Option Text
+word_given o Csv = flag_word o.csv
+word_given o Group = o.group
+word_given o Slots = option_map decimal o.slots
+word_given o Width = option_map decimal o.width
+word_given o Html = flag_word o.html
+word_given o Until = option_map decimal o.until
+word_given o Summary = flag_word o.summary
+
+abbrev pub is_switch : Option ArgAction → Bool
+is_switch (Some SetTrue) = true
+is_switch _ = false
+
+-- the option has no value
+abbrev pub is_flag : OptionName → Bool
+is_flag name = is_switch (option_rule name).action
+
+-- the words of an option, of which this is given
+abbrev pub option_words : OptionName → Option Text → List Text
 option_words name None = []
-option_words name (Some value) = name ∷ value ∷ []
+option_words name (Some word) = (codes "--" ++ (option_rule name).id) ∷ (if is_flag name then [] else word ∷ [])
 
--- the word of an option without a value, where it is given
-abbrev pub flag_words : List ℕ → Bool → List (List ℕ)
-flag_words name false = []
-flag_words name true = name ∷ []
+-- the words of options, in this order
+abbrev pub words_of_options : OptionBytes → List OptionName → List Text
+words_of_options o [] = []
+words_of_options o (name ∷ names) = option_words name (word_given o name) ++ words_of_options o names
 
--- its words in their plain form: what it names, and then its options
-abbrev pub request_words : RequestBytes → List (List ℕ)
-request_words (Command (Word text)) = codes "word" ∷ text ∷ []
-request_words (Command (Lines file filters)) = codes "lines" ∷ file ∷ filters
-request_words (Command (Import file)) = codes "import" ∷ file ∷ []
-request_words (Command (Plan table)) = codes "plan" ∷ table ∷ []
-request_words (Command (Check table text)) = codes "check" ∷ table ∷ text ∷ []
-request_words (Command (Icd table false)) = codes "icd" ∷ table ∷ []
-request_words (Command (Icd table true)) = codes "icd" ∷ table ∷ codes "--csv" ∷ []
-request_words (Command (Margin table)) = codes "margin" ∷ table ∷ []
-request_words (Command (Lint table)) = codes "lint" ∷ table ∷ []
-request_words (Command (Diff table other)) = codes "diff" ∷ table ∷ other ∷ []
-request_words (Command (Draw table group slots width html)) =
-    codes "draw" ∷ table
-    ∷ (option_words (codes "--group") group ++ (option_words (codes "--slots") (option_map decimal slots)
-    ++ (option_words (codes "--width") (option_map decimal width) ++ flag_words (codes "--html") html)))
-request_words (Command (Replay table script further)) = codes "replay" ∷ table ∷ script ∷ further
-request_words (Command (Simulate table log until summary csv)) =
-    codes "simulate" ∷ table ∷ log
-    ∷ (option_words (codes "--until") (option_map decimal until) ++ (flag_words (codes "--summary") summary ++ flag_words (codes "--csv") csv))
-request_words (Live r) = codes "live" ∷ r.table ∷ r.words ∷ decimal r.frames ∷ r.further
+-- these words, of a command that has them
+abbrev pub words_if : {A : Type 0} → Option A → List Text → List Text
+words_if None words = []
+words_if (Some _) words = words
 
--- each text of it is a name, and its number can be asked for
-abbrev pub HasNames : RequestBytes → Type 0
-HasNames (Command (Word text)) = IsName text
-HasNames (Command (Lines file filters)) = IsName file × AllByRecursion IsName filters
-HasNames (Command (Import file)) = IsName file
-HasNames (Command (Plan table)) = IsName table
-HasNames (Command (Check table text)) = IsName table × IsName text
-HasNames (Command (Icd table csv)) = IsName table
-HasNames (Command (Margin table)) = IsName table
-HasNames (Command (Lint table)) = IsName table
-HasNames (Command (Diff table other)) = IsName table × IsName other
-HasNames (Command (Draw table group slots width html)) = IsName table × IfSome group IsName × IfSome slots IsPlainSlots × IfSome width IsWidth
-HasNames (Command (Replay table script further)) = IsName table × IsName script × AllByRecursion IsName further
-HasNames (Command (Simulate table log until summary csv)) = IsName table × IsName log × IfSome until IsPlainTime
-HasNames (Live r) = IsName r.table × IsName r.words × (r.frames ≤ most_frames) × AllByRecursion IsName r.further
+-- its words in their plain form: the command, what it names, and then its options; with this text of the number
+abbrev pub words_with : Text → AskedBytes → List Text
+words_with number r =
+    (row_of r.verb).name ∷ r.first
+    ∷ (words_if (row_of r.verb).second (r.second ∷ []) ++ (words_if (row_of r.verb).number (number ∷ []) ++ (r.more ++ words_of_options r.options (options_of r.verb))))
+
+abbrev pub words_of : AskedBytes → List Text
+words_of r = words_with (decimal r.number) r
+
+-- ---- which requests have words
+
+-- a name of a file, which no option can be
+abbrev pub IsName : Text → Type 0
+IsName [] = ⊤
+IsName (x ∷ xs) = x ≢ 45
+
+-- a number of slots that can be asked for
+abbrev pub IsPlainSlots : ℕ → Type 0
+IsPlainSlots n = (1 ≤ n) × (n ≤ most_slots)
+
+-- how many slots wide the folds of a drawing can be
+abbrev pub IsWidth : ℕ → Type 0
+IsWidth n = (n ≡ 64) ⊎ ((n ≡ 128) ⊎ (n ≡ 256))
+
+-- what is given of an option can be asked for
+abbrev pub CanBeGiven : OptionBytes → OptionName → Type 0
+CanBeGiven o Group = IfSome o.group IsName
+CanBeGiven o Slots = IfSome o.slots IsPlainSlots
+CanBeGiven o Width = IfSome o.width IsWidth
+CanBeGiven o Until = IfSome o.until (λ n. n ≤ last_time)
+CanBeGiven o _ = ⊤
+
+abbrev pub has_option : List OptionName → OptionName → Bool
+has_option names name = list_any (λ x. bytes_eq (option_rule x).id (option_rule name).id) names
+
+-- a request has words: each text of it is a name, its numbers can be asked for, and it has nothing that its command is not given
+pub record HasWords (r : AskedBytes) : Type 0 where
+  pub first : IsName r.first
+  pub second : MatchOption (row_of r.verb).second (r.second ≡ []) (λ _. IsName r.second)
+  pub number : MatchOption (row_of r.verb).number (r.number ≡ 0) (λ number. r.number ≤ number.1)
+  pub more : MatchOption (row_of r.verb).more (r.more ≡ []) (λ _. AllByRecursion IsName r.more)
+  pub options : (name : OptionName) → CanBeGiven r.options name
+  pub others : (name : OptionName) → has_option (options_of r.verb) name ≡ false → word_given r.options name ≡ None
 
 -- ---- the bytes of what was read of the words
 
-abbrev pub command_of : CommandRequest → CommandAsk
-command_of (asked.Word text) = Word text.now
-command_of (asked.Lines file filters) = Lines file.now (texts_of filters.items)
-command_of (asked.Import file) = Import file.now
-command_of (asked.Plan table) = Plan table.now
-command_of (asked.Check table text) = Check table.now text.now
-command_of (asked.Icd table csv) = Icd table.now csv
-command_of (asked.Margin table) = Margin table.now
-command_of (asked.Lint table) = Lint table.now
-command_of (asked.Diff table other) = Diff table.now other.now
-command_of (asked.Draw q) = Draw q.table.now (option_map (λ g. g.now) q.group) q.slots q.width q.html
-command_of (asked.Replay table script further) = Replay table.now script.now (texts_of further.items)
-command_of (asked.Simulate q) = Simulate q.table.now q.log.now q.until q.summary q.csv
+abbrev pub given_of : Options → OptionBytes
+given_of o = record {
+  csv = o.csv;
+  group = option_map (λ g. g.now) o.group;
+  slots = o.slots;
+  width = o.width;
+  html = o.html;
+  until = o.until;
+  summary = o.summary;
+}
 
-abbrev pub live_of : LiveRequest → LiveAsk
-live_of q = record { table = q.table.now; words = q.words.now; frames = q.frames; further = texts_of q.further.items }
-
-abbrev pub request_of : Request → RequestBytes
-request_of (read.Command q) = Command (command_of q)
-request_of (read.Live q) = Live (live_of q)
+abbrev pub asked_of : Asked → AskedBytes
+asked_of q = record { verb = q.verb; first = q.first.now; second = q.second.now; number = q.number; more = texts_of q.more.items; options = given_of q.options }
 
 -- this was asked for and was read, or memory was refused
-abbrev pub IsRead : {A Q : Type 0} → (Q → A) → A → Result Q Error → Type 0
-IsRead bytes_of asked result = MatchResult result (λ q. bytes_of q ≡ asked) (λ e. kind_of e ≡ OutOfMemory)
-
--- what was found was read, if it asks for something; or memory was refused
-abbrev pub IsReadOf : {A Q : Type 0} → (Q → A) → Option A → Result Q Error → Type 0
-IsReadOf bytes_of found result = MatchResult result (λ q. (asked : _) → found ≡ Some asked → bytes_of q ≡ asked) (λ e. kind_of e ≡ OutOfMemory)
+abbrev pub IsRead : AskedBytes → Result Asked Error → Type 0
+IsRead r result = MatchResult result (λ q. asked_of q ≡ r) (λ e. kind_of e ≡ OutOfMemory)

@@ -1,5 +1,5 @@
 -- Words that ask for no command: calls for help or for the version, and mistakes (profile: status 0, 1 and 2).
-use Rattle.std.specs.Prelude.{◌≡◌, ◌≢◌, ◌∷◌, ◌&&◌, [], ◌⊎◌, ℕ, Bool, true, false, not, List, Option, Some, None, Result, IfOk, IsTrue, MatchResult, codes, if◌then◌else◌, is_some}
+use Rattle.std.specs.Prelude.{◌≡◌, ◌≢◌, ◌∷◌, [], ◌⊎◌, ℕ, Bool, true, false, not, List, Option, Some, None, Result, IfOk, IsTrue, MatchResult, codes, if◌then◌else◌, is_some}
 use Rattle.std.specs.List.{list_all, list_any}
 use Rattle.std.specs.Str.{bytes_eq}
 use Rattle.clap.specs.Kinds.{or_else}
@@ -11,8 +11,9 @@ use Rattle.a429_console.specs.CommandLine.{command_line}
 use Rattle.a429_console.specs.RequestRows.{width_given}
 use Rattle.a429_console.specs.Outputs.{FailedCalls, HasFailed, IsMemoryReply, IsPut, OrNoMemory}
 use Rattle.a429_console.specs.declared.output.OutputFault.{OutputFault}
-use Rattle.a429_console.specs.declared.arguments.requests.Request.{Request}
-use Rattle.a429_console.specs.declared.arguments.requests.Request.TheVariants as read
+use Rattle.a429_console.specs.declared.arguments.forms.Verb.{Verb}
+use Rattle.a429_console.specs.declared.arguments.forms.Verb.TheVariants as verb
+use Rattle.a429_console.specs.declared.arguments.requests.Asked.{Asked}
 
 -- the command that was found is `live`
 abbrev pub is_live : Option (Text × List Row) → Bool
@@ -27,7 +28,7 @@ elsewhere false = []
 -- a drawing was asked for with a width that there is not
 abbrev pub has_wrong_width : Option (Text × List Row) → Bool
 has_wrong_width None = false
-has_wrong_width (Some p) = bytes_eq p.0 (codes "draw") && not (is_some (width_given (first_of (codes "width") p.1)))
+has_wrong_width (Some p) = not (is_some (width_given (first_of (codes "width") p.1)))
 
 -- what may be answered in place of a request to words that the rules of the command line take, by what was found of them and by whether another
 -- call does the command
@@ -44,14 +45,14 @@ abbrev pub live_kinds_of_words : List (List ℕ) → Kinds
 live_kinds_of_words words =
     or_else (fault_of command_line words) (found_kinds (subcommand_of command_line words) (not (is_live (subcommand_of command_line words))))
 
--- the request is one of `command_live`
-abbrev pub is_run : Request → Bool
-is_run (read.Live _) = true
-is_run (read.Command _) = false
+-- the command is the one of `command_live`
+abbrev pub is_run : Verb → Bool
+is_run verb.Live = true
+is_run _ = false
 
 -- the kinds that words come to for a call: an error has one of them, and a request means that there is none, or that another call does it
-abbrev pub ComesTo : Kinds → (Request → Bool) → Result Request Error → Type 0
-ComesTo kinds is_another result = MatchResult result (λ request. kinds ≡ elsewhere (is_another request)) (HasKind kinds)
+abbrev pub ComesTo : Kinds → (Verb → Bool) → Result Asked Error → Type 0
+ComesTo kinds is_another result = MatchResult result (λ asked. kinds ≡ elsewhere (is_another asked.verb)) (HasKind kinds)
 
 -- the help or the version
 abbrev pub is_help : ErrorKind → Bool

@@ -1,7 +1,7 @@
 //! The words of the command line: which commands there are, and what the words ask for.
 
 pub mod command_line;
-mod forms;
+pub mod forms;
 pub mod given;
 mod help;
 pub mod replies;

@@ -2,7 +2,7 @@
 ghost use Rattle.std.specs.Prelude.{◌≡◌, ◌≤◌, ◌+◌, [], IsNone};
 ghost use Rattle.a429_console.specs.declared.refusals.CommandRefusal.TheVariants.{Memory};
 
-use crate::arguments::requests::Request;
+use crate::arguments::requests::Asked;
 use crate::files::FileTrouble;
 use crate::output::Output;
 use crate::output::endings::put_whole;
@@ -10,6 +10,7 @@ use crate::refusals::CommandRefusal;
 use a429_equipment::Equipment;
 use a429_slots::{OUTPUTS, Proposal};
 use a429_table::{FaultKind, RefusedTable};
+use a429_text::Sheet;
 use std::alloc::{AllocError, Global};
 use std::io;
 use std::io::Write;
@@ -242,7 +243,7 @@ pub struct Seen {
     /// The rows of comma-separated values that are refused.
     pub rows: Option<SeenRows>,
     /// What `lint` found of a table.
-    pub findings: Option<Vec<u8>>,
+    pub findings: Option<Sheet>,
     /// Whether the table is the second of two.
     pub is_second: bool,
     /// How many threads a run needs.
@@ -277,7 +278,7 @@ pub trait Hints {
     fn tell<V: Write>(
         &self,
         alloc: Global,
-        request: &Request,
+        asked: &Asked,
         seen: &Seen,
         err: &mut V,
     ) -> io::Result<()>;
@@ -290,7 +291,7 @@ pub trait Hints {
     fn tell_further<V: Write>(
         &self,
         alloc: Global,
-        request: &Request,
+        asked: &Asked,
         faults: &[FurtherFault],
         err: &mut V,
     ) -> io::Result<()>;
@@ -298,18 +299,12 @@ pub trait Hints {
 
 /// Writes to `err` the hint about a request that was refused. If memory does not suffice for the hint, nothing is written;
 /// if `err` fails, that changes nothing else.
-fn tell_hint<H: Hints, V: Output>(
-    alloc: Global,
-    request: &Request,
-    seen: &Seen,
-    hints: &H,
-    err: &mut V,
-)
+fn tell_hint<H: Hints, V: Output>(alloc: Global, asked: &Asked, seen: &Seen, hints: &H, err: &mut V)
     ensures once { (V.failures err.new).count ≤ (V.failures err.old).count + 1 }
 {
     let mut text = Vec::new(alloc);
     // a part of a hint would end in a broken line
-    if hints.tell(alloc, request, seen, &mut text).is_ok() {
+    if hints.tell(alloc, asked, seen, &mut text).is_ok() {
         let _ = put_whole(&text, err);
     }
 }
@@ -318,7 +313,7 @@ fn tell_hint<H: Hints, V: Output>(
 /// suffice for the hint, nothing is written; if `err` fails, that changes nothing else.
 fn tell_further<H: Hints, V: Output>(
     alloc: Global,
-    request: &Request,
+    asked: &Asked,
     faults: &[FurtherFault],
     hints: &H,
     err: &mut V,
@@ -330,10 +325,7 @@ fn tell_further<H: Hints, V: Output>(
         return;
     }
     let mut text = Vec::new(alloc);
-    if hints
-        .tell_further(alloc, request, faults, &mut text)
-        .is_ok()
-    {
+    if hints.tell_further(alloc, asked, faults, &mut text).is_ok() {
         let _ = put_whole(&text, err);
     }
 }
@@ -343,7 +335,7 @@ fn tell_further<H: Hints, V: Output>(
 /// is written; if `err` fails, that changes nothing else.
 pub fn tell_hints<H: Hints, V: Output>(
     alloc: Global,
-    request: &Request,
+    asked: &Asked,
     status: u8,
     seen: &Seen,
     faults: &[FurtherFault],
@@ -354,8 +346,8 @@ pub fn tell_hints<H: Hints, V: Output>(
     ensures quiet { faults.now ≡ [] → status ≡ 0 → err.new ≡ err.old }
 {
     if status == 0 {
-        tell_further(alloc, request, faults, hints, err);
+        tell_further(alloc, asked, faults, hints, err);
     } else {
-        tell_hint(alloc, request, seen, hints, err);
+        tell_hint(alloc, asked, seen, hints, err);
     }
 }

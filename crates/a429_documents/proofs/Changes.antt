@@ -1,13 +1,15 @@
--- What the text of `diff` is made of.
-use Rattle.std.proofs.Common.{◌≡◌, ℕ, zero, suc, ◌+◌, Bool, true, false, List, [], ◌∷◌, length, take, Option, Some, None, ap, refl, arith, ◌∙◌}
-use Rattle.std.specs.Prelude.{position, slice_get}
-use Rattle.std.specs.List.{AllByRecursion, position_or_len}
-use Rattle.std.specs.Option.{option_map_or}
+-- What the rows of `diff` are made of.
+use Rattle.std.proofs.Common.{◌≡◌, ℕ, zero, suc, ◌+◌, Bool, true, false, List, [], ◌∷◌, ◌++◌, length, take, Some, None, ap, refl, sym, arith, ◌∙◌}
+use Rattle.std.specs.Prelude.{Option, option_and_then, option_map, position, slice_get}
+use Rattle.std.specs.List.{AllByRecursion, flat_map, position_or_len, range_with_len, sum_by}
 use Rattle.std.proofs.lemmas.Bool.{le-ltb, lt-ltb}
 use Rattle.std.proofs.lemmas.Option.{none-some, same_Some, slice_get_within}
+use Rattle.std.proofs.lemmas.List.{flat_map_more}
+use Rattle.std.proofs.lemmas.List.Sums.{sum_by_push}
+use Rattle.a429_word.proofs.Lists.{range_next}
 use Rattle.a429_equipment.specs.declared.rows.GroupRow.{GroupRow}
 use Rattle.a429_slots.specs.Proposed.{Proposed}
-use Rattle.a429_documents.specs.Diff.{common_line, group_against, group_named}
+use Rattle.a429_documents.specs.Diff.{Both, both_of, number_named, sent_by}
 
 -- ---- the first that passes a test
 
@@ -26,15 +28,27 @@ nowhere p (y ∷ ys) none = rw none.0 (ap (λ n. 1 + n) (nowhere p ys none.1) �
 pub position_nowhere : {X : Type 0} (p : X → Bool) (xs : List X) → AllByRecursion (λ y. p y ≡ false) xs → position p xs ≡ None
 position_nowhere p xs none = rw (nowhere p xs none, le-ltb (length xs) (length xs) (omega arith)) refl
 
--- ---- groups
+-- ---- so many
 
-pub none_common : (has_gap : Bool) (a b : Proposed) (g : ℕ) (row : GroupRow) → slice_get a.station.groups g ≡ Some row → group_named b.station.groups row.name ≡ None → common_line has_gap a b g ≡ []
-none_common has_gap a b g row here named =
-    ap (λ (r : Option GroupRow). option_map_or (λ (row : GroupRow). group_against has_gap row.name a b g (group_named b.station.groups row.name)) r []) here
-    ∙ ap (group_against has_gap row.name a b g) named
+next_of : (k : ℕ) → range_with_len 0 (k + 1) ≡ range_with_len 0 k ++ k ∷ []
+next_of k =
+    let more : suc k ≡ k + 1 = omega arith in
+    let same : 0 + k ≡ k = omega arith in
+    ap (λ (n : ℕ). range_with_len 0 n) (sym more) ∙ range_next 0 k ∙ ap (λ (n : ℕ). range_with_len 0 k ++ n ∷ []) same
 
-pub some_common : (has_gap : Bool) (a b : Proposed) (g other : ℕ) (row : GroupRow) → slice_get a.station.groups g ≡ Some row → group_named b.station.groups row.name ≡ Some other
-    → common_line has_gap a b g ≡ group_against has_gap row.name a b g (Some other)
-some_common has_gap a b g other row here named =
-    ap (λ (r : Option GroupRow). option_map_or (λ (row : GroupRow). group_against has_gap row.name a b g (group_named b.station.groups row.name)) r []) here
-    ∙ ap (group_against has_gap row.name a b g) named
+-- the rows of one more
+pub rows_more : {X : Type 0} (f : ℕ → List X) (now new old : List X) (k : ℕ) → now ≡ old ++ flat_map f (range_with_len 0 k) → new ≡ now ++ f k → new ≡ old ++ flat_map f (range_with_len 0 (k + 1))
+rows_more {X} f now new old k so is =
+    is ∙ ap (λ (x : List X). x ++ f k) so ∙ flat_map_more f old (range_with_len 0 k) k ∙ ap (λ (l : List ℕ). old ++ flat_map f l) (sym (next_of k))
+
+-- the sum with one more
+pub sums_more : (f : ℕ → ℕ) (k : ℕ) → sum_by f (range_with_len 0 (k + 1)) ≡ sum_by f (range_with_len 0 k) + f k
+sums_more f k = ap (λ (l : List ℕ). sum_by f l) (next_of k) ∙ sum_by_push f (range_with_len 0 k) k
+
+-- ---- a group that both have
+
+pub both_is : (a b : Proposed) (g h : ℕ) (row : GroupRow) → slice_get a.station.groups g ≡ Some row → number_named (λ (h : GroupRow). h.name) b.station.groups row.name ≡ Some h
+    → both_of a b g ≡ Some (record { name = row.name; first = sent_by a g; second = sent_by b h })
+both_is a b g h row here named =
+    let both : GroupRow → Option ℕ → Option Both = λ row n. option_map (λ h. record { name = row.name; first = sent_by a g; second = sent_by b h }) n in
+    ap (λ (r : Option GroupRow). option_and_then (λ (row : GroupRow). both row (number_named (λ (h : GroupRow). h.name) b.station.groups row.name)) r) here ∙ ap (both row) named

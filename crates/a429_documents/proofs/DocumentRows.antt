@@ -6,6 +6,7 @@ use Rattle.std.specs.Option.{option_map_or}
 use Rattle.std.proofs.lemmas.List.{drop_all}
 use Rattle.std.proofs.lemmas.Option.{same_Some}
 use Rattle.a429_word.proofs.Lists.{drop_at, read_is}
+use Rattle.a429_text.specs.Fields.{Field}
 use Rattle.a429_equipment.specs.TableRecord.{TableRecord}
 use Rattle.a429_equipment.specs.declared.rows.GroupRow.{GroupRow}
 use Rattle.a429_equipment.specs.declared.rows.OutputRow.{OutputRow}
@@ -38,30 +39,30 @@ output_row_is e g row t o place limits source below at limited there =
 -- ---- the outputs of a group
 
 -- one more row, of the output of number n
-pub outputs_more : (e : TableRecord) (g : GroupRow) (rows : List OutputRow) (t : SlotTable) (k n : ℕ) (row : OutputRow) (one : List (List ℕ)) (old new whole : List (List (List ℕ))) → slice_get rows k ≡ Some row → k < length (outputs_of t)
+pub outputs_more : (e : TableRecord) (g : GroupRow) (rows : List OutputRow) (t : SlotTable) (k n : ℕ) (row : OutputRow) (one : List Field) (old new whole : List (List Field)) → slice_get rows k ≡ Some row → k < length (outputs_of t)
     → n ≡ k → old ++ output_rows e g (drop k rows) (drop k (outputs_of t)) ≡ whole → one ≡ output_row e g row (placed_at t n) → new ≡ old ++ one ∷ []
     → new ++ output_rows e g (drop (k + 1) rows) (drop (k + 1) (outputs_of t)) ≡ whole
 unfolding output_rows
 outputs_more e g rows t k n row one old new whole here below same so is now =
-    let row_at : ℕ → List (List ℕ) = λ n. output_row e g row (placed_at t n) in
+    let row_at : ℕ → List Field = λ n. output_row e g row (placed_at t n) in
     let others = output_rows e g (drop (k + 1) rows) (drop (k + 1) (outputs_of t)) in
     let left : output_rows e g (drop k rows) (drop k (outputs_of t)) ≡ row_at k ∷ others = rw (drop_at rows k row here, drop_at (outputs_of t) k (placed_at t k) (output_is t k below)) refl in
-    ap (λ (x : List (List (List ℕ))). x ++ others) now ∙ append_assoc old (one ∷ []) others ∙ ap (λ (x : List (List ℕ)). old ++ x ∷ others) (is ∙ ap row_at same)
-    ∙ ap (λ (x : List (List (List ℕ))). old ++ x) (sym left) ∙ so
+    ap (λ (x : List (List Field)). x ++ others) now ∙ append_assoc old (one ∷ []) others ∙ ap (λ (x : List Field). old ++ x ∷ others) (is ∙ ap row_at same)
+    ∙ ap (λ (x : List (List Field)). old ++ x) (sym left) ∙ so
 
 pub outputs_none : (e : TableRecord) (g : GroupRow) (placed : List Placed) → output_rows e g [] placed ≡ []
 unfolding output_rows
 outputs_none e g placed = refl
 
-pub outputs_whole : (e : TableRecord) (g : GroupRow) (rows : List OutputRow) (placed : List Placed) (k : ℕ) (old whole : List (List (List ℕ))) → length rows ≤ k
+pub outputs_whole : (e : TableRecord) (g : GroupRow) (rows : List OutputRow) (placed : List Placed) (k : ℕ) (old whole : List (List Field)) → length rows ≤ k
     → old ++ output_rows e g (drop k rows) (drop k placed) ≡ whole → old ≡ whole
 outputs_whole e g rows placed k old whole past so =
-    sym (ap (λ (rows : List OutputRow). old ++ output_rows e g rows (drop k placed)) (drop_all k rows past) ∙ ap (λ (x : List (List (List ℕ))). old ++ x) (outputs_none e g (drop k placed)) ∙ append-nil old) ∙ so
+    sym (ap (λ (rows : List OutputRow). old ++ output_rows e g rows (drop k placed)) (drop_all k rows past) ∙ ap (λ (x : List (List Field)). old ++ x) (outputs_none e g (drop k placed)) ∙ append-nil old) ∙ so
 
 -- ---- the groups
 
 -- one more group
-pub groups_more : (e : TableRecord) (groups : List GroupRow) (outputs : List (List OutputRow)) (ts : List SlotTable) (i : ℕ) (g : GroupRow) (rows : List OutputRow) (t : SlotTable) (old new whole : List (List (List ℕ)))
+pub groups_more : (e : TableRecord) (groups : List GroupRow) (outputs : List (List OutputRow)) (ts : List SlotTable) (i : ℕ) (g : GroupRow) (rows : List OutputRow) (t : SlotTable) (old new whole : List (List Field))
     → slice_get groups i ≡ Some g → slice_get outputs i ≡ Some rows → slice_get ts i ≡ Some t
     → old ++ groups_rows e (drop i groups) (drop i outputs) (drop i ts) ≡ whole → new ≡ old ++ output_rows e g rows (outputs_of t)
     → new ++ groups_rows e (drop (i + 1) groups) (drop (i + 1) outputs) (drop (i + 1) ts) ≡ whole
@@ -69,18 +70,18 @@ unfolding groups_rows
 groups_more e groups outputs ts i g rows t old new whole here listed there so now =
     let left : groups_rows e (drop i groups) (drop i outputs) (drop i ts) ≡ output_rows e g rows (outputs_of t) ++ groups_rows e (drop (i + 1) groups) (drop (i + 1) outputs) (drop (i + 1) ts)
     = rw (drop_at groups i g here, drop_at outputs i rows listed, drop_at ts i t there) refl in
-    ap (λ (x : List (List (List ℕ))). x ++ groups_rows e (drop (i + 1) groups) (drop (i + 1) outputs) (drop (i + 1) ts)) now
+    ap (λ (x : List (List Field)). x ++ groups_rows e (drop (i + 1) groups) (drop (i + 1) outputs) (drop (i + 1) ts)) now
     ∙ append_assoc old (output_rows e g rows (outputs_of t)) (groups_rows e (drop (i + 1) groups) (drop (i + 1) outputs) (drop (i + 1) ts))
-    ∙ ap (λ (x : List (List (List ℕ))). old ++ x) (sym left) ∙ so
+    ∙ ap (λ (x : List (List Field)). old ++ x) (sym left) ∙ so
 
 pub groups_none : (e : TableRecord) (outputs : List (List OutputRow)) (ts : List SlotTable) → groups_rows e [] outputs ts ≡ []
 unfolding groups_rows
 groups_none e outputs ts = refl
 
-pub groups_whole : (e : TableRecord) (groups : List GroupRow) (outputs : List (List OutputRow)) (ts : List SlotTable) (i : ℕ) (old whole : List (List (List ℕ))) → length groups ≤ i
+pub groups_whole : (e : TableRecord) (groups : List GroupRow) (outputs : List (List OutputRow)) (ts : List SlotTable) (i : ℕ) (old whole : List (List Field)) → length groups ≤ i
     → old ++ groups_rows e (drop i groups) (drop i outputs) (drop i ts) ≡ whole → old ≡ whole
 groups_whole e groups outputs ts i old whole past so =
-    sym (ap (λ (gs : List GroupRow). old ++ groups_rows e gs (drop i outputs) (drop i ts)) (drop_all i groups past) ∙ ap (λ (x : List (List (List ℕ))). old ++ x) (groups_none e (drop i outputs) (drop i ts)) ∙ append-nil old) ∙ so
+    sym (ap (λ (gs : List GroupRow). old ++ groups_rows e gs (drop i outputs) (drop i ts)) (drop_all i groups past) ∙ ap (λ (x : List (List Field)). old ++ x) (groups_none e (drop i outputs) (drop i ts)) ∙ append-nil old) ∙ so
 
 -- ---- as many outputs in the table as rows
 

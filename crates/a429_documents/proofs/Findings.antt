@@ -1,7 +1,6 @@
--- What the text of `lint` is made of.
+-- What the rows of `lint` are made of.
 use Rattle.std.proofs.Common.{◌≡◌, ℕ, zero, suc, ◌+◌, ◌<◌, Bool, true, false, List, [], ◌∷◌, ◌++◌, length, map, take, get_or, codes, Option, Some, ap, ap₂, sym, subst, refl, arith, ◌∙◌}
 use Rattle.std.specs.Prelude.{◌||◌, if◌then◌else◌, option_map, slice_get}
-use Rattle.std.specs.Fmt.{decimal}
 use Rattle.std.specs.List.{AllZip, flat_map, list_any, range_with_len}
 use Rattle.std.specs.Option.{option_map_or}
 use Rattle.std.proofs.lemmas.List.{flat_map_more}
@@ -11,6 +10,7 @@ use Rattle.std.proofs.lemmas.Slice.Zip.{AllZip-long}
 use Rattle.std.specs.declared.alloc.Global.{Global}
 use Rattle.std.specs.declared.vec.Vec.{Vec}
 use Rattle.a429_word.proofs.Lists.{range_next, read_is, take_next}
+use Rattle.a429_text.specs.Fields.{Field, Number}
 use Rattle.a429_equipment.specs.TableRecord.{TableRecord, outputs_in}
 use Rattle.a429_equipment.specs.declared.rows.GroupRow.{GroupRow}
 use Rattle.a429_equipment.specs.declared.rows.OutputRow.{OutputRow}
@@ -21,15 +21,15 @@ use Rattle.a429_slots.specs.Asked.{IsAsked}
 use Rattle.a429_slots.specs.Planned.{rated_outputs}
 use Rattle.a429_slots.proofs.Planning.{rated_at}
 use Rattle.a429_documents.specs.declared.lint.GroupFinding.{GroupFinding}
-use Rattle.a429_documents.specs.Lint.{AreAsked, asked_in, blind_line, group_finding, group_lines, sees_source}
+use Rattle.a429_documents.specs.Lint.{AreAsked, asked_in, blind_rows, receiver_row, group_finding, group_rows, sees_source}
 
 -- ---- one more
 
 -- one more of the things that a text says
-pub taken_more : {X : Type 0} (f : X → List ℕ) (text new old : List ℕ) (xs : List X) (k : ℕ) (x : X) → slice_get xs k ≡ Some x → text ≡ old ++ flat_map f (take k xs) → new ≡ text ++ f x
+pub taken_more : {X Y : Type 0} (f : X → List Y) (text new old : List Y) (xs : List X) (k : ℕ) (x : X) → slice_get xs k ≡ Some x → text ≡ old ++ flat_map f (take k xs) → new ≡ text ++ f x
     → new ≡ old ++ flat_map f (take (k + 1) xs)
-taken_more f text new old xs k x there so now =
-    now ∙ ap (λ (t : List ℕ). t ++ f x) so ∙ flat_map_more f old (take k xs) x ∙ ap (λ l. old ++ flat_map f l) (sym (take_next xs k x there))
+taken_more {X} {Y} f text new old xs k x there so now =
+    now ∙ ap (λ (t : List Y). t ++ f x) so ∙ flat_map_more f old (take k xs) x ∙ ap (λ l. old ++ flat_map f l) (sym (take_next xs k x there))
 
 -- one more number that a test is asked of
 pub any_more : (p : ℕ → Bool) (k : ℕ) → list_any p (range_with_len 0 (k + 1)) ≡ (list_any p (range_with_len 0 k) || p k)
@@ -71,7 +71,7 @@ module _ (e : TableRecord) (asked : List (List Demand)) (g : ℕ) (row : GroupRo
       let same : group_asks.0 ≡ demands = same_Some _ _ (sym group_asks.1 ∙ there) in
       AllZip-long (IsAsked row.rate e.sources) rows demands (subst (AllZip (IsAsked row.rate e.sources) rows) same group_asks.2)
 
-  pub group_is : (kind : GroupFinding) (demands : List Demand) → slice_get asked g ≡ Some demands → group_lines e asked kind g ≡ group_finding e.sources kind row.name rows demands
+  pub group_is : (kind : GroupFinding) (demands : List Demand) → slice_get asked g ≡ Some demands → group_rows e asked kind g ≡ group_finding e.sources kind row.name rows demands
   group_is kind demands there =
       ap (λ (r : Option GroupRow). option_map_or (λ (h : GroupRow). group_finding e.sources kind h.name (outputs_in e g) (asked_in asked g)) r []) at.here
       ∙ ap₂ (λ (os : List OutputRow) (ds : List Demand). group_finding e.sources kind row.name os ds)
@@ -84,7 +84,13 @@ kept_at asked g v below is = slice_get-map (λ v. v.items) asked g ∙ ap (optio
 -- ---- a filter that passes no source
 
 pub blind_is : (sources : List SourceRow) (r : ℕ) (name : List ℕ) (filters : List Filter) (n : ℕ) (f : Filter) → slice_get filters n ≡ Some f → sees_source sources r f ≡ false
-    → codes "blind " ++ (name ++ (codes " " ++ (decimal (n + 1) ++ codes "\n"))) ≡ blind_line sources r name filters n
+    → receiver_row (codes "blind") name (Number (n + 1)) ∷ [] ≡ blind_rows sources r name filters n
 blind_is sources r name filters n f there unseen =
-    let line : List ℕ = codes "blind " ++ (name ++ (codes " " ++ (decimal (n + 1) ++ codes "\n"))) in
-    sym (ap (λ (o : Option Filter). option_map_or (λ f. if sees_source sources r f then [] else line) o []) there ∙ ap (λ (b : Bool). if b then [] else line) unseen)
+    let rows : List (List Field) = receiver_row (codes "blind") name (Number (n + 1)) ∷ [] in
+    sym (ap (λ (o : Option Filter). option_map_or (λ f. if sees_source sources r f then [] else rows) o []) there ∙ ap (λ (b : Bool). if b then [] else rows) unseen)
+
+pub seen_is : (sources : List SourceRow) (r : ℕ) (name : List ℕ) (filters : List Filter) (n : ℕ) (f : Filter) → slice_get filters n ≡ Some f → sees_source sources r f ≡ true
+    → blind_rows sources r name filters n ≡ []
+seen_is sources r name filters n f there seen =
+    let rows : List (List Field) = receiver_row (codes "blind") name (Number (n + 1)) ∷ [] in
+    ap (λ (o : Option Filter). option_map_or (λ f. if sees_source sources r f then [] else rows) o []) there ∙ ap (λ (b : Bool). if b then [] else rows) seen

@@ -1,4 +1,4 @@
--- When `lint` has no line of an output without a period, or of a source that is never accepted or sent.
+-- When `lint` has no row of an output without a period, or of a source that is never accepted or sent.
 use Rattle.std.proofs.Common.{◌≡◌, ℕ, zero, suc, ◌+◌, ◌^◌, ◌<◌, ◌≤◌, Bool, true, false, List, [], ◌∷◌, ◌++◌, length, get_or, Option, Some, None, ap, ap₂, sym, subst, refl, arith, inl, inr, ◌⊎◌, ◌∙◌, eq-eqb}
 use Rattle.std.specs.Prelude.{◌==◌, ◌&&◌, ◌||◌, ◌↔◌, IfSome, MatchOption, codes, if◌then◌else◌, is_some, option_map, position, slice_get, slice_index_or, unwrap_or}
 use Rattle.std.specs.List.{AllByRecursion, AllZip, flat_map, list_any, range_with_len}
@@ -9,6 +9,7 @@ use Rattle.std.proofs.lemmas.Option.{get_or_from_slice_get, none-some, same_Some
 use Rattle.a429_word.proofs.Lists.{all_at, clash, get_within, none_passes, or_parts}
 use Rattle.a429_word.specs.Bits.{has_odd_parity, label_of, sdi_of}
 use Rattle.a429_filter.specs.Filters.{set_passes}
+use Rattle.a429_text.specs.Fields.{Text, Absent}
 use Rattle.a429_equipment.specs.Arrivals.{accepts, is_for, passes_at}
 use Rattle.a429_equipment.specs.Sound.{IsSound, IsSourceRow}
 use Rattle.a429_equipment.specs.TableRecord.{TableRecord, outputs_in}
@@ -25,25 +26,25 @@ use Rattle.a429_slots.proofs.Planning.{length-rated, rated_at}
 use Rattle.a429_grid.specs.Grid.{HasNoGridPeriod}
 use Rattle.a429_documents.specs.declared.lint.GroupFinding.TheVariants.{Unfit}
 use Rattle.a429_documents.specs.declared.lint.SourceFinding.TheVariants.{Unheard, Unsent}
-use Rattle.a429_documents.specs.Lint.{AreAsked, group_lines, has_output_of, is_heard, is_sent, of_each, output_name, source_finding, source_lines, unfit_line}
+use Rattle.a429_documents.specs.Lint.{AreAsked, group_row, group_rows, has_output_of, is_heard, is_sent, of_each, output_name, source_finding, source_row, source_rows, unfit_rows}
 use Rattle.a429_documents.specs.Losses.{CanBeAccepted, HasNoLoss, IsAllServed, IsSent}
 use Rattle.a429_documents.proofs.Findings.{GroupAt, group_asks, group_is, paired}
 use Rattle.a429_documents.proofs.Words.{WordOf, word_of}
 
--- ---- texts without a byte
+-- ---- lists without an element
 
-pub nil_parts : (xs ys : List ℕ) → xs ++ ys ≡ [] → (xs ≡ []) × (ys ≡ [])
+pub nil_parts : {X : Type 0} (xs ys : List X) → xs ++ ys ≡ [] → (xs ≡ []) × (ys ≡ [])
 nil_parts [] ys h = (refl, h)
 nil_parts (x ∷ xs) ys h = absurd cc
 
-pub nil_if : (b : Bool) (xs : List ℕ) → b ≡ true → (if b then [] else xs) ≡ []
+pub nil_if : {X : Type 0} (b : Bool) (xs : List X) → b ≡ true → (if b then [] else xs) ≡ []
 nil_if b xs holds = rw holds refl
 
-pub if_nil : (b : Bool) (x : ℕ) (xs : List ℕ) → (if b then [] else (x ∷ xs)) ≡ [] → b ≡ true
+pub if_nil : {X : Type 0} (b : Bool) (x : X) (xs : List X) → (if b then [] else (x ∷ xs)) ≡ [] → b ≡ true
 if_nil true x xs h = refl
 if_nil false x xs h = absurd cc
 
-range_nils : (f : ℕ → List ℕ) (a n i : ℕ) → flat_map f (range_with_len a n) ≡ [] → a ≤ i → i < a + n → f i ≡ []
+range_nils : {X : Type 0} (f : ℕ → List X) (a n i : ℕ) → flat_map f (range_with_len a n) ≡ [] → a ≤ i → i < a + n → f i ≡ []
 range_nils f a zero i h from below = absurd (omega (arith, from, below))
 range_nils f a (suc n) i h from below =
     let parts = nil_parts (f a) (flat_map f (range_with_len (a + 1) n)) h in
@@ -52,16 +53,16 @@ range_nils f a (suc n) i h from below =
       | inr first ↦ let same : a ≡ i = omega (arith, first, from) in subst (λ (k : ℕ). f k ≡ []) same parts.0
     ]
 
-nils_range : (f : ℕ → List ℕ) (a n : ℕ) → ((i : ℕ) → a ≤ i → i < a + n → f i ≡ []) → flat_map f (range_with_len a n) ≡ []
-nils_range f a zero each = refl
-nils_range f a (suc n) each =
-    ap₂ (λ (xs ys : List ℕ). xs ++ ys) (each a (omega arith) (omega arith))
+nils_range : {X : Type 0} (f : ℕ → List X) (a n : ℕ) → ((i : ℕ) → a ≤ i → i < a + n → f i ≡ []) → flat_map f (range_with_len a n) ≡ []
+nils_range {X} f a zero each = refl
+nils_range {X} f a (suc n) each =
+    ap₂ (λ (xs ys : List X). xs ++ ys) (each a (omega arith) (omega arith))
     (nils_range f (a + 1) n (λ i from below. each i (omega (arith, from)) (omega (arith, below))))
 
-pub each_nil : (f : ℕ → List ℕ) (n i : ℕ) → of_each n f ≡ [] → i < n → f i ≡ []
+pub each_nil : {X : Type 0} (f : ℕ → List X) (n i : ℕ) → of_each n f ≡ [] → i < n → f i ≡ []
 each_nil f n i h below = range_nils f 0 n i h (omega arith) (omega (arith, below))
 
-pub nil_each : (f : ℕ → List ℕ) (n : ℕ) → ((i : ℕ) → i < n → f i ≡ []) → of_each n f ≡ []
+pub nil_each : {X : Type 0} (f : ℕ → List X) (n : ℕ) → ((i : ℕ) → i < n → f i ≡ []) → of_each n f ≡ []
 nil_each f n each = nils_range f 0 n (λ i from below. each i (omega (arith, below)))
 
 -- ---- elements
@@ -137,10 +138,10 @@ module _ (e : TableRecord) (sound : IsSound e) (n : ℕ) (s : SourceRow) (there 
       let label : s.label ≡ label_of raw = eqb-true s.label (label_of raw) (and_parts (s.label == label_of raw) (option_map_or (λ k. k == sdi_of raw) s.sdi true) mine.1).0 in
       ap₂ (λ (k l : ℕ). option_map_or (λ (x : ReceiverRow). set_passes x.filters l) (slice_get e.receivers k) false) own label ∙ both.0
 
-  pub heard_line : source_lines e Unheard n ≡ source_finding e Unheard n s
+  pub heard_line : source_rows e Unheard n ≡ source_finding e Unheard n s
   heard_line = ap (λ (x : Option SourceRow). option_map_or (source_finding e Unheard n) x []) there
 
-  pub sent_line : source_lines e Unsent n ≡ source_finding e Unsent n s
+  pub sent_line : source_rows e Unsent n ≡ source_finding e Unsent n s
   sent_line = ap (λ (x : Option SourceRow). option_map_or (source_finding e Unsent n) x []) there
 
 -- ---- sources that are sent
@@ -182,14 +183,14 @@ there_period None P Q h never = absurd (never h)
 there_period (Some k) P Q h never = refl
 
 module _ (rate : ℕ) (sources : List SourceRow) (group : List ℕ) (rows : List OutputRow) (demands : List Demand) (all : AllZip (IsAsked rate sources) rows demands) where
-  fit_at : (o : ℕ) (row : OutputRow) → slice_get rows o ≡ Some row → unfit_line sources group rows demands o ≡ [] → IsFit rate row
+  fit_at : (o : ℕ) (row : OutputRow) → slice_get rows o ≡ Some row → unfit_rows sources group rows demands o ≡ [] → IsFit rate row
   fit_at o row there line =
       let asks = paired (IsAsked rate sources) rows demands o row all there in
-      let some : is_some (demand_at demands o).period ≡ true = if_nil (is_some (demand_at demands o).period) 117 (codes "nfit " ++ (group ++ (codes " " ++ (output_name sources rows o ++ codes "\n")))) line in
+      let some : is_some (demand_at demands o).period ≡ true = if_nil (is_some (demand_at demands o).period) (group_row (codes "unfit") group (Text (output_name sources rows o)) Absent Absent) [] line in
       let same : demand_at demands o ≡ asks.0 = get_or_from_slice_get demands o asks.0 _ asks.1 in
       period_there asks.0.period (HasNoGridPeriod row.min_us row.max_us rate) (HasPeriod rate row) asks.2.period (subst (λ (d : Demand). is_some d.period ≡ true) same some)
 
-  line_at : (o : ℕ) (row : OutputRow) → slice_get rows o ≡ Some row → IsFit rate row → unfit_line sources group rows demands o ≡ []
+  line_at : (o : ℕ) (row : OutputRow) → slice_get rows o ≡ Some row → IsFit rate row → unfit_rows sources group rows demands o ≡ []
   line_at o row there (k, fit) =
       let asks = paired (IsAsked rate sources) rows demands o row all there in
       let same : demand_at demands o ≡ asks.0 = get_or_from_slice_get demands o asks.0 _ asks.1 in
@@ -197,14 +198,14 @@ module _ (rate : ℕ) (sources : List SourceRow) (group : List ℕ) (rows : List
       there_period asks.0.period (HasNoGridPeriod row.min_us row.max_us rate) (HasPeriod rate row) asks.2.period (λ none. none (2 ^ k) fit.0 fit.1) in
       nil_if (is_some (demand_at demands o).period) _ (subst (λ (d : Demand). is_some d.period ≡ true) (sym same) some)
 
-  pub lines_fit : of_each (length rows) (unfit_line sources group rows demands) ≡ [] → AllByRecursion (IsFit rate) rows
-  lines_fit none = all_from (IsFit rate) rows (λ o row there. fit_at o row there (each_nil (unfit_line sources group rows demands) (length rows) o none (slice_get_within rows o row there)))
+  pub lines_fit : of_each (length rows) (unfit_rows sources group rows demands) ≡ [] → AllByRecursion (IsFit rate) rows
+  lines_fit none = all_from (IsFit rate) rows (λ o row there. fit_at o row there (each_nil (unfit_rows sources group rows demands) (length rows) o none (slice_get_within rows o row there)))
 
-  pub fit_lines : AllByRecursion (IsFit rate) rows → of_each (length rows) (unfit_line sources group rows demands) ≡ []
-  fit_lines fit = nil_each (unfit_line sources group rows demands) (length rows) (λ o below. let row = get_within rows o below in line_at o row.0 row.1 (all_at (IsFit rate) rows o row.0 fit row.1))
+  pub fit_lines : AllByRecursion (IsFit rate) rows → of_each (length rows) (unfit_rows sources group rows demands) ≡ []
+  fit_lines fit = nil_each (unfit_rows sources group rows demands) (length rows) (λ o below. let row = get_within rows o below in line_at o row.0 row.1 (all_at (IsFit rate) rows o row.0 fit row.1))
 
 module _ (e : TableRecord) (sound : IsSound e) (asked : List (List Demand)) (all : AreAsked e asked) where
-  pub unfit_fits : of_each (length e.groups) (group_lines e asked Unfit) ≡ [] → AllByRecursion (λ rated. AllByRecursion (IsFit rated.0) rated.1) (rated_outputs e)
+  pub unfit_fits : of_each (length e.groups) (group_rows e asked Unfit) ≡ [] → AllByRecursion (λ rated. AllByRecursion (IsFit rated.0) rated.1) (rated_outputs e)
   unfit_fits none =
       all_from (λ (rated : ℕ × List OutputRow). AllByRecursion (IsFit rated.0) rated.1) (rated_outputs e)
       (λ g rated there.
@@ -214,13 +215,13 @@ module _ (e : TableRecord) (sound : IsSound e) (asked : List (List Demand)) (all
       let at : GroupAt e asked g row.0 rows.0 = record { all = all; here = row.1; listed = rows.1 } in
       let asks = group_asks e asked g row.0 rows.0 at in
       let same : (row.0.rate, rows.0) ≡ rated = same_Some _ _ (sym (rated_at e g row.0.rate rows.0 (ap (option_map (λ (r : GroupRow). r.rate)) row.1) rows.1) ∙ there) in
-      let line = each_nil (group_lines e asked Unfit) (length e.groups) g none (slice_get_within e.groups g row.0 row.1) in
+      let line = each_nil (group_rows e asked Unfit) (length e.groups) g none (slice_get_within e.groups g row.0 row.1) in
       subst (λ (rated : ℕ × List OutputRow). AllByRecursion (IsFit rated.0) rated.1) same
       (lines_fit row.0.rate e.sources row.0.name rows.0 asks.0 asks.2 (sym (group_is e asked g row.0 rows.0 at Unfit asks.0 asks.1) ∙ line)))
 
-  pub fits_unfit : AllByRecursion (λ rated. AllByRecursion (IsFit rated.0) rated.1) (rated_outputs e) → of_each (length e.groups) (group_lines e asked Unfit) ≡ []
+  pub fits_unfit : AllByRecursion (λ rated. AllByRecursion (IsFit rated.0) rated.1) (rated_outputs e) → of_each (length e.groups) (group_rows e asked Unfit) ≡ []
   fits_unfit fit =
-      nil_each (group_lines e asked Unfit) (length e.groups)
+      nil_each (group_rows e asked Unfit) (length e.groups)
       (λ g below.
       let row = get_within e.groups g below in
       let rows = get_within e.outputs g (omega (arith, below, sound.outputs_of_groups)) in
@@ -235,20 +236,20 @@ module _ (e : TableRecord) (sound : IsSound e) (asked : List (List Demand)) (all
     accepted = λ n below.
         let s = get_within e.sources n below in
         heard_accepts e sound n s.0 s.1
-        (if_nil (is_heard e.receivers s.0) 117 (codes "nheard " ++ (s.0.name ++ codes "\n")) (sym (heard_line e sound n s.0 s.1) ∙ each_nil (source_lines e Unheard) (length e.sources) n none.unheard below));
+        (if_nil (is_heard e.receivers s.0) (source_row (codes "unheard") s.0.name) [] (sym (heard_line e sound n s.0 s.1) ∙ each_nil (source_rows e Unheard) (length e.sources) n none.unheard below));
     sent = λ n below.
         let s = get_within e.sources n below in
-        is_sent_sends e sound n (if_nil (is_sent e n) 117 (codes "nsent " ++ (s.0.name ++ codes "\n")) (sym (sent_line e sound n s.0 s.1) ∙ each_nil (source_lines e Unsent) (length e.sources) n none.unsent below));
+        is_sent_sends e sound n (if_nil (is_sent e n) (source_row (codes "unsent") s.0.name) [] (sym (sent_line e sound n s.0 s.1) ∙ each_nil (source_rows e Unsent) (length e.sources) n none.unsent below));
     fit = unfit_fits none.unfit;
   }
 
   served_has_no_loss : IsAllServed e → HasNoLoss e asked
   served_has_no_loss served = record {
     unfit = fits_unfit served.fit;
-    unheard = nil_each (source_lines e Unheard) (length e.sources) (λ n below.
+    unheard = nil_each (source_rows e Unheard) (length e.sources) (λ n below.
         let s = get_within e.sources n below in
         heard_line e sound n s.0 s.1 ∙ nil_if (is_heard e.receivers s.0) _ (accepts_heard e sound n s.0 s.1 (served.accepted n below)));
-    unsent = nil_each (source_lines e Unsent) (length e.sources) (λ n below.
+    unsent = nil_each (source_rows e Unsent) (length e.sources) (λ n below.
         let s = get_within e.sources n below in
         sent_line e sound n s.0 s.1 ∙ nil_if (is_sent e n) _ (sends_is_sent e sound n (served.sent n below)));
   }

@@ -1,10 +1,11 @@
--- What holds of a planned group when its margin is told.
+-- What holds of a planned group when its margin is said.
 use Rattle.std.proofs.Common.{◌≡◌, ℕ, zero, suc, ◌+◌, ◌-◌, ◌*◌, ◌/◌, ◌^◌, ◌<◌, ◌≤◌, List, [], ◌∷◌, ◌++◌, length, map, ap, sym, subst, refl, arith, ◌∙◌, append_assoc, drop}
 use Rattle.std.specs.Prelude.{Some, None, slice_get, sum}
 use Rattle.std.specs.List.{AllByRecursion, AllZip, zip}
 use Rattle.std.proofs.lemmas.Option.{same_Some}
 use Rattle.a429_word.proofs.Lists.{drop_at}
 use Rattle.std.proofs.lemmas.Nat.{pow_pos}
+use Rattle.a429_text.specs.Fields.{Field}
 use Rattle.a429_equipment.specs.TableRecord.{TableRecord}
 use Rattle.a429_equipment.specs.declared.rows.GroupRow.{GroupRow}
 use Rattle.a429_equipment.specs.declared.rows.OutputRow.{OutputRow}
@@ -59,15 +60,6 @@ module _ (rate : ℕ) (sources : List SourceRow) (rows : List OutputRow) (t : Sl
       subst (λ (f : ℕ). (buses_of t - 1) * f < sum (demands_of t)) (sym framed) (subst (λ (d : ℕ). (buses_of t - 1) * 2 ^ greatest (periods_of t) < d) (sym demanded) (buses_count law some).above) in
       omega (arith, above)
 
--- pieces of a text, one behind the other
-pub pieces : (t0 t1 t2 t3 t4 t5 a b c n o r : List ℕ) → t1 ≡ t0 ++ a → t2 ≡ t1 ++ b → t3 ≡ t2 ++ c → t4 ≡ t3 ++ (n ++ o) → t5 ≡ t4 ++ r
-    → t5 ≡ t0 ++ (a ++ (b ++ (c ++ (n ++ (o ++ r)))))
-pieces t0 t1 t2 t3 t4 t5 a b c n o r h1 h2 h3 h4 h5 =
-    h5 ∙ ap (λ (x : List ℕ). x ++ r) h4 ∙ append_assoc t3 (n ++ o) r ∙ ap (λ (x : List ℕ). t3 ++ x) (append_assoc n o r)
-    ∙ ap (λ (x : List ℕ). x ++ (n ++ (o ++ r))) h3 ∙ append_assoc t2 c (n ++ (o ++ r))
-    ∙ ap (λ (x : List ℕ). x ++ (c ++ (n ++ (o ++ r)))) h2 ∙ append_assoc t1 b (c ++ (n ++ (o ++ r)))
-    ∙ ap (λ (x : List ℕ). x ++ (b ++ (c ++ (n ++ (o ++ r))))) h1 ∙ append_assoc t0 a (b ++ (c ++ (n ++ (o ++ r))))
-
 -- ---- the groups
 
 planned_in_group : (sources : List SourceRow) (i : ℕ) (groups : List GroupRow) (rowss : List (List OutputRow)) (ts : List SlotTable) (g : GroupRow) (rows : List OutputRow) (t : SlotTable) → AllZip (IsPlannedAt sources) (zip (map (λ (g : GroupRow). g.rate) groups) rowss) ts
@@ -85,7 +77,7 @@ pub planned_group : (e : TableRecord) (p : PlanTable) (i : ℕ) (g : GroupRow) (
 planned_group e p i g rows t planned named listed there = planned_in_group e.sources i e.groups e.outputs (groups_of p) g rows t planned.groups named listed there
 
 -- the margin of one more group before those of the others
-pub margins_from : (sources : List SourceRow) (groups : List GroupRow) (rowss : List (List OutputRow)) (ts : List SlotTable) (i : ℕ) (g : GroupRow) (rows : List OutputRow) (t : SlotTable) (part rest : List ℕ)
+pub margins_from : (sources : List SourceRow) (groups : List GroupRow) (rowss : List (List OutputRow)) (ts : List SlotTable) (i : ℕ) (g : GroupRow) (rows : List OutputRow) (t : SlotTable) (part rest : List (List Field))
     → slice_get groups i ≡ Some g → slice_get rowss i ≡ Some rows → slice_get ts i ≡ Some t → IsGroupMargin sources g rows t part
     → AreMargins sources (drop (i + 1) groups) (drop (i + 1) rowss) (drop (i + 1) ts) rest → AreMargins sources (drop i groups) (drop i rowss) (drop i ts) (part ++ rest)
 margins_from sources groups rowss ts i g rows t part rest named listed there one more =

@@ -1,4 +1,4 @@
--- What the text of `margin` is made of.
+-- What the rows of `margin` are made of.
 use Rattle.std.proofs.Common.{◌≡◌, ℕ, suc, ◌+◌, ◌^◌, ◌<◌, ◌≤◌, Bool, true, false, List, [], ◌∷◌, ◌++◌, length, map, take, Option, Some, ap, sym, subst, refl, arith, ◌∙◌}
 use Rattle.std.specs.Prelude.{slice_get, option_map, nat_lt}
 use Rattle.std.specs.List.{flat_map, range_with_len}
@@ -7,10 +7,11 @@ use Rattle.std.proofs.lemmas.Bool.{lt-ltb, le-ltb}
 use Rattle.std.proofs.lemmas.List.{flat_map_more, map-append}
 use Rattle.std.proofs.lemmas.Option.{same_Some}
 use Rattle.a429_word.proofs.Lists.{range_next, take_next}
+use Rattle.a429_equipment.specs.declared.rows.GroupRow.{GroupRow}
 use Rattle.a429_equipment.specs.declared.rows.SourceRow.{SourceRow}
 use Rattle.a429_slots.specs.declared.group_plan.SlotPlace.{SlotPlace}
 use Rattle.a429_slots.specs.Tables.{Placed, SlotTable, placed_at, outputs_of, place_of, source_of, frame_of}
-use Rattle.a429_documents.specs.Margins.{is_chosen, output_margin, wider_text}
+use Rattle.a429_documents.specs.Margins.{is_chosen, output_margin, wider_row}
 use Rattle.a429_cert.specs.PlanText.{source_name}
 use Rattle.a429_slots.proofs.Cells.{output_is}
 
@@ -33,32 +34,32 @@ period_more t ps new k place below at so now =
     ∙ ap (λ (x : SlotPlace). map f (take k (outputs_of t)) ++ x.period ∷ []) (sym (stands_at t k place below at))
     ∙ sym (ap (map f) (take_next (outputs_of t) k (placed_at t k) (output_is t k below)) ∙ map-append f (take k (outputs_of t)) (placed_at t k ∷ []))
 
--- ---- the line of an output
+-- ---- the row of an output
 
-module _ (sources : List SourceRow) (rate : ℕ) (t : SlotTable) (chosen : Option (List Bool)) (o : ℕ) (place : SlotPlace) (below : o < length (outputs_of t)) (at : place_of t o ≡ Some place) where
+module _ (sources : List SourceRow) (g : GroupRow) (t : SlotTable) (chosen : Option (List Bool)) (o : ℕ) (place : SlotPlace) (below : o < length (outputs_of t)) (at : place_of t o ≡ Some place) where
   same_period : (placed_at t o).place.period ≡ place.period
   same_period = ap (λ (x : SlotPlace). x.period) (stands_at t o place below at)
 
-  pub no_line : frame_of t ≤ 2 ^ place.period → output_margin sources rate t chosen o ≡ []
-  no_line long =
+  pub no_row : frame_of t ≤ 2 ^ place.period → output_margin sources g t chosen o ≡ []
+  no_row long =
       let late : nat_lt (2 ^ (placed_at t o).place.period) (frame_of t) ≡ false = le-ltb _ _ (subst (λ (k : ℕ). frame_of t ≤ 2 ^ k) (sym same_period) long) in
       rw late refl
 
-  pub line_is : (n : ℕ) (row : SourceRow) → 2 ^ place.period < frame_of t → source_of t o ≡ Some n → slice_get sources n ≡ Some row
-      → output_margin sources rate t chosen o ≡ wider_text rate (frame_of t) (is_chosen chosen o) row.name place.period
-  line_is n row short from there =
+  pub row_is : (n : ℕ) (row : SourceRow) → 2 ^ place.period < frame_of t → source_of t o ≡ Some n → slice_get sources n ≡ Some row
+      → output_margin sources g t chosen o ≡ wider_row g (frame_of t) (is_chosen chosen o) row.name place.period ∷ []
+  row_is n row short from there =
       let early : nat_lt (2 ^ (placed_at t o).place.period) (frame_of t) ≡ true = lt-ltb _ _ (subst (λ (k : ℕ). 2 ^ k < frame_of t) (sym same_period) short) in
       let source : (placed_at t o).source ≡ n = same_Some _ _ (sym (ap (option_map (λ (p : Placed). p.source)) (output_is t o below)) ∙ from) in
       let named : source_name sources (placed_at t o).source ≡ row.name = ap (source_name sources) source ∙ ap (λ (r : Option SourceRow). option_map_or (λ (s : SourceRow). s.name) r []) there in
       rw early
-      (ap (λ (w : List ℕ). wider_text rate (frame_of t) (is_chosen chosen o) w (placed_at t o).place.period) named
-      ∙ ap (λ (k : ℕ). wider_text rate (frame_of t) (is_chosen chosen o) row.name k) same_period)
+      (ap (λ (w : List ℕ). wider_row g (frame_of t) (is_chosen chosen o) w (placed_at t o).place.period ∷ []) named
+      ∙ ap (λ (k : ℕ). wider_row g (frame_of t) (is_chosen chosen o) row.name k ∷ []) same_period)
 
--- one more of the lines
-pub lines_more : (f : ℕ → List ℕ) (text new old : List ℕ) (k : ℕ) → text ≡ old ++ flat_map f (range_with_len 0 k) → new ≡ text ++ f k → new ≡ old ++ flat_map f (range_with_len 0 (k + 1))
-lines_more f text new old k so now =
+-- the rows of one more
+pub lines_more : {X : Type 0} (f : ℕ → List X) (rows new old : List X) (k : ℕ) → rows ≡ old ++ flat_map f (range_with_len 0 k) → new ≡ rows ++ f k → new ≡ old ++ flat_map f (range_with_len 0 (k + 1))
+lines_more {X} f rows new old k so now =
     let same : 0 + k ≡ k = omega arith in
     let more : suc k ≡ k + 1 = omega arith in
     let next : range_with_len 0 (k + 1) ≡ range_with_len 0 k ++ k ∷ [] =
     subst (λ (n : ℕ). range_with_len 0 n ≡ range_with_len 0 k ++ k ∷ []) more (subst (λ (j : ℕ). range_with_len 0 (suc k) ≡ range_with_len 0 k ++ j ∷ []) same (range_next 0 k)) in
-    now ∙ ap (λ (x : List ℕ). x ++ f k) so ∙ flat_map_more f old (range_with_len 0 k) k ∙ ap (λ (l : List ℕ). old ++ flat_map f l) (sym next)
+    now ∙ ap (λ (x : List X). x ++ f k) so ∙ flat_map_more f old (range_with_len 0 k) k ∙ ap (λ (l : List ℕ). old ++ flat_map f l) (sym next)

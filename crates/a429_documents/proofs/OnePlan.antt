@@ -1,10 +1,9 @@
--- Two proposals with one plan text and of one station: `diff` says `same`.
-use Rattle.std.proofs.Common.{◌≡◌, ◌==◌, ℕ, zero, suc, ◌<◌, ◌≤◌, Bool, true, false, List, [], ◌∷◌, ◌++◌, length, map, drop, get_or, Option, Some, None, ap, ap₂, sym, subst, refl, arith, inl, inr, ◌⊎◌, ◌∙◌, append_assoc, eq-eqb}
+-- Two proposals with one plan text, one station and the same intervals: `diff` has no row.
+use Rattle.std.proofs.Common.{◌≡◌, ◌==◌, ℕ, zero, suc, ◌^◌, ◌<◌, ◌≤◌, Bool, true, false, List, [], ◌∷◌, ◌++◌, length, map, drop, get_or, Option, Some, None, ap, ap₂, sym, subst, refl, arith, inl, inr, ◌⊎◌, ◌∙◌, append_assoc, eq-eqb}
 use Rattle.std.specs.Prelude.{◌&&◌, IfSome, codes, if◌then◌else◌, is_some, option_map, position, slice_get, slice_index}
-use Rattle.std.specs.List.{AllByRecursion, flat_map}
+use Rattle.std.specs.List.{AllByRecursion}
 use Rattle.std.specs.Option.{option_map_or}
 use Rattle.std.specs.Str.{bytes_eq}
-use Rattle.std.proofs.lemmas.Bool.{and_from}
 use Rattle.std.proofs.lemmas.List.{length-map}
 use Rattle.std.proofs.lemmas.List.Quantifiers.{position-Some}
 use Rattle.std.proofs.lemmas.Option.{get_or_from_slice_get, none-some, same_Some, slice_get-map, slice_get_within}
@@ -12,12 +11,11 @@ use Rattle.std.proofs.lemmas.Slice.Eq.{bytes_eq-Decides}
 use Rattle.a429_word.proofs.Lists.{all_at, clash, get_within, none_passes, same_power}
 use Rattle.a429_equipment.specs.SameStation.{same_station}
 use Rattle.a429_equipment.specs.Sound.{HaveOwnSources, IsGroupRow, IsHold, IsRate, IsSound}
-use Rattle.a429_equipment.specs.TableRecord.{TableRecord}
+use Rattle.a429_equipment.specs.TableRecord.{TableRecord, outputs_in}
 use Rattle.a429_equipment.specs.declared.rows.GroupRow.{GroupRow}
 use Rattle.a429_equipment.specs.declared.rows.OutputRow.{OutputRow}
 use Rattle.a429_equipment.specs.declared.rows.SourceRow.{SourceRow}
 use Rattle.a429_equipment.proofs.Stations.{same_station_is}
-use Rattle.a429_slots.specs.declared.group_plan.SlotPlace.{SlotPlace}
 use Rattle.a429_slots.specs.Planned.{HaveSources, IsPlanOf}
 use Rattle.a429_slots.specs.Proposed.{Proposed}
 use Rattle.a429_slots.specs.Tables.{Placed, SlotTable, buses_of, frame_of, groups_of, no_table, order_of, outputs_of, placed_at, unplaced}
@@ -31,45 +29,32 @@ use Rattle.a429_cert.proofs.Again.{FitsStated}
 use Rattle.a429_cert.proofs.LineLaws.{plan_again, rate_again}
 use Rattle.a429_cert.proofs.LinesOfText.{rate_is_line, version_is_line}
 use Rattle.a429_cert.proofs.OwnGroups.{FewestCarry, rate_short}
-use Rattle.a429_documents.specs.Diff.{Sent, changes, common_line, group_against, group_change, group_named, heading_text, is_empty, missing_line, name_at, new_line, output_against, output_line, output_named, outputs_lines, rate_lines, same_hold, same_output, same_size, sent, sent_by, station_lines, version_line}
-use Rattle.a429_documents.specs.Diff as diff
-use Rattle.a429_documents.proofs.Differences.{one_is_none}
-use Rattle.a429_documents.proofs.Losses.{found_or_not, nil_each, nil_if}
+use Rattle.a429_text.specs.Fields.{Absent}
+use Rattle.a429_documents.specs.Diff.{Both, Sent, both_of, both_rows, compared_at, compared_rows, count_rows, diff_rows, each_of, equipment_rows, group_both_rows, group_moved, only_rows, groups_rows, has_moved, is_moved, kept_rows, kept_subject, lone_rows, moved_count, moved_in, name_at, number_named, number_rows, of_group, of_output, other_of, output_named, outputs_rows, plan_rows, sent_by, size_rows, station_rows, table_rates, the_table, version_rows}
+use Rattle.a429_documents.specs.Unchanged.{HaveSameIntervals}
+use Rattle.a429_documents.proofs.Changes.{both_is}
+use Rattle.a429_documents.proofs.Differences.{named_at, one_is_none}
+use Rattle.a429_documents.proofs.Losses.{found_or_not}
 use Rattle.a429_documents.proofs.MarginGroups.{planned_group}
-use Rattle.a429_documents.proofs.SamePlans.{group_found}
+use Rattle.a429_documents.proofs.NoRows.{compared_none, counted_none, each_none, each_sum, none_both, none_if, not_moved, number_none, same_unless}
 use Rattle.a429_documents.proofs.SameOrder.{Same}
-use Rattle.a429_documents.proofs.SameTables.{IsPlanned, each_once, one_named, row_of}
+use Rattle.a429_documents.proofs.SameTables.{IsPlanned, each_once, group_of, one_named, row_of, sent, source_of_row}
 use Rattle.a429_documents.proofs.StatedTexts.{stated_back, stated_fits}
 
--- ---- lines that are not there
-
-hold_takes : (a : Option ℕ) → same_hold a a ≡ true
-hold_takes None = refl
-hold_takes (Some n) = eq-eqb n n refl
-
-is_same_output : (x y : Placed) → x.place ≡ y.place → x.limits.hold ≡ y.limits.hold → same_output x y ≡ true
-is_same_output x y place hold =
-    and_from (x.place.period == y.place.period) _ (eq-eqb x.place.period y.place.period (ap (λ (p : SlotPlace). p.period) place))
-    (and_from (x.place.bus == y.place.bus) _ (eq-eqb x.place.bus y.place.bus (ap (λ (p : SlotPlace). p.bus) place))
-    (and_from (x.place.offset == y.place.offset) _ (eq-eqb x.place.offset y.place.offset (ap (λ (p : SlotPlace). p.offset) place))
-    (ap (same_hold x.limits.hold) (sym hold) ∙ hold_takes x.limits.hold)))
-
-nil_flat_map : {X : Type 0} (f : X → List ℕ) (xs : List X) → ((i : ℕ) (x : X) → slice_get xs i ≡ Some x → f x ≡ []) → flat_map f xs ≡ []
-nil_flat_map f [] each = refl
-nil_flat_map f (x ∷ xs) each = ap₂ (λ (ys zs : List ℕ). ys ++ zs) (each 0 x refl) (nil_flat_map f xs (λ i y there. each (suc i) y there))
+-- ---- outputs
 
 -- an output is found by the name of its source
-output_found : (e : TableRecord) (rate : ℕ) (rows : List OutputRow) (t : SlotTable) → IsPlanned e rate rows t → (p : ℕ) → p < length (outputs_of t) → (name : List ℕ) → name_at (sent e.sources t) p ≡ name
-    → output_named (sent e.sources t) name ≡ Some p
-unfolding output_named
+output_found : (e : TableRecord) (rate : ℕ) (rows : List OutputRow) (t : SlotTable) → IsPlanned e rate rows t → (p : ℕ) → p < length (outputs_of t) → (name : List ℕ) → name_at (sent e.sources rows t) p ≡ name
+    → output_named (sent e.sources rows t) name ≡ Some p
+unfolding number_named
 output_found e rate rows t P p below name same =
     let test : Placed → Bool = λ (x : Placed). bytes_eq (source_name e.sources x.source) name in
-    let passes : test (placed_at t p) ≡ true = (bytes_eq-Decides (name_at (sent e.sources t) p) name).1 same in
+    let passes : test (placed_at t p) ≡ true = (bytes_eq-Decides (name_at (sent e.sources rows t) p) name).1 same in
     elim (found_or_not (position test (outputs_of t))) [
       | inl none ↦ absurd (clash (sym (none_passes test (outputs_of t) none p (placed_at t p) (output_is t p below)) ∙ passes))
       | inr (q, found) ↦
           let facts = position-Some test (outputs_of t) q unplaced found in
-          let name2 : name_at (sent e.sources t) q ≡ name = (bytes_eq-Decides (name_at (sent e.sources t) q) name).0 facts.1 in
+          let name2 : name_at (sent e.sources rows t) q ≡ name = (bytes_eq-Decides (name_at (sent e.sources rows t) q) name).0 facts.1 in
           let one : q ≡ p = one_named e rate rows t P q p facts.0 below (name2 ∙ sym same) in
           found ∙ ap (λ (k : ℕ). Some k) one
     ]
@@ -85,17 +70,14 @@ hold_said version a b (inr two) none h =
 pub record IsOneStated (a b : TableRecord) (version : ℕ) (row : GroupRow) (rows others : List OutputRow) (t u : SlotTable) : Type 0 where
   pub first : IsPlanned a row.rate rows t
   pub second : IsPlanned b row.rate others u
+  pub sources : a.sources ≡ b.sources
+  pub intervals : (o p : ℕ) (x y : OutputRow) → slice_get rows o ≡ Some x → slice_get others p ≡ Some y → x.source ≡ y.source → (x.min_us ≡ y.min_us) × (x.max_us ≡ y.max_us)
   pub stated : stated_of version a.sources row t ≡ stated_of version b.sources row u
   pub version_is : (version ≡ 1) ⊎ (version ≡ 2)
   pub no_holds : version ≡ 1 → AllByRecursion (λ (o : OutputRow). o.hold ≡ None) rows
   pub none_held : version ≡ 1 → AllByRecursion (λ (o : OutputRow). o.hold ≡ None) others
 
 module _ (a b : TableRecord) (version : ℕ) (row : GroupRow) (rows others : List OutputRow) (t u : SlotTable) (O : IsOneStated a b version row rows others t u) where
-  size : same_size t u ≡ true
-  size =
-      and_from (frame_of t == frame_of u) (buses_of t == buses_of u) (eq-eqb (frame_of t) (frame_of u) (ap (λ (s : Stated). s.heading.frame) O.stated))
-      (eq-eqb (buses_of t) (buses_of u) (ap (λ (s : Stated). s.heading.buses) O.stated))
-
   listings : map (listing_of version a.sources t) (order_of t) ≡ map (listing_of version b.sources u) (order_of u)
   listings = ap (λ (s : Stated). s.outputs) O.stated
 
@@ -134,38 +116,80 @@ module _ (a b : TableRecord) (version : ℕ) (row : GroupRow) (rows others : Lis
       let twice = each_once b row.rate others u O.second in
       same_of (slice_index (order_of t) k) (slice_index (order_of u) k) (once.below k (omega (arith, below, once.length))) (twice.below k (omega (arith, below, as_many, twice.length))) (listed_at k below)
 
-  output_kept : (has_gap : Bool) (o : ℕ) → o < length (outputs_of t) → output_line has_gap (sent a.sources t) (sent b.sources u) o ≡ []
-  output_kept has_gap o below =
-      let once = each_once a row.rate rows t O.first in
-      let twice = each_once b row.rate others u O.second in
-      let place = once.place o below in
-      let within : place.0 < length (order_of t) = omega (arith, place.1, once.length) in
-      let p : ℕ = slice_index (order_of u) place.0 in
-      let same : Same a.sources b.sources (placed_at t o) (placed_at u p) = subst (λ (k : ℕ). Same a.sources b.sources (placed_at t k) (placed_at u p)) place.2 (pair_at place.0 within) in
-      let found : output_named (sent b.sources u) (name_at (sent a.sources t) o) ≡ Some p =
-      output_found b row.rate others u O.second p (twice.below place.0 (omega (arith, within, as_many, twice.length))) (name_at (sent a.sources t) o) (sym same.name) in
-      ap (output_against has_gap (name_at (sent a.sources t) o) (placed_at t o) u) found
-      ∙ nil_if (same_output (placed_at t o) (placed_at u p)) _ (is_same_output (placed_at t o) (placed_at u p) same.place same.hold)
+  -- nothing of them differs
+  compared_same : (o p : ℕ) → o < length (outputs_of t) → p < length (outputs_of u) → Same a.sources b.sources (placed_at t o) (placed_at u p) → compared_at (sent a.sources rows t) o ≡ compared_at (sent b.sources others u) p
+  compared_same o p below under S =
+      let mine = row_of a row.rate rows t O.first o below in
+      let theirs = row_of b row.rate others u O.second p under in
+      let own = source_of_row a row.rate rows t O.first mine.0 o mine.1 in
+      let other = source_of_row b row.rate others u O.second theirs.0 p theirs.1 in
+      let name : own.0.name ≡ other.0.name = sym own.2 ∙ ap (source_name a.sources) (sym mine.2) ∙ S.name ∙ ap (source_name b.sources) theirs.2 ∙ other.2 in
+      let source : mine.0.source ≡ theirs.0.source =
+      O.second.sound.own_names mine.0.source theirs.0.source own.0 other.0 (ap (λ (ss : List SourceRow). slice_get ss mine.0.source) (sym O.sources) ∙ own.1) other.1 name in
+      let interval = O.intervals o p mine.0 theirs.0 mine.1 theirs.1 source in
+      let min_us = ap (option_map (λ (r : OutputRow). r.min_us)) mine.1 ∙ ap (λ (n : ℕ). Some n) interval.0 ∙ sym (ap (option_map (λ (r : OutputRow). r.min_us)) theirs.1) in
+      let max_us = ap (option_map (λ (r : OutputRow). r.max_us)) mine.1 ∙ ap (λ (n : ℕ). Some n) interval.1 ∙ sym (ap (option_map (λ (r : OutputRow). r.max_us)) theirs.1) in
+      λ i. record { min_us = min_us i; max_us = max_us i; period = Some (2 ^ (S.place i).period); hold = S.hold i; bus = Some (S.place i).bus; slot = Some (S.place i).offset }
 
-  output_old : (p : ℕ) → p < length (outputs_of u) → new_line (sent a.sources t) (sent b.sources u) p ≡ []
-  output_old p below =
-      let once = each_once a row.rate rows t O.first in
-      let twice = each_once b row.rate others u O.second in
-      let place = twice.place p below in
-      let within : place.0 < length (order_of t) = omega (arith, place.1, twice.length, as_many) in
-      let o : ℕ = slice_index (order_of t) place.0 in
-      let same : Same a.sources b.sources (placed_at t o) (placed_at u p) = subst (λ (k : ℕ). Same a.sources b.sources (placed_at t o) (placed_at u k)) place.2 (pair_at place.0 within) in
-      let found : output_named (sent a.sources t) (name_at (sent b.sources u) p) ≡ Some o =
-      output_found a row.rate rows t O.first o (once.below place.0 (omega (arith, within, once.length))) (name_at (sent b.sources u) p) same.name in
-      nil_if (is_some (output_named (sent a.sources t) (name_at (sent b.sources u) p))) _ (ap is_some found)
+  module _ (all has_gap : Bool) (name : List ℕ) where
+    abbrev g : Both
+    g = group_of name a rows t b others u
 
-  pub group_kept : (has_gap : Bool) (name : List ℕ) → group_change has_gap name (sent a.sources t) (sent b.sources u) ≡ []
-  group_kept has_gap name =
-      let none : outputs_lines has_gap (sent a.sources t) (sent b.sources u) ≡ [] =
-      ap₂ (λ (xs ys : List ℕ). xs ++ ys) (nil_each (output_line has_gap (sent a.sources t) (sent b.sources u)) (length (outputs_of t)) (output_kept has_gap))
-      (nil_each (new_line (sent a.sources t) (sent b.sources u)) (length (outputs_of u)) output_old) in
-      nil_if (is_empty (outputs_lines has_gap (sent a.sources t) (sent b.sources u)) && same_size t u) _
-      (and_from (is_empty (outputs_lines has_gap (sent a.sources t) (sent b.sources u))) (same_size t u) (ap is_empty none) size)
+    -- the output of the second for one of the first
+    partner : (o : ℕ) → o < length (outputs_of t) → (p : ℕ) × (other_of g o ≡ Some p) × (compared_at g.first o ≡ compared_at g.second p)
+    partner o below =
+        let once = each_once a row.rate rows t O.first in
+        let twice = each_once b row.rate others u O.second in
+        let place = once.place o below in
+        let within : place.0 < length (order_of t) = omega (arith, place.1, once.length) in
+        let p : ℕ = slice_index (order_of u) place.0 in
+        let under : p < length (outputs_of u) = twice.below place.0 (omega (arith, within, as_many, twice.length)) in
+        let same : Same a.sources b.sources (placed_at t o) (placed_at u p) = subst (λ (k : ℕ). Same a.sources b.sources (placed_at t k) (placed_at u p)) place.2 (pair_at place.0 within) in
+        (p, output_found b row.rate others u O.second p under (name_at (sent a.sources rows t) o) (sym same.name), compared_same o p below under same)
+
+    output_kept : (o : ℕ) → o < length (outputs_of t) → kept_rows all has_gap g o ≡ []
+    output_kept o below =
+        let (p, found, same) = partner o below in
+        ap (λ (q : Option ℕ). option_map_or (λ p. compared_rows all (kept_subject has_gap g o p) (compared_at g.first o) (compared_at g.second p)) q []) found
+        ∙ compared_none all (kept_subject has_gap g o p) (compared_at g.first o) (compared_at g.second p) same
+
+    output_there : (o : ℕ) → o < length (outputs_of t) → only_rows g.name false g.first g.second o ≡ []
+    output_there o below =
+        let (p, found, same) = partner o below in
+        none_if (is_some (other_of g o)) (lone_rows false (of_output g.name (name_at g.first o) Absent) (compared_at g.first o).period) (ap is_some found)
+
+    output_old : (p : ℕ) → p < length (outputs_of u) → only_rows g.name true g.second g.first p ≡ []
+    output_old p below =
+        let once = each_once a row.rate rows t O.first in
+        let twice = each_once b row.rate others u O.second in
+        let place = twice.place p below in
+        let within : place.0 < length (order_of t) = omega (arith, place.1, twice.length, as_many) in
+        let o : ℕ = slice_index (order_of t) place.0 in
+        let same : Same a.sources b.sources (placed_at t o) (placed_at u p) = subst (λ (k : ℕ). Same a.sources b.sources (placed_at t o) (placed_at u k)) place.2 (pair_at place.0 within) in
+        let found : output_named g.first (name_at g.second p) ≡ Some o =
+        output_found a row.rate rows t O.first o (once.below place.0 (omega (arith, within, once.length))) (name_at g.second p) same.name in
+        none_if (is_some (output_named g.first (name_at g.second p))) (lone_rows true (of_output g.name (name_at g.second p) Absent) (compared_at g.second p).period) (ap is_some found)
+
+    same_size : size_rows g ≡ []
+    same_size =
+        none_both (number_rows (codes "buses") (of_group name) (Some (buses_of t)) (Some (buses_of u))) (number_rows (codes "frame") (of_group name) (Some (frame_of t)) (Some (frame_of u)))
+        (number_none (codes "buses") (of_group name) (Some (buses_of t)) (Some (buses_of u)) (ap (λ (s : Stated). Some s.heading.buses) O.stated))
+        (number_none (codes "frame") (of_group name) (Some (frame_of t)) (Some (frame_of u)) (ap (λ (s : Stated). Some s.heading.frame) O.stated))
+
+    pub group_kept : both_rows all has_gap g ≡ []
+    group_kept =
+        none_both (size_rows g) (outputs_rows all has_gap g) same_size
+        (none_both (each_of (length (outputs_of t)) (kept_rows all has_gap g)) (each_of (length (outputs_of t)) (only_rows g.name false g.first g.second) ++ each_of (length (outputs_of u)) (only_rows g.name true g.second g.first))
+        (each_none (kept_rows all has_gap g) (length (outputs_of t)) output_kept)
+        (none_both (each_of (length (outputs_of t)) (only_rows g.name false g.first g.second)) (each_of (length (outputs_of u)) (only_rows g.name true g.second g.first))
+        (each_none (only_rows g.name false g.first g.second) (length (outputs_of t)) output_there) (each_none (only_rows g.name true g.second g.first) (length (outputs_of u)) output_old)))
+
+    pub none_moved : moved_in g ≡ 0
+    none_moved =
+        counted_none (is_moved g) (length (outputs_of t))
+        (λ o below.
+        let (p, found, same) = partner o below in
+        ap (λ (q : Option ℕ). option_map_or (λ p. has_moved (compared_at g.first o) (compared_at g.second p)) q false) found ∙ not_moved (compared_at g.first o) (compared_at g.second p) same)
 
 -- ---- the lists of what groups state
 
@@ -260,7 +284,7 @@ rate_there e sound other more version = elim sound.version [
 
 -- ---- the proposals
 
-module _ (a b : Proposed) (A : IsProposal a) (B : IsProposal b) (law : FewestCarry) (text : plan_text_of a.station a.plan ≡ plan_text_of b.station b.plan) (station : same_station a.station b.station ≡ true) where
+module _ (a b : Proposed) (A : IsProposal a) (B : IsProposal b) (law : FewestCarry) (text : plan_text_of a.station a.plan ≡ plan_text_of b.station b.plan) (station : same_station a.station b.station ≡ true) (intervals : HaveSameIntervals a.station b.station) where
   sources : a.station.sources ≡ b.station.sources
   sources = ((same_station_is a.station b.station).0 station).1
 
@@ -288,9 +312,12 @@ module _ (a b : Proposed) (A : IsProposal a) (B : IsProposal b) (law : FewestCar
       stated_back a.station.version (stated_groups a.station.version a.station.sources a.station.groups (groups_of a.plan)) (stated_groups b.station.version b.station.sources b.station.groups (groups_of b.plan))
       (all_fit a A law) (subst (λ (v : ℕ). AllByRecursion (FitsStated v) (stated_groups b.station.version b.station.sources b.station.groups (groups_of b.plan))) (sym version) (all_fit b B law)) rest.1
 
-  no_common : (g : ℕ) → g < length a.station.groups → common_line (same_station a.station b.station) a b g ≡ []
-  no_common g below =
-      let has_gap : Bool = same_station a.station b.station in
+  rows_of : (e : TableRecord) (g : ℕ) (rows : List OutputRow) → slice_get e.outputs g ≡ Some rows → outputs_in e g ≡ rows
+  rows_of e g rows there = get_or_from_slice_get e.outputs g rows [] there
+
+  one_stated : (g : ℕ) → g < length a.station.groups → (row : GroupRow) × (rows : List OutputRow) × (news : List OutputRow) × (t : SlotTable) × (u : SlotTable)
+      × (both_of a b g ≡ Some (group_of row.name a.station rows t b.station news u)) × IsOneStated a.station b.station a.station.version row rows news t u
+  one_stated g below =
       let row = get_within a.station.groups g below in
       let again : slice_get b.station.groups g ≡ Some row.0 = ap (λ (gs : List GroupRow). slice_get gs g) (sym groups) ∙ row.1 in
       let rows = rows_at a A g row.0 row.1 in
@@ -300,46 +327,60 @@ module _ (a b : Proposed) (A : IsProposal a) (B : IsProposal b) (law : FewestCar
       let one : stated_of a.station.version a.station.sources row.0 t.0 ≡ stated_of b.station.version b.station.sources row.0 u.0 =
       same_Some _ _ (sym (stated_at a.station.version a.station.sources a.station.groups (groups_of a.plan) g row.0 t.0 row.1 t.1) ∙ ap (λ (ss : List Stated). slice_get ss g) stated
       ∙ stated_at b.station.version b.station.sources b.station.groups (groups_of b.plan) g row.0 u.0 again u.1) in
-      let named : group_named b.station.groups row.0.name ≡ Some g = group_found b.station.groups B.sound.own_groups g row.0 again in
-      let first : sent_by a g ≡ sent a.station.sources t.0 = ap (sent a.station.sources) (get_or_from_slice_get (groups_of a.plan) g t.0 no_table t.1) in
-      let second : sent_by b g ≡ sent b.station.sources u.0 = ap (sent b.station.sources) (get_or_from_slice_get (groups_of b.plan) g u.0 no_table u.1) in
-      ap (λ (r : Option GroupRow). option_map_or (λ (row : GroupRow). group_against has_gap row.name a b g (group_named b.station.groups row.name)) r []) row.1
-      ∙ ap (group_against has_gap row.0.name a b g) named
-      ∙ ap₂ (λ (s u : Sent). group_change has_gap row.0.name s u) first second
-      ∙ group_kept a.station b.station a.station.version row.0 rows.0 news.0 t.0 u.0
-      (record {
-        first = planned_at a A g row.0 rows.0 t.0 row.1 rows.1 t.1;
-        second = planned_at b B g row.0 news.0 u.0 again news.1 u.1;
-        stated = one ∙ ap (λ (v : ℕ). stated_of v b.station.sources row.0 u.0) (sym version);
-        version_is = A.sound.version;
-        no_holds = unheld_at a A g rows.0 rows.1;
-        none_held = λ is. unheld_at b B g news.0 news.1 (sym version ∙ is);
-      }) has_gap row.0.name
+      let first : sent_by a g ≡ sent a.station.sources rows.0 t.0 =
+      ap₂ (λ (os : List OutputRow) (v : SlotTable). sent a.station.sources os v) (rows_of a.station g rows.0 rows.1) (get_or_from_slice_get (groups_of a.plan) g t.0 no_table t.1) in
+      let second : sent_by b g ≡ sent b.station.sources news.0 u.0 =
+      ap₂ (λ (os : List OutputRow) (v : SlotTable). sent b.station.sources os v) (rows_of b.station g news.0 news.1) (get_or_from_slice_get (groups_of b.plan) g u.0 no_table u.1) in (
+        row.0,
+        rows.0,
+        news.0,
+        t.0,
+        u.0,
+        both_is a b g g row.0 row.1 (named_at (λ (h : GroupRow). h.name) b.station.groups B.sound.own_groups g row.0 again row.0.name refl)
+            ∙ ap₂ (λ (s v : Sent). Some (record { name = row.0.name; first = s; second = v })) first second,
+        record {
+          first = planned_at a A g row.0 rows.0 t.0 row.1 rows.1 t.1;
+          second = planned_at b B g row.0 news.0 u.0 again news.1 u.1;
+          sources = sources;
+          intervals = λ o p x y here there source.
+              intervals g o p x y (ap (λ (os : List OutputRow). slice_get os o) (rows_of a.station g rows.0 rows.1) ∙ here) (ap (λ (os : List OutputRow). slice_get os p) (rows_of b.station g news.0 news.1) ∙ there) source;
+          stated = one ∙ ap (λ (v : ℕ). stated_of v b.station.sources row.0 u.0) (sym version);
+          version_is = A.sound.version;
+          no_holds = unheld_at a A g rows.0 rows.1;
+          none_held = λ is. unheld_at b B g news.0 news.1 (sym version ∙ is);
+        },
+      )
 
-  none_missing : (verb : List ℕ) (own others : List GroupRow) → own ≡ others → (i : ℕ) (row : GroupRow) → slice_get own i ≡ Some row → group_named others row.name ≡ Some i → missing_line verb others row ≡ []
-  none_missing verb own others same i row here named = nil_if (is_some (group_named others row.name)) _ (ap is_some named)
+  no_groups : (all has_gap : Bool) → groups_rows all has_gap a b ≡ []
+  no_groups all has_gap =
+      each_none (group_both_rows all has_gap a b) (length a.station.groups)
+      (λ g below.
+      let (row, rows, news, t, u, both, one) = one_stated g below in
+      ap (λ (o : Option Both). option_map_or (both_rows all has_gap) o []) both ∙ group_kept a.station b.station a.station.version row rows news t u one all has_gap row.name)
 
-  no_rates : rate_lines a.station b.station ≡ []
-  no_rates =
-      let none : (r : Option ℕ) → diff.rate_line r r ≡ [] = rate_none in
-      either (length a.station.groups == 0 && length b.station.groups == 0) (ap (diff.rate_line a.station.rate) (sym rest.0) ∙ none a.station.rate)
+  no_move : moved_count a b ≡ 0
+  no_move =
+      each_sum (group_moved a b) (length a.station.groups)
+      (λ g below.
+      let (row, rows, news, t, u, both, one) = one_stated g below in
+      ap (λ (o : Option Both). option_map_or moved_in o 0) both ∙ none_moved a.station b.station a.station.version row rows news t u one true true row.name)
+
+  no_rates : table_rates a.station b.station ≡ []
+  no_rates = either (length a.station.groups == 0 && length b.station.groups == 0) (number_none (codes "rate") the_table a.station.rate b.station.rate rest.0)
     where
-      rate_none : (r : Option ℕ) → diff.rate_line r r ≡ []
-      rate_none None = refl
-      rate_none (Some r) = nil_if (r == r) _ (eq-eqb r r refl)
-
-      either : (c : Bool) → diff.rate_line a.station.rate b.station.rate ≡ [] → (if c then diff.rate_line a.station.rate b.station.rate else []) ≡ []
+      either : (c : Bool) → number_rows (codes "rate") the_table a.station.rate b.station.rate ≡ [] → (if c then number_rows (codes "rate") the_table a.station.rate b.station.rate else []) ≡ []
       either true h = h
       either false h = refl
 
-  pub no_changes : changes a b ≡ []
-  no_changes =
-      ap₂ (λ (xs ys : List ℕ). xs ++ ys)
-      (ap₂ (λ (xs ys : List ℕ). xs ++ ys) (nil_if (a.station.version == b.station.version) _ (eq-eqb a.station.version b.station.version version))
-      (ap₂ (λ (xs ys : List ℕ). xs ++ ys) no_rates (one_is_none a.station b.station station)))
-      (ap₂ (λ (xs ys : List ℕ). xs ++ ys) (nil_each (common_line (same_station a.station b.station) a b) (length a.station.groups) no_common)
-      (ap₂ (λ (xs ys : List ℕ). xs ++ ys)
-      (nil_flat_map (missing_line (codes "gone group ") b.station.groups) a.station.groups
-      (λ i row here. none_missing (codes "gone group ") a.station.groups b.station.groups groups i row here (group_found b.station.groups B.sound.own_groups i row (ap (λ (gs : List GroupRow). slice_get gs i) (sym groups) ∙ here))))
-      (nil_flat_map (missing_line (codes "new group ") a.station.groups) b.station.groups
-      (λ i row here. none_missing (codes "new group ") b.station.groups a.station.groups (sym groups) i row here (group_found a.station.groups A.sound.own_groups i row (ap (λ (gs : List GroupRow). slice_get gs i) groups ∙ here))))))
+  pub no_rows : (all : Bool) → diff_rows a b all ≡ []
+  no_rows all =
+      none_both (equipment_rows a.station b.station) (plan_rows a b all)
+      (none_both (version_rows a.station.version b.station.version) (table_rates a.station b.station ++ station_rows a.station b.station)
+      (number_none (codes "version") the_table (Some a.station.version) (Some b.station.version) (ap (λ (n : ℕ). Some n) version))
+      (none_both (table_rates a.station b.station) (station_rows a.station b.station) no_rates (one_is_none a.station b.station A.sound B.sound station)))
+      (none_both (groups_rows all (same_station a.station b.station) a b) (if all then [] else count_rows (moved_count a b)) (no_groups all (same_station a.station b.station))
+      (either all (same_unless (moved_count a b == 0) _ (eq-eqb (moved_count a b) 0 no_move))))
+    where
+      either : (c : Bool) → count_rows (moved_count a b) ≡ [] → (if c then [] else count_rows (moved_count a b)) ≡ []
+      either true h = refl
+      either false h = h

@@ -1,18 +1,17 @@
--- Two slot tables of which `diff` has no line state the same.
-use Rattle.std.proofs.Common.{◌≡◌, ◌==◌, ℕ, ◌+◌, ◌-◌, ◌/◌, ◌^◌, ◌<◌, ◌≤◌, Bool, true, false, List, [], ◌∷◌, ◌++◌, length, map, take, Option, Some, None, ap, ap₂, sym, subst, refl, arith, inl, inr, ◌∙◌, length-append}
-use Rattle.std.specs.Prelude.{◌&&◌, codes, if◌then◌else◌, is_some, option_map, slice_get, slice_index, sum}
+-- Two slot tables of which `diff` has no row state the same.
+use Rattle.std.proofs.Common.{◌≡◌, ℕ, ◌+◌, ◌-◌, ◌/◌, ◌^◌, ◌<◌, ◌≤◌, Bool, true, false, List, [], ◌∷◌, ◌++◌, length, map, take, Option, Some, None, ap, ap₂, sym, subst, refl, arith, inl, inr, ◌⊎◌, ◌∙◌}
+use Rattle.std.specs.Prelude.{codes, if◌then◌else◌, is_some, option_map, slice_get, slice_index, sum}
 use Rattle.std.specs.List.{AllZip}
 use Rattle.std.specs.Option.{option_map_or}
 use Rattle.std.specs.Str.{bytes_eq}
 use Rattle.std.proofs.Math.Nat.{pow-le-pow_right}
-use Rattle.std.proofs.lemmas.Bool.{and_parts, eqb-true}
 use Rattle.std.proofs.lemmas.List.{length-map}
 use Rattle.std.proofs.lemmas.List.Quantifiers.{position-Some}
 use Rattle.std.proofs.lemmas.Nat.{le-div, pow_pos}
-use Rattle.std.proofs.lemmas.Option.{get_or_from_slice_get, same_Some, slice_get-get_or, slice_get-map, slice_get_within}
+use Rattle.std.proofs.lemmas.Option.{get_or_from_slice_get, none-some, same_Some, slice_get-get_or, slice_get-map, slice_get_within}
 use Rattle.std.proofs.lemmas.Simd.{map-map}
 use Rattle.std.proofs.lemmas.Slice.Eq.{bytes_eq-Decides}
-use Rattle.a429_word.proofs.Lists.{all_at, get_within, same_power, some_word}
+use Rattle.a429_word.proofs.Lists.{all_at, get_within, same_power}
 use Rattle.a429_equipment.specs.Sound.{HaveOwnSources, IsSound}
 use Rattle.a429_equipment.specs.TableRecord.{TableRecord}
 use Rattle.a429_equipment.specs.declared.rows.GroupRow.{GroupRow}
@@ -32,76 +31,78 @@ use Rattle.a429_slots.proofs.Cells.{output_is}
 use Rattle.a429_cert.specs.PlanText.{listing_of, placed_listing, source_name, stated_of}
 use Rattle.a429_cert.specs.Spelling.{Listing}
 use Rattle.a429_cert.proofs.OwnGroups.{order_moved}
-use Rattle.a429_documents.specs.Lint.{of_each}
-use Rattle.a429_documents.specs.Diff.{Sent, changed_text, from_to, gap_field, hold_field, move_text, name_at, new_line, new_text, output_against, output_line, output_named, outputs_lines, same_hold, same_output, same_size, sent}
+use Rattle.a429_text.specs.Fields.{Absent}
+use Rattle.a429_documents.specs.declared.diff.sides.Compared.{Compared}
+use Rattle.a429_documents.specs.Diff.{Both, Sent, both_rows, compared_at, compared_rows, each_of, only_rows, has_moved, is_moved, kept_rows, kept_subject, lone_rows, moved_in, name_at, number_named, number_rows, of_group, of_output, other_of, output_named, outputs_rows, size_rows}
 use Rattle.a429_documents.proofs.DocumentRows.{served_length}
 use Rattle.a429_documents.proofs.Findings.{paired}
-use Rattle.a429_documents.proofs.Losses.{each_nil, found_or_not, nil_parts}
+use Rattle.a429_documents.proofs.Losses.{found_or_not}
+use Rattle.a429_documents.proofs.NoRows.{compared_is, none_counted, none_each, none_number, none_parts}
 use Rattle.a429_documents.proofs.SameOrder.{Found, Finds, Laid, Same, laid_from, same_order, share}
 
--- ---- lines that are not there
+-- ---- the outputs of a group that both have
 
-pub if_some : (b : Bool) (xs : List ℕ) → 1 ≤ length xs → (if b then [] else xs) ≡ [] → b ≡ true
-if_some true xs long h = refl
-if_some false xs long h = absurd (omega (arith, long, ap length h))
+-- a group with these sources and rows, and this slot table
+abbrev pub sent : List SourceRow → List OutputRow → SlotTable → Sent
+sent sources rows t = record { sources = sources; rows = rows; table = t }
 
-pub some_front : (w rest : List ℕ) → 1 ≤ length w → 1 ≤ length (w ++ rest)
-some_front w rest long = omega (arith, long, length-append w rest)
-
-hold_is : (a b : Option ℕ) → same_hold a b ≡ true → a ≡ b
-hold_is None None h = refl
-hold_is (Some a) (Some b) h = ap (λ (n : ℕ). Some n) (eqb-true a b h)
-hold_is None (Some b) h = cc
-hold_is (Some a) None h = cc
-
-output_is_same : (x y : Placed) → same_output x y ≡ true → (x.place ≡ y.place) × (x.limits.hold ≡ y.limits.hold)
-output_is_same x y h =
-    let p1 = and_parts (x.place.period == y.place.period) (x.place.bus == y.place.bus && (x.place.offset == y.place.offset && same_hold x.limits.hold y.limits.hold)) h in
-    let p2 = and_parts (x.place.bus == y.place.bus) (x.place.offset == y.place.offset && same_hold x.limits.hold y.limits.hold) p1.1 in
-    let p3 = and_parts (x.place.offset == y.place.offset) (same_hold x.limits.hold y.limits.hold) p2.1 in
-    let period = eqb-true x.place.period y.place.period p1.0 in
-    let bus = eqb-true x.place.bus y.place.bus p2.0 in
-    let offset = eqb-true x.place.offset y.place.offset p3.0 in
-    ((λ i. record { bus = bus i; offset = offset i; period = period i }), hold_is x.limits.hold y.limits.hold p3.1)
-
-pub named_is : (s : Sent) (name : List ℕ) (p : ℕ) → output_named s name ≡ Some p → (p < length (outputs_of s.table)) × (name_at s p ≡ name)
-unfolding output_named
-named_is s name p h =
+pub output_is_named : (s : Sent) (name : List ℕ) (p : ℕ) → output_named s name ≡ Some p → (p < length (outputs_of s.table)) × (name_at s p ≡ name)
+unfolding number_named
+output_is_named s name p h =
     let facts = position-Some (λ (x : Placed). bytes_eq (source_name s.sources x.source) name) (outputs_of s.table) p unplaced h in
     (facts.0, (bytes_eq-Decides (name_at s p) name).0 facts.1)
 
-changed_some : (has_gap : Bool) (name : List ℕ) (x y : Placed) → 1 ≤ length (changed_text has_gap name x y)
-changed_some has_gap name x y =
-    let seven : length (codes "output ") ≡ 7 = refl in
-    some_front (move_text name x y) (hold_field x.limits.hold y.limits.hold ++ (gap_field has_gap x y ++ codes "\n"))
-    (some_front (codes "output ") (name ++ (codes " period " ++ from_to (2 ^ x.place.period) (2 ^ y.place.period)
-    (codes " bus " ++ from_to x.place.bus y.place.bus (codes " slot " ++ from_to x.place.offset y.place.offset [])))) (omega (arith, seven)))
+-- an output of the first, and the one of the second in which nothing differs
+pub record IsKept (g : Both) (o p : ℕ) : Type 0 where
+  pub below : p < length (outputs_of g.second.table)
+  pub name : name_at g.first o ≡ name_at g.second p
+  pub compared : compared_at g.first o ≡ compared_at g.second p
 
--- an output of the first without a line has one of the second
-kept : (has_gap : Bool) (s u : Sent) (o : ℕ) → output_line has_gap s u o ≡ [] → (p : ℕ) × (p < length (outputs_of u.table)) × Same s.sources u.sources (placed_at s.table o) (placed_at u.table p)
-kept has_gap s u o line = elim (found_or_not (output_named u (name_at s o))) [
+-- they have one name, one place and one hold
+pub kept_same : (g : Both) (o p : ℕ) → IsKept g o p → Same g.first.sources g.second.sources (placed_at g.first.table o) (placed_at g.second.table p)
+kept_same g o p K =
+    let x : Placed = placed_at g.first.table o in
+    let y : Placed = placed_at g.second.table p in
+    let period : x.place.period ≡ y.place.period = same_power x.place.period y.place.period (same_Some _ _ (ap (λ (c : Compared). c.period) K.compared)) in
+    let bus : x.place.bus ≡ y.place.bus = same_Some _ _ (ap (λ (c : Compared). c.bus) K.compared) in
+    let offset : x.place.offset ≡ y.place.offset = same_Some _ _ (ap (λ (c : Compared). c.slot) K.compared) in
+    record {
+      name = K.name;
+      place = λ i. record { bus = bus i; offset = offset i; period = period i };
+      hold = ap (λ (c : Compared). c.hold) K.compared;
+    }
+
+-- an output of the first without a row is kept, unless it has moved
+kept : (all has_gap : Bool) (g : Both) (o : ℕ) → kept_rows all has_gap g o ≡ [] → only_rows g.name false g.first g.second o ≡ [] → (all ≡ true) ⊎ (is_moved g o ≡ false) → (p : ℕ) × IsKept g o p
+kept all has_gap g o row gone still = elim (found_or_not (other_of g o)) [
   | inl none ↦
-      let gone : codes "gone " ++ (name_at s o ++ codes "\n") ≡ [] = sym (ap (output_against has_gap (name_at s o) (placed_at s.table o) u.table) none) ∙ line in
-      let five : length (codes "gone ") ≡ 5 = refl in
-      let some : 1 ≤ length (codes "gone " ++ (name_at s o ++ codes "\n")) = some_front (codes "gone ") (name_at s o ++ codes "\n") (omega (arith, five)) in
-      absurd (omega (arith, some, ap length gone))
+      let subject = of_output g.name (name_at g.first o) Absent in
+      let told : number_rows (codes "output") subject (compared_at g.first o).period None ≡ [] =
+      sym (ap (λ (q : Option ℕ). if is_some q then [] else lone_rows false subject (compared_at g.first o).period) none) ∙ gone in
+      absurd (none-some _ (sym (none_number (codes "output") subject (compared_at g.first o).period None told)))
   | inr (p, found) ↦
-      let named = named_is u (name_at s o) p found in
-      let x : Placed = placed_at s.table o in
-      let y : Placed = placed_at u.table p in
-      let here : (if same_output x y then [] else changed_text has_gap (name_at s o) x y) ≡ [] = sym (ap (output_against has_gap (name_at s o) x u.table) found) ∙ line in
-      let same = output_is_same x y (if_some (same_output x y) (changed_text has_gap (name_at s o) x y) (changed_some has_gap (name_at s o) x y) here) in
-      (p, named.0, record { name = sym named.1; place = same.0; hold = same.1 })
+      let named = output_is_named g.second (name_at g.first o) p found in
+      let here : compared_rows all (kept_subject has_gap g o p) (compared_at g.first o) (compared_at g.second p) ≡ [] =
+      sym (ap (λ (q : Option ℕ). option_map_or (λ p. compared_rows all (kept_subject has_gap g o p) (compared_at g.first o) (compared_at g.second p)) q []) found) ∙ row in
+      let stays : (all ≡ true) ⊎ (has_moved (compared_at g.first o) (compared_at g.second p) ≡ false) = elim still [
+        | inl is ↦ inl is
+        | inr stayed ↦ inr (sym (ap (λ (q : Option ℕ). option_map_or (λ p. has_moved (compared_at g.first o) (compared_at g.second p)) q false) found) ∙ stayed)
+      ] in
+      (p, record { below = named.0; name = sym named.1; compared = compared_is all (kept_subject has_gap g o p) (compared_at g.first o) (compared_at g.second p) here stays })
 ]
 
--- an output of the second without a line has one of the first with its name
-not_new : (s u : Sent) (p : ℕ) → new_line s u p ≡ [] → (o : ℕ) × (o < length (outputs_of s.table)) × (name_at s o ≡ name_at u p)
-not_new s u p line =
-    let four : length (codes "new ") ≡ 4 = refl in
-    let some = if_some (is_some (output_named s (name_at u p))) (new_text (name_at u p) (placed_at u.table p)) (some_front (codes "new ") _ (omega (arith, four))) line in
-    let found = some_word (output_named s (name_at u p)) some in
-    let named = named_is s (name_at u p) found.0 found.1 in
-    (found.0, named.0, named.1)
+-- an output of the second without a row has one of the first with its name
+not_added : (g : Both) (p : ℕ) → only_rows g.name true g.second g.first p ≡ [] → (o : ℕ) × (o < length (outputs_of g.first.table)) × (name_at g.first o ≡ name_at g.second p)
+not_added g p row = elim (found_or_not (output_named g.first (name_at g.second p))) [
+  | inl none ↦
+      let subject = of_output g.name (name_at g.second p) Absent in
+      let told : number_rows (codes "output") subject None (compared_at g.second p).period ≡ [] =
+      sym (ap (λ (q : Option ℕ). if is_some q then [] else lone_rows true subject (compared_at g.second p).period) none) ∙ row in
+      absurd (none-some _ (none_number (codes "output") subject None (compared_at g.second p).period told))
+  | inr (o, found) ↦
+      let named = output_is_named g.first (name_at g.second p) o found in
+      (o, named.0, named.1)
+]
 
 -- ---- names of outputs
 
@@ -125,7 +126,7 @@ module _ (e : TableRecord) (rate : ℕ) (rows : List OutputRow) (t : SlotTable) 
       let s = get_within e.sources row.source (all_at (λ (o : OutputRow). o.source < length e.sources) rows p row P.known there) in
       (s.0, s.1, ap (λ (r : Option SourceRow). option_map_or (λ (s : SourceRow). s.name) r []) s.1)
 
-  pub one_named : (p q : ℕ) → p < length (outputs_of t) → q < length (outputs_of t) → name_at (sent e.sources t) p ≡ name_at (sent e.sources t) q → p ≡ q
+  pub one_named : (p q : ℕ) → p < length (outputs_of t) → q < length (outputs_of t) → name_at (sent e.sources rows t) p ≡ name_at (sent e.sources rows t) q → p ≡ q
   one_named p q below under same =
       let a = row_of p below in
       let b = row_of q under in
@@ -198,33 +199,77 @@ same_shares h own others (x ∷ xs) (y ∷ ys) all =
 
 -- ---- what the tables state
 
--- two planned tables of a group, of which `diff` has no line
+-- a group that both tables have
+abbrev pub group_of : List ℕ → TableRecord → List OutputRow → SlotTable → TableRecord → List OutputRow → SlotTable → Both
+group_of name a rows t b others u = record { name = name; first = sent a.sources rows t; second = sent b.sources others u }
+
+-- two planned tables of a group, of which `diff` has no row
 pub record IsUnchanged (a b : TableRecord) (rate : ℕ) (rows others : List OutputRow) (t u : SlotTable) : Type 0 where
+  pub all : Bool
   pub has_gap : Bool
+  pub name : List ℕ
   pub first : IsPlanned a rate rows t
   pub second : IsPlanned b rate others u
-  pub no_line : outputs_lines has_gap (sent a.sources t) (sent b.sources u) ≡ []
-  pub size : same_size t u ≡ true
+  pub no_row : both_rows all has_gap (group_of name a rows t b others u) ≡ []
+  pub still : (all ≡ true) ⊎ (moved_in (group_of name a rows t b others u) ≡ 0)
 
 module _ (a b : TableRecord) (rate : ℕ) (rows others : List OutputRow) (t u : SlotTable) (U : IsUnchanged a b rate rows others t u) where
+  abbrev g : Both
+  g = group_of U.name a rows t b others u
+
+  parts : (size_rows g ≡ []) × (outputs_rows U.all U.has_gap g ≡ [])
+  parts = none_parts (size_rows g) (outputs_rows U.all U.has_gap g) U.no_row
+
+  size : (number_rows (codes "buses") (of_group g.name) (Some (buses_of t)) (Some (buses_of u)) ≡ []) × (number_rows (codes "frame") (of_group g.name) (Some (frame_of t)) (Some (frame_of u)) ≡ [])
+  size = none_parts (number_rows (codes "buses") (of_group g.name) (Some (buses_of t)) (Some (buses_of u))) (number_rows (codes "frame") (of_group g.name) (Some (frame_of t)) (Some (frame_of u))) parts.0
+
   frames : t.frame ≡ u.frame
-  frames = same_power t.frame u.frame (eqb-true (frame_of t) (frame_of u) (and_parts (frame_of t == frame_of u) (buses_of t == buses_of u) U.size).0)
+  frames = same_power t.frame u.frame (same_Some (frame_of t) (frame_of u) (none_number (codes "frame") (of_group g.name) (Some (frame_of t)) (Some (frame_of u)) size.1))
 
   buses : buses_of t ≡ buses_of u
-  buses = eqb-true (buses_of t) (buses_of u) (and_parts (frame_of t == frame_of u) (buses_of t == buses_of u) U.size).1
+  buses = same_Some (buses_of t) (buses_of u) (none_number (codes "buses") (of_group g.name) (Some (buses_of t)) (Some (buses_of u)) size.0)
 
-  lines : (of_each (length (outputs_of t)) (output_line U.has_gap (sent a.sources t) (sent b.sources u)) ≡ []) × (of_each (length (outputs_of u)) (new_line (sent a.sources t) (sent b.sources u)) ≡ [])
-  lines = nil_parts (of_each (length (outputs_of t)) (output_line U.has_gap (sent a.sources t) (sent b.sources u))) (of_each (length (outputs_of u)) (new_line (sent a.sources t) (sent b.sources u))) U.no_line
+  old : (each_of (length (outputs_of t)) (kept_rows U.all U.has_gap g) ≡ []) × (each_of (length (outputs_of t)) (only_rows g.name false g.first g.second) ++ each_of (length (outputs_of u)) (only_rows g.name true g.second g.first) ≡ [])
+  old = none_parts (each_of (length (outputs_of t)) (kept_rows U.all U.has_gap g)) (each_of (length (outputs_of t)) (only_rows g.name false g.first g.second) ++ each_of (length (outputs_of u)) (only_rows g.name true g.second g.first)) parts.1
+
+  only : (each_of (length (outputs_of t)) (only_rows g.name false g.first g.second) ≡ []) × (each_of (length (outputs_of u)) (only_rows g.name true g.second g.first) ≡ [])
+  only = none_parts (each_of (length (outputs_of t)) (only_rows g.name false g.first g.second)) (each_of (length (outputs_of u)) (only_rows g.name true g.second g.first)) old.1
+
+  kept_of : (o : ℕ) → o < length (outputs_of t) → (p : ℕ) × IsKept g o p
+  kept_of o below =
+      let stays : (U.all ≡ true) ⊎ (is_moved g o ≡ false) = elim U.still [
+        | inl is ↦ inl is
+        | inr none ↦ inr (none_counted (is_moved g) (length (outputs_of t)) none o below)
+      ] in
+      kept U.all U.has_gap g o (none_each (kept_rows U.all U.has_gap g) (length (outputs_of t)) old.0 o below) (none_each (only_rows g.name false g.first g.second) (length (outputs_of t)) only.0 o below) stays
 
   match_of : (o : ℕ) → o < length (outputs_of t) → (p : ℕ) × (p < length (outputs_of u)) × Same a.sources b.sources (placed_at t o) (placed_at u p)
-  match_of o below = kept U.has_gap (sent a.sources t) (sent b.sources u) o (each_nil (output_line U.has_gap (sent a.sources t) (sent b.sources u)) (length (outputs_of t)) o lines.0 below)
+  match_of o below = let found = kept_of o below in (found.0, found.1.below, kept_same g o found.0 found.1)
 
   matched_by : (p : ℕ) → p < length (outputs_of u) → (o : ℕ) × (o < length (outputs_of t)) × Same a.sources b.sources (placed_at t o) (placed_at u p)
   matched_by p below =
-      let old = not_new (sent a.sources t) (sent b.sources u) p (each_nil (new_line (sent a.sources t) (sent b.sources u)) (length (outputs_of u)) p lines.1 below) in
+      let old = not_added g p (none_each (only_rows g.name true g.second g.first) (length (outputs_of u)) only.1 p below) in
       let back = match_of old.0 old.1 in
       let one : back.0 ≡ p = one_named b rate others u U.second back.0 p back.1 below (sym back.2.name ∙ old.2) in
       (old.0, old.1, subst (λ (k : ℕ). Same a.sources b.sources (placed_at t old.0) (placed_at u k)) one back.2)
+
+  -- outputs of one source have one interval
+  pub same_interval : a.sources ≡ b.sources → (o p : ℕ) (x y : OutputRow) → slice_get rows o ≡ Some x → slice_get others p ≡ Some y → x.source ≡ y.source → (x.min_us ≡ y.min_us) × (x.max_us ≡ y.max_us)
+  same_interval sources o p x y here there source =
+      let below : o < length (outputs_of t) = omega (arith, slice_get_within rows o x here, served_length rate rows (outputs_of t) U.first.planned.served) in
+      let under : p < length (outputs_of u) = omega (arith, slice_get_within others p y there, served_length rate others (outputs_of u) U.second.planned.served) in
+      let found = kept_of o below in
+      let mine = row_of a rate rows t U.first o below in
+      let theirs = row_of b rate others u U.second p under in
+      let my_source : (placed_at t o).source ≡ x.source = mine.2 ∙ ap (λ (r : OutputRow). r.source) (same_Some mine.0 x (sym mine.1 ∙ here)) in
+      let their_source : (placed_at u p).source ≡ y.source = theirs.2 ∙ ap (λ (r : OutputRow). r.source) (same_Some theirs.0 y (sym theirs.1 ∙ there)) in
+      let name : name_at (sent b.sources others u) found.0 ≡ name_at (sent b.sources others u) p =
+      sym found.1.name ∙ ap₂ (λ (ss : List SourceRow) (n : ℕ). source_name ss n) sources (my_source ∙ source ∙ sym their_source) in
+      let one : found.0 ≡ p = one_named b rate others u U.second found.0 p found.1.below under name in
+      let at : slice_get others found.0 ≡ Some y = ap (λ (k : ℕ). slice_get others k) one ∙ there in
+      let min_us : Some x.min_us ≡ Some y.min_us = sym (ap (option_map (λ (r : OutputRow). r.min_us)) here) ∙ ap (λ (c : Compared). c.min_us) found.1.compared ∙ ap (option_map (λ (r : OutputRow). r.min_us)) at in
+      let max_us : Some x.max_us ≡ Some y.max_us = sym (ap (option_map (λ (r : OutputRow). r.max_us)) here) ∙ ap (λ (c : Compared). c.max_us) found.1.compared ∙ ap (option_map (λ (r : OutputRow). r.max_us)) at in
+      (same_Some x.min_us y.min_us min_us, same_Some x.max_us y.max_us max_us)
 
   finds : Finds a.sources b.sources t.frame (map (placed_at t) (order_of t)) (map (placed_at u) (order_of u))
   finds i x there =

@@ -2,7 +2,8 @@
 use Rattle.std.specs.Prelude.{◌≡◌, ℕ, List, Option, Result, OnOk, false}
 use Rattle.std.specs.Io.KnownBytes.{Appends}
 use Rattle.csv.specs.declared.writer.Writer.{Writer}
-use Rattle.csv.specs.Writing.{default_writer, writer_setup, fields_written, has_written, text_written}
+use Rattle.std.specs.List.{flat_map}
+use Rattle.csv.specs.Writing.{default_writer, row_text, writer_setup, fields_written, has_written, text_written}
 
 -- it has the library's own settings, and nothing of the next line is written
 pub record IsAtLine {W : Type 0} (w : Writer W) : Type 0 where
@@ -13,3 +14,7 @@ pub record IsAtLine {W : Type 0} (w : Writer W) : Type 0 where
 -- where the call succeeds, the writer's output and what it has not passed on yet have these bytes more, together
 abbrev pub WritesText : {W A E : Type 0} → (W → Option (List ℕ)) → Result A E → Writer W → Writer W → List ℕ → Type 0
 WritesText contents result old new bytes = OnOk result (Appends (text_written contents old) (text_written contents new) bytes)
+
+-- a line for each row, with commas between its fields (RFC 4180, with a line feed at each line's end)
+unfoldable pub csv_text_of : List (List (List ℕ)) → List ℕ
+csv_text_of rows = flat_map (row_text default_writer) rows

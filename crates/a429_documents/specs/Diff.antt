@@ -1,84 +1,174 @@
--- What changes from one proposal to another: the text of `diff` (profile: diff text).
-use Rattle.std.specs.Prelude.{ℕ, ◌+◌, ◌-◌, ◌^◌, ◌==◌, ◌&&◌, Bool, true, false, List, [], ◌∷◌, ◌++◌, Option, None, Some, codes, if◌then◌else◌, is_some, length, nat_lt, position, slice_get, slice_index_or}
-use Rattle.std.specs.Fmt.{decimal}
-use Rattle.std.specs.List.{flat_map}
+-- What changes from one proposal to another: the rows of `diff` (profile: diff rows).
+use Rattle.std.specs.Prelude.{ℕ, ◌+◌, ◌-◌, ◌^◌, ◌==◌, ◌&&◌, not, Bool, true, false, List, [], ◌∷◌, ◌++◌, Option, None, Some, codes, if◌then◌else◌, is_some, length, nat_lt, option_and_then, option_map, position, slice_get, slice_index_or}
+use Rattle.std.specs.List.{count_by, flat_map, range_with_len, sum_by}
 use Rattle.std.specs.Option.{option_map_or}
 use Rattle.std.specs.Str.{bytes_eq}
-use Rattle.a429_equipment.specs.SameStation.{all_agree, same_filters, same_source, same_station}
-use Rattle.a429_equipment.specs.TableRecord.{TableRecord}
+use Rattle.a429_filter.specs.declared.filters.Filter.{Filter}
+use Rattle.a429_text.specs.Fields.{Field, Text, Number, Absent}
+use Rattle.a429_text.specs.Texts.{octal}
+use Rattle.a429_equipment.specs.SameStation.{same_filters, same_sdi, same_station}
+use Rattle.a429_equipment.specs.TableRecord.{TableRecord, outputs_in}
 use Rattle.a429_equipment.specs.declared.rows.GroupRow.{GroupRow}
+use Rattle.a429_equipment.specs.declared.rows.OutputRow.{OutputRow}
+use Rattle.a429_equipment.specs.declared.rows.ReceiverRow.{ReceiverRow}
 use Rattle.a429_equipment.specs.declared.rows.SourceRow.{SourceRow}
+use Rattle.a429_slots.specs.declared.group_plan.SlotPlace.{SlotPlace}
 use Rattle.a429_slots.specs.Proposed.{Proposed}
 use Rattle.a429_slots.specs.Tables.{Placed, SlotTable, buses_of, frame_of, groups_of, no_table, outputs_of, placed_at}
 use Rattle.a429_cert.specs.PlanText.{source_name}
-use Rattle.a429_cert.specs.Spelling.{limit_text}
-use Rattle.a429_documents.specs.Lint.{of_each}
-use Rattle.a429_documents.specs.declared.diff.stations.StationPart.{StationPart}
-use Rattle.a429_documents.specs.declared.diff.stations.StationPart.TheVariants.{Receivers, Filters, Sources, Groups, Rates}
+use Rattle.a429_documents.specs.Document.{receiver_name}
+use Rattle.a429_documents.specs.declared.diff.sides.Compared.{Compared}
 
-abbrev pub is_empty : List ℕ → Bool
-is_empty [] = true
-is_empty (b ∷ bytes) = false
+abbrev pub diff_columns : List (List ℕ)
+diff_columns = codes "change" ∷ codes "group" ∷ codes "name" ∷ codes "first" ∷ codes "second" ∷ codes "gap" ∷ []
 
--- ---- the head
+-- ---- a row
 
--- a number, and the one that it becomes, before the rest of a line
-abbrev pub from_to : ℕ → ℕ → List ℕ → List ℕ
-from_to from to rest = decimal from ++ (codes " to " ++ (decimal to ++ rest))
+-- of what a row speaks: a group, a receiver, source or output, and the slots between its two sends
+pub record Subject : Type 0 where
+  pub group : Field
+  pub name : Field
+  pub gap : Field
 
-abbrev pub version_line : ℕ → ℕ → List ℕ
-version_line from to = if from == to then [] else codes "version " ++ from_to from to (codes "\n")
+abbrev pub the_table : Subject
+the_table = record { group = Absent; name = Absent; gap = Absent }
 
--- the rate that all groups have, if both tables are of version 1
-abbrev pub rate_line : Option ℕ → Option ℕ → List ℕ
-rate_line (Some from) (Some to) = if from == to then [] else codes "rate " ++ from_to from to (codes "\n")
-rate_line _ _ = []
+abbrev pub of_name : List ℕ → Subject
+of_name name = record { group = Absent; name = Text name; gap = Absent }
+
+abbrev pub of_group : List ℕ → Subject
+of_group group = record { group = Text group; name = Absent; gap = Absent }
+
+abbrev pub of_output : List ℕ → List ℕ → Field → Subject
+of_output group name gap = record { group = Text group; name = Text name; gap = gap }
+
+-- what changes, of what, and what it is in the first table and in the second
+abbrev pub change_row : List ℕ → Subject → Field → Field → List Field
+change_row change subject first second = Text change ∷ subject.group ∷ subject.name ∷ first ∷ second ∷ subject.gap ∷ []
+
+-- a row, unless both have the same
+abbrev pub unless : Bool → List Field → List (List Field)
+unless same row = if same then [] else row ∷ []
+
+abbrev pub number_field : Option ℕ → Field
+number_field None = Absent
+number_field (Some number) = Number number
+
+abbrev pub same_number : Option ℕ → Option ℕ → Bool
+same_number None None = true
+same_number (Some a) (Some b) = a == b
+same_number _ _ = false
+
+-- the row of a number that differs, or that one side does not have
+abbrev pub number_rows : List ℕ → Subject → Option ℕ → Option ℕ → List (List Field)
+number_rows change subject first second = unless (same_number first second) (change_row change subject (number_field first) (number_field second))
+
+-- ---- the tables
 
 -- Just if neither table has a group: of others the rates of the groups are compared, but a plan text of version 1 has the rate without them too.
-abbrev pub rate_lines : TableRecord → TableRecord → List ℕ
-rate_lines a b = if length a.groups == 0 && length b.groups == 0 then rate_line a.rate b.rate else []
+abbrev pub table_rates : TableRecord → TableRecord → List (List Field)
+table_rates a b = if length a.groups == 0 && length b.groups == 0 then number_rows (codes "rate") the_table a.rate b.rate else []
+
+abbrev pub version_rows : ℕ → ℕ → List (List Field)
+version_rows from to = number_rows (codes "version") the_table (Some from) (Some to)
+
+-- ---- lists of what has a name
+
+-- the number of the one of this name, and that one
+unfoldable pub number_named : {X : Type 0} → (X → List ℕ) → List X → List ℕ → Option ℕ
+number_named name xs n = position (λ x. bytes_eq (name x) n) xs
+
+abbrev pub item_named : {X : Type 0} → (X → List ℕ) → List X → List ℕ → Option X
+item_named name xs n = option_and_then (λ i. slice_get xs i) (number_named name xs n)
+
+-- one whose number in the second list is another than in the first, or that only one of them has
+abbrev pub place_rows : {X : Type 0} → List ℕ → (X → List ℕ) → (X → Subject) → List X → List X → X → List (List Field)
+place_rows change name subject first second x = number_rows change (subject x) (number_named name first (name x)) (number_named name second (name x))
+
+-- one that the first list does not have
+abbrev pub new_rows : {X : Type 0} → List ℕ → (X → List ℕ) → (X → Subject) → List X → List X → X → List (List Field)
+new_rows change name subject first second x =
+    if is_some (number_named name first (name x)) then [] else place_rows change name subject first second x
+
+-- what is said of one that both lists have
+abbrev pub of_both : {X : Type 0} → (X → List ℕ) → (X → X → List (List Field)) → List X → X → List (List Field)
+of_both name rows second x = option_map_or (rows x) (item_named name second (name x)) []
+
+-- the numbers of those of the first list, and of those that only the second has; and then what differs of those that both have
+abbrev pub list_rows : {X : Type 0} → List ℕ → (X → List ℕ) → (X → Subject) → (X → X → List (List Field)) → List X → List X → List (List Field)
+list_rows change name subject rows first second =
+    flat_map (place_rows change name subject first second) first
+    ++ (flat_map (new_rows change name subject first second) second ++ flat_map (of_both name rows second) first)
 
 -- ---- the station
 
--- Whether a part of the station is the same in both tables. Each part is a list that is compared as a whole: the names of the receivers, their
--- lists of filters as written, the sources, the names of the groups, the rates of the groups. So a receiver more differs in its name and in its
--- filters, and a group more in its name and in its rate. Together the parts are what `same_station` compares, since a list is equal just if its
--- elements agree in names and in the rest; without groups no rate is compared.
-abbrev pub same_part : StationPart → TableRecord → TableRecord → Bool
-same_part Receivers a b = all_agree (λ r s. bytes_eq r.name s.name) a.receivers b.receivers
-same_part Filters a b = all_agree (λ r s. same_filters r.filters s.filters) a.receivers b.receivers
-same_part Sources a b = all_agree same_source a.sources b.sources
-same_part Groups a b = all_agree (λ g h. bytes_eq g.name h.name) a.groups b.groups
-same_part Rates a b = all_agree (λ g h. g.rate == h.rate) a.groups b.groups
+-- how many filters there are, if there is a list
+abbrev pub filter_count : Option (List Filter) → Field
+filter_count filters = number_field (option_map (λ fs. length fs) filters)
 
-abbrev pub part_name : StationPart → List ℕ
-part_name Receivers = codes "receivers"
-part_name Filters = codes "filters"
-part_name Sources = codes "sources"
-part_name Groups = codes "groups"
-part_name Rates = codes "rates"
+abbrev pub filter_rows : ReceiverRow → ReceiverRow → List (List Field)
+filter_rows r s = unless (same_filters r.filters s.filters) (change_row (codes "filters") (of_name r.name) (filter_count r.filters) (filter_count s.filters))
 
-abbrev pub station_line : TableRecord → TableRecord → StationPart → List ℕ
-station_line a b part = if same_part part a b then [] else codes "station " ++ (part_name part ++ codes "\n")
+abbrev pub sdi_or_any : Option ℕ → Field
+sdi_or_any None = Text (codes "any")
+sdi_or_any (Some sdi) = Number sdi
 
-abbrev pub station_parts : List StationPart
-station_parts = Receivers ∷ Filters ∷ Sources ∷ Groups ∷ Rates ∷ []
+abbrev pub source_receiver_rows : List ReceiverRow → List ReceiverRow → SourceRow → SourceRow → List (List Field)
+source_receiver_rows own others s u =
+    unless (bytes_eq (receiver_name own s.receiver) (receiver_name others u.receiver))
+    (change_row (codes "source-receiver") (of_name s.name) (Text (receiver_name own s.receiver)) (Text (receiver_name others u.receiver)))
 
--- a line for each part that differs: then the second table cannot be published while the first one runs
-abbrev pub station_lines : TableRecord → TableRecord → List ℕ
-station_lines a b = flat_map (station_line a b) station_parts
+abbrev pub label_rows : SourceRow → SourceRow → List (List Field)
+label_rows s u = unless (s.label == u.label) (change_row (codes "label") (of_name s.name) (Text (octal s.label)) (Text (octal u.label)))
+
+abbrev pub sdi_rows : SourceRow → SourceRow → List (List Field)
+sdi_rows s u = unless (same_sdi s.sdi u.sdi) (change_row (codes "sdi") (of_name s.name) (sdi_or_any s.sdi) (sdi_or_any u.sdi))
+
+-- the name of the receiver of a source, its label and its SDI
+abbrev pub source_rows : List ReceiverRow → List ReceiverRow → SourceRow → SourceRow → List (List Field)
+source_rows own others s u = source_receiver_rows own others s u ++ (label_rows s u ++ sdi_rows s u)
+
+abbrev pub rate_rows : GroupRow → GroupRow → List (List Field)
+rate_rows g h = number_rows (codes "rate") (of_group g.name) (Some g.rate) (Some h.rate)
+
+abbrev pub receiver_rows : List ReceiverRow → List ReceiverRow → List (List Field)
+receiver_rows own others = list_rows (codes "receiver") (λ r. r.name) (λ r. of_name r.name) filter_rows own others
+
+abbrev pub sources_rows : TableRecord → TableRecord → List (List Field)
+sources_rows a b = list_rows (codes "source") (λ s. s.name) (λ s. of_name s.name) (source_rows a.receivers b.receivers) a.sources b.sources
+
+abbrev pub group_rows : List GroupRow → List GroupRow → List (List Field)
+group_rows own others = list_rows (codes "group") (λ g. g.name) (λ g. of_group g.name) rate_rows own others
+
+-- no row just if the two tables are of one station (law `no_station_row_is_one_station`): then the second can be published while the first one runs
+abbrev pub station_rows : TableRecord → TableRecord → List (List Field)
+station_rows a b = receiver_rows a.receivers b.receivers ++ (sources_rows a b ++ group_rows a.groups b.groups)
 
 -- ---- an output
 
-abbrev pub same_hold : Option ℕ → Option ℕ → Bool
-same_hold None None = true
-same_hold (Some a) (Some b) = a == b
-same_hold _ _ = false
+-- a group as a proposal has it: the sources that its outputs name, the rows of its outputs, and its slot table
+pub record Sent : Type 0 where
+  pub sources : List SourceRow
+  pub rows : List OutputRow
+  pub table : SlotTable
 
--- the outputs have one period, one place and one hold
-abbrev pub same_output : Placed → Placed → Bool
-same_output x y =
-    x.place.period == y.place.period && (x.place.bus == y.place.bus && (x.place.offset == y.place.offset && same_hold x.limits.hold y.limits.hold))
+-- the name of the source of the output with this number
+abbrev pub name_at : Sent → ℕ → List ℕ
+name_at s o = source_name s.sources (placed_at s.table o).source
+
+-- the number of the output whose source has this name
+abbrev pub output_named : Sent → List ℕ → Option ℕ
+output_named s name = number_named (λ (x : Placed). source_name s.sources x.source) (outputs_of s.table) name
+
+-- what is compared of an output: its interval, its period in slots, its hold, its bus and its slot
+abbrev pub compared_of : Option ℕ → Option ℕ → SlotPlace → Option ℕ → Compared
+compared_of min_us max_us place hold =
+    record { min_us = min_us; max_us = max_us; period = Some (2 ^ place.period); hold = hold; bus = Some place.bus; slot = Some place.offset }
+
+abbrev pub compared_at : Sent → ℕ → Compared
+compared_at s o =
+    compared_of (option_map (λ r. r.min_us) (slice_get s.rows o)) (option_map (λ r. r.max_us) (slice_get s.rows o)) (placed_at s.table o).place
+    (placed_at s.table o).limits.hold
 
 -- how many slots after its last cell by the first plan an output has its first by the second (`gap` of `a429_slots`)
 abbrev pub cell_gap : Placed → Placed → ℕ
@@ -88,125 +178,120 @@ cell_gap x y = 2 ^ x.place.period - x.place.offset + y.place.offset
 abbrev pub gap_of : Placed → Placed → ℕ
 gap_of x y = if nat_lt (cell_gap x y) y.limits.spacing then cell_gap x y + 2 ^ y.place.period else cell_gap x y
 
-abbrev pub hold_field : Option ℕ → Option ℕ → List ℕ
-hold_field from to = if same_hold from to then [] else codes " hold " ++ (limit_text from ++ (codes " to " ++ limit_text to))
+-- that, if the second plan can follow the first
+abbrev pub gap_field : Bool → Placed → Placed → Field
+gap_field has_gap x y = if has_gap then Number (gap_of x y) else Absent
 
-abbrev pub gap_field : Bool → Placed → Placed → List ℕ
-gap_field has_gap x y = if has_gap then codes " gap " ++ decimal (gap_of x y) else []
+-- a row for each number that differs; the slot's if all are asked for
+abbrev pub compared_rows : Bool → Subject → Compared → Compared → List (List Field)
+compared_rows all subject x y =
+    number_rows (codes "min_us") subject x.min_us y.min_us ++ (number_rows (codes "max_us") subject x.max_us y.max_us
+    ++ (number_rows (codes "period") subject x.period y.period ++ (number_rows (codes "hold") subject x.hold y.hold
+    ++ (number_rows (codes "bus") subject x.bus y.bus ++ (if all then number_rows (codes "slot") subject x.slot y.slot else [])))))
 
-abbrev pub move_text : List ℕ → Placed → Placed → List ℕ
-move_text name x y =
-    codes "output " ++ (name ++ (codes " period " ++ from_to (2 ^ x.place.period) (2 ^ y.place.period)
-    (codes " bus " ++ from_to x.place.bus y.place.bus (codes " slot " ++ from_to x.place.offset y.place.offset []))))
-
--- an output of both plans that differs: its period, bus and slot, its hold if that differs, and the gap if the second plan can follow the first
-abbrev pub changed_text : Bool → List ℕ → Placed → Placed → List ℕ
-changed_text has_gap name x y =
-    move_text name x y ++ (hold_field x.limits.hold y.limits.hold ++ (gap_field has_gap x y ++ codes "\n"))
-
--- an output of both plans, if it differs
-abbrev pub output_change : Bool → List ℕ → Placed → Placed → List ℕ
-output_change has_gap name x y = if same_output x y then [] else changed_text has_gap name x y
-
--- an output that only the second plan has
-abbrev pub new_text : List ℕ → Placed → List ℕ
-new_text name y =
-    codes "new " ++ (name ++ (codes " period " ++ (decimal (2 ^ y.place.period) ++ (codes " bus " ++ (decimal y.place.bus
-    ++ (codes " slot " ++ (decimal y.place.offset ++ codes "\n")))))))
+-- nothing but the slot differs
+abbrev pub has_moved : Compared → Compared → Bool
+has_moved x y =
+    same_number x.min_us y.min_us && (same_number x.max_us y.max_us && (same_number x.period y.period
+    && (same_number x.hold y.hold && (same_number x.bus y.bus && not (same_number x.slot y.slot)))))
 
 -- ---- a group
 
--- the slot table of a group, with the sources that its outputs name
-pub record Sent : Type 0 where
-  pub sources : List SourceRow
-  pub table : SlotTable
+-- a group that both proposals have: its name, and as each of them has it
+pub record Both : Type 0 where
+  pub name : List ℕ
+  pub first : Sent
+  pub second : Sent
 
-abbrev pub sent : List SourceRow → SlotTable → Sent
-sent sources table = record { sources = sources; table = table }
+-- the output of the second plan that has the source of this one of the first
+abbrev pub other_of : Both → ℕ → Option ℕ
+other_of g o = output_named g.second (name_at g.first o)
 
--- the name of the source of the output with this number
-abbrev pub name_at : Sent → ℕ → List ℕ
-name_at s o = source_name s.sources (placed_at s.table o).source
+abbrev pub kept_subject : Bool → Both → ℕ → ℕ → Subject
+kept_subject has_gap g o p = of_output g.name (name_at g.first o) (gap_field has_gap (placed_at g.first.table o) (placed_at g.second.table p))
 
--- the number of the output whose source has this name
-unfoldable pub output_named : Sent → List ℕ → Option ℕ
-output_named s name = position (λ x. bytes_eq (source_name s.sources x.source) name) (outputs_of s.table)
+-- an output of both plans
+abbrev pub pair_rows : Bool → Bool → Both → ℕ → ℕ → List (List Field)
+pair_rows all has_gap g o p = compared_rows all (kept_subject has_gap g o p) (compared_at g.first o) (compared_at g.second p)
 
--- an output of the first plan with that of the second, if this has one with the same source
-abbrev pub output_against : Bool → List ℕ → Placed → SlotTable → Option ℕ → List ℕ
-output_against has_gap name x u None = codes "gone " ++ (name ++ codes "\n")
-output_against has_gap name x u (Some p) = output_change has_gap name x (placed_at u p)
+-- an output of the first plan, if the second has it too
+abbrev pub kept_rows : Bool → Bool → Both → ℕ → List (List Field)
+kept_rows all has_gap g o = option_map_or (pair_rows all has_gap g o) (other_of g o) []
 
-abbrev pub output_line : Bool → Sent → Sent → ℕ → List ℕ
-output_line has_gap s u o = output_against has_gap (name_at s o) (placed_at s.table o) u.table (output_named u (name_at s o))
+-- the period of an output that only the first plan has, or only the second
+abbrev pub lone_rows : Bool → Subject → Option ℕ → List (List Field)
+lone_rows false subject period = number_rows (codes "output") subject period None
+lone_rows true subject period = number_rows (codes "output") subject None period
 
-abbrev pub new_line : Sent → Sent → ℕ → List ℕ
-new_line s u o = if is_some (output_named s (name_at u o)) then [] else new_text (name_at u o) (placed_at u.table o)
+-- an output of one plan, if the other does not have it
+abbrev pub only_rows : List ℕ → Bool → Sent → Sent → ℕ → List (List Field)
+only_rows group is_second s u o =
+    if is_some (output_named u (name_at s o)) then [] else lone_rows is_second (of_output group (name_at s o) Absent) (compared_at s o).period
 
--- the outputs of the first group, in table order
-abbrev pub old_lines : Bool → Sent → Sent → List ℕ
-old_lines has_gap s u = of_each (length (outputs_of s.table)) (output_line has_gap s u)
+-- what is said of each of so many, by their numbers
+abbrev pub each_of : ℕ → (ℕ → List (List Field)) → List (List Field)
+each_of count rows = flat_map rows (range_with_len 0 count)
 
--- those of the second alone
-abbrev pub new_lines : Sent → Sent → List ℕ
-new_lines s u = of_each (length (outputs_of u.table)) (new_line s u)
+abbrev pub size_rows : Both → List (List Field)
+size_rows g =
+    number_rows (codes "buses") (of_group g.name) (Some (buses_of g.first.table)) (Some (buses_of g.second.table))
+    ++ number_rows (codes "frame") (of_group g.name) (Some (frame_of g.first.table)) (Some (frame_of g.second.table))
 
-abbrev pub outputs_lines : Bool → Sent → Sent → List ℕ
-outputs_lines has_gap s u = old_lines has_gap s u ++ new_lines s u
+-- those that both have, and then those that only the first has and that only the second has
+abbrev pub outputs_rows : Bool → Bool → Both → List (List Field)
+outputs_rows all has_gap g =
+    each_of (length (outputs_of g.first.table)) (kept_rows all has_gap g)
+    ++ (each_of (length (outputs_of g.first.table)) (only_rows g.name false g.first g.second)
+    ++ each_of (length (outputs_of g.second.table)) (only_rows g.name true g.second g.first))
 
-abbrev pub same_size : SlotTable → SlotTable → Bool
-same_size t u = frame_of t == frame_of u && buses_of t == buses_of u
+abbrev pub both_rows : Bool → Bool → Both → List (List Field)
+both_rows all has_gap g = size_rows g ++ outputs_rows all has_gap g
 
-abbrev pub heading_text : List ℕ → SlotTable → SlotTable → List ℕ
-heading_text name t u =
-    codes "group " ++ (name ++ (codes " frame " ++ from_to (frame_of t) (frame_of u) (codes " buses " ++ from_to (buses_of t) (buses_of u) (codes "\n"))))
+-- of an output, whether both plans have it and it differs in nothing but its slot
+abbrev pub is_moved : Both → ℕ → Bool
+is_moved g o = option_map_or (λ p. has_moved (compared_at g.first o) (compared_at g.second p)) (other_of g o) false
 
--- a group of both plans, if anything of it differs
-abbrev pub group_change : Bool → List ℕ → Sent → Sent → List ℕ
-group_change has_gap name s u =
-    if is_empty (outputs_lines has_gap s u) && same_size s.table u.table then []
-    else heading_text name s.table u.table ++ outputs_lines has_gap s u
+abbrev pub moved_in : Both → ℕ
+moved_in g = count_by (is_moved g) (range_with_len 0 (length (outputs_of g.first.table)))
 
 -- ---- the groups
 
-unfoldable pub group_named : List GroupRow → List ℕ → Option ℕ
-group_named groups name = position (λ g. bytes_eq g.name name) groups
-
 -- the group of a proposal with this number
 abbrev pub sent_by : Proposed → ℕ → Sent
-sent_by q g = record { sources = q.station.sources; table = slice_index_or (groups_of q.plan) g no_table }
+sent_by q g = record { sources = q.station.sources; rows = outputs_in q.station g; table = slice_index_or (groups_of q.plan) g no_table }
 
--- what differs in a group of the first proposal, by that of the second with the same name
-abbrev pub group_against : Bool → List ℕ → Proposed → Proposed → ℕ → Option ℕ → List ℕ
-group_against has_gap name a b g None = []
-group_against has_gap name a b g (Some h) = group_change has_gap name (sent_by a g) (sent_by b h)
+-- the group of the first proposal with this number, if the second has one of its name
+abbrev pub both_of : Proposed → Proposed → ℕ → Option Both
+both_of a b g =
+    option_and_then (λ (row : GroupRow). option_map (λ h. record { name = row.name; first = sent_by a g; second = sent_by b h })
+    (number_named (λ (h : GroupRow). h.name) b.station.groups row.name)) (slice_get a.station.groups g)
 
--- if the second has one
-abbrev pub common_line : Bool → Proposed → Proposed → ℕ → List ℕ
-common_line has_gap a b g =
-    option_map_or (λ row. group_against has_gap row.name a b g (group_named b.station.groups row.name)) (slice_get a.station.groups g) []
+abbrev pub group_both_rows : Bool → Bool → Proposed → Proposed → ℕ → List (List Field)
+group_both_rows all has_gap a b g = option_map_or (both_rows all has_gap) (both_of a b g) []
 
--- those of these groups that the others do not have
-abbrev pub missing_line : List ℕ → List GroupRow → GroupRow → List ℕ
-missing_line verb others g = if is_some (group_named others g.name) then [] else verb ++ (g.name ++ codes "\n")
+-- of each group
+abbrev pub groups_rows : Bool → Bool → Proposed → Proposed → List (List Field)
+groups_rows all has_gap a b = each_of (length a.station.groups) (group_both_rows all has_gap a b)
 
-abbrev pub missing_lines : List ℕ → List GroupRow → List GroupRow → List ℕ
-missing_lines verb groups others = flat_map (missing_line verb others) groups
+abbrev pub group_moved : Proposed → Proposed → ℕ → ℕ
+group_moved a b g = option_map_or moved_in (both_of a b g) 0
 
--- ---- the text
+-- how many outputs of all groups have moved
+abbrev pub moved_count : Proposed → Proposed → ℕ
+moved_count a b = sum_by (group_moved a b) (range_with_len 0 (length a.station.groups))
 
-abbrev pub head_lines : TableRecord → TableRecord → List ℕ
-head_lines a b = version_line a.version b.version ++ (rate_lines a b ++ station_lines a b)
+abbrev pub count_rows : ℕ → List (List Field)
+count_rows count = unless (count == 0) (change_row (codes "moved") the_table (Number count) Absent)
 
-abbrev pub groups_lines : Proposed → Proposed → List ℕ
-groups_lines a b =
-    of_each (length a.station.groups) (common_line (same_station a.station b.station) a b)
-    ++ (missing_lines (codes "gone group ") a.station.groups b.station.groups ++ missing_lines (codes "new group ") b.station.groups a.station.groups)
+-- ---- the sheet
+
+abbrev pub equipment_rows : TableRecord → TableRecord → List (List Field)
+equipment_rows a b = version_rows a.version b.version ++ (table_rates a b ++ station_rows a b)
+
+-- all that differs, or of outputs that have moved their number alone; a gap is told if the second plan can follow the first
+abbrev pub plan_rows : Proposed → Proposed → Bool → List (List Field)
+plan_rows a b all = groups_rows all (same_station a.station b.station) a b ++ (if all then [] else count_rows (moved_count a b))
 
 -- what differs, from the first proposal to the second
-abbrev pub changes : Proposed → Proposed → List ℕ
-changes a b = head_lines a.station b.station ++ groups_lines a b
-
--- that, or that nothing does
-abbrev pub diff_text_of : Proposed → Proposed → List ℕ
-diff_text_of a b = if is_empty (changes a b) then codes "same\n" else changes a b
+abbrev pub diff_rows : Proposed → Proposed → Bool → List (List Field)
+diff_rows a b all = equipment_rows a.station b.station ++ plan_rows a b all

@@ -1,9 +1,8 @@
--- The interface control document of a plan: the names of its columns, and a row of texts for each output.
+-- The interface control document of a plan: the names of its columns, and a row for each output.
 use Rattle.std.specs.Prelude.{ℕ, ◌+◌, ◌*◌, ◌^◌, List, [], ◌∷◌, ◌++◌, Option, None, Some, codes, slice_get}
-use Rattle.std.specs.Fmt.{decimal}
 use Rattle.std.specs.Int.{div_ceil}
-use Rattle.std.specs.List.{flat_map}
 use Rattle.std.specs.Option.{option_map_or}
+use Rattle.a429_text.specs.Fields.{Field, Text, Number, Absent}
 use Rattle.a429_word.specs.Texts.{octal}
 use Rattle.a429_equipment.specs.TableRecord.{TableRecord}
 use Rattle.a429_grid.specs.Grid.{slot_time}
@@ -14,8 +13,6 @@ use Rattle.a429_equipment.specs.declared.rows.SourceRow.{SourceRow}
 use Rattle.a429_slots.specs.declared.group_plan.SendLimits.{SendLimits}
 use Rattle.a429_slots.specs.declared.group_plan.SlotPlace.{SlotPlace}
 use Rattle.a429_slots.specs.Tables.{Placed, SlotTable, PlanTable, groups_of, outputs_of}
-use Rattle.a429_cert.specs.Spelling.{limit_text}
-use Rattle.csv.specs.Writing.{default_writer, row_text}
 
 -- ---- the columns
 
@@ -46,14 +43,19 @@ abbrev pub receiver_name : List ReceiverRow → ℕ → List ℕ
 receiver_name receivers n = option_map_or (λ r. r.name) (slice_get receivers n) []
 
 -- a number, or that any is meant
-abbrev pub sdi_text : Option ℕ → List ℕ
-sdi_text None = codes "any"
-sdi_text (Some sdi) = decimal sdi
+abbrev pub sdi_field : Option ℕ → Field
+sdi_field None = Text (codes "any")
+sdi_field (Some sdi) = Number sdi
+
+-- a limit, if there is one
+abbrev pub limit_field : Option ℕ → Field
+limit_field None = Absent
+limit_field (Some limit) = Number limit
 
 -- of an output what is sent
-abbrev pub sent_fields : List ReceiverRow → GroupRow → SourceRow → List (List ℕ)
+abbrev pub sent_fields : List ReceiverRow → GroupRow → SourceRow → List Field
 sent_fields receivers group source =
-    group.name ∷ decimal group.rate ∷ source.name ∷ receiver_name receivers source.receiver ∷ octal source.label ∷ sdi_text source.sdi ∷ []
+    Text group.name ∷ Number group.rate ∷ Text source.name ∷ Text (receiver_name receivers source.receiver) ∷ Text (octal source.label) ∷ sdi_field source.sdi ∷ []
 
 -- how many microseconds so many slots last at a rate in bit/s, rounded up: a slot is 36 bit times
 -- (ARINC 429 Part 1: a word has 32 bits, and 4 bit times at least lie between two words)
@@ -66,51 +68,42 @@ abbrev pub latency_us : ℕ → ℕ → ℕ
 latency_us rate period = slots_us rate (period + 1)
 
 -- where it stands, at the rate of its group in bit/s
-abbrev pub place_fields : ℕ → SlotPlace → List (List ℕ)
-place_fields rate place =
-    decimal place.bus ∷ decimal place.offset ∷ decimal (2 ^ place.period) ∷ decimal (slots_us rate (2 ^ place.period)) ∷ []
+abbrev pub place_fields : ℕ → SlotPlace → List Field
+place_fields rate place = Number place.bus ∷ Number place.offset ∷ Number (2 ^ place.period) ∷ Number (slots_us rate (2 ^ place.period)) ∷ []
 
 -- what limits it: the interval of its row, and what the slot table keeps
-abbrev pub limit_fields : OutputRow → SendLimits → List (List ℕ)
-limit_fields row limits = decimal row.min_us ∷ decimal row.max_us ∷ limit_text limits.hold ∷ decimal limits.spacing ∷ []
+abbrev pub limit_fields : OutputRow → SendLimits → List Field
+limit_fields row limits = Number row.min_us ∷ Number row.max_us ∷ limit_field limits.hold ∷ Number limits.spacing ∷ []
 
 -- how old a word is at most when it has gone out, at the rate of its group in bit/s
-abbrev pub latency_fields : ℕ → ℕ → List (List ℕ)
-latency_fields rate period = decimal (latency_us rate period) ∷ []
+abbrev pub latency_fields : ℕ → ℕ → List Field
+latency_fields rate period = Number (latency_us rate period) ∷ []
 
 -- the row of an output of a group, which sends this source
-abbrev pub icd_row : List ReceiverRow → GroupRow → SourceRow → OutputRow → SlotPlace → SendLimits → List (List ℕ)
+abbrev pub icd_row : List ReceiverRow → GroupRow → SourceRow → OutputRow → SlotPlace → SendLimits → List Field
 icd_row receivers group source row place limits =
     sent_fields receivers group source ++ (place_fields group.rate place ++ (limit_fields row limits ++ latency_fields group.rate (2 ^ place.period)))
 
 -- the same, of the source that the output's row names; behind the last source, nothing
-unfoldable pub output_row : TableRecord → GroupRow → OutputRow → Placed → List (List ℕ)
+unfoldable pub output_row : TableRecord → GroupRow → OutputRow → Placed → List Field
 output_row e group row placed =
     option_map_or (λ source. icd_row e.receivers group source row placed.place placed.limits) (slice_get e.sources row.source) []
 
 -- ---- the document
 
 -- a row for each output of a group, in table order: its row of the equipment table beside what the slot table keeps of it
-unfoldable pub output_rows : TableRecord → GroupRow → List OutputRow → List Placed → List (List (List ℕ))
+unfoldable pub output_rows : TableRecord → GroupRow → List OutputRow → List Placed → List (List Field)
 output_rows e group [] placed = []
 output_rows e group (row ∷ rows) [] = []
 output_rows e group (row ∷ rows) (placed ∷ others) = output_row e group row placed ∷ output_rows e group rows others
 
 -- those of each group, in table order
-unfoldable pub groups_rows : TableRecord → List GroupRow → List (List OutputRow) → List SlotTable → List (List (List ℕ))
+unfoldable pub groups_rows : TableRecord → List GroupRow → List (List OutputRow) → List SlotTable → List (List Field)
 groups_rows e [] outputs ts = []
 groups_rows e (group ∷ groups) [] ts = []
 groups_rows e (group ∷ groups) (rows ∷ outputs) [] = []
 groups_rows e (group ∷ groups) (rows ∷ outputs) (t ∷ ts) = output_rows e group rows (outputs_of t) ++ groups_rows e groups outputs ts
 
 -- those of a plan
-abbrev pub plan_rows : TableRecord → PlanTable → List (List (List ℕ))
-plan_rows e p = groups_rows e e.groups e.outputs (groups_of p)
-
--- the names of the columns, and then a row for each output
-abbrev pub icd_rows : TableRecord → PlanTable → List (List (List ℕ))
-icd_rows e p = icd_columns ∷ plan_rows e p
-
--- a line for each row, with commas between its fields (RFC 4180, with a line feed at each line's end)
-unfoldable pub csv_text_of : List (List (List ℕ)) → List ℕ
-csv_text_of rows = flat_map (row_text default_writer) rows
+abbrev pub icd_rows : TableRecord → PlanTable → List (List Field)
+icd_rows e p = groups_rows e e.groups e.outputs (groups_of p)

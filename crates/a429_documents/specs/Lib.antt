@@ -1,7 +1,5 @@
 pub mod Margins
 pub mod Drawing
-pub mod Spreads
-pub mod Page
 pub mod Aligned
 pub mod Document
 pub mod CsvLines

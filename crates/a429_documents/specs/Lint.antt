@@ -1,9 +1,9 @@
--- What a table does in silence: the text of `lint` (profile: lint text).
-use Rattle.std.specs.Prelude.{ℕ, ◌+◌, ◌*◌, ◌^◌, ◌≡◌, ◌==◌, ◌&&◌, Bool, true, false, List, [], ◌∷◌, ◌++◌, Option, None, Some, codes, if◌then◌else◌, is_some, nat_le, nat_lt, length, slice_get, slice_index_or}
-use Rattle.std.specs.Fmt.{decimal}
+-- What a table does in silence: the rows of `lint` (profile: lint).
+use Rattle.std.specs.Prelude.{ℕ, ◌+◌, ◌*◌, ◌^◌, ◌≡◌, ◌==◌, ◌&&◌, Bool, true, false, List, [], ◌∷◌, Option, None, Some, codes, if◌then◌else◌, is_some, nat_le, nat_lt, length, slice_get, slice_index_or}
 use Rattle.std.specs.Int.{div_ceil}
 use Rattle.std.specs.List.{AllZip, flat_map, list_all, list_any, range_with_len}
 use Rattle.std.specs.Option.{option_map_or}
+use Rattle.a429_text.specs.Fields.{Field, Text, Number, Absent}
 use Rattle.a429_equipment.specs.TableRecord.{TableRecord, outputs_in}
 use Rattle.a429_equipment.specs.declared.rows.OutputRow.{OutputRow}
 use Rattle.a429_equipment.specs.declared.rows.ReceiverRow.{ReceiverRow}
@@ -25,9 +25,27 @@ use Rattle.a429_documents.specs.declared.lint.SourceFinding.TheVariants.{Unheard
 use Rattle.a429_documents.specs.declared.lint.ReceiverFinding.{ReceiverFinding}
 use Rattle.a429_documents.specs.declared.lint.ReceiverFinding.TheVariants.{Idle, Blind}
 
--- what is written of each of so many, by their numbers
-abbrev pub of_each : ℕ → (ℕ → List ℕ) → List ℕ
-of_each count line = flat_map line (range_with_len 0 count)
+-- ---- the columns
+
+-- what is found, where, and a number if the finding has one
+abbrev pub lint_columns : List (List ℕ)
+lint_columns = codes "finding" ∷ codes "group" ∷ codes "receiver" ∷ codes "source" ∷ codes "other" ∷ codes "number" ∷ []
+
+-- a finding of a group: of one or two of its sources, or with a number
+abbrev pub group_row : List ℕ → List ℕ → Field → Field → Field → List Field
+group_row finding group source other number = Text finding ∷ Text group ∷ Absent ∷ source ∷ other ∷ number ∷ []
+
+-- a finding of a source
+abbrev pub source_row : List ℕ → List ℕ → List Field
+source_row finding source = Text finding ∷ Absent ∷ Absent ∷ Text source ∷ Absent ∷ Absent ∷ []
+
+-- a finding of a receiver
+abbrev pub receiver_row : List ℕ → List ℕ → Field → List Field
+receiver_row finding receiver number = Text finding ∷ Absent ∷ Text receiver ∷ Absent ∷ Absent ∷ number ∷ []
+
+-- what is said of each of so many, by their numbers
+abbrev pub of_each : {X : Type 0} → ℕ → (ℕ → List X) → List X
+of_each count said = flat_map said (range_with_len 0 count)
 
 -- ---- groups
 
@@ -53,21 +71,21 @@ abbrev pub bus_count : List ℕ → ℕ
 bus_count exponents = div_ceil (demand_of exponents) (2 ^ greatest exponents)
 
 -- an output without a grid period
-abbrev pub unfit_line : List SourceRow → List ℕ → List OutputRow → List Demand → ℕ → List ℕ
-unfit_line sources group rows demands o =
-    if is_some (demand_at demands o).period then []
-    else codes "unfit " ++ (group ++ (codes " " ++ (output_name sources rows o ++ codes "\n")))
+abbrev pub unfit_rows : List SourceRow → List ℕ → List OutputRow → List Demand → ℕ → List (List Field)
+unfit_rows sources group rows demands o =
+    if is_some (demand_at demands o).period then [] else group_row (codes "unfit") group (Text (output_name sources rows o)) Absent Absent ∷ []
 
 -- each output has a grid period, and the fewest buses are more than a group can have
 abbrev pub needs_too_many : List Demand → Bool
 needs_too_many demands = are_fit demands && nat_lt 16 (bus_count (exponents_of demands))
 
-abbrev pub too_many_text : List ℕ → ℕ → List ℕ
-too_many_text group buses = codes "too-many-buses " ++ (group ++ (codes " " ++ (decimal buses ++ codes "\n")))
+abbrev pub needed_row : List ℕ → ℕ → List Field
+needed_row group buses = group_row (codes "too-many-buses") group Absent Absent (Number buses)
 
 -- such a group, with the fewest buses that it needs
-abbrev pub too_many_line : List ℕ → List Demand → List ℕ
-too_many_line group demands = if needs_too_many demands then too_many_text group (bus_count (exponents_of demands)) else []
+abbrev pub too_many_rows : List ℕ → List Demand → List (List Field)
+too_many_rows group demands =
+    if needs_too_many demands then needed_row group (bus_count (exponents_of demands)) ∷ [] else []
 
 -- one of the two is any, and the other a certain one
 abbrev pub one_is_any : Option ℕ → Option ℕ → Bool
@@ -80,15 +98,13 @@ abbrev pub are_alike : List Demand → ℕ → ℕ → Bool
 are_alike demands o p =
     nat_lt o p && ((demand_at demands o).label == (demand_at demands p).label && one_is_any (demand_at demands o).sdi (demand_at demands p).sdi)
 
-abbrev pub alike_line : List SourceRow → List ℕ → List OutputRow → List Demand → ℕ → ℕ → List ℕ
-alike_line sources group rows demands o p =
-    if are_alike demands o p
-    then codes "alike " ++ (group ++ (codes " " ++ (output_name sources rows o ++ (codes " " ++ (output_name sources rows p ++ codes "\n")))))
-    else []
+abbrev pub alike_row : List SourceRow → List ℕ → List OutputRow → List Demand → ℕ → ℕ → List (List Field)
+alike_row sources group rows demands o p =
+    if are_alike demands o p then group_row (codes "alike") group (Text (output_name sources rows o)) (Text (output_name sources rows p)) Absent ∷ [] else []
 
 -- those of one output with each later one
-abbrev pub alike_lines : List SourceRow → List ℕ → List OutputRow → List Demand → ℕ → List ℕ
-alike_lines sources group rows demands o = of_each (length rows) (alike_line sources group rows demands o)
+abbrev pub alike_rows : List SourceRow → List ℕ → List OutputRow → List Demand → ℕ → List (List Field)
+alike_rows sources group rows demands o = of_each (length rows) (alike_row sources group rows demands o)
 
 -- the group can be planned, and its demand fills each cell of its buses
 abbrev pub is_full : List Demand → Bool
@@ -96,23 +112,23 @@ is_full demands =
     are_fit demands && (nat_le (bus_count (exponents_of demands)) 16
     && demand_of (exponents_of demands) == bus_count (exponents_of demands) * 2 ^ greatest (exponents_of demands))
 
-abbrev pub full_line : List ℕ → List Demand → List ℕ
-full_line group demands = if is_full demands then codes "full " ++ (group ++ codes "\n") else []
+abbrev pub full_rows : List ℕ → List Demand → List (List Field)
+full_rows group demands = if is_full demands then group_row (codes "full") group Absent Absent Absent ∷ [] else []
 
 -- the findings of one kind in a group, outputs in table order
-abbrev pub group_finding : List SourceRow → GroupFinding → List ℕ → List OutputRow → List Demand → List ℕ
-group_finding sources Unfit group rows demands = of_each (length rows) (unfit_line sources group rows demands)
-group_finding sources TooManyBuses group rows demands = too_many_line group demands
-group_finding sources Alike group rows demands = of_each (length rows) (alike_lines sources group rows demands)
-group_finding sources Full group rows demands = full_line group demands
+abbrev pub group_finding : List SourceRow → GroupFinding → List ℕ → List OutputRow → List Demand → List (List Field)
+group_finding sources Unfit group rows demands = of_each (length rows) (unfit_rows sources group rows demands)
+group_finding sources TooManyBuses group rows demands = too_many_rows group demands
+group_finding sources Alike group rows demands = of_each (length rows) (alike_rows sources group rows demands)
+group_finding sources Full group rows demands = full_rows group demands
 
-abbrev pub group_lines : TableRecord → List (List Demand) → GroupFinding → ℕ → List ℕ
-group_lines e asked kind n =
+abbrev pub group_rows : TableRecord → List (List Demand) → GroupFinding → ℕ → List (List Field)
+group_rows e asked kind n =
     option_map_or (λ g. group_finding e.sources kind g.name (outputs_in e n) (asked_in asked n)) (slice_get e.groups n) []
 
 -- of each group
-abbrev pub group_findings : TableRecord → List (List Demand) → GroupFinding → List ℕ
-group_findings e asked kind = of_each (length e.groups) (group_lines e asked kind)
+abbrev pub group_findings : TableRecord → List (List Demand) → GroupFinding → List (List Field)
+group_findings e asked kind = of_each (length e.groups) (group_rows e asked kind)
 
 -- ---- sources
 
@@ -129,12 +145,12 @@ abbrev pub is_sent : TableRecord → ℕ → Bool
 is_sent e source = list_any (λ group. has_output_of (outputs_in e group) source) (range_with_len 0 (length e.groups))
 
 -- the finding of one kind of a source
-abbrev pub source_finding : TableRecord → SourceFinding → ℕ → SourceRow → List ℕ
-source_finding e Unheard n s = if is_heard e.receivers s then [] else codes "unheard " ++ (s.name ++ codes "\n")
-source_finding e Unsent n s = if is_sent e n then [] else codes "unsent " ++ (s.name ++ codes "\n")
+abbrev pub source_finding : TableRecord → SourceFinding → ℕ → SourceRow → List (List Field)
+source_finding e Unheard n s = if is_heard e.receivers s then [] else source_row (codes "unheard") s.name ∷ []
+source_finding e Unsent n s = if is_sent e n then [] else source_row (codes "unsent") s.name ∷ []
 
-abbrev pub source_lines : TableRecord → SourceFinding → ℕ → List ℕ
-source_lines e kind n = option_map_or (source_finding e kind n) (slice_get e.sources n) []
+abbrev pub source_rows : TableRecord → SourceFinding → ℕ → List (List Field)
+source_rows e kind n = option_map_or (source_finding e kind n) (slice_get e.sources n) []
 
 -- ---- receivers
 
@@ -147,34 +163,34 @@ abbrev pub sees_source : List SourceRow → ℕ → Filter → Bool
 sees_source sources r f = list_any (λ s. s.receiver == r && passes f s.label) sources
 
 -- a filter that passes no label of the receiver's sources, by its number from 1
-abbrev pub blind_line : List SourceRow → ℕ → List ℕ → List Filter → ℕ → List ℕ
-blind_line sources r name filters n =
-    option_map_or (λ f. if sees_source sources r f then [] else codes "blind " ++ (name ++ (codes " " ++ (decimal (n + 1) ++ codes "\n")))) (slice_get filters n) []
+abbrev pub blind_rows : List SourceRow → ℕ → List ℕ → List Filter → ℕ → List (List Field)
+blind_rows sources r name filters n =
+    option_map_or (λ f. if sees_source sources r f then [] else receiver_row (codes "blind") name (Number (n + 1)) ∷ []) (slice_get filters n) []
 
 -- the findings of one kind of a receiver, filters in order
-abbrev pub receiver_finding : List SourceRow → ReceiverFinding → ℕ → ReceiverRow → List ℕ
-receiver_finding sources Idle n r = if has_source sources n then [] else codes "idle " ++ (r.name ++ codes "\n")
-receiver_finding sources Blind n r = of_each (length (filters_of r.filters)) (blind_line sources n r.name (filters_of r.filters))
+abbrev pub receiver_finding : List SourceRow → ReceiverFinding → ℕ → ReceiverRow → List (List Field)
+receiver_finding sources Idle n r = if has_source sources n then [] else receiver_row (codes "idle") r.name Absent ∷ []
+receiver_finding sources Blind n r = of_each (length (filters_of r.filters)) (blind_rows sources n r.name (filters_of r.filters))
 
-abbrev pub receiver_lines : TableRecord → ReceiverFinding → ℕ → List ℕ
-receiver_lines e kind n = option_map_or (receiver_finding e.sources kind n) (slice_get e.receivers n) []
+abbrev pub receiver_rows : TableRecord → ReceiverFinding → ℕ → List (List Field)
+receiver_rows e kind n = option_map_or (receiver_finding e.sources kind n) (slice_get e.receivers n) []
 
--- ---- the text
+-- ---- all findings
 
 -- the findings of one kind, in table order
-abbrev pub finding_lines : TableRecord → List (List Demand) → Finding → List ℕ
-finding_lines e asked (OfGroup kind) = group_findings e asked kind
-finding_lines e asked (OfSource kind) = of_each (length e.sources) (source_lines e kind)
-finding_lines e asked (OfReceiver kind) = of_each (length e.receivers) (receiver_lines e kind)
+abbrev pub finding_rows : TableRecord → List (List Demand) → Finding → List (List Field)
+finding_rows e asked (OfGroup kind) = group_findings e asked kind
+finding_rows e asked (OfSource kind) = of_each (length e.sources) (source_rows e kind)
+finding_rows e asked (OfReceiver kind) = of_each (length e.receivers) (receiver_rows e kind)
 
--- the kinds, in the order of the text
+-- the kinds, in the order of the rows
 abbrev pub findings : List Finding
 findings =
     OfGroup Unfit ∷ OfGroup TooManyBuses ∷ OfSource Unheard ∷ OfSource Unsent ∷ OfReceiver Idle ∷ OfReceiver Blind ∷ OfGroup Alike ∷ OfGroup Full ∷ []
 
--- a line for each finding, kind by kind, by what the outputs of the groups ask
-abbrev pub lint_text_of : TableRecord → List (List Demand) → List ℕ
-lint_text_of e asked = flat_map (finding_lines e asked) findings
+-- a row for each finding, kind by kind, by what the outputs of the groups ask
+abbrev pub lint_rows : TableRecord → List (List Demand) → List (List Field)
+lint_rows e asked = flat_map (finding_rows e asked) findings
 
-abbrev pub IsLintText : TableRecord → List ℕ → Type 0
-IsLintText e text = (asked : List (List Demand)) × AreAsked e asked × (text ≡ lint_text_of e asked)
+abbrev pub AreFindings : TableRecord → List (List Field) → Type 0
+AreFindings e rows = (asked : List (List Demand)) × AreAsked e asked × (rows ≡ lint_rows e asked)

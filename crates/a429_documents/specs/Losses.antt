@@ -11,7 +11,7 @@ use Rattle.a429_slots.specs.Planned.{IsFit, rated_outputs}
 use Rattle.a429_documents.specs.declared.lint.Finding.TheVariants.{OfGroup, OfSource}
 use Rattle.a429_documents.specs.declared.lint.GroupFinding.TheVariants.{Unfit}
 use Rattle.a429_documents.specs.declared.lint.SourceFinding.TheVariants.{Unheard, Unsent}
-use Rattle.a429_documents.specs.Lint.{AreAsked, bus_count, finding_lines}
+use Rattle.a429_documents.specs.Lint.{AreAsked, bus_count, finding_rows}
 
 -- some raw word of 32 bits that comes in at some receiver is for the source of this number
 abbrev pub CanBeAccepted : TableRecord → ℕ → Type 0
@@ -27,13 +27,13 @@ pub record IsAllServed (e : TableRecord) : Type 0 where
   pub sent : (source : ℕ) → source < length e.sources → IsSent e source
   pub fit : AllByRecursion (λ rated. AllByRecursion (IsFit rated.0) rated.1) (rated_outputs e)
 
--- the text of `lint` has no line `unfit`, `unheard` or `unsent`
+-- `lint` has no row `unfit`, `unheard` or `unsent`
 pub record HasNoLoss (e : TableRecord) (asked : List (List Demand)) : Type 0 where
-  pub unfit : finding_lines e asked (OfGroup Unfit) ≡ []
-  pub unheard : finding_lines e asked (OfSource Unheard) ≡ []
-  pub unsent : finding_lines e asked (OfSource Unsent) ≡ []
+  pub unfit : finding_rows e asked (OfGroup Unfit) ≡ []
+  pub unheard : finding_rows e asked (OfSource Unheard) ≡ []
+  pub unsent : finding_rows e asked (OfSource Unsent) ≡ []
 
--- it has none of these lines just if all is served
+-- it has none of these rows just if all is served
 abbrev pub NoLossIsAllServed : Type 0
 NoLossIsAllServed = (e : TableRecord) (asked : List (List Demand)) → IsSound e → AreAsked e asked → HasNoLoss e asked ↔ IsAllServed e
 

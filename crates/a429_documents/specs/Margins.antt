@@ -1,7 +1,7 @@
--- How far a group is from one bus fewer: the text of `margin` (profile: margin text).
-use Rattle.std.specs.Prelude.{ℕ, ◌-◌, ◌*◌, ◌/◌, ◌^◌, ◌≤◌, ◌≡◌, ◌⊎◌, List, [], ◌∷◌, ◌++◌, Bool, false, Option, None, Some, codes, if◌then◌else◌, length, map, nat_lt, slice_index_or, sum}
-use Rattle.std.specs.Fmt.{decimal}
+-- How far a group is from one bus fewer: the rows of `margin` (profile: margin).
+use Rattle.std.specs.Prelude.{ℕ, ◌-◌, ◌*◌, ◌/◌, ◌^◌, ◌≤◌, ◌≡◌, ◌⊎◌, List, [], ◌∷◌, ◌++◌, Bool, true, false, Option, None, OnOk, Result, Some, codes, if◌then◌else◌, length, map, nat_lt, replicate, slice_index_or, sum}
 use Rattle.std.specs.List.{flat_map, range_with_len}
+use Rattle.a429_text.specs.Fields.{Field, Text, Number, Absent}
 use Rattle.a429_equipment.specs.TableRecord.{TableRecord}
 use Rattle.a429_equipment.specs.declared.rows.GroupRow.{GroupRow}
 use Rattle.a429_equipment.specs.declared.rows.OutputRow.{OutputRow}
@@ -10,8 +10,7 @@ use Rattle.a429_grid.specs.Grid.{IsGridPeriod, IsPeriod, slot_time}
 use Rattle.a429_pack.specs.Widening.{IsLeastSaving, NoneSaves}
 use Rattle.a429_pack.specs.Windows.{raw_bound}
 use Rattle.a429_slots.specs.Tables.{SlotTable, PlanTable, placed_at, outputs_of, demands_of, frame_of, buses_of, cells_of, groups_of}
-use Rattle.a429_cert.specs.Spelling.{group_text}
-use Rattle.a429_cert.specs.PlanText.{heading_of, source_name}
+use Rattle.a429_cert.specs.PlanText.{source_name}
 use Rattle.a429_documents.specs.Document.{slots_us}
 
 -- as many whole slots as there are in the output's greatest interval at this rate (profile: raw bound)
@@ -34,74 +33,74 @@ abbrev pub is_chosen : Option (List Bool) → ℕ → Bool
 is_chosen None o = false
 is_chosen (Some marks) o = slice_index_or marks o false
 
--- ---- the lines
+-- ---- the rows
 
--- how many cells of a frame are filled, of how many, and how many are free
-abbrev pub cells_text : ℕ → ℕ → List ℕ
-cells_text demand room = codes "cells " ++ (decimal demand ++ (codes " of " ++ (decimal room ++ (codes " free " ++ (decimal (room - demand) ++ codes "\n")))))
+abbrev pub margin_columns : List (List ℕ)
+margin_columns =
+    codes "group" ∷ codes "frame" ∷ codes "buses" ∷ codes "cells" ∷ codes "free" ∷ codes "excess" ∷ codes "bound" ∷ codes "source" ∷ codes "period" ∷ codes "next" ∷ codes "less"
+    ∷ codes "max_us" ∷ codes "choose" ∷ []
 
--- how many cells would have to go for one bus fewer: those that the other buses have no room for
-abbrev pub excess_text : ℕ → List ℕ
-excess_text cells = codes "excess " ++ (decimal cells ++ codes "\n")
+-- so many columns of which nothing is said
+abbrev pub nothing : ℕ → List Field
+nothing count = replicate count Absent
 
--- nothing is chosen
-abbrev pub no_choice_text : Option (List Bool) → List ℕ
-no_choice_text None = codes "choose none\n"
-no_choice_text (Some marks) = []
+-- A group: its frame in slots and its buses, how many cells of a frame are filled and how many are free, how many would have to go for one bus
+-- fewer, which are those that the other buses have no room for, and how many buses any schedule needs at least for the intervals themselves.
+abbrev pub group_row_of : GroupRow → SlotTable → ℕ → List Field
+group_row_of g t bound =
+    Text g.name ∷ Number (frame_of t) ∷ Number (buses_of t) ∷ Number (sum (demands_of t)) ∷ Number (cells_of t - sum (demands_of t))
+    ∷ Number (sum (demands_of t) - (buses_of t - 1) * frame_of t) ∷ Number bound ∷ nothing 6
 
--- an output that is chosen, or that could be
-abbrev pub verb : Bool → List ℕ
-verb chosen = if chosen then codes "choose " else codes "wider "
+abbrev pub group_row : GroupRow → List OutputRow → SlotTable → List Field
+group_row g rows t = group_row_of g t (raw_bound (map (window_of g.rate) rows))
 
--- an output at the next period of the grid: from how many slots to how many, how many of its cells in a frame of so many slots become free,
--- which is half of them, and what its greatest interval has to become
-abbrev pub wider_text : ℕ → ℕ → Bool → List ℕ → ℕ → List ℕ
-wider_text rate frame chosen name period =
-    verb chosen ++ (name ++ (codes " period " ++ (decimal (2 ^ period) ++ (codes " to " ++ (decimal (2 * 2 ^ period)
-    ++ (codes " cells " ++ (decimal (frame / (2 * 2 ^ period)) ++ (codes " max_us " ++ (decimal (slots_us rate (2 * 2 ^ period)) ++ codes "\n")))))))))
+abbrev pub yes_or_no : Bool → Field
+yes_or_no true = Text (codes "yes")
+yes_or_no false = Text (codes "no")
 
--- the line of an output whose period is shorter than the frame; the others have none
-abbrev pub output_margin : List SourceRow → ℕ → SlotTable → Option (List Bool) → ℕ → List ℕ
-output_margin sources rate t chosen o =
+-- An output at the next period of the grid: from how many slots to how many, how many of its cells in a frame of so many slots become free, which
+-- is half of them, what its greatest interval has to become, and whether it is chosen.
+abbrev pub wider_row : GroupRow → ℕ → Bool → List ℕ → ℕ → List Field
+wider_row g frame chosen name period =
+    Text g.name ∷ nothing 6
+    ++ (Text name ∷ Number (2 ^ period) ∷ Number (2 * 2 ^ period) ∷ Number (frame / (2 * 2 ^ period)) ∷ Number (slots_us g.rate (2 * 2 ^ period)) ∷ yes_or_no chosen ∷ [])
+
+-- the row of an output whose period is shorter than the frame; the others have none
+abbrev pub output_margin : List SourceRow → GroupRow → SlotTable → Option (List Bool) → ℕ → List (List Field)
+output_margin sources g t chosen o =
     let placed = placed_at t o in
-    if nat_lt (2 ^ placed.place.period) (frame_of t) then wider_text rate (frame_of t) (is_chosen chosen o) (source_name sources placed.source) placed.place.period else []
+    if nat_lt (2 ^ placed.place.period) (frame_of t) then wider_row g (frame_of t) (is_chosen chosen o) (source_name sources placed.source) placed.place.period ∷ [] else []
 
--- any schedule needs at least so many buses for the intervals themselves, of how many
-abbrev pub raw_text : ℕ → ℕ → List ℕ
-raw_text bound buses = codes "raw bound " ++ (decimal bound ++ (codes " of " ++ (decimal buses ++ codes "\n")))
+-- those of a group's outputs, in table order
+abbrev pub outputs_margin : List SourceRow → GroupRow → SlotTable → Option (List Bool) → List (List Field)
+outputs_margin sources g t chosen = flat_map (output_margin sources g t chosen) (range_with_len 0 (length (outputs_of t)))
 
--- ---- the text
+-- which are there if the group has a bus to save
+abbrev pub choice_rows : List SourceRow → GroupRow → SlotTable → Option (List Bool) → List (List Field)
+choice_rows sources g t chosen = if nat_lt (buses_of t) 2 then [] else outputs_margin sources g t chosen
 
--- the lines of a group's outputs, in table order
-abbrev pub outputs_margin : List SourceRow → ℕ → SlotTable → Option (List Bool) → List ℕ
-outputs_margin sources rate t chosen = flat_map (output_margin sources rate t chosen) (range_with_len 0 (length (outputs_of t)))
+-- those rows with a right choice
+abbrev pub AreChoiceRows : List SourceRow → GroupRow → SlotTable → List (List Field) → Type 0
+AreChoiceRows sources g t rows = (chosen : Option (List Bool)) × IsChoice (periods_of t) (buses_of t) chosen × (rows ≡ choice_rows sources g t chosen)
 
--- a group: its frame and buses, its cells, what is too much for one bus fewer and who could make room for it, and the raw bound of its intervals
-abbrev pub group_margin : List SourceRow → GroupRow → List OutputRow → SlotTable → Option (List Bool) → List ℕ
-group_margin sources g rows t chosen =
-    group_text (heading_of 1 g t) ++ (cells_text (sum (demands_of t)) (cells_of t) ++ (excess_text (sum (demands_of t) - (buses_of t - 1) * frame_of t)
-    ++ (no_choice_text chosen ++ (outputs_margin sources g.rate t chosen ++ raw_text (raw_bound (map (window_of g.rate) rows)) (buses_of t)))))
-
--- a group's text with a right choice
-abbrev pub IsGroupMargin : List SourceRow → GroupRow → List OutputRow → SlotTable → List ℕ → Type 0
-IsGroupMargin sources g rows t text =
-    (chosen : Option (List Bool)) × IsChoice (periods_of t) (buses_of t) chosen × (text ≡ group_margin sources g rows t chosen)
-
--- behind a text stands a right choice: that there is none, or the lines of the group's outputs
-abbrev pub IsChoiceWritten : List SourceRow → ℕ → SlotTable → List ℕ → List ℕ → Type 0
-IsChoiceWritten sources rate t old new =
-    (chosen : Option (List Bool)) × IsChoice (periods_of t) (buses_of t) chosen × (new ≡ old ++ (no_choice_text chosen ++ outputs_margin sources rate t chosen))
+-- a group and who could make room for one bus fewer
+abbrev pub IsGroupMargin : List SourceRow → GroupRow → List OutputRow → SlotTable → List (List Field) → Type 0
+IsGroupMargin sources g rows t all = (choice : List (List Field)) × AreChoiceRows sources g t choice × (all ≡ group_row g rows t ∷ choice)
 
 -- that of each group, in table order
-abbrev pub AreMargins : List SourceRow → List GroupRow → List (List OutputRow) → List SlotTable → List ℕ → Type 0
-AreMargins sources [] rowss ts text = text ≡ []
-AreMargins sources (g ∷ gs) [] ts text = text ≡ []
-AreMargins sources (g ∷ gs) (rows ∷ rowss) [] text = text ≡ []
-AreMargins sources (g ∷ gs) (rows ∷ rowss) (t ∷ ts) text =
-    (first : List ℕ) × (rest : List ℕ) × IsGroupMargin sources g rows t first × AreMargins sources gs rowss ts rest × (text ≡ first ++ rest)
+abbrev pub AreMargins : List SourceRow → List GroupRow → List (List OutputRow) → List SlotTable → List (List Field) → Type 0
+AreMargins sources [] rowss ts all = all ≡ []
+AreMargins sources (g ∷ gs) [] ts all = all ≡ []
+AreMargins sources (g ∷ gs) (rows ∷ rowss) [] all = all ≡ []
+AreMargins sources (g ∷ gs) (rows ∷ rowss) (t ∷ ts) all =
+    (first : List (List Field)) × (rest : List (List Field)) × IsGroupMargin sources g rows t first × AreMargins sources gs rowss ts rest × (all ≡ first ++ rest)
 
-abbrev pub IsMarginText : TableRecord → PlanTable → List ℕ → Type 0
-IsMarginText e p text = AreMargins e.sources e.groups e.outputs (groups_of p) text
+abbrev pub IsMargin : TableRecord → PlanTable → List (List Field) → Type 0
+IsMargin e p rows = AreMargins e.sources e.groups e.outputs (groups_of p) rows
+
+-- if the call succeeds, the list has more rows, at its end, of which this is known
+abbrev pub AddsSuch : {A E : Type 0} → Result A E → List (List Field) → List (List Field) → (List (List Field) → Type 0) → Type 0
+AddsSuch result old new AreSuch = OnOk result ((rows : List (List Field)) × AreSuch rows × (new ≡ old ++ rows))
 
 -- an interval whose greatest time becomes what twice its grid period lasts has that as its grid period, where the grid has such a period
 abbrev pub WiderIntervalsAreNext : Type 0

@@ -1,24 +1,17 @@
--- What it means that `diff` says `same`, and when a station line is printed.
-use Rattle.std.specs.Prelude.{◌≡◌, ◌↔◌, true, [], codes}
+-- What it means that `diff` has no row: of the station, and at all.
+use Rattle.std.specs.Prelude.{ℕ, ◌≡◌, ◌↔◌, Bool, true, [], Some, slice_get}
 use Rattle.a429_equipment.specs.SameStation.{same_station}
-use Rattle.a429_equipment.specs.TableRecord.{TableRecord}
+use Rattle.a429_equipment.specs.TableRecord.{TableRecord, outputs_in}
 use Rattle.a429_equipment.specs.Sound.{IsSound}
+use Rattle.a429_equipment.specs.declared.rows.OutputRow.{OutputRow}
 use Rattle.a429_slots.specs.Planned.{IsPlanOf}
 use Rattle.a429_slots.specs.Proposed.{Proposed}
 use Rattle.a429_cert.specs.PlanText.{plan_text_of}
-use Rattle.a429_documents.specs.Diff.{changes, diff_text_of, station_lines}
+use Rattle.a429_documents.specs.Diff.{diff_rows, station_rows}
 
--- no station line is printed just if the two tables are of one station
-abbrev pub NoStationLineIsOneStation : Type 0
-NoStationLineIsOneStation = (a b : TableRecord) → (station_lines a b ≡ []) ↔ (same_station a b ≡ true)
-
--- the text says that nothing changes
-abbrev pub SaysSame : Proposed → Proposed → Type 0
-SaysSame a b = diff_text_of a b ≡ codes "same\n"
-
--- it says so just if there is no line of what changes
-abbrev pub SameIsNoLine : Type 0
-SameIsNoLine = (a b : Proposed) → SaysSame a b ↔ (changes a b ≡ [])
+-- no row is of the station just if the two tables are of one station
+abbrev pub NoStationRowIsOneStation : Type 0
+NoStationRowIsOneStation = (a b : TableRecord) → IsSound a → IsSound b → (station_rows a b ≡ []) ↔ (same_station a b ≡ true)
 
 -- two proposals of sound tables, each with the plan of its own groups
 pub record AreProposals (a b : Proposed) : Type 0 where
@@ -27,11 +20,18 @@ pub record AreProposals (a b : Proposed) : Type 0 where
   pub other_sound : IsSound b.station
   pub other_plan : IsPlanOf b.station b.plan
 
--- the texts of their plans are equal, and they are of one station
+-- outputs of one source in groups with one number have one interval
+abbrev pub HaveSameIntervals : TableRecord → TableRecord → Type 0
+HaveSameIntervals a b =
+    (g o p : ℕ) (x y : OutputRow) → slice_get (outputs_in a g) o ≡ Some x → slice_get (outputs_in b g) p ≡ Some y → x.source ≡ y.source
+    → (x.min_us ≡ y.min_us) × (x.max_us ≡ y.max_us)
+
+-- the texts of their plans are equal, they are of one station, and the outputs have the same intervals
 pub record AreOnePlan (a b : Proposed) : Type 0 where
   pub text : plan_text_of a.station a.plan ≡ plan_text_of b.station b.plan
   pub station : same_station a.station b.station ≡ true
+  pub intervals : HaveSameIntervals a.station b.station
 
--- the text says `same` just if these have one plan text and are of one station
-abbrev pub SameIsOnePlan : Type 0
-SameIsOnePlan = (a b : Proposed) → AreProposals a b → SaysSame a b ↔ AreOnePlan a b
+-- There is no row just if these have one plan text, one station and the same intervals, whether all slots are asked for or not.
+abbrev pub NoRowIsOnePlan : Type 0
+NoRowIsOnePlan = (a b : Proposed) (all : Bool) → AreProposals a b → (diff_rows a b all ≡ []) ↔ AreOnePlan a b

@@ -3,11 +3,8 @@ ghost use Rattle.std.specs.Prelude.{◌≡◌, ◌<◌, length, slice_index, IfO
 ghost use Rattle.std.specs.List.{flat_map};
 ghost use Rattle.a429_word.specs.Written.{Gains};
 ghost use Rattle.a429_documents.specs.Aligned.{width_of, columns_of, widths_of, spaces, padded, column_text, aligned_row, aligned_text};
-ghost use Rattle.a429_documents.specs.Document.{icd_rows};
 
-use crate::document::icd_rows;
 use crate::rows::Row;
-use a429_slots::{OUTPUTS, Proposal};
 use std::alloc::{AllocError, Global};
 
 /// How many bytes the widest field of a column has.
@@ -112,17 +109,4 @@ pub fn aligned_text(alloc: Global, rows: &[Row]) -> Result<Vec<u8>, AllocError>
     let mut text = Vec::new(alloc);
     write_rows(&mut text, &widths, rows)?;
     Ok(text)
-}
-
-/// The interface control document of a proposal's plan, in columns for people: a line with the names of the columns, and
-/// then a line for each output, groups and outputs in table order. Each column is as wide as its widest field, and two
-/// spaces stand between two columns. The rate is in bit/s; a slot is counted from 0 at the frame's start, and lasts 36
-/// bit times; a period is in slots, and in whole microseconds, rounded up. The latency is the longest time, within one
-/// plan, from the acceptance of a word until it, or a later word of its source, has gone out whole: a period and one
-/// slot, in whole microseconds, rounded up. The error is that memory was refused.
-pub fn icd_text(alloc: Global, proposal: &Proposal<OUTPUTS>) -> Result<Vec<u8>, AllocError>
-    ensures { IfOk result (λ text. text.items ≡ aligned_text (icd_rows proposal.now.station proposal.now.plan)) }
-{
-    let rows = icd_rows(alloc, proposal)?;
-    aligned_text(alloc, &rows)
 }

@@ -1,12 +1,9 @@
 //! A document as comma-separated values.
 ghost use Rattle.std.specs.Prelude.{◌≡◌, IfOk, OnOk};
 ghost use Rattle.csv.specs.Writing.{default_writer, row_text};
-ghost use Rattle.a429_documents.specs.Document.{csv_text_of, icd_rows};
-ghost use Rattle.a429_documents.specs.CsvLines.{IsAtLine, WritesText};
+ghost use Rattle.a429_documents.specs.CsvLines.{IsAtLine, WritesText, csv_text_of};
 
-use crate::document::icd_rows;
 use crate::rows::Row;
-use a429_slots::{OUTPUTS, Proposal};
 use csv::{Error, Writer};
 use std::alloc::{AllocError, Global};
 use std::io::Write;
@@ -21,7 +18,7 @@ fn write_row<W: Write + Drop>(writer: &mut Writer<W>, row: &Row) -> Result<(), E
 }
 
 /// Writes a line for each row.
-#[tactic(auto, unfolding(crate::specs::Document::csv_text_of))]
+#[tactic(auto, unfolding(crate::specs::CsvLines::csv_text_of))]
 fn write_rows<W: Write + Drop>(writer: &mut Writer<W>, rows: &[Row]) -> Result<(), Error>
     requires { IsAtLine writer.old }
     ensures line { OnOk result (IsAtLine writer.new) }
@@ -43,14 +40,4 @@ pub fn rows_csv(alloc: Global, rows: &[Row]) -> Result<Vec<u8>, AllocError>
         return Err(AllocError);
     }
     writer.into_inner().map_err(|_| AllocError)
-}
-
-/// The interface control document of a proposal's plan, as comma-separated values (RFC 4180, with a line feed at each
-/// line's end): a line with the names of the columns, and then a line for each output, groups and outputs in table order,
-/// with the fields of `icd_text`. The error is that memory was refused.
-pub fn icd_csv(alloc: Global, proposal: &Proposal<OUTPUTS>) -> Result<Vec<u8>, AllocError>
-    ensures { IfOk result (λ text. text.items ≡ csv_text_of (icd_rows proposal.now.station proposal.now.plan)) }
-{
-    let rows = icd_rows(alloc, proposal)?;
-    rows_csv(alloc, &rows)
 }

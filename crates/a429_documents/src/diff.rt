@@ -1,109 +1,92 @@
 //! What changes from one proposal to another.
-ghost use Rattle.std.specs.Prelude.{◌≡◌, IfOk, string_bytes};
-ghost use Rattle.a429_word.specs.Written.{Writes};
-ghost use Rattle.a429_documents.specs.Diff.{changes, diff_text_of, groups_lines, head_lines, rate_line, rate_lines, version_line};
+ghost use Rattle.std.specs.Prelude.{◌≡◌, ◌==◌, ◌++◌, length, map};
+ghost use Rattle.a429_documents.specs.Diff.{diff_columns, diff_rows, equipment_rows, plan_rows, table_rates, version_rows};
 
-mod groups;
+mod names;
 mod outputs;
-mod placed;
+mod rows;
+mod sides;
 mod stations;
 
-use crate::diff::groups::{write_common, write_missing};
-use crate::diff::stations::{PARTS, write_station};
+use crate::diff::outputs::{add_groups, add_moved};
+use crate::diff::rows::{Subject, add_number, wide};
+use crate::diff::stations::add_station;
 use a429_equipment::Equipment;
 use a429_slots::{OUTPUTS, Proposal};
-use std::alloc::{AllocError, Global};
-use std::fmt::Write;
+use a429_text::{Rows, Sheet};
+use std::alloc::Global;
 
-/// Writes the versions of two tables, if they differ.
-fn write_version(text: &mut String, from: u32, to: u32) -> Result<(), AllocError>
-    ensures { Writes result text.old text.new (version_line from to) }
+/// The names of the columns.
+const COLUMNS: &[&str] = &["change", "group", "name", "first", "second", "gap"];
+
+/// Whether a table has no groups.
+fn is_bare(equipment: &Equipment) -> bool
+    ensures { result ≡ (length equipment.now.groups == 0) }
 {
-    if from == to {
-        Ok(())
-    } else {
-        writeln!(text, "version {from} to {to}")
+    equipment.groups().is_empty()
+}
+
+/// Adds the row of the rates of two tables without groups, if they differ.
+fn add_rates(rows: &mut Rows, a: &Equipment, b: &Equipment)
+    ensures { rows.new ≡ rows.old ++ table_rates a.now b.now }
+{
+    if is_bare(a) && is_bare(b) {
+        add_number(
+            rows,
+            "rate",
+            &Subject::table(),
+            wide(a.rate()),
+            wide(b.rate()),
+        );
     }
 }
 
-/// Writes the rates that all groups of two tables have, if they differ.
-fn write_rate(text: &mut String, from: Option<u32>, to: Option<u32>) -> Result<(), AllocError>
-    ensures { Writes result text.old text.new (rate_line from to) }
+/// Adds the row of the versions of two tables, if they differ.
+fn add_version(rows: &mut Rows, from: u32, to: u32)
+    ensures { rows.new ≡ rows.old ++ version_rows from to }
 {
-    let (Some(from), Some(to)) = (from, to) else {
-        return Ok(());
-    };
-    if from == to {
-        Ok(())
-    } else {
-        writeln!(text, "rate {from} to {to}")
+    let (first, second) = (Some(u64::from(from)), Some(u64::from(to)));
+    add_number(rows, "version", &Subject::table(), first, second);
+}
+
+/// Adds what differs of two tables but for their outputs.
+fn add_equipments(rows: &mut Rows, a: &Equipment, b: &Equipment)
+    ensures { rows.new ≡ rows.old ++ equipment_rows a.now b.now }
+{
+    add_version(rows, a.version(), b.version());
+    add_rates(rows, a, b);
+    add_station(rows, a, b);
+}
+
+/// Adds what differs of the groups that both proposals have.
+fn add_plans(rows: &mut Rows, a: &Proposal<OUTPUTS>, b: &Proposal<OUTPUTS>, all: bool)
+    ensures { rows.new ≡ rows.old ++ plan_rows a.now b.now all }
+{
+    let has_gap = a.equipment().same_station(b.equipment());
+    add_groups(rows, all, has_gap, a, b);
+    if !all {
+        add_moved(rows, a, b);
     }
 }
 
-/// Writes the rates of two tables without groups, if they differ.
-fn write_rates(text: &mut String, a: &Equipment, b: &Equipment) -> Result<(), AllocError>
-    ensures { Writes result text.old text.new (rate_lines a.now b.now) }
-{
-    if a.groups().len() == 0 && b.groups().len() == 0 {
-        write_rate(text, a.rate(), b.rate())
-    } else {
-        Ok(())
-    }
-}
-
-/// Writes what differs of two tables themselves.
-fn write_head(text: &mut String, a: &Equipment, b: &Equipment) -> Result<(), AllocError>
-    ensures { Writes result text.old text.new (head_lines a.now b.now) }
-{
-    write_version(text, a.version(), b.version())?;
-    write_rates(text, a, b)?;
-    write_station(text, a, b, &PARTS)
-}
-
-/// Writes what differs of the groups of two proposals.
-fn write_groups(
+/// What changes from one proposal to another (profile: diff rows), a row for each thing that differs: the version, what
+/// the stations have, and of each group that both have its buses and frame and what differs of its outputs. The slots of
+/// outputs have rows of their own if all are asked for; else the last row says how many outputs differ in nothing else.
+/// Where nothing changes there is no row.
+pub fn diff_sheet(
     alloc: Global,
-    text: &mut String,
-    a: &Proposal<OUTPUTS>,
-    b: &Proposal<OUTPUTS>,
-) -> Result<(), AllocError>
-    ensures { Writes result text.old text.new (groups_lines a.now b.now) }
+    first: &Proposal<OUTPUTS>,
+    second: &Proposal<OUTPUTS>,
+    all: bool,
+) -> Sheet
+    ensures columns { map (λ name. name.now) result.columns.now ≡ diff_columns }
+    ensures rows { result.rows ≡ diff_rows first.now second.now all }
 {
-    let (own, other) = (a.equipment(), b.equipment());
-    let has_gap = own.same_station(other);
-    write_common(alloc, text, a, b, has_gap)?;
-    write_missing(text, "gone group ", own.groups(), other.groups())?;
-    write_missing(text, "new group ", other.groups(), own.groups())
-}
-
-/// What differs from one proposal to another.
-fn changes(
-    alloc: Global,
-    a: &Proposal<OUTPUTS>,
-    b: &Proposal<OUTPUTS>,
-) -> Result<String, AllocError>
-    ensures { IfOk result (λ text. string_bytes text ≡ changes a.now b.now) }
-{
-    let mut text = String::new(alloc);
-    write_head(&mut text, a.equipment(), b.equipment())?;
-    write_groups(alloc, &mut text, a, b)?;
-    Ok(text)
-}
-
-/// What changes from one proposal to another (profile: diff text): the version, the rate of tables without groups, the
-/// parts of the station, and for each group that both have its frame and buses and each output that is gone, has another
-/// period, bus, slot or hold, or is new; and then the groups that are gone and that are new. The one line `same` says
-/// that nothing changes. The error is that memory was refused.
-pub fn diff_text(
-    alloc: Global,
-    a: &Proposal<OUTPUTS>,
-    b: &Proposal<OUTPUTS>,
-) -> Result<Vec<u8>, AllocError>
-    ensures { IfOk result (λ text. text.items ≡ diff_text_of a.now b.now) }
-{
-    let mut text = changes(alloc, a, b)?;
-    if text.is_empty() {
-        writeln!(text, "same")?;
+    let mut rows = Rows::new(alloc);
+    add_equipments(&mut rows, first.equipment(), second.equipment());
+    add_plans(&mut rows, first, second, all);
+    Sheet {
+        columns: COLUMNS,
+        rows,
     }
-    Ok(text.into_bytes())
 }

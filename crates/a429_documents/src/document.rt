@@ -1,70 +1,61 @@
-//! The interface control document of a plan, as rows of texts.
-ghost use Rattle.std.specs.Prelude.{◌≡◌, ◌∷◌, [], ◌<◌, ◌≤◌, ◌^◌, length, IfOk};
-ghost use Rattle.a429_word.specs.Written.{Gains};
+//! The interface control document of a plan.
+ghost use Rattle.std.specs.Prelude.{◌≡◌, ◌∷◌, ◌++◌, [], ◌<◌, ◌≤◌, ◌^◌, length, map};
+ghost use Rattle.a429_text.specs.Fields.{Number};
+ghost use Rattle.a429_text.specs.Sheets.{field_of};
 ghost use Rattle.a429_slots.specs.Tables.{outputs_of, placed_at};
 ghost use Rattle.a429_slots.specs.Planned.{HaveSources};
-ghost use Rattle.a429_word.specs.Texts.{octal};
-ghost use Rattle.a429_cert.specs.Spelling.{limit_text};
-ghost use Rattle.a429_documents.specs.Document.{icd_columns, receiver_name, sdi_text, sent_fields, slots_us, place_fields, limit_fields, latency_us, latency_fields, icd_row, output_row, output_rows, plan_rows, icd_rows};
+ghost use Rattle.a429_documents.specs.Document.{icd_columns, icd_row, icd_rows, latency_us, limit_field, output_row, output_rows, receiver_name, sdi_field, slots_us};
 
-use crate::rows::Row;
 use a429_equipment::{Equipment, GroupRow, OutputRow, ReceiverRow, SourceRow};
 use a429_grid::{Period, SLOT_TIME};
 use a429_slots::{GroupPlan, OUTPUTS, OutputId, Proposal, SendLimits, SlotPlace};
-use a429_word::{Label, Sdi};
-use std::alloc::{AllocError, Global};
+use a429_text::{Cell, Rows, Sheet};
+use a429_word::Sdi;
+use std::alloc::Global;
 
 /// The names of the columns.
-fn columns(alloc: Global) -> Result<Row, AllocError>
-    ensures { IfOk result (λ row. row ≡ icd_columns) }
+const COLUMNS: &[&str] = &[
+    "group",
+    "rate",
+    "source",
+    "receiver",
+    "label",
+    "sdi",
+    "bus",
+    "slot",
+    "period",
+    "period_us",
+    "min_us",
+    "max_us",
+    "hold",
+    "spacing",
+    "latency_us",
+];
+
+/// A number.
+pub fn number(value: u32) -> Cell<'static>
+    ensures { field_of result ≡ Number value }
 {
-    Row::of(
-        alloc,
-        &[
-            "group",
-            "rate",
-            "source",
-            "receiver",
-            "label",
-            "sdi",
-            "bus",
-            "slot",
-            "period",
-            "period_us",
-            "min_us",
-            "max_us",
-            "hold",
-            "spacing",
-            "latency_us",
-        ],
-    )
+    Cell::Number(u64::from(value))
 }
 
-/// Adds a label: three octal digits.
-fn push_label(alloc: Global, row: &mut Row, label: Label) -> Result<(), AllocError>
-    ensures { Gains result row.old row.new (octal label ∷ []) }
-{
-    let text = label.to_string(alloc)?;
-    row.push(text.as_str())
-}
-
-/// Adds an SDI, which may be any.
-fn push_sdi(alloc: Global, row: &mut Row, sdi: Option<Sdi>) -> Result<(), AllocError>
-    ensures { Gains result row.old row.new (sdi_text sdi ∷ []) }
+/// An SDI, or that any is meant.
+pub fn sdi_cell(sdi: Option<Sdi>) -> Cell<'static>
+    ensures { field_of result ≡ sdi_field sdi }
 {
     match sdi {
-        None => row.push("any"),
-        Some(sdi) => row.push_number(alloc, u64::from(sdi.value())),
+        None => Cell::Text("any"),
+        Some(sdi) => Cell::Number(u64::from(sdi.value())),
     }
 }
 
-/// Adds a limit, if there is one.
-fn push_limit(alloc: Global, row: &mut Row, limit: Option<u32>) -> Result<(), AllocError>
-    ensures { Gains result row.old row.new (limit_text limit ∷ []) }
+/// A limit, if there is one.
+pub fn limit_cell(limit: Option<u32>) -> Cell<'static>
+    ensures { field_of result ≡ limit_field limit }
 {
     match limit {
-        None => row.push("none"),
-        Some(limit) => row.push_number(alloc, u64::from(limit)),
+        None => Cell::Absent,
+        Some(limit) => number(limit),
     }
 }
 
@@ -94,166 +85,113 @@ pub(crate) fn receiver_name(receivers: &[ReceiverRow], number: usize) -> &str
     receivers[number].name.as_str()
 }
 
-/// Adds what is sent: the group and its rate, and the source with its receiver, label and SDI.
-fn push_sent(
-    alloc: Global,
-    row: &mut Row,
-    receivers: &[ReceiverRow],
-    group: &GroupRow,
-    source: &SourceRow,
-) -> Result<(), AllocError>
-    requires { source.now.receiver < length receivers.now }
-    ensures { Gains result row.old row.new (sent_fields receivers.now group.now source.now) }
-{
-    row.push(group.name.as_str())?;
-    row.push_number(alloc, u64::from(group.rate))?;
-    row.push(source.name.as_str())?;
-    row.push(receiver_name(receivers, source.receiver))?;
-    push_label(alloc, row, source.label)?;
-    push_sdi(alloc, row, source.sdi)
-}
-
-/// Adds where an output stands, at the rate of its group in bit/s.
-fn push_place(alloc: Global, row: &mut Row, rate: u32, place: SlotPlace) -> Result<(), AllocError>
-    requires { 1 ≤ rate }
-    ensures { Gains result row.old row.new (place_fields rate place) }
-{
-    let slots = place.period.slots();
-    row.push_number(alloc, u64::from(place.bus))?;
-    row.push_number(alloc, u64::from(place.offset))?;
-    row.push_number(alloc, u64::from(slots))?;
-    row.push_number(alloc, slots_us(rate, slots))
-}
-
-/// Adds what limits the sends of an output.
-fn push_limits(
-    alloc: Global,
-    row: &mut Row,
-    output: &OutputRow,
-    limits: SendLimits,
-) -> Result<(), AllocError>
-    ensures { Gains result row.old row.new (limit_fields output.now limits) }
-{
-    row.push_number(alloc, u64::from(output.min_us))?;
-    row.push_number(alloc, u64::from(output.max_us))?;
-    push_limit(alloc, row, limits.hold)?;
-    row.push_number(alloc, u64::from(limits.spacing))
-}
-
-/// Adds how old a word of an output is at most when it has gone out, at the rate of its group in bit/s.
-fn push_latency(alloc: Global, row: &mut Row, rate: u32, period: Period) -> Result<(), AllocError>
-    requires { 1 ≤ rate }
-    ensures { Gains result row.old row.new (latency_fields rate (2 ^ period)) }
-{
-    row.push_number(alloc, latency_us(rate, period))
-}
-
-/// The row of an output of a group, which sends this source.
-fn icd_row(
-    alloc: Global,
-    receivers: &[ReceiverRow],
-    group: &GroupRow,
-    source: &SourceRow,
+/// Adds the row of an output of a group, which sends this source.
+fn add_row<'a>(
+    rows: &mut Rows,
+    receivers: &'a [ReceiverRow],
+    group: &'a GroupRow,
+    source: &'a SourceRow,
     output: &OutputRow,
     place: SlotPlace,
     limits: SendLimits,
-) -> Result<Row, AllocError>
+)
     requires receiver { source.now.receiver < length receivers.now }
     requires rate { 1 ≤ group.now.rate }
-    ensures { IfOk result (λ row. row ≡ icd_row receivers.now group.now source.now output.now place limits) }
+    ensures { rows.new ≡ rows.old ++ icd_row receivers.now group.now source.now output.now place limits ∷ [] }
 {
-    let mut row = Row::new(alloc);
-    let period = place.period;
-    push_sent(alloc, &mut row, receivers, group, source)?;
-    push_place(alloc, &mut row, group.rate, place)?;
-    push_limits(alloc, &mut row, output, limits)?;
-    push_latency(alloc, &mut row, group.rate, period)?;
-    Ok(row)
+    let slots = place.period.slots();
+    rows.add(&[
+        Cell::Text(group.name.as_str()),
+        number(group.rate),
+        Cell::Text(source.name.as_str()),
+        Cell::Text(receiver_name(receivers, source.receiver)),
+        Cell::Octal(source.label.value()),
+        sdi_cell(source.sdi),
+        number(place.bus),
+        number(place.offset),
+        number(slots),
+        Cell::Number(slots_us(group.rate, slots)),
+        number(output.min_us),
+        number(output.max_us),
+        limit_cell(limits.hold),
+        number(limits.spacing),
+        Cell::Number(latency_us(group.rate, place.period)),
+    ]);
 }
 
-/// The row of an output of a group, by its number in the group's slot table.
-fn output_row(
-    alloc: Global,
+/// Adds the row of an output of a group, by its number in the group's slot table.
+fn add_output(
+    rows: &mut Rows,
     equipment: &Equipment,
     group: &GroupRow,
     output: &OutputRow,
     table: &GroupPlan<OUTPUTS>,
     number: OutputId,
-) -> Result<Row, AllocError>
+)
     requires known { number < length (outputs_of table.now) }
     requires source { output.now.source < length equipment.now.sources }
     requires rate { 1 ≤ group.now.rate }
-    ensures { IfOk result (λ row. row ≡ output_row equipment.now group.now output.now (placed_at table.now number)) }
+    ensures { rows.new ≡ rows.old ++ output_row equipment.now group.now output.now (placed_at table.now number) ∷ [] }
 {
     let sources = equipment.sources();
-    icd_row(
-        alloc,
+    let source = &sources[output.source];
+    let place = table.place(number);
+    let limits = table.limits(number);
+    add_row(
+        rows,
         equipment.receivers(),
         group,
-        &sources[output.source],
+        source,
         output,
-        table.place(number),
-        table.limits(number),
-    )
+        place,
+        limits,
+    );
 }
 
 /// Adds a row for each output of a group, in table order.
-fn push_outputs(
-    alloc: Global,
-    document: &mut Vec<Row>,
+fn add_outputs(
+    rows: &mut Rows,
     equipment: &Equipment,
     group: &GroupRow,
     outputs: &[OutputRow],
     table: &GroupPlan<OUTPUTS>,
-) -> Result<(), AllocError>
+)
     requires known { HaveSources equipment.now.sources outputs.now }
     requires planned { length outputs.now ≡ length (outputs_of table.now) }
     requires rate { 1 ≤ group.now.rate }
-    ensures { Gains result document.old.items document.new.items (output_rows equipment.now group.now outputs.now (outputs_of table.now)) }
+    ensures { rows.new ≡ rows.old ++ output_rows equipment.now group.now outputs.now (outputs_of table.now) }
 {
     for number in 0..outputs.len() {
-        document.push(output_row(
-            alloc,
-            equipment,
-            group,
-            &outputs[number],
-            table,
-            OutputId::new(number),
-        )?)?;
+        let output = &outputs[number];
+        add_output(rows, equipment, group, output, table, OutputId::new(number));
     }
-    Ok(())
 }
 
 /// Adds a row for each output of each group, in table order.
-fn push_groups(
-    alloc: Global,
-    document: &mut Vec<Row>,
-    proposal: &Proposal<OUTPUTS>,
-) -> Result<(), AllocError>
-    ensures { Gains result document.old.items document.new.items (plan_rows proposal.now.station proposal.now.plan) }
+fn add_groups(rows: &mut Rows, proposal: &Proposal<OUTPUTS>)
+    ensures { rows.new ≡ rows.old ++ icd_rows proposal.now.station proposal.now.plan }
 {
     let equipment = proposal.equipment();
     let groups = equipment.groups();
     for number in 0..groups.len() {
-        push_outputs(
-            alloc,
-            document,
-            equipment,
-            &groups[number],
-            equipment.outputs(number),
-            proposal.plan().group(number),
-        )?;
+        let outputs = equipment.outputs(number);
+        let table = proposal.plan().group(number);
+        add_outputs(rows, equipment, &groups[number], outputs, table);
     }
-    Ok(())
 }
 
-/// The rows of the interface control document of a proposal's plan: the names of the columns, and then a row for each
-/// output, groups and outputs in table order. The error is that memory was refused.
-pub fn icd_rows(alloc: Global, proposal: &Proposal<OUTPUTS>) -> Result<Vec<Row>, AllocError>
-    ensures { IfOk result (λ rows. rows.items ≡ icd_rows proposal.now.station proposal.now.plan) }
+/// The interface control document of a proposal's plan: a row for each output, groups and outputs in table order. The
+/// rate is in bit/s; a slot is counted from 0 at the frame's start, and lasts 36 bit times; a period is in slots, and in
+/// whole microseconds, rounded up. The latency is the longest time, within one plan, from the acceptance of a word until
+/// it, or a later word of its source, has gone out whole: a period and one slot, in whole microseconds, rounded up.
+pub fn icd_sheet(alloc: Global, proposal: &Proposal<OUTPUTS>) -> Sheet
+    ensures columns { map (λ name. name.now) result.columns.now ≡ icd_columns }
+    ensures rows { result.rows ≡ icd_rows proposal.now.station proposal.now.plan }
 {
-    let mut document = Vec::new(alloc);
-    document.push(columns(alloc)?)?;
-    push_groups(alloc, &mut document, proposal)?;
-    Ok(document)
+    let mut rows = Rows::new(alloc);
+    add_groups(&mut rows, proposal);
+    Sheet {
+        columns: COLUMNS,
+        rows,
+    }
 }

@@ -1,8 +1,9 @@
 //! What holds of the definitions that the contracts cite.
+ghost use Rattle.a429_documents.specs.Drawing.{MarksAreCells};
 ghost use Rattle.a429_documents.specs.ImportedRows.{RowsAreInRecord};
 ghost use Rattle.a429_documents.specs.Losses.{BusCountsAreFewest, NoLossIsAllServed};
 ghost use Rattle.a429_documents.specs.Margins.{WiderIntervalsAreNext};
-ghost use Rattle.a429_documents.specs.Unchanged.{NoStationLineIsOneStation, SameIsNoLine, SameIsOnePlan};
+ghost use Rattle.a429_documents.specs.Unchanged.{NoRowIsOnePlan, NoStationRowIsOneStation};
 
 use a429_pack::laws::fewest_by_demand;
 
@@ -10,6 +11,12 @@ use a429_pack::laws::fewest_by_demand;
 /// that as its grid period, where the grid has such a period.
 pub fn wider_intervals_are_next()
     ensures { WiderIntervalsAreNext }
+{}
+
+/// A mark is drawn just if its group is drawn, its bus is one of that group's, its slot is one of those that the form asks
+/// for, and the plan has its output in that cell.
+pub fn marks_are_cells()
+    ensures { MarksAreCells }
 {}
 
 /// The text of `lint` has no line of an output without a grid period, of a source that no filter passes and of one that
@@ -26,21 +33,16 @@ pub fn bus_counts_are_fewest()
     fewest_by_demand();
 }
 
-/// The text of `diff` has no `station` line just if the two tables are of one station: then the second can be published
-/// while the first one runs.
-pub fn no_station_line_is_one_station()
-    ensures { NoStationLineIsOneStation }
+/// `diff` has no row of the station just if the two tables are of one station: then the second can be published while the
+/// first one runs.
+pub fn no_station_row_is_one_station()
+    ensures { NoStationRowIsOneStation }
 {}
 
-/// The text of `diff` is the one line `same` just if nothing differs: no version, no rate, no part of the station, and
-/// of each group neither its name nor its size nor an output.
-pub fn same_is_no_line()
-    ensures { SameIsNoLine }
-{}
-
-/// The text of `diff` is the one line `same` just if the plans' texts are equal and the tables are of one station.
-pub fn same_is_one_plan()
-    ensures { SameIsOnePlan }
+/// `diff` has no row at all just if the plans' texts are equal, the tables are of one station, and their outputs have the
+/// same intervals.
+pub fn no_row_is_one_plan()
+    ensures { NoRowIsOnePlan }
 {
     fewest_by_demand();
 }

@@ -2,19 +2,18 @@
 //! tables, what its table does in silence, and what another plan changes. And the table that rows of an interface control
 //! document state.
 //!
-//! `icd_text` and `icd_csv` have a row for each output: bus, offset, period, intervals and latency. `margin_text` says
-//! which intervals would have to be wider to save a bus. `draw_text` is an image (SVG) of one group or of all, and `page_text`
-//! a page (HTML) with that image and the others' lines.
-//! `diff_text` takes two proposals, and says what changes from the one to the other. `lint_text` takes an equipment, and
-//! says which words never arrive and what has no use. `import_table` takes rows of comma-separated values, and answers an
-//! equipment table. `aligned_text` and `rows_csv` take rows of texts. The others take a proposal. Each answers bytes; the
-//! error is that memory is refused, of `draw_text` also that the image is too high, and of `import_table` also what is
-//! wrong with the rows.
+//! `icd_sheet` has a row for each output: bus, offset, period, intervals and latency. `margin_sheet` says which intervals
+//! would have to be wider to save a bus. `Drawing::of` has the marks of an image, of one group or of all; `draw_text`
+//! writes it as an image (SVG), and `page_text` as a page (HTML) with that image and the other documents. `diff_sheet` takes
+//! two proposals, and says what changes from the one to the other. `lint_sheet` takes an equipment, and says which words
+//! never arrive and what has no use. `import_table` takes rows of comma-separated values, and gives an equipment table. The
+//! others take a proposal. A sheet is rendered by `Sheet::render` of `a429_text`. The error is that memory is refused, of
+//! `Drawing::of` also that the image is too high, and of `import_table` also what is wrong with the rows.
 //!
 //! ```text
 //! let proposal: Proposal<OUTPUTS> = Proposal::of(alloc, equipment)?;
-//! let rows = icd_csv(alloc, &proposal)?;
-//! let margin = margin_text(alloc, &proposal)?;
+//! let rows = icd_sheet(alloc, &proposal).render(alloc, SheetForm::Csv)?;
+//! let margin = margin_sheet(alloc, &proposal)?.render(alloc, SheetForm::Columns)?;
 //! ```
 #![tactic(auto)]
 
@@ -30,16 +29,16 @@ mod margin;
 mod page;
 mod rows;
 
-pub use aligned::{aligned_text, icd_text};
-pub use csv_text::{icd_csv, rows_csv};
-pub use diff::diff_text;
-pub use document::latency_us;
-pub use drawing::{DrawingFault, DrawingForm, draw_text};
+pub use aligned::aligned_text;
+pub use csv_text::rows_csv;
+pub use diff::diff_sheet;
+pub use document::{icd_sheet, latency_us};
+pub use drawing::{Drawing, DrawingFault, DrawingForm, Mark, draw_text};
 pub use import::{
     CsvFaultKind, CsvLine, IMPORT_COLUMNS, ImportColumn, ImportFault, LineCount, csv_lines,
     import_table,
 };
-pub use lint::lint_text;
-pub use margin::margin_text;
+pub use lint::lint_sheet;
+pub use margin::margin_sheet;
 pub use page::page_text;
 pub use rows::Row;

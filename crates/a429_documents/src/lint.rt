@@ -1,8 +1,7 @@
 //! What a table does in silence: what is never received, never sent or cannot be planned.
-ghost use Rattle.std.specs.Prelude.{IfOk, map};
+ghost use Rattle.std.specs.Prelude.{◌≡◌, ◌++◌, IfOk, map};
 ghost use Rattle.std.specs.List.{flat_map};
-ghost use Rattle.a429_word.specs.Written.{Writes};
-ghost use Rattle.a429_documents.specs.Lint.{AreAsked, IsLintText, finding_lines};
+ghost use Rattle.a429_documents.specs.Lint.{AreAsked, AreFindings, finding_rows, lint_columns};
 
 mod demands;
 mod groups;
@@ -10,11 +9,12 @@ mod receivers;
 mod sources;
 
 use crate::lint::demands::demands_of_groups;
-use crate::lint::groups::write_groups;
-use crate::lint::receivers::write_receivers;
-use crate::lint::sources::write_sources;
+use crate::lint::groups::add_groups;
+use crate::lint::receivers::add_receivers;
+use crate::lint::sources::add_sources;
 use a429_equipment::Equipment;
 use a429_pack::Demand;
+use a429_text::{Rows, Sheet};
 use std::alloc::{AllocError, Global};
 
 /// What is found in a group.
@@ -56,7 +56,7 @@ pub enum Finding {
     OfReceiver(ReceiverFinding),
 }
 
-/// The kinds, in the order of the text.
+/// The kinds, in the order of the rows.
 const FINDINGS: [Finding; 8] = [
     Finding::OfGroup(GroupFinding::Unfit),
     Finding::OfGroup(GroupFinding::TooManyBuses),
@@ -68,48 +68,44 @@ const FINDINGS: [Finding; 8] = [
     Finding::OfGroup(GroupFinding::Full),
 ];
 
-/// Writes the findings of one kind, in table order.
-fn write_finding(
-    text: &mut String,
-    equipment: &Equipment,
-    asked: &[Vec<Demand>],
-    finding: Finding,
-) -> Result<(), AllocError>
+/// The names of the columns.
+const COLUMNS: &[&str] = &["finding", "group", "receiver", "source", "other", "number"];
+
+/// Adds the findings of one kind, in table order.
+fn add_finding(found: &mut Rows, equipment: &Equipment, asked: &[Vec<Demand>], finding: Finding)
     requires asked { AreAsked equipment.now (map (λ v. v.items) asked.now) }
-    ensures { Writes result text.old text.new (finding_lines equipment.now (map (λ v. v.items) asked.now) finding) }
+    ensures { found.new ≡ found.old ++ finding_rows equipment.now (map (λ v. v.items) asked.now) finding }
 {
     match finding {
-        Finding::OfGroup(kind) => write_groups(text, equipment, asked, kind),
-        Finding::OfSource(kind) => write_sources(text, equipment, kind),
-        Finding::OfReceiver(kind) => write_receivers(text, equipment, kind),
+        Finding::OfGroup(kind) => add_groups(found, equipment, asked, kind),
+        Finding::OfSource(kind) => add_sources(found, equipment, kind),
+        Finding::OfReceiver(kind) => add_receivers(found, equipment, kind),
     }
 }
 
-/// Writes the findings of these kinds, one after the other.
-fn write_findings(
-    text: &mut String,
-    equipment: &Equipment,
-    asked: &[Vec<Demand>],
-    kinds: &[Finding],
-) -> Result<(), AllocError>
+/// Adds the findings of these kinds, one after the other.
+fn add_findings(found: &mut Rows, equipment: &Equipment, asked: &[Vec<Demand>], kinds: &[Finding])
     requires asked { AreAsked equipment.now (map (λ v. v.items) asked.now) }
-    ensures { Writes result text.old text.new (flat_map (finding_lines equipment.now (map (λ v. v.items) asked.now)) kinds.now) }
+    ensures { found.new ≡ found.old ++ flat_map (finding_rows equipment.now (map (λ v. v.items) asked.now)) kinds.now }
 {
     for number in 0..kinds.len() {
-        write_finding(text, equipment, asked, kinds[number])?;
+        add_finding(found, equipment, asked, kinds[number]);
     }
-    Ok(())
 }
 
-/// What an equipment does in silence (profile: lint text): a line for each finding, first each output without a grid
-/// period, then the groups that need more than 16 buses, the sources that no filter passes, those that no group sends,
-/// the receivers without a source, the filters that pass no source, the outputs that a receiver cannot tell apart, and
-/// the groups without an empty cell. No line means that nothing was found. The error is that memory was refused.
-pub fn lint_text(alloc: Global, equipment: &Equipment) -> Result<Vec<u8>, AllocError>
-    ensures { IfOk result (λ text. IsLintText equipment.now text.items) }
+/// What an equipment does in silence (profile: lint): a row for each finding, first each output without a grid period,
+/// then the groups that need more than 16 buses, the sources that no filter passes, those that no group sends, the
+/// receivers without a source, the filters that pass no source, the outputs that a receiver cannot tell apart, and the
+/// groups without an empty cell. No row means that nothing was found. The error is that memory was refused.
+pub fn lint_sheet(alloc: Global, equipment: &Equipment) -> Result<Sheet, AllocError>
+    ensures columns { IfOk result (λ sheet. map (λ name. name.now) sheet.columns.now ≡ lint_columns) }
+    ensures rows { IfOk result (λ sheet. AreFindings equipment.now sheet.rows) }
 {
     let asked = demands_of_groups(alloc, equipment)?;
-    let mut text = String::new(alloc);
-    write_findings(&mut text, equipment, &asked, &FINDINGS)?;
-    Ok(text.into_bytes())
+    let mut found = Rows::new(alloc);
+    add_findings(&mut found, equipment, &asked, &FINDINGS);
+    Ok(Sheet {
+        columns: COLUMNS,
+        rows: found,
+    })
 }

@@ -1,79 +1,85 @@
 //! A page that shows a plan and all that the documents say of it.
-ghost use Rattle.std.specs.Prelude.{◌≡◌, ◌<◌, ◌++◌, IfSome, OnOk, length};
-ghost use Rattle.a429_word.specs.Written.{Writes};
-ghost use Rattle.a429_slots.specs.Tables.{groups_of};
-ghost use Rattle.a429_documents.specs.Page.{GainsDocuments, GivesPage, findings_or_none, page_head, part_text};
-
-use crate::aligned::icd_text;
+use crate::document::icd_sheet;
 use crate::drawing::places::width_of;
-use crate::drawing::{DrawingFault, DrawingForm, draw_text};
-use crate::lint::lint_text;
-use crate::margin::margin_text;
+use crate::drawing::{Drawing, put_image};
+use crate::lint::lint_sheet;
+use crate::margin::margin_sheet;
+use a429_equipment::Equipment;
 use a429_slots::{OUTPUTS, Proposal};
+use a429_text::{Sheet, SheetForm, Text};
 use std::alloc::{AllocError, Global};
-use std::fmt::Write;
 
 /// Begins a page with an image of this width.
-fn write_head(text: &mut String, width: u32) -> Result<(), AllocError>
-    ensures { Writes result text.old text.new (page_head width) }
-{
-    writeln!(
-        text,
-        "<!DOCTYPE html>\n<html lang='en'>\n<head>\n<meta charset='utf-8'>\n<title>Slot tables</title>\n<style>\n@page {{ size: A3 landscape; margin: 10mm }}\nbody {{ font-family: sans-serif }}\nsvg {{ display: block; width: {width}px }}\n@media print {{ svg {{ width: 100% }} }}\npre {{ font-size: 12px }}\n</style>\n</head>\n<body>\n<h1>Slot tables</h1>"
-    )
+fn put_head(page: &mut Text, width: u32) {
+    page.put(
+        "<!DOCTYPE html>\n<html lang='en'>\n<head>\n<meta charset='utf-8'>\n<title>Slot tables</title>\n",
+    );
+    page.put(
+        "<style>\n@page { size: A3 landscape; margin: 10mm }\nbody { font-family: sans-serif }\n",
+    );
+    page.fill(
+        &["svg { display: block; width: ", "px }\n"],
+        &[u64::from(width)],
+    );
+    page.put(
+        "@media print { svg { width: 100% } }\npre { font-size: 12px }\n</style>\n</head>\n<body>\n",
+    );
+    page.put("<h1>Slot tables</h1>\n");
 }
 
-/// Adds a part: its heading, and the lines of a document.
-fn push_part(page: &mut Vec<u8>, heading: &[u8], lines: &[u8]) -> Result<(), AllocError>
-    ensures { OnOk result (page.new.items ≡ page.old.items ++ part_text heading.now lines.now) }
-{
-    page.extend_from_slice(b"<h2>")?;
-    page.extend_from_slice(heading)?;
-    page.extend_from_slice(b"</h2>\n<pre>\n")?;
-    page.extend_from_slice(lines)?;
-    page.extend_from_slice(b"</pre>\n")
-}
-
-/// The findings, or that there is none.
-fn findings_or_none(lint: &[u8]) -> &[u8]
-    ensures { result.now ≡ findings_or_none lint.now }
-{
-    if lint.is_empty() { b"none\n" } else { lint }
-}
-
-/// Adds the documents of a proposal.
-fn push_documents(
+/// Writes a sheet in columns below its heading.
+fn put_part(
     alloc: Global,
-    page: &mut Vec<u8>,
-    proposal: &Proposal<OUTPUTS>,
-) -> Result<(), AllocError>
-    ensures { OnOk result (GainsDocuments proposal.now.station proposal.now.plan page.old.items page.new.items) }
-{
-    let rows = icd_text(alloc, proposal)?;
-    push_part(page, b"Outputs", &rows)?;
-    let margin = margin_text(alloc, proposal)?;
-    push_part(page, b"Margin", &margin)?;
-    let lint = lint_text(alloc, proposal.equipment())?;
-    push_part(page, b"Findings", findings_or_none(&lint))
+    page: &mut Text,
+    heading: &str,
+    sheet: &Sheet,
+) -> Result<(), AllocError> {
+    let lines = sheet.render(alloc, SheetForm::Columns)?;
+    page.put("<h2>");
+    page.put(heading);
+    page.put("</h2>\n<pre>\n");
+    page.put_bytes(&lines);
+    page.put("</pre>\n");
+    Ok(())
 }
 
-/// A page (HTML 5) that needs nothing beside itself and prints on A3 paper: the image that `draw_text` answers, and below it
-/// the rows of `icd_text`, the lines of `margin_text`, and those of `lint_text`. The fault is that of `draw_text`.
-pub fn page_text(
+/// Writes how far each group is from one bus fewer.
+fn put_margin(
     alloc: Global,
+    page: &mut Text,
     proposal: &Proposal<OUTPUTS>,
-    group: Option<usize>,
-    form: DrawingForm,
-) -> Result<Vec<u8>, DrawingFault>
-    requires { IfSome group (λ group. group < length (groups_of proposal.now.plan)) }
-    ensures { GivesPage proposal.now group form result }
-{
-    let image = draw_text(alloc, proposal, group, form)?;
-    let mut head = String::new(alloc);
-    write_head(&mut head, width_of(form))?;
-    let mut page = head.into_bytes();
-    page.extend_from_slice(&image)?;
-    push_documents(alloc, &mut page, proposal)?;
-    page.extend_from_slice(b"</body>\n</html>\n")?;
-    Ok(page)
+) -> Result<(), AllocError> {
+    let margin = margin_sheet(alloc, proposal)?;
+    put_part(alloc, page, "Margin", &margin)
+}
+
+/// Writes the findings.
+fn put_findings(alloc: Global, page: &mut Text, equipment: &Equipment) -> Result<(), AllocError> {
+    let findings = lint_sheet(alloc, equipment)?;
+    put_part(alloc, page, "Findings", &findings)
+}
+
+/// Writes the documents of a proposal, and ends the page.
+fn put_documents(
+    alloc: Global,
+    page: &mut Text,
+    proposal: &Proposal<OUTPUTS>,
+) -> Result<(), AllocError> {
+    put_part(alloc, page, "Outputs", &icd_sheet(alloc, proposal))?;
+    put_margin(alloc, page, proposal)?;
+    put_findings(alloc, page, proposal.equipment())?;
+    page.put("</body>\n</html>\n");
+    Ok(())
+}
+
+/// A page (HTML 5) that needs nothing beside itself and prints on A3 paper: the image that `draw_text` gives, and below it
+/// the sheets of `icd`, `margin` and `lint` in columns. The error is that memory was refused.
+pub fn page_text(alloc: Global, drawing: &Drawing<'_>) -> Result<Vec<u8>, AllocError> {
+    let mut page = Text::new(alloc);
+    put_head(&mut page, width_of(drawing.form));
+    put_image(&mut page, drawing);
+    match put_documents(alloc, &mut page, drawing.proposal) {
+        Ok(()) => page.into_bytes(),
+        Err(error) => Err(error),
+    }
 }

@@ -1,6 +1,7 @@
 //! Hints about what `lint` finds.
 
 use crate::hint::HintText;
+use a429_text::Rows;
 
 /// The kinds of findings in the order in which `lint` prints them, with spaces between them.
 const KINDS: &str = "unfit too-many-buses unheard unsent idle blind alike full";
@@ -33,20 +34,22 @@ fn advice(kind: &str) -> &'static str {
     }
 }
 
-/// Whether a line of a text begins with this word.
-fn has_line(text: &str, kind: &str) -> bool {
-    for line in text.lines() {
-        if line.split(' ').next() == Some(kind) {
-            return true;
+/// Whether a row has this word in its first column.
+fn has_row(rows: &Rows, kind: &str) -> bool {
+    for row in 0..usize::MAX {
+        match rows.text(row, 0) {
+            Ok(Some(word)) if word == kind.as_bytes() => return true,
+            Ok(Some(_)) => {}
+            _ => return false,
         }
     }
     false
 }
 
-/// Tells what to do about each kind of finding in the text of `lint`, in the order of the kinds there.
-pub fn tell_findings(text: &str, hint: &mut HintText) {
+/// Tells what to do about each kind of finding in the rows of `lint`, in the order of the kinds there.
+pub fn tell_findings(rows: &Rows, hint: &mut HintText) {
     for kind in KINDS.split(' ') {
-        if has_line(text, kind) {
+        if has_row(rows, kind) {
             hint.begin(": ");
             hint.say_text(kind, ": ");
             hint.end(advice(kind));

@@ -3,18 +3,16 @@
 use crate::hint::HintText;
 use crate::nearest::Nearest;
 use crate::rows::short_text;
-
-/// The commands, with spaces between them.
-const COMMANDS: &str =
-    "import plan check icd margin lint diff draw replay simulate live word lines help";
-
-/// The options, with spaces between them.
-const OPTIONS: &str = "--csv --group --slots --width --html --until --summary --help --version";
+use a429_console::arguments::forms::commands;
+use std::alloc::{AllocError, Global};
 
 /// Tells which command, or which option, may have been meant by a word that is none.
 pub fn tell_nearest_word(words: &[&str], hint: &mut HintText) {
+    let (Ok(commands), Ok(options)) = (command_names(hint.alloc), option_names(hint.alloc)) else {
+        return hint.give_up();
+    };
     if let Some(first) = words.first() {
-        tell_nearest("command", COMMANDS, first, hint);
+        tell_nearest("command", &commands, first, hint);
     }
     for word in words {
         if *word == "--" {
@@ -22,9 +20,41 @@ pub fn tell_nearest_word(words: &[&str], hint: &mut HintText) {
         }
         if word.starts_with("--") {
             let (name, _) = word.split_once('=').unwrap_or((word, ""));
-            tell_nearest("option", OPTIONS, name, hint);
+            tell_nearest("option", &options, name, hint);
         }
     }
+}
+
+/// The names of the commands, with spaces between them. Of two that are as near the first is told, so `word` and `lines`,
+/// which are the first two, come last: few mean them.
+fn command_names(alloc: Global) -> Result<String, AllocError> {
+    let mut names = String::new(alloc);
+    for form in commands().iter().skip(2) {
+        add_name("", form.name, &mut names)?;
+    }
+    for form in commands().iter().take(2) {
+        add_name("", form.name, &mut names)?;
+    }
+    names.push_str("help")?;
+    Ok(names)
+}
+
+/// The options, with spaces between them.
+fn option_names(alloc: Global) -> Result<String, AllocError> {
+    let mut names = String::new(alloc);
+    for form in commands() {
+        for option in form.options {
+            add_name("--", option.id, &mut names)?;
+        }
+    }
+    names.push_str("--help --version")?;
+    Ok(names)
+}
+
+fn add_name(hyphens: &str, name: &str, names: &mut String) -> Result<(), AllocError> {
+    names.push_str(hyphens)?;
+    names.push_str(name)?;
+    names.push(' ')
 }
 
 /// Tells the name of this kind that is nearest to a word, if the word is none.

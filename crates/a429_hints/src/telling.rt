@@ -12,7 +12,8 @@ use crate::mistakes::tell_nearest_word;
 use crate::plans::{tell_all_unfit, tell_fewer_buses, tell_groups};
 use crate::scripts::{tell_script_line, tell_words_line};
 use crate::words::{tell_even_word, tell_filter, tell_line_byte, tell_word_text};
-use a429_console::arguments::requests::{CommandRequest, Request};
+use a429_console::arguments::forms::{CommandForm, Verb, command_of};
+use a429_console::arguments::requests::Asked;
 use a429_console::hints::{FurtherCause, FurtherFault, Hints, Seen, SeenTable, TableLook};
 use a429_console::refusals::CommandRefusal;
 use a429_table::FaultKind;
@@ -28,12 +29,12 @@ impl Hints for HintLines {
     fn tell<V: Write>(
         &self,
         alloc: Global,
-        request: &Request,
+        asked: &Asked,
         seen: &Seen,
         err: &mut V,
     ) -> io::Result<()> {
         let mut hint = HintText::new(alloc);
-        tell_seen(request, seen, &mut hint);
+        tell_seen(asked, seen, &mut hint);
         hint.put(err)?;
         err.flush()
     }
@@ -47,13 +48,13 @@ impl Hints for HintLines {
     fn tell_further<V: Write>(
         &self,
         alloc: Global,
-        request: &Request,
+        asked: &Asked,
         faults: &[FurtherFault],
         err: &mut V,
     ) -> io::Result<()> {
         let mut hint = HintText::new(alloc);
         for fault in faults {
-            tell_further_fault(request, fault, &mut hint);
+            tell_further_fault(asked, fault, &mut hint);
         }
         hint.put(err)?;
         err.flush()
@@ -61,9 +62,9 @@ impl Hints for HintLines {
 }
 
 /// Tells of all that a command saw.
-fn tell_seen(request: &Request, seen: &Seen, hint: &mut HintText) {
+fn tell_seen(asked: &Asked, seen: &Seen, hint: &mut HintText) {
     if let Some(refusal) = &seen.refusal {
-        tell_refusal(request, refusal, seen, hint);
+        tell_refusal(asked, refusal, seen, hint);
     }
     if let (Some(objection), Some(equipment), Some(text)) = (
         seen.objection,
@@ -74,90 +75,81 @@ fn tell_seen(request: &Request, seen: &Seen, hint: &mut HintText) {
             equipment,
             text: text.as_slice(),
         };
-        hint.turn_to(text_name(request));
+        hint.turn_to(text_name(asked));
         tell_objection(judged, objection, hint);
     }
     if let Some(findings) = &seen.findings {
-        let text = str::from_utf8(findings).unwrap_or("");
-        hint.turn_to(table_name(request));
-        tell_findings(text, hint);
+        hint.turn_to(table_name(asked));
+        tell_findings(&findings.rows, hint);
     }
 }
 
 /// Tells why a further table is not taken: what its own refusal would tell, or in what its station differs.
-fn tell_further_fault(request: &Request, fault: &FurtherFault, hint: &mut HintText) {
-    hint.turn_to(further_name(request, fault.number));
+fn tell_further_fault(asked: &Asked, fault: &FurtherFault, hint: &mut HintText) {
+    hint.turn_to(nth(&asked.more, fault.number));
     match &fault.cause {
-        FurtherCause::Fault(kind) => tell_fault(request, *kind, &fault.table, hint),
+        FurtherCause::Fault(kind) => tell_fault(asked, *kind, &fault.table, hint),
         FurtherCause::Unfit => tell_unfit_of_table(&fault.table, hint),
         FurtherCause::TooManyBuses { group, needed } => {
             tell_fewer_buses(group.as_str(), *needed, hint);
         }
         FurtherCause::OtherStation { running, other } => {
-            tell_difference(table_name(request), running, other, hint);
+            tell_difference(table_name(asked), running, other, hint);
         }
     }
 }
 
-fn tell_refusal(request: &Request, refusal: &CommandRefusal, seen: &Seen, hint: &mut HintText) {
+fn tell_refusal(asked: &Asked, refusal: &CommandRefusal, seen: &Seen, hint: &mut HintText) {
     if let Some(rows) = &seen.rows {
-        hint.turn_to(text_name(request));
+        hint.turn_to(text_name(asked));
         return tell_rows(refusal, rows, hint);
     }
     match refusal {
         CommandRefusal::File(name) => tell_trouble(seen.trouble, name.as_str(), hint),
         CommandRefusal::WordText | CommandRefusal::Parity | CommandRefusal::Filter(_) => {
-            tell_of_words(request, refusal, hint);
+            tell_of_words(asked, refusal, hint);
         }
         CommandRefusal::LineByte(_) | CommandRefusal::Script(_) | CommandRefusal::LogLine { .. } =>
-            { tell_of_line(request, seen, hint) }
-        CommandRefusal::TooMuch => tell_of_length(request, hint),
-        _ => tell_of_table(request, refusal, seen, hint),
+            { tell_of_line(asked, seen, hint) }
+        CommandRefusal::TooMuch => tell_of_length(asked, hint),
+        _ => tell_of_table(asked, refusal, seen, hint),
     }
 }
 
 /// Tells of words of the command line.
-fn tell_of_words(request: &Request, refusal: &CommandRefusal, hint: &mut HintText) {
-    match (refusal, request) {
-        (CommandRefusal::WordText, Request::Command(CommandRequest::Word { text })) => {
-            tell_word_text(text, hint);
-        }
-        (CommandRefusal::Parity, Request::Command(CommandRequest::Word { text })) => {
-            tell_even_word(text, hint);
-        }
-        (CommandRefusal::Filter(number), Request::Command(CommandRequest::Lines { filters, .. })) =>
-            {
-                let text = filters.get(number.saturating_sub(1)).copied();
-                tell_filter(*number, text.unwrap_or(""), hint);
-            }
+fn tell_of_words(asked: &Asked, refusal: &CommandRefusal, hint: &mut HintText) {
+    match refusal {
+        CommandRefusal::WordText => tell_word_text(asked.first, hint),
+        CommandRefusal::Parity => tell_even_word(asked.first, hint),
+        CommandRefusal::Filter(number) => tell_filter(*number, nth(&asked.more, *number), hint),
         _ => {}
     }
 }
 
 /// Tells of a line of a script, of a file of words, of a log, or of a line file.
-fn tell_of_line(request: &Request, seen: &Seen, hint: &mut HintText) {
+fn tell_of_line(asked: &Asked, seen: &Seen, hint: &mut HintText) {
     let Some(line) = &seen.line else {
         return;
     };
-    hint.turn_to(text_name(request));
+    hint.turn_to(text_name(asked));
     hint.turn_to_line(line.number);
-    match (request, seen.byte) {
+    match (asked.verb, seen.byte) {
         (_, Some(byte)) => tell_line_byte(line, byte, hint),
-        (Request::Live(_), None) => tell_words_line(line, hint),
-        (Request::Command(CommandRequest::Simulate(_)), None) => tell_log_line(line, hint),
-        (Request::Command(_), None) => tell_script_line(line, hint),
+        (Verb::Live, None) => tell_words_line(line, hint),
+        (Verb::Simulate, None) => tell_log_line(line, hint),
+        (_, None) => tell_script_line(line, hint),
     }
 }
 
 /// Tells of a log that is too long, or of an image that is too high.
-fn tell_of_length(request: &Request, hint: &mut HintText) {
-    match request {
-        Request::Command(CommandRequest::Simulate(asked)) => {
-            hint.turn_to(asked.log);
-            tell_too_long(asked.until, hint);
+fn tell_of_length(asked: &Asked, hint: &mut HintText) {
+    match asked.verb {
+        Verb::Simulate => {
+            hint.turn_to(text_name(asked));
+            tell_too_long(asked.options.until, hint);
         }
-        Request::Command(CommandRequest::Draw(asked)) => {
-            hint.turn_to(asked.table);
+        Verb::Draw => {
+            hint.turn_to(table_name(asked));
             hint.say_line(
                 "the image would be higher than 32767 pixels, which programs that show images refuse: ask for fewer slots (--slots), for wider rows (--width 256), or for one group (--group)",
             );
@@ -167,13 +159,14 @@ fn tell_of_length(request: &Request, hint: &mut HintText) {
 }
 
 /// Tells of the table, of its plan, or of the threads that it needs.
-fn tell_of_table(request: &Request, refusal: &CommandRefusal, seen: &Seen, hint: &mut HintText) {
-    hint.turn_to(match request {
-        Request::Command(CommandRequest::Diff { other, .. }) if seen.is_second => other,
-        _ => table_name(request),
+fn tell_of_table(asked: &Asked, refusal: &CommandRefusal, seen: &Seen, hint: &mut HintText) {
+    hint.turn_to(if seen.is_second {
+        asked.second
+    } else {
+        table_name(asked)
     });
     match refusal {
-        CommandRefusal::Table(kind, _) => tell_fault(request, *kind, &seen.table, hint),
+        CommandRefusal::Table(kind, _) => tell_fault(asked, *kind, &seen.table, hint),
         CommandRefusal::Unfit { .. } => tell_unfit_of_table(&seen.table, hint),
         CommandRefusal::TooManyBuses { group, needed } => {
             tell_fewer_buses(group.as_str(), *needed, hint);
@@ -193,9 +186,9 @@ fn tell_of_table(request: &Request, refusal: &CommandRefusal, seen: &Seen, hint:
 }
 
 /// Tells of a table with a fault of this kind.
-fn tell_fault(request: &Request, kind: FaultKind, table: &SeenTable, hint: &mut HintText) {
+fn tell_fault(asked: &Asked, kind: FaultKind, table: &SeenTable, hint: &mut HintText) {
     if kind == FaultKind::NotToml {
-        tell_order(request, table.looks, hint);
+        tell_order(asked, table.looks, hint);
     }
     if let Some(document) = &table.document {
         tell_table_fault(document, kind, hint);
@@ -210,7 +203,7 @@ fn tell_unfit_of_table(table: &SeenTable, hint: &mut HintText) {
 }
 
 /// Tells the order of the files that is due, if a table looks like another of them.
-fn tell_order(request: &Request, looks: TableLook, hint: &mut HintText) {
+fn tell_order(asked: &Asked, looks: TableLook, hint: &mut HintText) {
     let looks = match looks {
         TableLook::PlanText => "the text of a plan",
         TableLook::Script => "a script",
@@ -219,66 +212,62 @@ fn tell_order(request: &Request, looks: TableLook, hint: &mut HintText) {
     };
     hint.begin(": this looks like ");
     hint.say_text(looks, "; the order is ");
-    hint.end(order_of(request));
+    say_order(asked.verb, hint);
+    hint.end("");
 }
 
-/// The order of the files of a command.
-fn order_of(request: &Request) -> &'static str {
-    match request {
-        Request::Live(_) => "live TABLE WORDS FRAMES [FURTHER..]",
-        Request::Command(CommandRequest::Check { .. }) => "check TABLE PLAN",
-        Request::Command(CommandRequest::Diff { .. }) => "diff TABLE OTHER",
-        Request::Command(CommandRequest::Replay { .. }) => "replay TABLE SCRIPT [FURTHER..]",
-        Request::Command(CommandRequest::Simulate(_)) => "simulate TABLE LOG",
-        Request::Command(_) => "a table alone",
+/// Says the order of the files of a command.
+fn say_order(verb: Verb, hint: &mut HintText) {
+    match command_of(verb) {
+        Some(form) => say_names(form, hint),
+        None => {}
+    }
+}
+
+/// Says a command and what it is given beside options, if that is more than a table.
+fn say_names(form: &CommandForm, hint: &mut HintText) {
+    let Some(second) = form.second else {
+        return hint.say("a table alone");
+    };
+    hint.say_text(form.name, " ");
+    hint.say_text(form.first.id, " ");
+    hint.say(second.id);
+    if let Some(number) = form.number {
+        hint.say_text(" ", number.id);
+    }
+    if let Some(more) = form.more {
+        hint.say_text(" [", more.id);
+        hint.say("..]");
+    }
+}
+
+/// Whether the first name that the command is given is that of a table.
+fn is_of_table(verb: Verb) -> bool {
+    match command_of(verb) {
+        Some(form) => form.first.id == "TABLE",
+        None => false,
     }
 }
 
 /// The name of the table; empty if the command has none.
-fn table_name<'a>(request: &'a Request) -> &'a str {
-    match request {
-        Request::Live(run) => run.table,
-        Request::Command(
-            CommandRequest::Plan { table }
-            | CommandRequest::Icd { table, .. }
-            | CommandRequest::Margin { table }
-            | CommandRequest::Lint { table }
-            | CommandRequest::Diff { table, .. }
-            | CommandRequest::Check { table, .. }
-            | CommandRequest::Replay { table, .. },
-        ) => table,
-        Request::Command(CommandRequest::Draw(asked)) => asked.table,
-        Request::Command(CommandRequest::Simulate(asked)) => asked.table,
-        Request::Command(
-            CommandRequest::Word { .. }
-            | CommandRequest::Lines { .. }
-            | CommandRequest::Import { .. },
-        ) => "",
+fn table_name<'a>(asked: &Asked<'a>) -> &'a str {
+    if is_of_table(asked.verb) {
+        asked.first
+    } else {
+        ""
     }
 }
 
 /// The name of the text that is read beside a table, of a line file, or of rows to import; empty if the command has none.
-fn text_name<'a>(request: &'a Request) -> &'a str {
-    match request {
-        Request::Live(run) => run.words,
-        Request::Command(CommandRequest::Check { plan, .. }) => plan,
-        Request::Command(CommandRequest::Replay { script, .. }) => script,
-        Request::Command(CommandRequest::Simulate(asked)) => asked.log,
-        Request::Command(CommandRequest::Lines { file, .. } | CommandRequest::Import { file }) =>
-            file,
-        Request::Command(_) => "",
+fn text_name<'a>(asked: &Asked<'a>) -> &'a str {
+    if is_of_table(asked.verb) {
+        asked.second
+    } else {
+        asked.first
     }
 }
 
-/// The name of a further table, by its number from 1; empty if there is none.
-fn further_name<'a>(request: &'a Request, number: usize) -> &'a str {
-    let further = match request {
-        Request::Live(run) => &run.further,
-        Request::Command(CommandRequest::Replay { further, .. }) => further,
-        Request::Command(_) => return "",
-    };
-    match further.get(number.saturating_sub(1)) {
-        Some(name) => name,
-        None => "",
-    }
+/// The text of this number from 1; empty if there is none.
+fn nth<'a>(texts: &[&'a str], number: usize) -> &'a str {
+    texts.get(number.saturating_sub(1)).copied().unwrap_or("")
 }

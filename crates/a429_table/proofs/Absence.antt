@@ -17,12 +17,12 @@ use Rattle.a429_table.proofs.Leastness.{all_fail}
 
 nowhere_at : (root : Data) (kind : FaultKind) (later : List FaultKind) (o : Option Stop) → find (stands root kind) (walk root) ≡ o → first (flat_map (faults_of root) (kind ∷ later)) ≡ None
     → StandsAtNone root (walk root) kind × (first (flat_map (faults_of root) later) ≡ None)
-nowhere_at root kind later None e h = (all_fail (stands root kind) (walk root) e, sym (first_of_two root kind later None (rw e)) ∙ h)
+nowhere_at root kind later None e h = (all_fail (stands root kind) (walk root) e, sym (first_of_two (stands root) (walk root) kind later None (rw e)) ∙ h)
 nowhere_at root kind later (Some s) e h =
-    let t : first (flat_map (faults_of root) (kind ∷ later)) ≡ Some (kind, s.0) = first_of_two root kind later (Some (s.0)) (rw e) in
+    let t : first (flat_map (faults_of root) (kind ∷ later)) ≡ Some (kind, s.0) = first_of_two (stands root) (walk root) kind later (Some (s.0)) (rw e) in
     cc
 
-none_stand : (root : Data) (ks : List FaultKind) → first (flat_map (faults_of root) ks) ≡ None → AllByRecursion (StandsAtNone root (walk root)) ks
+pub none_stand : (root : Data) (ks : List FaultKind) → first (flat_map (faults_of root) ks) ≡ None → AllByRecursion (StandsAtNone root (walk root)) ks
 none_stand root [] h = tt
 none_stand root (k ∷ ks) h = let n = nowhere_at root k ks (find (stands root k) (walk root)) refl h in (n.0, none_stand root ks n.1)
 

@@ -6,7 +6,6 @@ use Rattle.std.proofs.lemmas.Option.{same_Some}
 use Rattle.std.proofs.lemmas.Slice.Eq.{bytes_eq-Decides}
 use Rattle.std.specs.List.{list_any, slice_get, AllByRecursion}
 use Rattle.std.specs.Option.{option_map_or}
-use Rattle.std.specs.Str.{bytes_eq}
 use Rattle.std.specs.Prelude.{IsTrue}
 use Rattle.a429_word.specs.Bits.{label_of as word_label, sdi_of as word_sdi}
 use Rattle.toml.specs.Data.{Data, string, integer, float, boolean, datetime, array, table, get}
@@ -19,7 +18,7 @@ use Rattle.a429_word.specs.Texts.{label_value, octal_number}
 use Rattle.a429_word.proofs.LabelTexts.{one_label}
 use Rattle.a429_table.specs.Names.{number_named}
 use Rattle.a429_table.specs.Walk.{earlier, numbered}
-use Rattle.a429_table.specs.Faults.{stands, is_sdi, is_within, sdi_of, sdi_at, sdis_meet, sources_meet, repeats_source}
+use Rattle.a429_table.specs.Faults.{stands, is_sdi, sdi_of, sdi_at, sdis_meet, sources_meet, repeats_source}
 use Rattle.a429_table.specs.Least.{StandsAtNone}
 use Rattle.a429_table.specs.Stated.{natural, source_row}
 use Rattle.a429_equipment.specs.Arrivals.{is_for, SourcesAreApart}
@@ -33,31 +32,32 @@ pub some_of : (o : Option ℕ) (x : ℕ) → is_none o ≡ false → unwrap_or o
 some_of None x h e = cc
 some_of (Some y) x h e = ap (λ n. Some n) e
 
-sdi_within : (o : Option Data) (z : ℤ) → is_sdi o ≡ true → sdi_of o ≡ Some z → is_within 0 3 z ≡ true
-sdi_within None z h e = cc
-sdi_within (Some (string s)) z h e = cc
-sdi_within (Some (integer y)) z h e = let same : y ≡ z = cc in subst (λ x. is_within 0 3 x ≡ true) same h
-sdi_within (Some (float f)) z h e = cc
-sdi_within (Some (boolean b)) z h e = cc
-sdi_within (Some (datetime d)) z h e = cc
-sdi_within (Some (array ds)) z h e = cc
-sdi_within (Some (table ms)) z h e = cc
+-- the number of an SDI that is right
+abbrev pub row_sdi : Option ℤ → Option ℕ
+row_sdi o = option_map (natural 4) o
+
+abbrev pub as_stated : Option ℕ → Option ℤ
+as_stated o = option_map (λ n. pos n) o
+
+sdi_is : (o : Option Data) → is_sdi o ≡ true → sdi_of o ≡ as_stated (row_sdi (sdi_of o))
+sdi_is None h = refl
+sdi_is (Some (string s)) h = refl
+sdi_is (Some (integer (pos n))) h = let (low, high) = within 0 3 n h in rw (natural-pos 4 n (omega arith)) refl
+sdi_is (Some (integer (negsuc n))) h = cc
+sdi_is (Some (float f)) h = refl
+sdi_is (Some (boolean b)) h = refl
+sdi_is (Some (datetime d)) h = refl
+sdi_is (Some (array ds)) h = refl
+sdi_is (Some (table ms)) h = refl
 
 -- an SDI of a source, or any, that agrees with an SDI of a word
-abbrev Agrees : Option ℤ → ℕ → Type 0
-Agrees o x = option_map_or (λ k. k == x) (option_map (natural 4) o) true ≡ true
+abbrev Agrees : Option ℕ → ℕ → Type 0
+Agrees o x = option_map_or (λ k. k == x) o true ≡ true
 
-agreed : (z : ℤ) (x : ℕ) → is_within 0 3 z ≡ true → Agrees (Some z) x → z ≡ pos x
-agreed (negsuc n) x h e = cc
-agreed (pos n) x h e =
-    let r = within 0 3 n h in
-    let same : n ≡ x = sym (natural-pos 4 n (omega arith)) ∙ eqb-true (natural 4 (pos n)) x e in
-    ap (λ k. pos k) same
-
-sdis_meet_at : (o u : Option ℤ) (x : ℕ) → ((z : ℤ) → o ≡ Some z → is_within 0 3 z ≡ true) → ((z : ℤ) → u ≡ Some z → is_within 0 3 z ≡ true) → Agrees o x → Agrees u x → sdis_meet o u ≡ true
-sdis_meet_at None u x h i a b = refl
-sdis_meet_at (Some z) None x h i a b = refl
-sdis_meet_at (Some z) (Some y) x h i a b = (Decides-int_eq z y).1 (agreed z x (h z refl) a ∙ sym (agreed y x (i y refl) b))
+sdis_meet_at : (o u : Option ℕ) (x : ℕ) → Agrees o x → Agrees u x → sdis_meet (as_stated o) (as_stated u) ≡ true
+sdis_meet_at None u x a b = refl
+sdis_meet_at (Some m) None x a b = refl
+sdis_meet_at (Some m) (Some n) x a b = (Decides-int_eq (pos m) (pos n)).1 (ap (λ i. pos i) (eqb-true m x a ∙ sym (eqb-true n x b)))
 
 -- a source without a fault of its own
 pub record IsSource (root : Data) (d : Data) : Type 0 where
@@ -65,32 +65,41 @@ pub record IsSource (root : Data) (d : Data) : Type 0 where
   pub label : is_none (label_value (text_at (codes "label") d)) ≡ false
   pub sdi : is_sdi (get (codes "sdi") d) ≡ true
 
--- the source of a word: its receiver's number, and the label and the SDI of the word
-record IsFor (root : Data) (d : Data) (r raw : ℕ) : Type 0 where
-  receiver : unwrap_or (number_named (text_at (codes "receiver") d) (rows_at (codes "receiver") root)) 0 ≡ r
-  label : unwrap_or (label_value (text_at (codes "label") d)) 0 ≡ word_label raw
-  sdi : Agrees (sdi_at d) (word_sdi raw)
+pub source_sdi : (root d : Data) → IsSource root d → sdi_at d ≡ as_stated (row_sdi (sdi_at d))
+source_sdi root d s = sdi_is (get (codes "sdi") d) s.sdi
 
-for_parts : (root : Data) (d : Data) (r raw : ℕ) → IsTrue (is_for r raw (source_row root d)) → IsFor root d r raw
-unfolding source_row octal_number
-for_parts root d r raw h =
-    let (receiver, rest) = and_parts _ _ h in
-    let (label, sdi) = and_parts _ _ rest in
-    record { receiver = eqb-true _ r receiver; label = eqb-true _ (word_label raw) label; sdi = sdi }
-
-meet : (root a b : Data) (r raw : ℕ) → IsSource root a → IsSource root b → IsFor root a r raw → IsFor root b r raw → sources_meet a b ≡ true
-meet root a b r raw s t f g =
+-- sources with one number of a receiver have one receiver
+pub same_receiver : (root a b : Data) → IsSource root a → IsSource root b → (source_row root a).receiver ≡ (source_row root b).receiver → text_at (codes "receiver") a ≡ text_at (codes "receiver") b
+unfolding source_row
+same_receiver root a b s t same =
     let receivers = rows_at (codes "receiver") root in
     let name_a = text_at (codes "receiver") a in
     let name_b = text_at (codes "receiver") b in
-    let same_name : name_a ≡ name_b = one_name name_a name_b receivers r (some_of (number_named name_a receivers) r s.known f.receiver) (some_of (number_named name_b receivers) r t.known g.receiver) in
+    let r = (source_row root b).receiver in
+    one_name name_a name_b receivers r (some_of (number_named name_a receivers) r s.known same) (some_of (number_named name_b receivers) r t.known refl)
+
+-- and those with one number of a label have one label
+pub same_label : (root a b : Data) → IsSource root a → IsSource root b → (source_row root a).label ≡ (source_row root b).label → text_at (codes "label") a ≡ text_at (codes "label") b
+unfolding source_row octal_number
+same_label root a b s t same =
     let label_a = text_at (codes "label") a in
     let label_b = text_at (codes "label") b in
-    let same_label : label_a ≡ label_b = one_label label_a label_b (word_label raw) (some_of (label_value label_a) (word_label raw) s.label f.label) (some_of (label_value label_b) (word_label raw) t.label g.label) in
-    let names : bytes_eq name_a name_b ≡ true = (bytes_eq-Decides name_a name_b).1 same_name in
-    let labels : bytes_eq label_a label_b ≡ true = (bytes_eq-Decides label_a label_b).1 same_label in
-    let sdis = sdis_meet_at (sdi_at a) (sdi_at b) (word_sdi raw) (λ z e. sdi_within (get (codes "sdi") a) z s.sdi e) (λ z e. sdi_within (get (codes "sdi") b) z t.sdi e) f.sdi g.sdi in
-    and_from _ _ (and_from _ _ names labels) sdis
+    let n = (source_row root b).label in
+    one_label label_a label_b n (some_of (label_value label_a) n s.label same) (some_of (label_value label_b) n t.label refl)
+
+meet : (root a b : Data) (r raw : ℕ) → IsSource root a → IsSource root b → IsTrue (is_for r raw (source_row root a)) → IsTrue (is_for r raw (source_row root b)) → sources_meet a b ≡ true
+unfolding source_row
+meet root a b r raw s t f g =
+    let (receiver_a, rest_a) = and_parts _ _ f in
+    let (label_a, agrees_a) = and_parts _ _ rest_a in
+    let (receiver_b, rest_b) = and_parts _ _ g in
+    let (label_b, agrees_b) = and_parts _ _ rest_b in
+    let receivers = same_receiver root a b s t (eqb-true _ r receiver_a ∙ sym (eqb-true _ r receiver_b)) in
+    let labels = same_label root a b s t (eqb-true _ (word_label raw) label_a ∙ sym (eqb-true _ (word_label raw) label_b)) in
+    let names = (bytes_eq-Decides (text_at (codes "receiver") a) (text_at (codes "receiver") b)).1 receivers in
+    let digits = (bytes_eq-Decides (text_at (codes "label") a) (text_at (codes "label") b)).1 labels in
+    let sdis = sdis_meet_at (row_sdi (sdi_at a)) (row_sdi (sdi_at b)) (word_sdi raw) agrees_a agrees_b in
+    and_from _ _ (and_from _ _ names digits) (rw (source_sdi root a s, source_sdi root b t) sdis)
 
 -- ---- no two sources meet
 
@@ -119,9 +128,7 @@ apart_below root good none r raw i j s t e f for_s for_t below =
     let ds = rows_at (codes "source") root in
     let (a, at_a, is_a) = mapped_at (source_row root) ds i s e in
     let (b, at_b, is_b) = mapped_at (source_row root) ds j t f in
-    let of_a = for_parts root a r raw (rw is_a for_s) in
-    let of_b = for_parts root b r raw (rw is_b for_t) in
-    let met = meet root a b r raw (all_at (IsSource root) ds i a good at_a) (all_at (IsSource root) ds j b good at_b) of_a of_b in
+    let met = meet root a b r raw (all_at (IsSource root) ds i a good at_a) (all_at (IsSource root) ds j b good at_b) (rw is_a for_s) (rw is_b for_t) in
     both_ways (sources_meet a b) (never_meet root i j a b none below at_a at_b) met
 
 pub are_apart : (root : Data) → AllByRecursion (IsSource root) (rows_at (codes "source") root) → StandsAtNone root (numbered Sources (rows_at (codes "source") root)) DuplicateSource

@@ -3,17 +3,17 @@ use Rattle.std.proofs.Common.{◌≡◌, ℕ, ◌+◌, ◌<◌, length, drop, ge
 use Rattle.std.proofs.lemmas.List.{drop_more}
 use Rattle.std.specs.List.{find, flat_map}
 use Rattle.std.specs.Option.{option_or}
-use Rattle.toml.specs.Data.{Data}
 use Rattle.a429_table.specs.declared.fault.FaultKind.{FaultKind}
 use Rattle.a429_table.specs.declared.fault.TablePlace.{TablePlace}
-use Rattle.a429_table.specs.Walk.{Stop, walk}
-use Rattle.a429_table.specs.Faults.{first, faults_of, stands}
+use Rattle.a429_table.specs.Walk.{Stop}
+use Rattle.a429_table.specs.Faults.{first}
+use Rattle.a429_table.specs.Repeats.{found}
 
 first_map : {X Y : Type 0} (h : X → Y) (xs : List X) → first (map h xs) ≡ option_map h (first xs)
 first_map h [] = refl
 first_map h (x ∷ xs) = refl
 
-first_append : {X : Type 0} (xs ys : List X) → first (xs ++ ys) ≡ option_or (first xs) (first ys)
+pub first_append : {X : Type 0} (xs ys : List X) → first (xs ++ ys) ≡ option_or (first xs) (first ys)
 first_append [] ys = refl
 first_append (x ∷ xs) ys = refl
 
@@ -30,20 +30,20 @@ with_kind kind None = refl
 with_kind kind (Some s) = refl
 
 -- the first place of a kind, else the first fault of the later kinds
-pub first_of_two : (root : Data) (kind : FaultKind) (later : List FaultKind) (place : Option TablePlace) → place ≡ option_map (λ s. s.0) (find (stands root kind) (walk root))
-    → first (flat_map (faults_of root) (kind ∷ later)) ≡ option_or (option_map (λ p. (kind, p)) place) (first (flat_map (faults_of root) later))
-first_of_two root kind later place e =
+pub first_of_two : (test : FaultKind → Stop → Bool) (stops : List Stop) (kind : FaultKind) (later : List FaultKind) (place : Option TablePlace) → place ≡ option_map (λ s. s.0) (find (test kind) stops)
+    → first (flat_map (found test stops) (kind ∷ later)) ≡ option_or (option_map (λ p. (kind, p)) place) (first (flat_map (found test stops) later))
+first_of_two test stops kind later place e =
     rw (first_append, first_map, first_filter, with_kind kind, ← e)
 
--- a kind that stands at a place, and one that stands nowhere
-pub found_here : (root : Data) (kinds : List FaultKind) (i : ℕ) (d : FaultKind) (place : Option TablePlace) (p : TablePlace) → i < length kinds
-    → place ≡ option_map (λ s. s.0) (find (stands root (get_or kinds i d)) (walk root)) → place ≡ Some p
-    → first (flat_map (faults_of root) (drop i kinds)) ≡ Some (get_or kinds i d, p)
-found_here root kinds i d place p h e some =
-    rw (drop_more kinds i d h, first_of_two root (get_or kinds i d) (drop (i + 1) kinds) place e, some)
+-- a kind that is found at a place, and one that is found nowhere
+pub found_here : (test : FaultKind → Stop → Bool) (stops : List Stop) (kinds : List FaultKind) (i : ℕ) (d : FaultKind) (place : Option TablePlace) (p : TablePlace) → i < length kinds
+    → place ≡ option_map (λ s. s.0) (find (test (get_or kinds i d)) stops) → place ≡ Some p
+    → first (flat_map (found test stops) (drop i kinds)) ≡ Some (get_or kinds i d, p)
+found_here test stops kinds i d place p h e some =
+    rw (drop_more kinds i d h, first_of_two test stops (get_or kinds i d) (drop (i + 1) kinds) place e, some)
 
-pub found_later : (root : Data) (kinds : List FaultKind) (i : ℕ) (d : FaultKind) (place : Option TablePlace) → i < length kinds
-    → place ≡ option_map (λ s. s.0) (find (stands root (get_or kinds i d)) (walk root)) → place ≡ None
-    → first (flat_map (faults_of root) (drop i kinds)) ≡ first (flat_map (faults_of root) (drop (i + 1) kinds))
-found_later root kinds i d place h e none =
-    rw (drop_more kinds i d h, first_of_two root (get_or kinds i d) (drop (i + 1) kinds) place e, none)
+pub found_later : (test : FaultKind → Stop → Bool) (stops : List Stop) (kinds : List FaultKind) (i : ℕ) (d : FaultKind) (place : Option TablePlace) → i < length kinds
+    → place ≡ option_map (λ s. s.0) (find (test (get_or kinds i d)) stops) → place ≡ None
+    → first (flat_map (found test stops) (drop i kinds)) ≡ first (flat_map (found test stops) (drop (i + 1) kinds))
+found_later test stops kinds i d place h e none =
+    rw (drop_more kinds i d h, first_of_two test stops (get_or kinds i d) (drop (i + 1) kinds) place e, none)

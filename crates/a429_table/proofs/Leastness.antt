@@ -51,10 +51,10 @@ least_at : (root : Data) (k : FaultKind) (ks : List FaultKind) (kind : FaultKind
     → first (flat_map (faults_of root) (k ∷ ks)) ≡ Some (kind, place)
     → (first (flat_map (faults_of root) ks) ≡ Some (kind, place) → LeastOf root ks kind place) → LeastOf root (k ∷ ks) kind place
 least_at root k ks kind place None e h rest =
-    let l = rest (sym (first_of_two root k ks None (rw e)) ∙ h) in
+    let l = rest (sym (first_of_two (stands root) (walk root) k ks None (rw e)) ∙ h) in
     record { before = k ∷ l.before; after = l.after; value = l.value; kinds_are = ap (λ zs. k ∷ zs) l.kinds_are; there = l.there; no_earlier_kind = (all_fail (stands root k) (walk root) e, l.no_earlier_kind) }
 least_at root k ks kind place (Some s) e h rest =
-    let t : first (flat_map (faults_of root) (k ∷ ks)) ≡ Some (k, s.0) = first_of_two root k ks (Some (s.0)) (rw e) in
+    let t : first (flat_map (faults_of root) (k ∷ ks)) ≡ Some (k, s.0) = first_of_two (stands root) (walk root) k ks (Some (s.0)) (rw e) in
     let pair : (k, s.0) ≡ (kind, place) = same_Some _ _ (sym t ∙ h) in
     let same_kind : k ≡ kind = ap (λ p. p.0) pair in
     let same_place : s.0 ≡ place = ap (λ p. p.1) pair in

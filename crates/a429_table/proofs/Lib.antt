@@ -11,7 +11,6 @@ pub mod Apart
 pub mod Own
 pub mod SoundRows
 pub mod Soundness
-pub mod Chained
-pub mod TriplePairs
+pub mod RepeatedRows
 pub mod AtKeys
 pub mod Written

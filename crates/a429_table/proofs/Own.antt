@@ -89,7 +89,7 @@ there_at [] n below = absurd (omega arith)
 there_at (x ∷ xs) zero below = refl
 there_at (x ∷ xs) (suc n) below = there_at xs n (omega arith)
 
-number_is : (root d : Data) → is_none (number_named (text_at (codes "source") d) (rows_at (codes "source") root)) ≡ false
+pub number_is : (root d : Data) → is_none (number_named (text_at (codes "source") d) (rows_at (codes "source") root)) ≡ false
     → source_of root d ≡ slice_get (rows_at (codes "source") root) (output_row root d).source
 unfolding output_row
 number_is root d known =
@@ -108,7 +108,7 @@ one_source_meets root a b known_a known_b same =
     let of_b : source_of root b ≡ slice_get ds n = number_is root b known_b in
     rw (of_a, of_b) (same_words_itself (slice_get ds n) (there_at ds n (number-lt-length (text_at (codes "source") b) ds known_b)))
 
-known_at : (root : Data) (n j : ℕ) (d : Data) → stands root UnknownName (Output n j, d) ≡ false → is_none (number_named (text_at (codes "source") d) (rows_at (codes "source") root)) ≡ false
+pub known_at : (root : Data) (n j : ℕ) (d : Data) → stands root UnknownName (Output n j, d) ≡ false → is_none (number_named (text_at (codes "source") d) (rows_at (codes "source") root)) ≡ false
 unfolding stands names_nothing
 known_at root n j d h = h
 

@@ -42,7 +42,7 @@ natural_below : (z : ℤ) → natural 4 z < 4
 natural_below (pos n) = cut_below n (ltb n 4) refl
 natural_below (negsuc n) = omega arith
 
-sdi_below : (o : Option ℤ) → IfSome (option_map (natural 4) o) (λ k. k < 4)
+pub sdi_below : (o : Option ℤ) → IfSome (option_map (natural 4) o) (λ k. k < 4)
 sdi_below None = tt
 sdi_below (Some z) = natural_below z
 

@@ -15,7 +15,7 @@ use Rattle.a429_table.specs.Tree.{text_at, rows_at, integer_at}
 use Rattle.a429_word.specs.Texts.{label_value}
 use Rattle.a429_table.specs.Version.{version_of}
 use Rattle.a429_table.specs.Names.{number_named}
-use Rattle.a429_table.specs.Walk.{group_stops}
+use Rattle.a429_table.specs.Walk.{group_stops, walk}
 use Rattle.a429_table.specs.Faults.{first, faults, stands, is_sdi, has_too_many, has_bad_label, has_bad_sdi, has_bad_interval, names_nothing, is_empty_group}
 use Rattle.a429_table.specs.Least.{StandsAtNone}
 use Rattle.a429_table.specs.Stated.{stated, source_row, rate_of, output_row, output_rows}
@@ -29,12 +29,12 @@ use Rattle.a429_table.proofs.Own.{own_receivers, own_names, own_groups, own_sour
 use Rattle.a429_table.proofs.SoundRows.{receiver_names, receivers_are, source_rows_are, group_rows_are}
 
 -- no more than allowed
-record IsFew (root : Data) : Type 0 where
-  receivers : length (rows_at (codes "receiver") root) ≤ 16
+pub record IsFew (root : Data) : Type 0 where
+  pub receivers : length (rows_at (codes "receiver") root) ≤ 16
   sources : length (rows_at (codes "source") root) ≤ 256
   groups : length (rows_at (codes "group") root) ≤ 8
 
-few : (root : Data) → stands root TooMany (Root, root) ≡ false → IsFew root
+pub few : (root : Data) → stands root TooMany (Root, root) ≡ false → IsFew root
 unfolding stands has_too_many
 few root h =
     let all = or_parts _ _ h in
@@ -70,12 +70,12 @@ receiver_below root [] h = tt
 receiver_below root (d ∷ ds) h =
     (number-lt-length (text_at (codes "receiver") d) (rows_at (codes "receiver") root) h.0.known, receiver_below root ds h.1)
 
-good_sources : (root : Data) → IsFaultless root → AllByRecursion (IsSource root) (rows_at (codes "source") root)
-good_sources root h =
+pub good_sources : (root : Data) → StandsAtNone root (walk root) UnknownName → StandsAtNone root (walk root) Label → StandsAtNone root (walk root) Sdi → AllByRecursion (IsSource root) (rows_at (codes "source") root)
+good_sources root no_name no_label no_sdi =
     let ds = rows_at (codes "source") root in
-    let names = is_absent root UnknownName h.unknown_name in
-    let labels = is_absent root Label h.label in
-    let sdis = is_absent root Sdi h.sdi in
+    let names = is_absent root UnknownName no_name in
+    let labels = is_absent root Label no_label in
+    let sdis = is_absent root Sdi no_sdi in
     sources_are root ds (rows_hold Sources _ _ (known_at root) 0 ds names.at_sources) (rows_hold Sources _ _ (label_at root) 0 ds labels.at_sources) (rows_hold Sources _ _ (sdi_is root) 0 ds sdis.at_sources)
 
 -- ---- groups and outputs
@@ -141,7 +141,7 @@ is_sound root none =
     let duplicates = is_absent root DuplicateSource h.duplicate_source in
     let repeated = is_absent root DuplicateName h.duplicate_name in
     let limits = few root many.at_root in
-    let good = good_sources root h in
+    let good = good_sources root h.unknown_name h.label h.sdi in
     record {
       version = one_or_two version;
       rate = root_rate root rates;

@@ -3,15 +3,12 @@ pub mod Version
 pub mod Columns
 pub mod Walk
 pub mod Stops
-pub mod LabelCodes
-pub mod Chains
 pub mod Names
 pub mod Numbers
 pub mod Faults
-pub mod TripleBuckets
-pub mod SourceTriples
 pub mod Least
 pub mod Stated
+pub mod Repeats
 pub mod Reading
 pub mod Printed
 pub mod AsWritten

@@ -1,8 +1,10 @@
-//! The rows of a table without faults.
+//! The rows of a table. They say what it says if it has no fault.
 
 ghost use Rattle.std.specs.Prelude.{◌≡◌, ◌≤◌, ◌^◌, All, map, length, codes, Some, IfOk};
 ghost use Rattle.toml.specs.View.{view};
 ghost use Rattle.a429_table.specs.Tree.{rows_at};
+ghost use Rattle.a429_table.specs.Faults.{sdi_at};
+ghost use Rattle.a429_table.specs.Repeats.{AreRowsOf};
 ghost use Rattle.a429_table.specs.Stops.{table_of};
 ghost use Rattle.a429_word.specs.Texts.{octal_number};
 ghost use Rattle.a429_filter.specs.FilterTexts.{filter_of};
@@ -10,7 +12,6 @@ ghost use Rattle.a429_table.specs.Stated.{natural, filter_row, filters_of, recei
 
 use crate::table_index::TableIndex;
 use crate::tree::{get_integer, integer_at, rows_at, text_at, text_of};
-use crate::triples::sdi_at;
 use a429_equipment::{GroupRow, Name, OutputRow, ReceiverRow, SourceRow, TableVersion};
 use a429_filter::{Filter, FilterSet};
 use a429_word::{Label, Sdi};
@@ -40,6 +41,16 @@ pub fn rate_of(version: TableVersion, root: &Value) -> Option<u32>
     match version {
         TableVersion::One => Some(rate_at(root)),
         TableVersion::Two => None,
+    }
+}
+
+/// The number of a source's SDI; none is any.
+fn sdi_at(source: &Value) -> Option<i64>
+    ensures { result ≡ sdi_at (view source.now) }
+{
+    match source.get("sdi") {
+        Some(Value::Integer(number)) => Some(*number),
+        _ => None,
     }
 }
 
@@ -134,7 +145,7 @@ fn source_row(alloc: Global, index: &TableIndex<'_>, table: &Value) -> Result<So
     })
 }
 
-pub fn source_rows(
+fn source_rows(
     alloc: Global,
     index: &TableIndex<'_>,
     tables: &[Value],
@@ -208,7 +219,7 @@ fn output_rows(
 }
 
 /// The outputs of each group.
-pub fn group_outputs(
+fn group_outputs(
     alloc: Global,
     index: &TableIndex<'_>,
     groups: &[Value],
@@ -220,4 +231,21 @@ pub fn group_outputs(
         outputs.push(output_rows(alloc, index, rows_at(group, "output"))?)?;
     }
     Ok(outputs)
+}
+
+/// The rows of sources, and those of the outputs of each group.
+#[derive(Drop)]
+pub struct WordRows {
+    pub sources: Vec<SourceRow>,
+    pub outputs: Vec<Vec<OutputRow>>,
+}
+
+/// The rows of the sources and of the outputs of a table. In one with a fault, a value that is missing or wrong is 0.
+#[tactic(auto, unfolding(crate::specs::Stated::stated))]
+pub fn word_rows(alloc: Global, index: &TableIndex<'_>) -> Result<WordRows, AllocError>
+    ensures { IfOk result (AreRowsOf (table_of index.now)) }
+{
+    let sources = source_rows(alloc, index, rows_at(index.root, "source"))?;
+    let outputs = group_outputs(alloc, index, rows_at(index.root, "group"))?;
+    Ok(WordRows { sources, outputs })
 }

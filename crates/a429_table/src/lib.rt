@@ -14,21 +14,17 @@
 #![tactic(auto)]
 
 mod build;
-mod chains;
-mod coded_label;
 mod columns;
 mod document;
 mod fault;
 pub mod laws;
 mod names;
-mod output_sources;
 mod reading;
 mod repeats;
 mod search;
 mod shape;
 mod table_index;
 mod tree;
-mod triples;
 mod values;
 mod version;
 mod walk;

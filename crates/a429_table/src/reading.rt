@@ -4,16 +4,16 @@ ghost use Rattle.toml.specs.View.{view};
 ghost use Rattle.a429_equipment.specs.TableRecord.{record_of};
 ghost use Rattle.a429_table.specs.Faults.{first, faults};
 ghost use Rattle.a429_table.specs.Reading.{GivesUnlessMemory, IsJudged, reading};
+ghost use Rattle.a429_table.specs.Repeats.{AreRowsOf};
 ghost use Rattle.a429_table.specs.Stated.{stated};
 ghost use Rattle.a429_table.specs.Stops.{table_of};
 
-use crate::build::{group_outputs, group_rows, rate_of, receiver_rows, source_rows};
+use crate::build::{WordRows, group_rows, rate_of, receiver_rows, word_rows};
 use crate::document::{RefusedTable, document};
 use crate::fault::TableFault;
 use crate::search::fault_of;
 use crate::table_index::TableIndex;
 use crate::tree::rows_at;
-use crate::version::version_of;
 use a429_equipment::{Equipment, StationRows};
 use std::alloc::{AllocError, Global};
 use toml::Value;
@@ -59,40 +59,60 @@ fn equipment_of_root(alloc: Global, root: &Value) -> Result<Equipment, TableFaul
 fn equipment_of_index(alloc: Global, index: &TableIndex<'_>) -> Result<Equipment, TableFault>
     ensures { IsJudged (table_of index.now) result }
 {
-    if let Some((kind, place)) = fault_of(alloc, index)? {
+    let words = word_rows(alloc, index)?;
+    equipment_with(alloc, index, words)
+}
+
+/// The same, once the rows of its sources and outputs are there.
+fn equipment_with(
+    alloc: Global,
+    index: &TableIndex<'_>,
+    words: WordRows,
+) -> Result<Equipment, TableFault>
+    requires { AreRowsOf (table_of index.now) words }
+    ensures { IsJudged (table_of index.now) result }
+{
+    if let Some((kind, place)) = fault_of(alloc, index, &words)? {
         return Err(TableFault::At(kind, place));
     }
-    Ok(build_equipment(alloc, index)?)
+    Ok(build_equipment(alloc, index, words)?)
 }
 
 /// The equipment of a table without faults.
-fn build_equipment(alloc: Global, index: &TableIndex<'_>) -> Result<Equipment, AllocError>
-    requires { first (faults (table_of index.now)) ≡ None }
+fn build_equipment(
+    alloc: Global,
+    index: &TableIndex<'_>,
+    words: WordRows,
+) -> Result<Equipment, AllocError>
+    requires faultless { first (faults (table_of index.now)) ≡ None }
+    requires words { AreRowsOf (table_of index.now) words }
     ensures { IfOk result (λ e. e ≡ stated (table_of index.now)) }
 {
-    let rows = build_rows(alloc, index)?;
+    let rows = build_rows(alloc, index, words)?;
     Equipment::of_rows(alloc, rows)
 }
 
 /// The rows of a table without faults.
 #[tactic(auto, unfolding(crate::specs::Stated::stated))]
-fn build_rows(alloc: Global, index: &TableIndex<'_>) -> Result<StationRows, AllocError>
-    requires { first (faults (table_of index.now)) ≡ None }
+fn build_rows(
+    alloc: Global,
+    index: &TableIndex<'_>,
+    words: WordRows,
+) -> Result<StationRows, AllocError>
+    requires faultless { first (faults (table_of index.now)) ≡ None }
+    requires words { AreRowsOf (table_of index.now) words }
     ensures { IfOk result (λ rows. record_of rows ≡ stated (table_of index.now)) }
 {
     let root = index.root;
+    let rate = rate_of(index.version, root);
     let receivers = receiver_rows(alloc, rows_at(root, "receiver"))?;
-    let sources = source_rows(alloc, index, rows_at(root, "source"))?;
-    let version = version_of(root);
-    let rate = rate_of(version, root);
     let groups = group_rows(alloc, rate, rows_at(root, "group"))?;
-    let outputs = group_outputs(alloc, index, rows_at(root, "group"))?;
     Ok(StationRows {
-        version,
+        version: index.version,
         rate,
         receivers,
-        sources,
+        sources: words.sources,
         groups,
-        outputs,
+        outputs: words.outputs,
     })
 }

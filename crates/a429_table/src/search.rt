@@ -4,11 +4,14 @@ ghost use Rattle.std.specs.Prelude.{◌≡◌, map, option_map, IfOk};
 ghost use Rattle.std.specs.List.{find, flat_map};
 ghost use Rattle.a429_table.specs.Stops.{stop_view, table_of};
 ghost use Rattle.a429_table.specs.Walk.{walk};
-ghost use Rattle.a429_table.specs.Faults.{first, faults, faults_of, stands};
+ghost use Rattle.a429_table.specs.Faults.{first, faults};
+ghost use Rattle.a429_table.specs.Repeats.{AreRepeatsIn, AreRowsOf, found, is_found};
+ghost use Rattle.a429_table.specs.Stated.{stated};
 
+use crate::build::{WordRows, word_rows};
 use crate::fault::{FaultKind, TablePlace};
 use crate::names::{names_nothing, repeats_name};
-use crate::repeats::{repeats_output, repeats_source};
+use crate::repeats::Repeats;
 use crate::shape::{has_unknown_key, has_wrong_kind, has_wrong_version, lacks_key};
 use crate::table_index::TableIndex;
 use crate::values::{
@@ -39,9 +42,9 @@ const KINDS: [FaultKind; 16] = [
     FaultKind::Hold,
 ];
 
-#[tactic(auto, unfolding(crate::specs::Faults::stands))]
-fn stands(index: &TableIndex<'_>, kind: FaultKind, stop: &Stop) -> bool
-    ensures { result ≡ stands (table_of index.now) kind (stop_view stop.now) }
+#[tactic(auto, unfolding(crate::specs::Faults::stands, crate::specs::Repeats::is_found))]
+fn is_found(index: &TableIndex<'_>, repeats: &Repeats, kind: FaultKind, stop: &Stop) -> bool
+    ensures { result ≡ is_found repeats.now (table_of index.now) kind (stop_view stop.now) }
 {
     match kind {
         FaultKind::NotToml => false,
@@ -57,54 +60,80 @@ fn stands(index: &TableIndex<'_>, kind: FaultKind, stop: &Stop) -> bool
         FaultKind::Sdi => has_bad_sdi(stop),
         FaultKind::Interval => has_bad_interval(stop),
         FaultKind::UnknownName => names_nothing(index, stop),
-        FaultKind::DuplicateSource => repeats_source(index, stop),
-        FaultKind::DuplicateOutput => repeats_output(index, stop),
+        FaultKind::DuplicateSource => repeats.has_source(stop.place),
+        FaultKind::DuplicateOutput => repeats.has_output(stop.place),
         FaultKind::EmptyGroup => is_empty_group(stop),
         FaultKind::Hold => has_bad_hold(stop),
     }
 }
 
-/// The first place in walk order at which a kind stands.
-fn first_place(index: &TableIndex<'_>, stops: &[Stop], kind: FaultKind) -> Option<TablePlace>
-    ensures { result ≡ option_map (λ s. s.0) (find (stands (table_of index.now) kind) (map stop_view stops.now)) }
+/// The first place in walk order at which a kind is found.
+fn first_place(
+    index: &TableIndex<'_>,
+    repeats: &Repeats,
+    stops: &[Stop],
+    kind: FaultKind,
+) -> Option<TablePlace>
+    ensures { result ≡ option_map (λ s. s.0) (find (is_found repeats.now (table_of index.now) kind) (map stop_view stops.now)) }
 {
-    let found = stops.iter().find(|stop| stands(index, kind, stop))?;
-    Some(found.place)
+    let stop = stops
+        .iter()
+        .find(|stop| is_found(index, repeats, kind, stop))?;
+    Some(stop.place)
 }
 
 fn first_of_kinds(
     index: &TableIndex<'_>,
+    repeats: &Repeats,
     stops: &[Stop],
     kinds: &[FaultKind],
 ) -> Option<(FaultKind, TablePlace)>
-    requires { map stop_view stops.now ≡ walk (table_of index.now) }
-    ensures { result ≡ first (flat_map (faults_of (table_of index.now)) kinds.now) }
+    ensures { result ≡ first (flat_map (found (is_found repeats.now (table_of index.now)) (map stop_view stops.now)) kinds.now) }
 {
     for kind in kinds {
-        if let Some(place) = first_place(index, stops, *kind) {
+        if let Some(place) = first_place(index, repeats, stops, *kind) {
             return Some((*kind, place));
         }
     }
     None
 }
 
-/// The first fault, by kind and then in walk order.
-#[tactic(auto, unfolding(crate::specs::Faults::faults, crate::specs::Faults::kinds))]
-fn first_fault(index: &TableIndex<'_>, stops: &[Stop]) -> Option<(FaultKind, TablePlace)>
-    requires { map stop_view stops.now ≡ walk (table_of index.now) }
-    ensures { result ≡ first (faults (table_of index.now)) }
+/// The first fault of a table with these repeats, by kind and then in walk order.
+#[tactic(auto, unfolding(crate::specs::Faults::kinds))]
+fn first_fault(
+    alloc: Global,
+    index: &TableIndex<'_>,
+    repeats: &Repeats,
+) -> Result<Option<(FaultKind, TablePlace)>, AllocError>
+    requires { AreRepeatsIn (stated (table_of index.now)).sources (stated (table_of index.now)).outputs repeats.now }
+    ensures { IfOk result (λ fault. fault ≡ first (faults (table_of index.now))) }
 {
-    first_of_kinds(index, stops, &KINDS)
+    let stops = walk(alloc, index.root)?;
+    Ok(first_of_kinds(index, repeats, &stops, &KINDS))
+}
+
+/// The first fault of a table with these rows.
+pub fn fault_of(
+    alloc: Global,
+    index: &TableIndex<'_>,
+    words: &WordRows,
+) -> Result<Option<(FaultKind, TablePlace)>, AllocError>
+    requires { AreRowsOf (table_of index.now) words.now }
+    ensures { IfOk result (λ fault. fault ≡ first (faults (table_of index.now))) }
+{
+    let repeats = Repeats::of(alloc, words)?;
+    first_fault(alloc, index, &repeats)
 }
 
 /// Adds the place of a stop, if a fault of this kind is there.
 fn push_place(
     places: &mut Vec<TablePlace>,
     index: &TableIndex<'_>,
+    repeats: &Repeats,
     kind: FaultKind,
     stop: &Stop,
 ) -> Result<(), AllocError> {
-    if stands(index, kind, stop) {
+    if is_found(index, repeats, kind, stop) {
         places.push(stop.place)?;
     }
     Ok(())
@@ -114,14 +143,32 @@ fn push_place(
 fn places_among(
     alloc: Global,
     index: &TableIndex<'_>,
+    repeats: &Repeats,
     kind: FaultKind,
     stops: &[Stop],
 ) -> Result<Vec<TablePlace>, AllocError> {
     let mut places = Vec::new(alloc);
     for stop in stops {
-        push_place(&mut places, index, kind, stop)?;
+        push_place(&mut places, index, repeats, kind, stop)?;
     }
     Ok(places)
+}
+
+/// The same of all stops of a table with these repeats.
+fn places_with(
+    alloc: Global,
+    index: &TableIndex<'_>,
+    repeats: &Repeats,
+    kind: FaultKind,
+) -> Result<Vec<TablePlace>, AllocError> {
+    let stops = walk(alloc, index.root)?;
+    places_among(alloc, index, repeats, kind, &stops)
+}
+
+/// The repeats of a table.
+fn repeats_of(alloc: Global, index: &TableIndex<'_>) -> Result<Repeats, AllocError> {
+    let words = word_rows(alloc, index)?;
+    Repeats::of(alloc, &words)
 }
 
 /// The places of a table with a fault of this kind.
@@ -130,12 +177,12 @@ fn places_in(
     index: &TableIndex<'_>,
     kind: FaultKind,
 ) -> Result<Vec<TablePlace>, AllocError> {
-    let stops = walk(alloc, index.root)?;
-    places_among(alloc, index, kind, &stops)
+    let repeats = repeats_of(alloc, index)?;
+    places_with(alloc, index, &repeats, kind)
 }
 
-/// All places of a root table with a fault of this kind, in walk order: for a hint, so it has no clause. The error is that
-/// memory was refused.
+/// All places of a root table with a fault of this kind, in walk order: for a hint, so it has no clause. The table has no
+/// fault of an earlier kind. The error is that memory was refused.
 pub fn places_of(
     alloc: Global,
     root: &Value,
@@ -143,15 +190,4 @@ pub fn places_of(
 ) -> Result<Vec<TablePlace>, AllocError> {
     let index = TableIndex::of(alloc, root)?;
     places_in(alloc, &index, kind)
-}
-
-/// The first fault of a table.
-pub fn fault_of(
-    alloc: Global,
-    index: &TableIndex<'_>,
-) -> Result<Option<(FaultKind, TablePlace)>, AllocError>
-    ensures { IfOk result (λ fault. fault ≡ first (faults (table_of index.now))) }
-{
-    let stops = walk(alloc, index.root)?;
-    Ok(first_fault(index, &stops))
 }

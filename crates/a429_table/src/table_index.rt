@@ -2,43 +2,30 @@
 //!
 //! A table may have hundreds of names, and each is looked up for several faults: so they are gathered once.
 
-ghost use Rattle.std.specs.Prelude.{◌≡◌, map, codes, IfOk, OnOk, option_map, []};
+ghost use Rattle.std.specs.Prelude.{◌≡◌, map, codes, IfOk, OnOk, []};
 ghost use Rattle.toml.specs.View.{view};
 ghost use Rattle.a429_table.specs.Names.{number_named};
 ghost use Rattle.a429_table.specs.Numbers.{NumbersNames, NumbersOneMore};
 ghost use Rattle.a429_table.specs.Tree.{rows_at};
-ghost use Rattle.a429_table.specs.SourceTriples.{triple_view, triple_of, triple_of_output, triples_of_outputs, output_sources_view, AreTriplesOfTable};
 ghost use Rattle.a429_table.specs.Version.{version_of};
-ghost use Rattle.a429_table.specs.Chains.{AreChained};
-ghost use Rattle.a429_table.specs.TripleBuckets.{triple_bucket};
 
-use crate::chains::Chains;
-use crate::output_sources::OutputSources;
 use crate::tree::{rows_at, text_at};
-use crate::triples::{
-    SourceTriple, groups_output_sources, output_triple, source_triples, triple_chains,
-};
 use crate::version::version_of;
 use a429_equipment::TableVersion;
 use indexmap::IndexMap;
 use std::alloc::{AllocError, Global};
 use toml::Value;
 
-/// A root table, with its version, the numbers of its receivers, sources and groups by their names, the keys of its
-/// sources, and those of the sources of each group's outputs.
+/// A root table, with its version, and the numbers of its receivers, sources and groups by their names.
 #[derive(Drop)]
 pub struct TableIndex<'a> {
     pub root: &'a Value,
     pub version: TableVersion,
     names: NameNumbers,
-    pub words: SourceWords<'a>,
     ghost of_version: { version ≡ version_of (view root.now) },
     ghost of_receivers: { NumbersNames names.receivers (rows_at (codes "receiver") (view root.now)) },
     ghost of_sources: { NumbersNames names.sources (rows_at (codes "source") (view root.now)) },
     ghost of_groups: { NumbersNames names.groups (rows_at (codes "group") (view root.now)) },
-    ghost of_triples: { map triple_view words.triples.items ≡ map triple_of (rows_at (codes "source") (view root.now)) },
-    ghost of_chains: { AreChained (map triple_bucket words.triples.items) words.chains.last.items words.chains.before.items },
-    ghost of_output_sources: { output_sources_view words.output_sources.items ≡ map (triples_of_outputs (view root.now)) (rows_at (codes "group") (view root.now)) },
 }
 
 impl<'a> TableIndex<'a> {
@@ -49,12 +36,10 @@ impl<'a> TableIndex<'a> {
         ensures { IfOk result (λ numbers. table_of numbers ≡ view root.now) }
     {
         let names = names_of(alloc, root)?;
-        let words = words_of(alloc, root, &names.sources)?;
         Ok(TableIndex {
             root,
             version: version_of(root),
             names,
-            words,
         })
     }
 
@@ -78,13 +63,6 @@ impl<'a> TableIndex<'a> {
     {
         self.names.groups.get(name).copied()
     }
-
-    /// The key of the source of an output.
-    pub fn output_source(&self, output: &Value) -> Option<SourceTriple<'a>>
-        ensures { option_map triple_view result ≡ triple_of_output (table_of self.now) (view output.now) }
-    {
-        output_triple(&self.names.sources, &self.words.triples, output)
-    }
 }
 
 /// The numbers of a table's receivers, sources and groups by their names.
@@ -93,14 +71,6 @@ struct NameNumbers {
     receivers: IndexMap<String, usize>,
     sources: IndexMap<String, usize>,
     groups: IndexMap<String, usize>,
-}
-
-/// The keys of a table's sources, in buckets, and those of the sources of each group's outputs.
-#[derive(Drop)]
-pub struct SourceWords<'a> {
-    pub triples: Vec<SourceTriple<'a>>,
-    pub chains: Chains,
-    pub output_sources: Vec<OutputSources<'a>>,
 }
 
 /// The names of a root table. What is filled is one value, so that a refusal drops one.
@@ -131,26 +101,6 @@ fn note_names(names: &mut NameNumbers, alloc: Global, root: &Value) -> Result<()
     number_names(&mut names.receivers, alloc, rows_at(root, "receiver"))?;
     number_names(&mut names.sources, alloc, rows_at(root, "source"))?;
     number_names(&mut names.groups, alloc, rows_at(root, "group"))
-}
-
-/// The words of a root table, whose sources have these numbers.
-fn words_of<'a>(
-    alloc: Global,
-    root: &'a Value,
-    numbers: &IndexMap<String, usize>,
-) -> Result<SourceWords<'a>, AllocError>
-    ensures triples { IfOk result (λ all. map triple_view all.triples.items ≡ map triple_of (rows_at (codes "source") (view root.now))) }
-    ensures chains { IfOk result (λ all. AreChained (map triple_bucket all.triples.items) all.chains.last.items all.chains.before.items) }
-    ensures output_sources { IfOk result (λ all. AreTriplesOfTable numbers.now all.triples.items (view root.now) all.output_sources.items) }
-{
-    let triples = source_triples(alloc, rows_at(root, "source"))?;
-    let chains = triple_chains(alloc, &triples)?;
-    let output_sources = groups_output_sources(alloc, numbers, &triples, rows_at(root, "group"))?;
-    Ok(SourceWords {
-        triples,
-        chains,
-        output_sources,
-    })
 }
 
 /// Gives a name a number, unless it has one.

@@ -1,5 +1,5 @@
 -- The fields of a row of an interface control document state what they were written from.
-use Rattle.std.proofs.Common.{◌≡◌, ◌∙◌, ℕ, zero, suc, ◌+◌, ◌<◌, ◌^◌, Bool, true, false, List, [], ◌∷◌, length, Option, None, Some, Result, Ok, Err, IsAscii, ap, sym, refl, arith, inl, inr, lt-ltb, eqb-true}
+use Rattle.std.proofs.Common.{◌≡◌, ◌∙◌, ℕ, zero, suc, ◌+◌, ◌<◌, ◌^◌, Bool, true, false, List, [], ◌∷◌, length, map, Option, None, Some, Result, Ok, Err, IsAscii, ap, sym, refl, arith, inl, inr, lt-ltb, eqb-true}
 use Rattle.std.specs.Prelude.{◌==◌, ◌||◌, ◌&&◌, IfSome, codes, if◌then◌else◌, nat_le}
 use Rattle.std.specs.Fmt.{decimal}
 use Rattle.std.specs.List.{list_all}
@@ -21,7 +21,7 @@ use Rattle.a429_equipment.specs.declared.rows.ReceiverRow.{ReceiverRow}
 use Rattle.a429_equipment.specs.declared.rows.SourceRow.{SourceRow}
 use Rattle.a429_slots.specs.declared.group_plan.SendLimits.{SendLimits}
 use Rattle.a429_slots.specs.declared.group_plan.SlotPlace.{SlotPlace}
-use Rattle.a429_cert.specs.Spelling.{limit_text}
+use Rattle.a429_text.specs.Fields.{Field, field_text}
 use Rattle.a429_cert.proofs.CheckedPlans.{same_bytes}
 use Rattle.a429_cert.proofs.Fields.{value_again}
 use Rattle.a429_documents.specs.declared.import.fault.CsvFaultKind.TheVariants.{Form}
@@ -29,7 +29,7 @@ use Rattle.a429_documents.specs.declared.import.fault.ImportColumn.TheVariants.{
 use Rattle.a429_documents.specs.declared.import.rows.ImportRow.{ImportRow}
 use Rattle.a429_documents.specs.declared.import.rows.RowNumbers.{RowNumbers}
 use Rattle.a429_documents.specs.declared.import.rows.RowTexts.{RowTexts}
-use Rattle.a429_documents.specs.Document.{icd_columns, icd_row, receiver_name, sdi_text}
+use Rattle.a429_documents.specs.Document.{icd_columns, icd_row, limit_field, receiver_name, sdi_field}
 use Rattle.a429_documents.specs.ImportFields.{filters_in, hold_in, label_in, number_in, sdi_in, text_in}
 use Rattle.a429_documents.specs.ImportRows.{CsvFault, column_field, joined, numbers_of, texts_of}
 
@@ -55,7 +55,7 @@ any_back : sdi_in (codes "any") ≡ Some None
 unfolding sdi_in
 any_back = refl
 
-sdi_back : (sdi : Option ℕ) → IfSome sdi (λ k. k < 4) → sdi_in (sdi_text sdi) ≡ Some sdi
+sdi_back : (sdi : Option ℕ) → IfSome sdi (λ k. k < 4) → sdi_in (field_text [] (sdi_field sdi)) ≡ Some sdi
 sdi_back None small = any_back
 sdi_back (Some k) small = ap sdi_in (decimal_digit k (omega (arith, small))) ∙ digit_back k small
 
@@ -71,7 +71,7 @@ not_word n small =
       | inr word ↦ none-some n (sym no_number ∙ sym (ap decimal_number (same_bytes (decimal n) (codes "none") word)) ∙ value_again n (omega (arith, small)))
     ])
 
-hold_back : (hold : Option ℕ) → IfSome hold (λ n. n < 2 ^ 32) → hold_in (limit_text hold) ≡ Some hold
+hold_back : (hold : Option ℕ) → IfSome hold (λ n. n < 2 ^ 32) → hold_in (field_text [] (limit_field hold)) ≡ Some hold
 unfolding hold_in
 hold_back None small = refl
 hold_back (Some n) small = rw (not_word n small) (ap (option_map (λ n. Some n)) (number_back n small))
@@ -110,6 +110,10 @@ no_filters = rw no_text refl
 
 -- ---- a row
 
+-- the texts of a row as comma-separated values
+abbrev pub texts : List Field → List (List ℕ)
+texts row = map (field_text []) row
+
 -- what fields state below a heading
 abbrev pub row_from : List (List ℕ) → ℕ → List (List ℕ) → Result ImportRow CsvFault
 row_from heading number fields =
@@ -146,16 +150,16 @@ pub record IsReadable (receivers : List ReceiverRow) (g : GroupRow) (s : SourceR
   pub hold : IfSome o.hold (λ n. n < 2 ^ 32)
 
 module _ (receivers : List ReceiverRow) (g : GroupRow) (s : SourceRow) (o : OutputRow) (place : SlotPlace) (limits : SendLimits) (R : IsReadable receivers g s o) (held : limits.hold ≡ o.hold) where
-  numbers_back : numbers_of icd_columns (icd_row receivers g s o place limits) ≡ Ok (read_row receivers g s o).numbers
+  numbers_back : numbers_of icd_columns (texts (icd_row receivers g s o place limits)) ≡ Ok (read_row receivers g s o).numbers
   unfolding column_field
   numbers_back =
-      numbers_are icd_columns (icd_row receivers g s o place limits) (read_row receivers g s o).numbers (number_back g.rate R.rate) (label_back s.label R.label) (sdi_back s.sdi R.sdi) (number_back o.min_us R.least)
-      (number_back o.max_us R.most) (ap (λ (h : Option ℕ). hold_in (limit_text h)) held ∙ hold_back o.hold R.hold)
+      numbers_are icd_columns (texts (icd_row receivers g s o place limits)) (read_row receivers g s o).numbers (number_back g.rate R.rate) (label_back s.label R.label) (sdi_back s.sdi R.sdi) (number_back o.min_us R.least)
+      (number_back o.max_us R.most) (ap (λ (h : Option ℕ). hold_in (field_text [] (limit_field h))) held ∙ hold_back o.hold R.hold)
 
-  texts_back : texts_of icd_columns (icd_row receivers g s o place limits) ≡ Ok (read_row receivers g s o).texts
+  texts_back : texts_of icd_columns (texts (icd_row receivers g s o place limits)) ≡ Ok (read_row receivers g s o).texts
   unfolding column_field
   texts_back =
-      texts_are icd_columns (icd_row receivers g s o place limits) (read_row receivers g s o).texts (text_back g.name R.group) (text_back s.name R.source) (text_back (receiver_name receivers s.receiver) R.receiver) no_filters
+      texts_are icd_columns (texts (icd_row receivers g s o place limits)) (read_row receivers g s o).texts (text_back g.name R.group) (text_back s.name R.source) (text_back (receiver_name receivers s.receiver) R.receiver) no_filters
 
-  pub row_back : (number : ℕ) → row_from icd_columns number (icd_row receivers g s o place limits) ≡ Ok (read_row receivers g s o)
+  pub row_back : (number : ℕ) → row_from icd_columns number (texts (icd_row receivers g s o place limits)) ≡ Ok (read_row receivers g s o)
   row_back number = rw (numbers_back, texts_back) refl

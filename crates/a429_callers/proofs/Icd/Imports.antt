@@ -14,8 +14,7 @@ use Rattle.a429_documents.specs.declared.import.fault.ImportFault.{ImportFault}
 use Rattle.a429_documents.specs.declared.import.fault.ImportFault.TheVariants.{Csv, NoMemory, Table}
 use Rattle.a429_documents.specs.declared.import.lines.CsvLine.{CsvLine}
 use Rattle.a429_documents.specs.declared.import.rows.ImportRow.{ImportRow}
-use Rattle.a429_documents.specs.Document.{csv_text_of, icd_rows}
-use Rattle.a429_callers.specs.ImportedIcd.{HasPlanTextOf, ImportedIcdIsSamePlan, ImportsPlan, IsWholeInIcd}
+use Rattle.a429_callers.specs.ImportedIcd.{HasPlanTextOf, ImportedIcdIsSamePlan, ImportsPlan, IsWholeInIcd, icd_csv}
 use Rattle.a429_documents.specs.Imports.{AreLines, IsImport, IsImportOf}
 use Rattle.a429_documents.specs.ImportRows.{rows_stated}
 use Rattle.a429_documents.specs.ImportTables.{record_stated, root_members}
@@ -52,10 +51,10 @@ module _ (bytes : List ℕ) (a : Proposed) (A : IsWholeInIcd bytes a) (one_plan 
   no_fault : faults (table (root_members rows)) ≡ []
   no_fault = none_at_all a.station sound A.no_filters station_read.words
 
-  lines_state : (lines : List CsvLine) → AreLines (csv_text_of (icd_rows a.station a.plan)) lines → rows_stated lines ≡ Ok rows
+  lines_state : (lines : List CsvLine) → AreLines (icd_csv a) lines → rows_stated lines ≡ Ok rows
   lines_state lines are = rows_stated_are a.station sound a.plan lines A.plan are
 
-  of_lines : (lines : List CsvLine) → AreLines (csv_text_of (icd_rows a.station a.plan)) lines → (result : Result (Vec ℕ Global) ImportFault) → IsImportOf lines result → ImportsPlan a result
+  of_lines : (lines : List CsvLine) → AreLines (icd_csv a) lines → (result : Result (Vec ℕ Global) ImportFault) → IsImportOf lines result → ImportsPlan a result
   of_lines lines are (Ok text) imports =
       let same : imports.0 ≡ rows = same_ok imports.0 rows (sym imports.1 ∙ lines_state lines are) in
       record {
@@ -72,7 +71,7 @@ module _ (bytes : List ℕ) (a : Proposed) (A : IsWholeInIcd bytes a) (one_plan 
       let none : first (faults (table (root_members imports.0))) ≡ None = ap (λ (rows : List ImportRow). first (faults (table (root_members rows)))) same ∙ ap first no_fault in
       absurd (none-some (kind, place) (sym none ∙ imports.2))
 
-  of_text : (result : Result (Vec ℕ Global) ImportFault) → IsImport (csv_text_of (icd_rows a.station a.plan)) result → ImportsPlan a result
+  of_text : (result : Result (Vec ℕ Global) ImportFault) → IsImport (icd_csv a) result → ImportsPlan a result
   of_text (Ok text) imports = of_lines imports.0 imports.1 (Ok text) imports.2
   of_text (Err NoMemory) imports = tt
   of_text (Err (Csv line kind column)) imports = of_lines imports.0 imports.1 (Err (Csv line kind column)) imports.2

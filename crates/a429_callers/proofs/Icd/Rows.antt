@@ -25,10 +25,12 @@ use Rattle.a429_documents.specs.declared.import.fault.ImportColumn.{ImportColumn
 use Rattle.a429_documents.specs.declared.import.fault.ImportColumn.TheVariants.{Filters, Label, Rate, Receiver, Sdi}
 use Rattle.a429_documents.specs.declared.import.lines.CsvLine.{CsvLine}
 use Rattle.a429_documents.specs.declared.import.rows.ImportRow.{ImportRow}
-use Rattle.a429_documents.specs.Document.{csv_text_of, groups_rows, icd_columns, icd_rows, output_row, output_rows, plan_rows, receiver_name}
+use Rattle.a429_documents.specs.Document.{groups_rows, icd_columns, icd_rows, output_row, output_rows, receiver_name}
 use Rattle.a429_documents.specs.ImportRows.{agreed, below_heading, clash, first_clash, next_row, other_clash, row_of, rows_after, rows_stated, source_clash, unless_wrong, wrong_column, is_wrong}
 use Rattle.a429_documents.specs.Imports.{AreLines}
-use Rattle.a429_callers.proofs.Icd.Fields.{IsReadable, read_row, row_back, row_from}
+use Rattle.a429_text.specs.Fields.{Field, field_text}
+use Rattle.a429_text.specs.Sheets.{csv_text_of}
+use Rattle.a429_callers.proofs.Icd.Fields.{texts, IsReadable, read_row, row_back, row_from}
 use Rattle.a429_callers.proofs.Icd.Texts.{lines_back}
 use Rattle.a429_documents.proofs.RowsInRecord.{IsAt}
 
@@ -219,6 +221,16 @@ module _ (e : TableRecord) (sound : IsSound e) where
   abbrev IsReadAs : List (List ℕ) → ImportRow → Type 0
   IsReadAs fields row = (read_back fields ≡ fields) × ((number : ℕ) → row_from icd_columns number fields ≡ Ok row)
 
+  -- the same of the texts of a row
+  abbrev IsRowReadAs : List Field → ImportRow → Type 0
+  IsRowReadAs fields row = IsReadAs (texts fields) row
+
+  zip_texts : (rows : List (List Field)) (read : List ImportRow) → AllZip IsRowReadAs rows read → AllZip IsReadAs (map texts rows) read
+  zip_texts [] [] h = tt
+  zip_texts [] (r ∷ read) h = absurd h
+  zip_texts (row ∷ rows) [] h = absurd h
+  zip_texts (row ∷ rows) (r ∷ read) h = (h.0, zip_texts rows read h.1)
+
   few_rate : (rate : ℕ) → IsRate rate → rate < 2 ^ 32
   few_rate rate (inl fast) = omega (arith, fast)
   few_rate rate (inr slow) = omega (arith, slow.1)
@@ -245,14 +257,14 @@ module _ (e : TableRecord) (sound : IsSound e) where
         hold = few_hold o.hold hold;
       }
 
-  output_read : (g : GroupRow) (o : OutputRow) (p : Placed) → IsServed g.rate o p → IsGroupRow g → o.source < length e.sources → IsInterval o → IsHold o → IsReadAs (output_row e g o p) (read_output e g o)
+  output_read : (g : GroupRow) (o : OutputRow) (p : Placed) → IsServed g.rate o p → IsGroupRow g → o.source < length e.sources → IsInterval o → IsHold o → IsRowReadAs (output_row e g o p) (read_output e g o)
   unfolding output_row
   output_read g o p served group below interval hold =
       rw (source_there o.source below)
       (refl, λ number. row_back e.receivers g (source_at e o.source) o p.place p.limits (is_readable g o group below interval hold) served.2 number)
 
   outputs_read : (g : GroupRow) (os : List OutputRow) (ps : List Placed) → AllZip (IsServed g.rate) os ps → IsGroupRow g → HaveSources e.sources os → AllByRecursion IsInterval os → AllByRecursion IsHold os
-      → AllZip IsReadAs (output_rows e g os ps) (map (read_output e g) os)
+      → AllZip IsRowReadAs (output_rows e g os ps) (map (read_output e g) os)
   unfolding output_rows
   outputs_read g [] [] served group known intervals holds = tt
   outputs_read g [] (p ∷ ps) served group known intervals holds = absurd served
@@ -262,13 +274,13 @@ module _ (e : TableRecord) (sound : IsSound e) where
 
   groups_read : (groups : List GroupRow) (outputs : List (List OutputRow)) (ts : List SlotTable) → AllZip (IsPlannedAt e.sources) (zip (map (λ g. g.rate) groups) outputs) ts → AllByRecursion IsGroupRow groups
       → AllByRecursion (HaveSources e.sources) outputs → AllByRecursion (AllByRecursion IsInterval) outputs → AllByRecursion (AllByRecursion IsHold) outputs
-      → AllZip IsReadAs (groups_rows e groups outputs ts) (read_groups e groups outputs)
+      → AllZip IsRowReadAs (groups_rows e groups outputs ts) (read_groups e groups outputs)
   unfolding groups_rows
   groups_read [] outputs ts planned rows known intervals holds = tt
   groups_read (g ∷ groups) [] ts planned rows known intervals holds = tt
   groups_read (g ∷ groups) (os ∷ outputs) [] planned rows known intervals holds = absurd planned
   groups_read (g ∷ groups) (os ∷ outputs) (t ∷ ts) planned rows known intervals holds =
-      zip_joined IsReadAs (output_rows e g os (outputs_of t)) (map (read_output e g) os) (groups_rows e groups outputs ts) (read_groups e groups outputs)
+      zip_joined IsRowReadAs (output_rows e g os (outputs_of t)) (map (read_output e g) os) (groups_rows e groups outputs ts) (read_groups e groups outputs)
       (outputs_read g os (outputs_of t) planned.0.served rows.0 known.0 intervals.0 holds.0) (groups_read groups outputs ts planned.1 rows.1 known.1 intervals.1 holds.1)
 
   -- ---- the lines
@@ -311,7 +323,7 @@ module _ (e : TableRecord) (sound : IsSound e) where
       ap (λ (h : List (List ℕ)). below_heading h lines) head ∙ ap (unless_wrong icd_columns lines) no_wrong_column
       ∙ after_all icd_columns lines (read_table e) [] (lines_read lines texts (read_table e) rest read) tt rows_are
 
-  pub rows_stated_are : (p : PlanTable) (lines : List CsvLine) → IsPlanOf e p → AreLines (csv_text_of (icd_rows e p)) lines → rows_stated lines ≡ Ok (read_table e)
+  pub rows_stated_are : (p : PlanTable) (lines : List CsvLine) → IsPlanOf e p → AreLines (csv_text_of (icd_columns ∷ map texts (icd_rows e p))) lines → rows_stated lines ≡ Ok (read_table e)
   rows_stated_are p lines planned are =
-      stated_from lines (plan_rows e p) (lines_back (plan_rows e p) lines are)
-      (groups_read e.groups e.outputs (groups_of p) planned.groups sound.group_rows sound.known_sources sound.intervals sound.holds)
+      stated_from lines (map texts (icd_rows e p)) (lines_back (map texts (icd_rows e p)) lines are)
+      (zip_texts (icd_rows e p) (read_table e) (groups_read e.groups e.outputs (groups_of p) planned.groups sound.group_rows sound.known_sources sound.intervals sound.holds))

@@ -11,7 +11,8 @@ use Rattle.csv.specs.declared.parser.State.{State}
 use Rattle.csv.specs.declared.parser.State.TheVariants as st
 use Rattle.csv.proofs.RoundTrip.{read-write}
 use Rattle.a429_documents.specs.declared.import.lines.CsvLine.{CsvLine}
-use Rattle.a429_documents.specs.Document.{csv_text_of, icd_columns}
+use Rattle.a429_text.specs.Sheets.{csv_text_of}
+use Rattle.a429_documents.specs.Document.{icd_columns}
 use Rattle.a429_documents.specs.Imports.{AreLines}
 
 -- the lines of these rows

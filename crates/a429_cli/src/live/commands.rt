@@ -1,19 +1,20 @@
 //! The command `live`, from words and files to bytes.
-ghost use Rattle.std.specs.Prelude.{◌≡◌, ◌≤◌, ◌+◌, ◌⊎◌, IfOk, IsTrue, OnErr, OnOk};
+ghost use Rattle.std.specs.Prelude.{◌≡◌, ◌≤◌, ◌+◌, ◌⊎◌, not, true, IfOk, IsTrue, OnErr, OnOk};
 ghost use Rattle.a429_console.specs.Ends.{EndsBy, EndsOrFails, writing};
 ghost use Rattle.a429_console.specs.Files.{texts_of};
-ghost use Rattle.a429_console.specs.Outputs.{CountsFault, IsPut, OrNoMemory};
+ghost use Rattle.a429_console.specs.Outputs.{CountsFault, IsPut};
 ghost use Rattle.a429_console.specs.Readings.{HasReadFrom};
 ghost use Rattle.a429_console.specs.RequestRows.{AsksFor};
-ghost use Rattle.a429_console.specs.Requests.{Live, LiveAsk, live_of, request_of};
-ghost use Rattle.a429_cli.specs.LiveReplies.{IsLiveReply, RepliesToLive, RepliesToLiveByReader, TakesLive};
+ghost use Rattle.a429_console.specs.Requests.{AskedBytes, asked_of};
+ghost use Rattle.a429_cli.specs.LiveReplies.{IsLiveReply, TakesLive};
+ghost use Rattle.a429_cli.specs.Replies.{IsReplyOrMemory, RepliesToLive, RepliesToLiveByReader, TakesEach};
 ghost use Rattle.a429_console.specs.Usage.{elsewhere, is_run, live_kinds_of_words};
-ghost use Rattle.std.specs.Prelude.{not};
 
 use crate::live::progress::Progress;
 use crate::live::running::run_station;
+use crate::runs::is_run;
 use a429_console::arguments::replies::explain;
-use a429_console::arguments::requests::{LiveRequest, Request, other_call_error, parse};
+use a429_console::arguments::requests::{Asked, other_call_error, parse};
 use a429_console::files::FileReader;
 use a429_console::hints::{Hints, Seen, tell_hints};
 use a429_console::output::endings::tell_fault;
@@ -47,9 +48,9 @@ pub fn command_live<
     // The same of a reader of any files: the answer is that of files which give what the reader answered in this call.
     ensures read { RepliesToLiveByReader F.answers O.contents O.failures (texts_of words.entry.now) files.old out.old out.new result }
     // With status 0 nothing is written to the other output, if each further table was taken: that of any files which give what the reader answered.
-    ensures quiet { (r : LiveAsk) → AsksFor (texts_of words.entry.now) (Live r)
-        → HasReadFrom F.answers (λ file. TakesLive file r → result ≡ 0 → err.new ≡ err.old) files.old }
-    ensures asked { (r : LiveAsk) → AsksFor (texts_of words.entry.now) (Live r) → result ≤ 1 }
+    ensures quiet { (r : AskedBytes) → is_run r.verb ≡ true → AsksFor (texts_of words.entry.now) r
+        → HasReadFrom F.answers (λ file. TakesEach file r → result ≡ 0 → err.new ≡ err.old) files.old }
+    ensures asked { (r : AskedBytes) → is_run r.verb ≡ true → AsksFor (texts_of words.entry.now) r → result ≤ 1 }
     // How it ends: help, mistakes, failures of either output, and what was passed on.
     ensures ends { EndsBy (live_kinds_of_words (texts_of words.entry.now)) (writing O.contents O.failures O.is_flushed out.old out.new)
         (writing V.contents V.failures V.is_flushed err.old err.new) result }
@@ -82,47 +83,44 @@ fn run_words<
     err: &mut V,
     progress: &P,
 ) -> Result<u8, OutputFault>
-    ensures read { (r : LiveAsk) → AsksFor (texts_of words.entry.now) (Live r)
-        → HasReadFrom F.answers (λ file. IfOk result (IsPut (OrNoMemory (IsLiveReply file r)) (O.contents out.old) (O.contents out.new))) files.old }
-    ensures quiet { (r : LiveAsk) → AsksFor (texts_of words.entry.now) (Live r)
-        → HasReadFrom F.answers (λ file. TakesLive file r → IfOk result (λ status. status ≡ 0 → err.new ≡ err.old)) files.old }
-    ensures asked { (r : LiveAsk) → AsksFor (texts_of words.entry.now) (Live r) → IfOk result (λ status. status ≤ 1) }
+    ensures read { (r : AskedBytes) → is_run r.verb ≡ true → AsksFor (texts_of words.entry.now) r
+        → HasReadFrom F.answers (λ file. IfOk result (IsPut (IsReplyOrMemory file r) (O.contents out.old) (O.contents out.new))) files.old }
+    ensures quiet { (r : AskedBytes) → is_run r.verb ≡ true → AsksFor (texts_of words.entry.now) r
+        → HasReadFrom F.answers (λ file. TakesEach file r → IfOk result (λ status. status ≡ 0 → err.new ≡ err.old)) files.old }
+    ensures asked { (r : AskedBytes) → is_run r.verb ≡ true → AsksFor (texts_of words.entry.now) r → IfOk result (λ status. status ≤ 1) }
     ensures ends { EndsOrFails (live_kinds_of_words (texts_of words.entry.now)) (writing O.contents O.failures O.is_flushed out.old out.new)
         (writing V.contents V.failures V.is_flushed err.old err.new) result }
 {
     match parse(alloc, words) {
-        Ok(request) => run_here(rt, alloc, &request, hints, files, out, err, progress),
+        Ok(asked) => run_here(rt, alloc, &asked, hints, files, out, err, progress),
         Err(error) => explain(alloc, &error, words, hints, out, err),
     }
 }
 
-/// Runs the station that is asked for, if the request is for one.
+/// Runs the station that is asked for, if one is.
 fn run_here<R: Threads + Wait, H: Hints, F: FileReader, O: Output, V: Output, P: Progress + Sync>(
     rt: &R,
     alloc: Global,
-    request: &Request,
+    asked: &Asked,
     hints: &H,
     files: &mut F,
     out: &mut O,
     err: &mut V,
     progress: &P,
 ) -> Result<u8, OutputFault>
-    ensures read { (r : LiveAsk) → request_of request.now ≡ Live r
-        → HasReadFrom F.answers (λ file. IfOk result (IsPut (IsLiveReply file r) (O.contents out.old) (O.contents out.new))) files.old }
-    ensures quiet { (r : LiveAsk) → request_of request.now ≡ Live r
-        → HasReadFrom F.answers (λ file. TakesLive file r → IfOk result (λ status. status ≡ 0 → err.new ≡ err.old)) files.old }
-    ensures asked { (r : LiveAsk) → request_of request.now ≡ Live r → IfOk result (λ status. status ≤ 1) }
-    ensures ends { EndsOrFails (elsewhere (not (is_run request.now))) (writing O.contents O.failures O.is_flushed out.old out.new)
+    ensures read { is_run asked.now.verb ≡ true → HasReadFrom F.answers (λ file. IfOk result
+        (IsPut (IsLiveReply file (asked_of asked.now)) (O.contents out.old) (O.contents out.new))) files.old }
+    ensures quiet { is_run asked.now.verb ≡ true → HasReadFrom F.answers (λ file. TakesLive file (asked_of asked.now)
+        → IfOk result (λ status. status ≡ 0 → err.new ≡ err.old)) files.old }
+    ensures asked { is_run asked.now.verb ≡ true → IfOk result (λ status. status ≤ 1) }
+    ensures ends { EndsOrFails (elsewhere (not (is_run asked.now.verb))) (writing O.contents O.failures O.is_flushed out.old out.new)
         (writing V.contents V.failures V.is_flushed err.old err.new) result }
 {
-    match request {
-        Request::Live(run) => {
-            run_with_hint(rt, alloc, request, run, hints, files, out, err, progress)
-        }
-        Request::Command(_) => {
-            let error = other_call_error(alloc, "this call runs stations, and does nothing else");
-            explain(alloc, &error, &[], hints, out, err)
-        }
+    if is_run(asked.verb) {
+        run_with_hint(rt, alloc, asked, hints, files, out, err, progress)
+    } else {
+        let error = other_call_error(alloc, "this call runs stations, and does nothing else");
+        explain(alloc, &error, &[], hints, out, err)
     }
 }
 
@@ -138,8 +136,7 @@ fn run_with_hint<
 >(
     rt: &R,
     alloc: Global,
-    request: &Request,
-    run: &LiveRequest,
+    asked: &Asked,
     hints: &H,
     files: &mut F,
     out: &mut O,
@@ -147,20 +144,29 @@ fn run_with_hint<
     progress: &P,
 ) -> Result<u8, OutputFault>
     ensures read { HasReadFrom F.answers (λ file. IfOk result
-        (IsPut (IsLiveReply file (live_of run.now)) (O.contents out.old) (O.contents out.new))) files.old }
+        (IsPut (IsLiveReply file (asked_of asked.now)) (O.contents out.old) (O.contents out.new))) files.old }
     ensures status { IfOk result (λ status. status ≤ 1) }
     ensures flushed { OnOk result (IsTrue (O.is_flushed out.new)) }
     ensures faults { CountsFault result (O.failures out.old) (O.failures out.new) }
-    ensures quiet { HasReadFrom F.answers (λ file. TakesLive file (live_of run.now)
+    ensures quiet { HasReadFrom F.answers (λ file. TakesLive file (asked_of asked.now)
         → IfOk result (λ status. status ≡ 0 → err.new ≡ err.old)) files.old }
     ensures left { OnErr result (err.new ≡ err.old) }
     ensures once { (V.failures err.new).count ≤ (V.failures err.old).count + 1 }
 {
     let mut seen = Seen::nothing(alloc);
     let mut faults = Vec::new(alloc);
-    let result = run_station(rt, alloc, files, run, &mut seen, &mut faults, out, progress);
+    let result = run_station(
+        rt,
+        alloc,
+        files,
+        asked,
+        &mut seen,
+        &mut faults,
+        out,
+        progress,
+    );
     if let Ok(status) = result {
-        tell_hints(alloc, request, status, &seen, &faults, hints, err);
+        tell_hints(alloc, asked, status, &seen, &faults, hints, err);
     }
     // `drop` keeps the proof short: a drop in place goes through all parts.
     drop(seen);

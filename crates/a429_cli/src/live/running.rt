@@ -5,7 +5,7 @@ ghost use Rattle.a429_slots.specs.Planned.{IsPlanOf};
 ghost use Rattle.a429_cli.specs.LiveReplies.{HasToldRun, IsLiveReading, IsLiving, IsNoLiveStart, IsPreparedLive, IsRunResult, TakesLive, files_of, refusal_of};
 ghost use Rattle.a429_cli.specs.WordsFile.{IsWordsReading};
 ghost use Rattle.a429_console.specs.Names.{naming_of};
-ghost use Rattle.a429_console.specs.Requests.{live_of};
+ghost use Rattle.a429_console.specs.Requests.{asked_of};
 ghost use Rattle.a429_console.specs.Outputs.{CountsFault};
 ghost use Rattle.a429_console.specs.Readings.{HasRead};
 ghost use Rattle.a429_console.specs.RefusalText.{OrMemory};
@@ -17,7 +17,7 @@ use crate::live::progress::{Progress, ProgressGate};
 use crate::live::report::report_text;
 use crate::live::words::{Arrival, line_sources, read_words};
 use crate::names::Names;
-use a429_console::arguments::requests::LiveRequest;
+use a429_console::arguments::requests::Asked;
 use a429_console::files::FileReader;
 use a429_console::files::reading::{read_file, read_files};
 use a429_console::hints::{FurtherFault, Seen};
@@ -53,14 +53,14 @@ struct PreparedRun {
 fn read_input<F: FileReader>(
     alloc: Global,
     files: &mut F,
-    request: &LiveRequest,
+    asked: &Asked,
     seen: &mut Seen,
 ) -> Result<LiveInput, CommandRefusal>
-    ensures { HasRead F.answers (λ file. IsLiveReading file (live_of request.now) result) files.old files.new }
+    ensures { HasRead F.answers (λ file. IsLiveReading file (asked_of asked.now) result) files.old files.new }
 {
-    let table = read_file(alloc, files, request.table, seen)?;
-    let words = read_file(alloc, files, request.words, seen)?;
-    let further = read_files(alloc, files, &request.further, seen)?;
+    let table = read_file(alloc, files, asked.first, seen)?;
+    let words = read_file(alloc, files, asked.second, seen)?;
+    let further = read_files(alloc, files, &asked.more, seen)?;
     Ok(LiveInput {
         table,
         words,
@@ -166,21 +166,21 @@ fn run_report<R: Threads + Wait, F: FileReader, P: Progress + Sync>(
     rt: &R,
     alloc: Global,
     files: &mut F,
-    request: &LiveRequest,
+    asked: &Asked,
     seen: &mut Seen,
     faults: &mut Vec<FurtherFault>,
     progress: &P,
 ) -> Result<Vec<u8>, CommandRefusal>
-    ensures report { HasRead F.answers (λ file. IsLiving file (live_of request.now) result) files.old files.new }
-    ensures taken { HasRead F.answers (λ file. TakesLive file (live_of request.now)
+    ensures report { HasRead F.answers (λ file. IsLiving file (asked_of asked.now) result) files.old files.new }
+    ensures taken { HasRead F.answers (λ file. TakesLive file (asked_of asked.now)
         → faults.new.items ≡ faults.old.items) files.old files.new }
 {
-    let input = read_input(alloc, files, request, seen)?;
+    let input = read_input(alloc, files, asked, seen)?;
     let prepared = prepare(alloc, &input, seen)?;
     let equipment = prepared.proposal.equipment();
     seen.threads = threads_of(equipment);
     let (arrivals, further) = (&prepared.arrivals, &input.further);
-    let frames = request.frames;
+    let frames = asked.number;
     let plan = prepared.proposal.plan();
     let gate = ProgressGate::begin(progress, plan, frames);
     let result = run(
@@ -196,20 +196,20 @@ pub fn run_station<R: Threads + Wait, F: FileReader, O: Output, P: Progress + Sy
     rt: &R,
     alloc: Global,
     files: &mut F,
-    request: &LiveRequest,
+    asked: &Asked,
     seen: &mut Seen,
     faults: &mut Vec<FurtherFault>,
     out: &mut O,
     progress: &P,
 ) -> Result<u8, OutputFault>
-    ensures replied { HasToldRun F.answers O.contents (live_of request.now) files.old files.new out.old out.new result }
-    ensures taken { HasRead F.answers (λ file. TakesLive file (live_of request.now)
+    ensures replied { HasToldRun F.answers O.contents (asked_of asked.now) files.old files.new out.old out.new result }
+    ensures taken { HasRead F.answers (λ file. TakesLive file (asked_of asked.now)
         → faults.new.items ≡ faults.old.items) files.old files.new }
     ensures status { IfOk result (λ status. status ≤ 1) }
     ensures flushed { OnOk result (IsTrue (O.is_flushed out.new)) }
     ensures faults { CountsFault result (O.failures out.old) (O.failures out.new) }
 {
-    match run_report(rt, alloc, files, request, seen, faults, progress) {
+    match run_report(rt, alloc, files, asked, seen, faults, progress) {
         Ok(text) => finish(&text, true, out),
         Err(refusal) => refuse(alloc, refusal, seen, out),
     }

@@ -1,11 +1,14 @@
 //! What a summary keeps of the words that each output sent.
-ghost use Rattle.std.specs.Prelude.{◌≡◌, ◌<◌, ◌≤◌, IfOk, replicate, slice_get, unwrap_or};
+ghost use Rattle.std.specs.Prelude.{◌≡◌, ◌<◌, ◌≤◌, [], IfOk};
+ghost use Rattle.a429_slots.specs.Proposed.{Proposed};
+ghost use Rattle.a429_cli.specs.SimulationRuns.{IsKnown};
 ghost use Rattle.a429_cli.specs.Summary.{lateness};
-ghost use Rattle.a429_cli.specs.SummaryRuns.{greater, is_other, late_if_other, lesser, nothing_sent, outputs_after, figures_after, time_since};
+ghost use Rattle.a429_cli.specs.SummaryRuns.{HasFigures, figures_after, figures_noted, figures_with, greater, is_other, kept_at, late_if_other, lesser, nothing_sent, place_of, time_since};
 
-use crate::simulate::tracks::micros_of;
+use crate::simulate::machine::{Happening, SentWord};
+use crate::simulate::tracks::{micros_of, rate_of};
+use a429_slots::{OUTPUTS, Proposal};
 use std::alloc::{AllocError, Global};
-use std::marker::Model;
 
 /// A word that an output sent: in which slot of its group, its number among the accepted words of its source, from 1, and
 /// when it came in, in microseconds.
@@ -126,58 +129,72 @@ impl OutputFigures {
     }
 }
 
-/// An output sends.
-fn note_output(figures: &mut Vec<OutputFigures>, output: usize, rate: u32, send: OutputSend)
-    requires rate { 1 ≤ rate }
-    requires few { send.slot < 8192000000 }
-    ensures { figures.new.items ≡ outputs_after figures.old.items output rate send }
+/// How many groups and sources a station has at most.
+const GROUPS: usize = 8;
+
+const SOURCES: usize = 256;
+
+/// What is kept of what each group sent of each source, group by group.
+#[derive(Drop)]
+pub struct Summary {
+    figures: Vec<OutputFigures>,
+}
+
+/// Where the figures of a source in a group are. `None` if a station has no such group or no such source.
+fn place_of(group: usize, source: usize) -> Option<usize>
+    ensures { result ≡ place_of group source }
 {
-    if let Some(own) = figures.get_mut(output) {
-        *own = own.after(rate, send);
+    if group < GROUPS && source < SOURCES {
+        Some(group * SOURCES + source)
+    } else {
+        None
     }
 }
 
-/// What is kept of the outputs of a group.
-#[derive(Drop)]
-pub struct GroupFigures {
-    outputs: Vec<OutputFigures>,
+/// A group sends a word of a source, at the bit rate of the group.
+fn note_send(figures: &mut Vec<OutputFigures>, sent: SentWord, rate: u32)
+    requires rate { 1 ≤ rate }
+    requires few { sent.send.slot < 8192000000 }
+    ensures { figures.new.items ≡ figures_with figures.old.items sent rate }
+{
+    let Some(at) = place_of(sent.group, sent.source) else {
+        return;
+    };
+    if let Some(own) = figures.get_mut(at) {
+        *own = own.after(rate, sent.send);
+    }
 }
 
-impl Model for GroupFigures {
-    ghost use Rattle.std.specs.Prelude.{List};
-    ghost use Rattle.a429_cli.specs.declared.simulate.figures.OutputFigures.{OutputFigures};
-
-    ghost Value = { List OutputFigures };
-
-    ghost view = { λ s. s.outputs.items };
-}
-
-impl GroupFigures {
-    /// So many outputs, which sent nothing.
-    pub fn open(alloc: Global, outputs: usize) -> Result<GroupFigures, AllocError>
-        ensures { IfOk result (λ figures. figures ≡ replicate outputs nothing_sent) }
+impl Summary {
+    /// That of a simulation in which nothing has happened. All the memory that is ever needed is taken here.
+    pub fn open(alloc: Global) -> Result<Summary, AllocError>
+        ensures { IfOk result (λ summary. (q : Proposed) → HasFigures q [] summary.figures.items) }
     {
-        Ok(GroupFigures {
-            outputs: vec![in alloc; OutputFigures::nothing(); outputs]?,
+        Ok(Summary {
+            figures: vec![in alloc; OutputFigures::nothing(); GROUPS * SOURCES]?,
         })
     }
 
-    /// An output sends, at the bit rate of the group.
-    pub fn note(&mut self, output: usize, rate: u32, send: OutputSend)
-        requires rate { 1 ≤ rate }
-        requires few { send.slot < 8192000000 }
-        ensures { self.new ≡ outputs_after self.old output rate send }
+    /// Keeps what happens next.
+    pub fn note(&mut self, proposal: &Proposal<OUTPUTS>, happening: Happening)
+        requires { IsKnown proposal.now happening }
+        ensures { self.new.figures.items ≡ figures_noted proposal.now self.old.figures.items happening }
     {
-        note_output(&mut self.outputs, output, rate, send);
+        if let Happening::Sends(sent) = happening {
+            note_send(&mut self.figures, sent, rate_of(proposal, sent.group));
+        }
     }
 
-    /// What is kept of an output; nothing if there is none of this number.
-    pub fn at(&self, output: usize) -> OutputFigures
-        ensures { result ≡ unwrap_or (slice_get self.now output) nothing_sent }
+    /// What is kept of what a group sent of a source.
+    pub fn at(&self, group: usize, source: usize) -> OutputFigures
+        ensures { result ≡ kept_at self.now group source }
     {
-        match self.outputs.get(output) {
-            Some(figures) => *figures,
+        match place_of(group, source) {
             None => OutputFigures::nothing(),
+            Some(at) => match self.figures.get(at) {
+                None => OutputFigures::nothing(),
+                Some(figures) => *figures,
+            },
         }
     }
 }

@@ -1,49 +1,70 @@
 //! Lines of a simulation.
-ghost use Rattle.std.specs.Prelude.{◌≡◌, ◌+◌, ◌<◌, ◌≤◌, ◌++◌, drop, length, OnErr};
+ghost use Rattle.std.specs.Prelude.{◌≡◌, ◌+◌, ◌<◌, ◌≤◌, ◌++◌, drop, length, IfOk, OnErr};
 ghost use Rattle.a429_word.specs.Written.{Gains};
-ghost use Rattle.a429_documents.specs.Document.{slots_us};
 ghost use Rattle.a429_console.specs.Names.{name_at, naming_of};
 ghost use Rattle.a429_cli.specs.AnswerLines.{refusal_text};
-ghost use Rattle.a429_cli.specs.CellLines.{BeginsCells, begin_of, rest_of};
+ghost use Rattle.a429_cli.specs.CellLines.{BeginsSlot, IsBeginOfSlot, IsHeading, PushesLine, rest_of};
 ghost use Rattle.a429_cli.specs.Simulating.{refused_line, sent_line, separator};
-ghost use Rattle.a429_cli.specs.SimulationRuns.{HasPlannedGroup, HasStationNames};
-ghost use Rattle.a429_cli.specs.Timeline.{rate_of as bit_rate};
+ghost use Rattle.a429_cli.specs.SimulationRuns.{HasPlannedGroup, HasStationNames, IsKnown};
+ghost use Rattle.a429_cli.specs.declared.simulate.machine.Happening.TheVariants.{Sends};
 
 use crate::names::Names;
 use crate::simulate::log::LogWord;
+use crate::simulate::machine::{Happening, SentWord};
 use crate::simulate::tracks::{micros_of, rate_of};
 use a429_console::output::from_end::{put_decimal, put_hex, put_text};
 use a429_core::Refusal;
 use a429_slots::{OUTPUTS, Proposal};
-use std::alloc::AllocError;
+use std::alloc::{AllocError, Global};
 
 /// How many bytes the room has in which a line is written. The longest line has fewer.
 const ROOM: usize = 128;
 
 /// What lines are written with: the proposal of the station, its names, and whether fields have commas between them.
-#[derive(Clone, Copy)]
-pub struct LineSetting<'a> {
-    pub proposal: &'a Proposal<OUTPUTS>,
-    pub names: &'a Names,
+#[derive(Drop)]
+pub struct Setting {
+    pub proposal: Proposal<OUTPUTS>,
+    pub names: Names,
     pub csv: bool,
 }
 
-/// A word that a group sent: on which bus, the word, its source, and when that word came in, in microseconds.
+/// What the lines of a group's cells in a slot begin with, from a place in the room on, and when the slot ends, in
+/// microseconds.
 #[derive(Clone, Copy)]
-pub struct SentWord {
-    pub bus: u32,
-    pub raw: u32,
-    pub source: usize,
-    pub heard: u64,
+pub struct SlotBegin {
+    group: usize,
+    slot: u64,
+    end: u64,
+    at: usize,
+    room: [u8; 64],
 }
 
-/// A slot of a group, as the lines of its cells tell of it: what they begin with, and when the slot ends, in microseconds.
-#[derive(Clone, Copy)]
-pub struct CellSlot<'a> {
-    pub group: usize,
-    pub slot: u64,
-    pub begin: &'a [u8],
-    pub end: u64,
+/// Lines that are not yet put out, of which one is appended whole or not at all, and what those of the last slot begin with.
+#[derive(Drop)]
+pub struct PendingLines {
+    pub text: Vec<u8>,
+    begin: SlotBegin,
+}
+
+impl PendingLines {
+    /// The lines before those of what happens: with commas between fields the names of these.
+    pub fn open(alloc: Global, csv: bool) -> Result<PendingLines, AllocError>
+        ensures { IfOk result (IsHeading csv) }
+    {
+        let mut text = Vec::new(alloc);
+        if csv {
+            text.extend_from_slice(b"time,group,bus,word,source,age_us\n")?;
+        }
+        // no slot of a simulation has this number
+        let begin = SlotBegin {
+            group: 0,
+            slot: u64::MAX,
+            end: 0,
+            at: 64,
+            room: [0; 64],
+        };
+        Ok(PendingLines { text, begin })
+    }
 }
 
 /// Writes what separates the fields of a line before the bytes that begin at `end`, and gives its start.
@@ -79,12 +100,12 @@ fn reason(refusal: Refusal) -> &'static [u8]
     }
 }
 
-impl LineSetting<'_> {
+impl Setting {
     /// The name of a group; nothing if there is none. It has few bytes.
     #[tactic(auto, using(crate::proofs::ShortNames::group_short))]
     fn group_name(&self, group: usize) -> &[u8]
-        requires names { HasStationNames self.now.names.now self.now.proposal.now }
-        ensures name { result.now ≡ name_at (naming_of self.now.proposal.now.station).groups group }
+        requires names { HasStationNames self.now.names self.now.proposal }
+        ensures name { result.now ≡ name_at (naming_of self.now.proposal.station).groups group }
         ensures short { length result.now ≤ 16 }
     {
         prove!(self.proposal.equipment().groups().len() <= 8);
@@ -95,8 +116,8 @@ impl LineSetting<'_> {
     #[tactic(auto, using(crate::proofs::ShortNames::source_short))]
     #[inline(always)]
     fn source_name(&self, source: usize) -> &[u8]
-        requires names { HasStationNames self.now.names.now self.now.proposal.now }
-        ensures name { result.now ≡ name_at (naming_of self.now.proposal.now.station).sources source }
+        requires names { HasStationNames self.now.names self.now.proposal }
+        ensures name { result.now ≡ name_at (naming_of self.now.proposal.station).sources source }
         ensures short { length result.now ≤ 16 }
     {
         prove!(self.proposal.equipment().sources().len() <= 256);
@@ -106,48 +127,47 @@ impl LineSetting<'_> {
     /// The name of a receiver; nothing if there is none. It has few bytes.
     #[tactic(auto, using(crate::proofs::ShortNames::receiver_short))]
     fn receiver_name(&self, receiver: usize) -> &[u8]
-        requires names { HasStationNames self.now.names.now self.now.proposal.now }
-        ensures name { result.now ≡ name_at (naming_of self.now.proposal.now.station).receivers receiver }
+        requires names { HasStationNames self.now.names self.now.proposal }
+        ensures name { result.now ≡ name_at (naming_of self.now.proposal.station).receivers receiver }
         ensures short { length result.now ≤ 16 }
     {
         prove!(self.proposal.equipment().receivers().len() <= 16);
         self.names.receiver_name(receiver)
     }
 
-    /// When a slot of a group ends, in microseconds, rounded up.
-    pub fn end_of(&self, group: usize, slot: u64) -> u64
-        requires known { HasPlannedGroup self.now.proposal.now group }
+    /// What the lines of a group's cells in a slot begin with.
+    fn slot_begin(&self, group: usize, slot: u64) -> SlotBegin
+        requires names { HasStationNames self.now.names self.now.proposal }
+        requires known { HasPlannedGroup self.now.proposal group }
         requires few { slot < 8192000000 }
-        ensures { result ≡ slots_us (bit_rate self.now.proposal.now group) (slot + 1) }
+        ensures { BeginsSlot self.now.proposal self.now.csv group slot result }
     {
-        micros_of(rate_of(self.proposal, group), slot + 1)
-    }
-
-    /// Writes what the lines of a group's cells in a slot begin with before the bytes that begin at `end`, and gives its start.
-    pub fn put_begin(&self, room: &mut [u8], end: usize, group: usize, slot: u64) -> usize
-        requires names { HasStationNames self.now.names.now self.now.proposal.now }
-        requires known { HasPlannedGroup self.now.proposal.now group }
-        requires few { slot < 8192000000 }
-        requires room { (40 ≤ end) × (end ≤ length room.old) }
-        ensures start { (result ≤ end) × (end ≤ result + 40) }
-        ensures written { drop result room.new ≡ begin_of self.now.proposal.now self.now.csv group slot ++ drop end room.old }
-        ensures size { length room.new ≡ length room.old }
-    {
-        let at = put_separator(room, end, self.csv);
-        let at = put_text(room, at, self.group_name(group));
-        let at = put_separator(room, at, self.csv);
-        put_decimal(room, at, micros_of(rate_of(self.proposal, group), slot))
+        let rate = rate_of(&self.proposal, group);
+        let start = micros_of(rate, slot);
+        let end = micros_of(rate, slot + 1);
+        let mut room = [0u8; 64];
+        let at = put_separator(&mut room, 64, self.csv);
+        let at = put_text(&mut room, at, self.group_name(group));
+        let at = put_separator(&mut room, at, self.csv);
+        let at = put_decimal(&mut room, at, start);
+        SlotBegin {
+            group,
+            slot,
+            end,
+            at,
+            room,
+        }
     }
 
     /// Writes the rest of the line of a sent word, of this age in microseconds, before the bytes that begin at `end`, and
     /// gives its start.
     #[inline(always)]
     fn put_rest(&self, room: &mut [u8], end: usize, sent: SentWord, age: u64) -> usize
-        requires names { HasStationNames self.now.names.now self.now.proposal.now }
+        requires names { HasStationNames self.now.names self.now.proposal }
         requires room { (80 ≤ end) × (end ≤ length room.old) }
         ensures start { (result ≤ end) × (end ≤ result + 80) }
         ensures written { drop result room.new
-            ≡ rest_of self.now.proposal.now self.now.csv sent.bus sent.raw sent.source age ++ drop end room.old }
+            ≡ rest_of self.now.proposal self.now.csv sent.bus sent.raw sent.source age ++ drop end room.old }
         ensures size { length room.new ≡ length room.old }
     {
         let at = put_text(room, end, b"\n");
@@ -160,25 +180,38 @@ impl LineSetting<'_> {
         put_decimal(room, at, u64::from(sent.bus))
     }
 
-    /// Appends the line of a word that a group sent in a slot. If memory is refused, nothing is appended.
+    /// Appends the line of a word that is sent in the slot that lines begin with. If memory is refused, nothing is appended.
     #[inline(always)]
-    pub fn push_sent(
+    fn push_rest(
         &self,
         text: &mut Vec<u8>,
-        cell: &CellSlot<'_>,
+        begin: &SlotBegin,
         sent: SentWord,
     ) -> Result<(), AllocError>
-        requires names { HasStationNames self.now.names.now self.now.proposal.now }
-        requires begin { BeginsCells self.now.proposal.now self.now.csv cell.now.group cell.now.slot cell.now.begin.now cell.now.end }
-        ensures line { Gains result text.old.items text.new.items
-            (sent_line self.now.proposal.now self.now.csv cell.now.group cell.now.slot sent.bus sent.raw sent.source sent.heard) }
+        requires names { HasStationNames self.now.names self.now.proposal }
+        requires begin { BeginsSlot self.now.proposal self.now.csv sent.group sent.send.slot begin.now }
+        ensures line { Gains result text.old.items text.new.items (sent_line self.now.proposal self.now.csv sent) }
         ensures kept { OnErr result (text.new.items ≡ text.old.items) }
     {
         let mut room = [0u8; ROOM];
-        let age = cell.end.saturating_sub(sent.heard);
+        let age = begin.end.saturating_sub(sent.send.time);
         let at = self.put_rest(&mut room, ROOM, sent, age);
-        let at = put_text(&mut room, at, cell.begin);
+        let at = put_text(&mut room, at, &begin.room[begin.at..]);
         text.extend_from_slice(&room[at..])
+    }
+
+    /// Appends the line of a word that is sent. If memory is refused, nothing is appended.
+    #[inline(always)]
+    fn push_sent(&self, lines: &mut PendingLines, sent: SentWord) -> Result<(), AllocError>
+        requires names { HasStationNames self.now.names self.now.proposal }
+        requires known { IsKnown self.now.proposal (Sends sent) }
+        requires begin { IsBeginOfSlot self.now.proposal self.now.csv lines.old.begin }
+        ensures { PushesLine self.now.proposal self.now.csv (Sends sent) lines.old lines.new result }
+    {
+        if lines.begin.slot != sent.send.slot || lines.begin.group != sent.group {
+            lines.begin = self.slot_begin(sent.group, sent.send.slot);
+        }
+        self.push_rest(&mut lines.text, &lines.begin, sent)
     }
 
     /// Appends the line of a word that is refused. If memory is refused, nothing is appended.
@@ -188,9 +221,9 @@ impl LineSetting<'_> {
         word: LogWord,
         refusal: Refusal,
     ) -> Result<(), AllocError>
-        requires names { HasStationNames self.now.names.now self.now.proposal.now }
+        requires names { HasStationNames self.now.names self.now.proposal }
         ensures line { Gains result text.old.items text.new.items
-            (refused_line self.now.proposal.now word (refusal_text refusal)) }
+            (refused_line self.now.proposal word (refusal_text refusal)) }
         ensures kept { OnErr result (text.new.items ≡ text.old.items) }
     {
         let mut room = [0u8; ROOM];
@@ -207,5 +240,23 @@ impl LineSetting<'_> {
         let at = put_text(&mut room, at, b" ");
         let at = put_decimal(&mut room, at, word.time);
         text.extend_from_slice(&room[at..])
+    }
+
+    /// Appends the line of what happens: of a word that is sent, and without commas of one that is refused. If memory is
+    /// refused, nothing is appended.
+    #[inline(always)]
+    pub fn push(&self, lines: &mut PendingLines, happening: Happening) -> Result<(), AllocError>
+        requires names { HasStationNames self.now.names self.now.proposal }
+        requires known { IsKnown self.now.proposal happening }
+        requires begin { IsBeginOfSlot self.now.proposal self.now.csv lines.old.begin }
+        ensures { PushesLine self.now.proposal self.now.csv happening lines.old lines.new result }
+    {
+        match happening {
+            Happening::Sends(sent) => self.push_sent(lines, sent),
+            Happening::Refuses(_, _) if self.csv => Ok(()),
+            Happening::Refuses(word, refusal) => {
+                self.push_refused(&mut lines.text, word, refusal)
+            }
+        }
     }
 }

@@ -7,8 +7,7 @@ ghost use Rattle.a429_cli.specs.Summary.{bound_fields, name_fields, number_or_da
 ghost use Rattle.a429_cli.specs.SummaryRuns.{kept_group, kept_row, kept_rows, figure_fields};
 ghost use Rattle.a429_cli.specs.Timeline.{rate_of, table_of};
 
-use crate::simulate::figures::OutputFigures;
-use crate::simulate::summary::Summary;
+use crate::simulate::figures::{OutputFigures, Summary};
 use crate::simulate::tracks::rate_of;
 use a429_console::refusals::names::{group_name, source_name};
 use a429_documents::{Row, aligned_text, latency_us, rows_csv};
@@ -95,9 +94,10 @@ fn row_of(
     requires output { output < length (outputs_of (table_of proposal.now group)) }
     ensures { IfOk result (λ row. row ≡ kept_row proposal.now summary.now group output) }
 {
+    let source = proposal.plan().group(group).source(OutputId::new(output));
     let mut row = Row::new(alloc);
     push_names(&mut row, proposal.equipment(), group, output)?;
-    push_figures(alloc, &mut row, summary.at(group, output))?;
+    push_figures(alloc, &mut row, summary.at(group, source))?;
     push_bound(alloc, &mut row, proposal, group, output)?;
     Ok(row)
 }

@@ -1,10 +1,10 @@
 //! The command line: its commands.
-ghost use Rattle.std.specs.Prelude.{◌≡◌, ◌∷◌, [], IfOk, map};
-ghost use Rattle.clap.specs.Words.{App, HasKind, app_of, kind_of, new_app, with_subcommand};
-ghost use Rattle.a429_console.specs.CommandLine.{HasRule, bare_line, command_app, command_line, form_app, form_rule, with_commands};
+ghost use Rattle.std.specs.Prelude.{◌≡◌, ◌∷◌, [], IfOk, map, option_map};
+ghost use Rattle.clap.specs.Words.{HasKind, app_of, kind_of, new_app, with_subcommand};
+ghost use Rattle.a429_console.specs.CommandLine.{HasRule, bare_line, command_line, form_row, form_rule, many_rule, number_rule, required_rule, row_app, with_any, with_commands, with_names};
 
 use crate::arguments::forms::{
-    ArgumentForm, ArgumentKind, CommandForm, plan_forms, review_forms, run_forms, word_forms,
+    CommandForm, NameForm, NumberForm, OptionForm, OptionKind, commands,
 };
 use crate::arguments::help::{PROGRAM, PROGRAM_END, VERSION};
 use clap::builder::ValueParser;
@@ -12,28 +12,70 @@ use clap::error::ErrorKind;
 use clap::{Arg, ArgAction, Command, Error};
 use std::alloc::{AllocError, Global};
 
-/// The argument of this form.
-fn argument_of<'a>(alloc: Global, form: &ArgumentForm) -> Arg<'a>
+/// The argument of a name, which must be given.
+fn name_argument<'a>(alloc: Global, form: NameForm) -> Arg<'a>
+    ensures { HasRule result (required_rule form.id.now) }
+{
+    Arg::new(alloc, form.id).help(form.help).required(true)
+}
+
+/// The argument of an option.
+fn option_argument<'a>(alloc: Global, form: &OptionForm) -> Arg<'a>
     ensures { HasRule result (form_rule form.now) }
 {
-    let argument = Arg::new(alloc, form.id).help(form.help);
+    let option = Arg::new(alloc, form.id).help(form.help).long(form.id);
     match form.kind {
-        ArgumentKind::Required => argument.required(true),
-        ArgumentKind::Number { most } => {
-            let number = ValueParser::unsigned(0, most);
-            argument.required(true).value_parser(number)
-        }
-        ArgumentKind::Repeated => argument.action(ArgAction::Append),
-        ArgumentKind::Flag => argument.long(form.id).action(ArgAction::SetTrue),
-        ArgumentKind::Value { value } => argument.long(form.id).value_name(value),
-        ArgumentKind::NumberValue { value, least, most } => {
-            let number = ValueParser::unsigned(least, most);
-            argument
-                .long(form.id)
-                .value_name(value)
-                .value_parser(number)
-        }
+        OptionKind::Flag => option.action(ArgAction::SetTrue),
+        OptionKind::Text { value } => option.value_name(value),
+        OptionKind::Number { value, least, most } => option
+            .value_name(value)
+            .value_parser(ValueParser::unsigned(least, most)),
     }
+}
+
+/// A command with the second name that it is given, if there is one.
+fn with_second<'a>(
+    alloc: Global,
+    command: Command<'a>,
+    form: Option<NameForm>,
+) -> Result<Command<'a>, AllocError>
+    ensures { IfOk result (λ c. app_of c ≡ with_any required_rule (app_of command.entry) (option_map (λ n. n.id.now) form)) }
+{
+    match form {
+        Some(form) => command.arg(name_argument(alloc, form)),
+        None => Ok(command),
+    }
+}
+
+/// A command with the number that it is given, if there is one.
+fn with_number<'a>(
+    alloc: Global,
+    command: Command<'a>,
+    form: Option<NumberForm>,
+) -> Result<Command<'a>, AllocError>
+    ensures { IfOk result (λ c. app_of c ≡ with_any number_rule (app_of command.entry) (option_map (λ n. (n.id.now, n.most)) form)) }
+{
+    let Some(form) = form else {
+        return Ok(command);
+    };
+    let number = Arg::new(alloc, form.id).help(form.help).required(true);
+    let parser = ValueParser::unsigned(0, u64::from(form.most));
+    command.arg(number.value_parser(parser))
+}
+
+/// A command with the names that it is given as often as one likes, if there are any.
+fn with_more<'a>(
+    alloc: Global,
+    command: Command<'a>,
+    form: Option<NameForm>,
+) -> Result<Command<'a>, AllocError>
+    ensures { IfOk result (λ c. app_of c ≡ with_any many_rule (app_of command.entry) (option_map (λ n. n.id.now) form)) }
+{
+    let Some(form) = form else {
+        return Ok(command);
+    };
+    let more = Arg::new(alloc, form.id).help(form.help);
+    command.arg(more.action(ArgAction::Append))
 }
 
 /// A command of this name without arguments. Its help begins with `about`, and ends with an example.
@@ -43,19 +85,28 @@ fn named_command<'a>(alloc: Global, name: &'a str, about: &'a str, end: &'a str)
     Command::new(alloc, name).about(about).after_help(end)
 }
 
-/// The same with arguments of these forms.
-fn command_of<'a>(
+/// A command with all that it is given beside options.
+fn with_names<'a>(
     alloc: Global,
-    name: &'a str,
-    about: &'a str,
-    end: &'a str,
-    arguments: &[ArgumentForm],
+    command: Command<'a>,
+    form: &CommandForm,
 ) -> Result<Command<'a>, AllocError>
-    ensures { IfOk result (λ c. app_of c ≡ command_app name.entry.now arguments.now) }
+    ensures { IfOk result (λ c. app_of c ≡ with_names (app_of command.entry) (form_row form.now)) }
 {
-    let mut command = named_command(alloc, name, about, end);
-    for argument in arguments {
-        command = command.arg(argument_of(alloc, argument))?;
+    let command = command.arg(name_argument(alloc, form.first))?;
+    let command = with_second(alloc, command, form.second)?;
+    let command = with_number(alloc, command, form.number)?;
+    with_more(alloc, command, form.more)
+}
+
+/// The command of this form.
+fn command_of<'a>(alloc: Global, form: &CommandForm) -> Result<Command<'a>, AllocError>
+    ensures { IfOk result (λ c. app_of c ≡ row_app (form_row form.now)) }
+{
+    let command = named_command(alloc, form.name, form.about, form.end);
+    let mut command = with_names(alloc, command, form)?;
+    for option in form.options {
+        command = command.arg(option_argument(alloc, option))?;
     }
     Ok(command)
 }
@@ -75,9 +126,9 @@ fn with_command<'a>(
     line: Command<'a>,
     form: &CommandForm,
 ) -> Result<Command<'a>, AllocError>
-    ensures { IfOk result (λ r. app_of r ≡ with_subcommand (app_of line.entry) (form_app form.now).top) }
+    ensures { IfOk result (λ r. app_of r ≡ with_subcommand (app_of line.entry) (row_app (form_row form.now)).top) }
 {
-    match command_of(alloc, form.name, form.about, form.end, form.arguments) {
+    match command_of(alloc, form) {
         Ok(command) => line.subcommand(command),
         Err(error) => {
             // one call, in place of the drop of each part
@@ -93,7 +144,7 @@ fn with_commands<'a>(
     mut line: Command<'a>,
     forms: &[CommandForm],
 ) -> Result<Command<'a>, AllocError>
-    ensures { IfOk result (λ r. app_of r ≡ with_commands (app_of line.entry) (map form_app forms.now)) }
+    ensures { IfOk result (λ r. app_of r ≡ with_commands (app_of line.entry) (map form_row forms.now)) }
 {
     for form in forms {
         line = with_command(alloc, line, form)?;
@@ -101,29 +152,12 @@ fn with_commands<'a>(
     Ok(line)
 }
 
-/// The same, if the command line was made.
-fn with_forms<'a>(
-    alloc: Global,
-    line: Result<Command<'a>, AllocError>,
-    forms: &[CommandForm],
-) -> Result<Command<'a>, AllocError>
-    ensures { (a : App) → IfOk line.entry (λ c. app_of c ≡ a) → IfOk result (λ r. app_of r ≡ with_commands a (map form_app forms.now)) }
-{
-    match line {
-        Ok(line) => with_commands(alloc, line, forms),
-        Err(error) => Err(error),
-    }
-}
-
 /// The command line of the program.
 pub fn build_command<'a>(alloc: Global) -> Result<Command<'a>, AllocError>
     ensures { IfOk result (λ c. app_of c ≡ command_line) }
 {
-    // no call here returns early: the check goes through all that would be dropped
-    let line = with_forms(alloc, top_command(alloc), word_forms());
-    let line = with_forms(alloc, line, plan_forms());
-    let line = with_forms(alloc, line, review_forms());
-    with_forms(alloc, line, run_forms())
+    let line = top_command(alloc)?;
+    with_commands(alloc, line, commands())
 }
 
 fn usage_error(alloc: Global, kind: ErrorKind, message: &str) -> Result<Error, AllocError>

@@ -1,14 +1,11 @@
-//! The commands, in the order in which help lists them, and the arguments of each.
-ghost use Rattle.std.specs.Prelude.{◌≡◌, ◌∷◌, [], map};
-ghost use Rattle.a429_console.specs.CommandLine.{check_app, diff_app, draw_app, form_app, icd_app, import_app, lines_app, lint_app, live_app, margin_app, plan_app, replay_app, simulate_app, word_app};
+//! The commands and their options: what each is given, its help, and an example. All else that goes by the commands of
+//! the program comes from these rows.
+ghost use Rattle.std.specs.Prelude.{◌≡◌, IfSome, map};
+ghost use Rattle.std.specs.List.{AllByRecursion};
+ghost use Rattle.a429_console.specs.CommandLine.{IsRow, form_row, row_of, verbs};
 
-use crate::arguments::help::{
-    CHECK, CHECK_END, CSV, DIFF, DIFF_END, DRAW, DRAW_END, FILE, FILTER, FRAMES, FURTHER, GROUP,
-    HEX, HTML, ICD, ICD_END, IMPORT, IMPORT_END, LINES, LINES_END, LINT, LINT_END, LIVE, LIVE_END,
-    LOG, MARGIN, MARGIN_END, OTHER, PLAN, PLAN_END, REPLAY, REPLAY_END, RESUBMITTED, ROWS, SCRIPT,
-    SIMULATE, SIMULATE_END, SLOTS, SUMMARY, TABLE, TEXT, UNTIL, WIDTH, WORD, WORD_END, WORDS,
-};
-use a429_equipment::FRAMES as MOST_FRAMES;
+use crate::arguments::help;
+use a429_equipment::FRAMES;
 
 /// How many slots of a bus may be asked for (profile).
 const MOST_SLOTS: u64 = 8192;
@@ -16,228 +13,295 @@ const MOST_SLOTS: u64 = 8192;
 /// The last microsecond until which cells may be asked for: fourteen digits (profile).
 const LAST_TIME: u64 = 99_999_999_999_999;
 
-/// What is given for an argument.
+/// A command of the program.
+#[derive(Clone, Copy, PartialEq, Eq)]
+pub enum Verb {
+    Word,
+    Lines,
+    Import,
+    Plan,
+    Check,
+    Icd,
+    Margin,
+    Lint,
+    Diff,
+    Draw,
+    Replay,
+    Simulate,
+    Live,
+}
+
+/// A name that a command is given: what help calls it, and its help.
 #[derive(Clone, Copy)]
-pub enum ArgumentKind {
-    /// One value, which must be given.
-    Required,
-    /// The same: a whole number up to the most.
-    Number {
-        most: u64,
-    },
-    /// As many values as are given: the last argument.
-    Repeated,
-    /// An option without a value.
+pub struct NameForm {
+    pub id: &'static str,
+    pub help: &'static str,
+}
+
+/// A whole number that a command is given, up to the most.
+#[derive(Clone, Copy)]
+pub struct NumberForm {
+    pub id: &'static str,
+    pub most: u32,
+    pub help: &'static str,
+}
+
+/// What is given with an option.
+#[derive(Clone, Copy)]
+pub enum OptionKind {
+    /// Nothing.
     Flag,
-    /// An option with one value, which help calls by this name.
-    Value {
+    /// A text, which help calls by this name.
+    Text {
         value: &'static str,
     },
-    /// The same, of which the value is a whole number from the least to the most.
-    NumberValue {
+    /// A whole number from the least to the most.
+    Number {
         value: &'static str,
         least: u64,
         most: u64,
     },
 }
 
-/// An argument: its name, what is given for it, and its help.
+/// An option: its name without the two hyphens, what is given with it, and its help.
 #[derive(Clone, Copy)]
-pub struct ArgumentForm {
+pub struct OptionForm {
     pub id: &'static str,
-    pub kind: ArgumentKind,
+    pub kind: OptionKind,
     pub help: &'static str,
 }
 
-/// A command: its name, what its help begins with, the example at the end of that, and its arguments.
+/// A command: its name, what it is given, what its help begins with, and the example at the end of that. It is given a
+/// name or two, perhaps a number, perhaps as many names as one likes, and options.
 #[derive(Clone, Copy)]
 pub struct CommandForm {
+    pub verb: Verb,
     pub name: &'static str,
+    pub first: NameForm,
+    pub second: Option<NameForm>,
+    pub number: Option<NumberForm>,
+    pub more: Option<NameForm>,
+    pub options: &'static [OptionForm],
     pub about: &'static str,
     pub end: &'static str,
-    pub arguments: &'static [ArgumentForm],
 }
 
-/// The form of an argument.
-macro_rules! form {
-    ($id:literal, $kind:expr, $help:expr) => {
-        ArgumentForm {
+/// `--csv`
+pub const CSV: OptionForm = OptionForm {
+    id: "csv",
+    kind: OptionKind::Flag,
+    help: help::CSV,
+};
+
+/// `--group`
+pub const GROUP: OptionForm = OptionForm {
+    id: "group",
+    kind: OptionKind::Text { value: "NAME" },
+    help: help::GROUP,
+};
+
+/// `--slots`
+pub const SLOTS: OptionForm = OptionForm {
+    id: "slots",
+    kind: OptionKind::Number {
+        value: "N",
+        least: 1,
+        most: MOST_SLOTS,
+    },
+    help: help::SLOTS,
+};
+
+/// `--width`
+pub const WIDTH: OptionForm = OptionForm {
+    id: "width",
+    kind: OptionKind::Text { value: "N" },
+    help: help::WIDTH,
+};
+
+/// `--html`
+pub const HTML: OptionForm = OptionForm {
+    id: "html",
+    kind: OptionKind::Flag,
+    help: help::HTML,
+};
+
+/// `--until`
+pub const UNTIL: OptionForm = OptionForm {
+    id: "until",
+    kind: OptionKind::Number {
+        value: "US",
+        least: 0,
+        most: LAST_TIME,
+    },
+    help: help::UNTIL,
+};
+
+/// `--summary`
+pub const SUMMARY: OptionForm = OptionForm {
+    id: "summary",
+    kind: OptionKind::Flag,
+    help: help::SUMMARY,
+};
+
+/// The form of a name.
+macro_rules! name {
+    ($id:literal, $help:expr) => {
+        NameForm {
             id: $id,
-            kind: $kind,
             help: $help,
         }
     };
 }
 
-const FRAME_COUNT: ArgumentKind = ArgumentKind::Number {
-    most: MOST_FRAMES as u64,
+const FRAME_COUNT: NumberForm = NumberForm {
+    id: "FRAMES",
+    most: FRAMES,
+    help: help::FRAMES,
 };
 
-const GROUP_NAME: ArgumentKind = ArgumentKind::Value { value: "NAME" };
-
-const WIDTH_IN_SLOTS: ArgumentKind = ArgumentKind::Value { value: "N" };
-
-const SLOT_COUNT: ArgumentKind = ArgumentKind::NumberValue {
-    value: "N",
-    least: 1,
-    most: MOST_SLOTS,
+/// A command that is given the name of a table and nothing else. The rows below say what is different.
+const OF_TABLE: CommandForm = CommandForm {
+    verb: Verb::Plan,
+    name: "plan",
+    first: name!("TABLE", help::TABLE),
+    second: None,
+    number: None,
+    more: None,
+    options: &[],
+    about: help::PLAN,
+    end: help::PLAN_END,
 };
 
-const MICROSECONDS: ArgumentKind = ArgumentKind::NumberValue {
-    value: "US",
-    least: 0,
-    most: LAST_TIME,
-};
-
-static WORD_FORMS: [CommandForm; 3] = [
+static COMMANDS: [CommandForm; 13] = [
     CommandForm {
+        verb: Verb::Word,
         name: "word",
-        about: WORD,
-        end: WORD_END,
-        arguments: &[form!("HEX", ArgumentKind::Required, HEX)],
+        first: name!("HEX", help::HEX),
+        about: help::WORD,
+        end: help::WORD_END,
+        ..OF_TABLE
     },
     CommandForm {
+        verb: Verb::Lines,
         name: "lines",
-        about: LINES,
-        end: LINES_END,
-        arguments: &[
-            form!("FILE", ArgumentKind::Required, FILE),
-            form!("FILTER", ArgumentKind::Repeated, FILTER),
-        ],
+        first: name!("FILE", help::FILE),
+        more: Some(name!("FILTER", help::FILTER)),
+        about: help::LINES,
+        end: help::LINES_END,
+        ..OF_TABLE
     },
     CommandForm {
+        verb: Verb::Import,
         name: "import",
-        about: IMPORT,
-        end: IMPORT_END,
-        arguments: &[form!("FILE", ArgumentKind::Required, ROWS)],
+        first: name!("FILE", help::ROWS),
+        about: help::IMPORT,
+        end: help::IMPORT_END,
+        ..OF_TABLE
     },
-];
-
-static PLAN_FORMS: [CommandForm; 4] = [
     CommandForm {
+        verb: Verb::Plan,
         name: "plan",
-        about: PLAN,
-        end: PLAN_END,
-        arguments: &[form!("TABLE", ArgumentKind::Required, TABLE)],
+        about: help::PLAN,
+        end: help::PLAN_END,
+        ..OF_TABLE
     },
     CommandForm {
+        verb: Verb::Check,
         name: "check",
-        about: CHECK,
-        end: CHECK_END,
-        arguments: &[
-            form!("TABLE", ArgumentKind::Required, TABLE),
-            form!("PLAN", ArgumentKind::Required, TEXT),
-        ],
+        second: Some(name!("PLAN", help::TEXT)),
+        about: help::CHECK,
+        end: help::CHECK_END,
+        ..OF_TABLE
     },
     CommandForm {
+        verb: Verb::Icd,
         name: "icd",
-        about: ICD,
-        end: ICD_END,
-        arguments: &[
-            form!("TABLE", ArgumentKind::Required, TABLE),
-            form!("csv", ArgumentKind::Flag, CSV),
-        ],
+        options: &[CSV],
+        about: help::ICD,
+        end: help::ICD_END,
+        ..OF_TABLE
     },
     CommandForm {
+        verb: Verb::Margin,
         name: "margin",
-        about: MARGIN,
-        end: MARGIN_END,
-        arguments: &[form!("TABLE", ArgumentKind::Required, TABLE)],
+        about: help::MARGIN,
+        end: help::MARGIN_END,
+        ..OF_TABLE
     },
-];
-
-static REVIEW_FORMS: [CommandForm; 3] = [
     CommandForm {
+        verb: Verb::Lint,
         name: "lint",
-        about: LINT,
-        end: LINT_END,
-        arguments: &[form!("TABLE", ArgumentKind::Required, TABLE)],
+        about: help::LINT,
+        end: help::LINT_END,
+        ..OF_TABLE
     },
     CommandForm {
+        verb: Verb::Diff,
         name: "diff",
-        about: DIFF,
-        end: DIFF_END,
-        arguments: &[
-            form!("TABLE", ArgumentKind::Required, TABLE),
-            form!("OTHER", ArgumentKind::Required, OTHER),
-        ],
+        second: Some(name!("OTHER", help::OTHER)),
+        about: help::DIFF,
+        end: help::DIFF_END,
+        ..OF_TABLE
     },
     CommandForm {
+        verb: Verb::Draw,
         name: "draw",
-        about: DRAW,
-        end: DRAW_END,
-        arguments: &[
-            form!("TABLE", ArgumentKind::Required, TABLE),
-            form!("group", GROUP_NAME, GROUP),
-            form!("slots", SLOT_COUNT, SLOTS),
-            form!("width", WIDTH_IN_SLOTS, WIDTH),
-            form!("html", ArgumentKind::Flag, HTML),
-        ],
+        options: &[GROUP, SLOTS, WIDTH, HTML],
+        about: help::DRAW,
+        end: help::DRAW_END,
+        ..OF_TABLE
     },
-];
-
-static RUN_FORMS: [CommandForm; 3] = [
     CommandForm {
+        verb: Verb::Replay,
         name: "replay",
-        about: REPLAY,
-        end: REPLAY_END,
-        arguments: &[
-            form!("TABLE", ArgumentKind::Required, TABLE),
-            form!("SCRIPT", ArgumentKind::Required, SCRIPT),
-            form!("FURTHER", ArgumentKind::Repeated, FURTHER),
-        ],
+        second: Some(name!("SCRIPT", help::SCRIPT)),
+        more: Some(name!("FURTHER", help::FURTHER)),
+        about: help::REPLAY,
+        end: help::REPLAY_END,
+        ..OF_TABLE
     },
     CommandForm {
+        verb: Verb::Simulate,
         name: "simulate",
-        about: SIMULATE,
-        end: SIMULATE_END,
-        arguments: &[
-            form!("TABLE", ArgumentKind::Required, TABLE),
-            form!("LOG", ArgumentKind::Required, LOG),
-            form!("until", MICROSECONDS, UNTIL),
-            form!("summary", ArgumentKind::Flag, SUMMARY),
-            form!("csv", ArgumentKind::Flag, CSV),
-        ],
+        second: Some(name!("LOG", help::LOG)),
+        options: &[UNTIL, SUMMARY, CSV],
+        about: help::SIMULATE,
+        end: help::SIMULATE_END,
+        ..OF_TABLE
     },
     CommandForm {
+        verb: Verb::Live,
         name: "live",
-        about: LIVE,
-        end: LIVE_END,
-        arguments: &[
-            form!("TABLE", ArgumentKind::Required, TABLE),
-            form!("WORDS", ArgumentKind::Required, WORDS),
-            form!("FRAMES", FRAME_COUNT, FRAMES),
-            form!("FURTHER", ArgumentKind::Repeated, RESUBMITTED),
-        ],
+        second: Some(name!("WORDS", help::WORDS)),
+        number: Some(FRAME_COUNT),
+        more: Some(name!("FURTHER", help::RESUBMITTED)),
+        about: help::LIVE,
+        end: help::LIVE_END,
+        ..OF_TABLE
     },
 ];
 
-// each in a function of its own: the check goes through all texts of a table wherever it is named
-
-/// The commands on words, lines, and rows of comma-separated values.
-pub fn word_forms() -> &'static [CommandForm]
-    ensures { map form_app result.now ≡ word_app ∷ lines_app ∷ import_app ∷ [] }
+/// The commands, in the order in which help lists them.
+pub fn commands() -> &'static [CommandForm]
+    ensures rows { map form_row result.now ≡ map row_of verbs }
+    ensures each { AllByRecursion IsRow result.now }
 {
-    &WORD_FORMS
+    &COMMANDS
 }
 
-/// The commands on plans of a table.
-pub fn plan_forms() -> &'static [CommandForm]
-    ensures { map form_app result.now ≡ plan_app ∷ check_app ∷ icd_app ∷ margin_app ∷ [] }
+/// The command of this name.
+pub fn command_named(name: &str) -> Option<&'static CommandForm>
+    ensures { IfSome result (λ form. IsRow form.now × (form.now.name.now ≡ name.now)) }
 {
-    &PLAN_FORMS
+    for form in commands() {
+        if form.name == name {
+            return Some(form);
+        }
+    }
+    None
 }
 
-/// The commands on tables, and on what their plans look like.
-pub fn review_forms() -> &'static [CommandForm]
-    ensures { map form_app result.now ≡ lint_app ∷ diff_app ∷ draw_app ∷ [] }
-{
-    &REVIEW_FORMS
-}
-
-/// The commands on runs of a station.
-pub fn run_forms() -> &'static [CommandForm]
-    ensures { map form_app result.now ≡ replay_app ∷ simulate_app ∷ live_app ∷ [] }
-{
-    &RUN_FORMS
+/// The row of a command.
+pub fn command_of(verb: Verb) -> Option<&'static CommandForm> {
+    commands().iter().find(|form| form.verb == verb)
 }

@@ -85,15 +85,15 @@ Example:
 pub const LINT: &str = "Print what a table does in silence, such as words that never arrive";
 
 pub const LINT_END: &str = "\
-There is a line for each finding, and the status is 1 if there is one:
-  unfit GROUP SOURCE        its interval has no period
-  too-many-buses GROUP N    it needs N buses, and 16 are the most
-  unheard SOURCE            no filter of its receiver passes it
-  unsent SOURCE             no group has an output of it
-  idle RECEIVER             it has no source
-  blind RECEIVER N          its filter N passes none of its sources
-  alike GROUP SOURCE OTHER  they have one label, and one of them any SDI
-  full GROUP                it has no empty cell
+There is a row for each finding, and the status is 1 if there is one:
+  unfit           the interval of an output has no period
+  too-many-buses  a group needs this number of buses, and 16 are the most
+  unheard         no filter of its receiver passes a source
+  unsent          no group has an output of a source
+  idle            a receiver has no source
+  blind           the filter of this number passes none of its sources
+  alike           two outputs have one label, and one of them any SDI
+  full            a group has no empty cell
 
 Example:
   a429 lint examples/air_data_and_inertial/station.toml";
@@ -103,8 +103,9 @@ pub const DIFF: &str = "Print what changes from the plan of a table to that of a
 pub const OTHER: &str = "Equipment table that takes its place (TOML)";
 
 pub const DIFF_END: &str = "\
-The line `same` means that nothing changes, and the status is 0; else it is 1.
-A line `station` means that OTHER cannot be published while TABLE runs.
+There is a row for each change. Without one the status is 0, else 1. A row
+`receiver`, `filters`, `source`, `source-receiver`, `label`, `sdi`, `group` or
+`rate` means that OTHER cannot be published while TABLE runs.
 
 Example:
   a429 diff examples/displays/table.toml examples/displays/faster.toml";

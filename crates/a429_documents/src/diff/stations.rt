@@ -1,49 +1,16 @@
 //! What differs of the stations of two tables.
-ghost use Rattle.std.specs.Prelude.{◌≡◌, ◌==◌};
-ghost use Rattle.std.specs.Str.{bytes_eq};
-ghost use Rattle.std.specs.List.{flat_map};
-ghost use Rattle.a429_word.specs.Written.{Writes};
-ghost use Rattle.a429_equipment.specs.SameStation.{all_agree, same_filter, same_filters, same_sdi, same_source};
-ghost use Rattle.a429_documents.specs.Diff.{part_name, same_part, station_line};
+ghost use Rattle.std.specs.Prelude.{◌≡◌, ◌==◌, ◌<◌, ◌++◌, length};
+ghost use Rattle.a429_text.specs.Sheets.{field_of};
+ghost use Rattle.a429_equipment.specs.SameStation.{all_agree, same_filter, same_filters, same_sdi};
+ghost use Rattle.a429_documents.specs.Document.{receiver_name};
+ghost use Rattle.a429_documents.specs.Diff.{filter_count, filter_rows, label_rows, of_group, of_name, rate_rows, sdi_or_any, sdi_rows, source_receiver_rows, source_rows, station_rows};
 
+use crate::diff::names::{Named, add_list};
+use crate::diff::rows::{Subject, add_number, add_unless};
 use a429_equipment::{Equipment, GroupRow, ReceiverRow, SourceRow};
 use a429_filter::{Filter, FilterSet};
+use a429_text::{Cell, Rows};
 use a429_word::Sdi;
-use std::alloc::AllocError;
-use std::fmt::Write;
-
-/// A part of a station by which two tables may differ.
-#[derive(Clone, Copy)]
-pub enum StationPart {
-    /// The names of the receivers.
-    Receivers,
-    /// The lists of filters of the receivers, as written.
-    Filters,
-    /// The sources.
-    Sources,
-    /// The names of the groups.
-    Groups,
-    /// The rates of the groups.
-    Rates,
-}
-
-/// The parts, in the order of the text.
-pub const PARTS: [StationPart; 5] = [
-    StationPart::Receivers,
-    StationPart::Filters,
-    StationPart::Sources,
-    StationPart::Groups,
-    StationPart::Rates,
-];
-
-fn same_receivers(a: &[ReceiverRow], b: &[ReceiverRow]) -> bool
-    ensures { result ≡ all_agree (λ r s. bytes_eq r.name s.name) a.now b.now }
-{
-    a.len() == b.len()
-        && a.iter()
-            .zip(b)
-            .all(|(a, b)| a.name.as_str() == b.name.as_str())
-}
 
 fn same_lists(a: &[Filter], b: &[Filter]) -> bool
     ensures { result ≡ all_agree same_filter a.now b.now }
@@ -54,7 +21,7 @@ fn same_lists(a: &[Filter], b: &[Filter]) -> bool
             .all(|(a, b)| a.label == b.label && a.mask == b.mask)
 }
 
-fn same_set(a: &FilterSet, b: &FilterSet) -> bool
+fn same_filters(a: &FilterSet, b: &FilterSet) -> bool
     ensures { result ≡ same_filters a.now b.now }
 {
     match (a.list(), b.list()) {
@@ -64,13 +31,62 @@ fn same_set(a: &FilterSet, b: &FilterSet) -> bool
     }
 }
 
-fn same_filters(a: &[ReceiverRow], b: &[ReceiverRow]) -> bool
-    ensures { result ≡ all_agree (λ r s. same_filters r.filters s.filters) a.now b.now }
+/// How many filters there are, if there is a list.
+fn filter_count(filters: &FilterSet) -> Cell<'static>
+    ensures { field_of result ≡ filter_count filters.now }
 {
-    a.len() == b.len()
-        && a.iter()
-            .zip(b)
-            .all(|(a, b)| same_set(&a.filters, &b.filters))
+    match filters.list() {
+        None => Cell::Absent,
+        Some(list) => Cell::Number(list.len() as u64),
+    }
+}
+
+impl Named for ReceiverRow {
+    ghost list_of = { λ e. e.receivers };
+
+    ghost name_of = { λ r. r.name };
+
+    ghost subject_of = { λ r. of_name r.name };
+
+    ghost change_rows = { λ own others. filter_rows };
+
+    fn list(equipment: &Equipment) -> &[Self] {
+        equipment.receivers()
+    }
+
+    fn name(&self) -> &str {
+        self.name.as_str()
+    }
+
+    fn subject(&self) -> Subject<'_> {
+        Subject::of_name(self.name.as_str())
+    }
+
+    fn add_changes(&self, other: &Self, rows: &mut Rows, _a: &Equipment, _b: &Equipment) {
+        let same = same_filters(&self.filters, &other.filters);
+        let (own, others) = (filter_count(&self.filters), filter_count(&other.filters));
+        add_unless(rows, same, "filters", &self.subject(), own, others);
+    }
+}
+
+/// The name of a receiver; after the last one, nothing.
+fn receiver_name(equipment: &Equipment, number: usize) -> &str
+    ensures { result.now ≡ receiver_name equipment.now.receivers number }
+{
+    match equipment.receivers().get(number) {
+        None => "",
+        Some(receiver) => receiver.name.as_str(),
+    }
+}
+
+/// An SDI, or that any is meant.
+fn sdi_or_any(sdi: Option<Sdi>) -> Cell<'static>
+    ensures { field_of result ≡ sdi_or_any sdi }
+{
+    match sdi {
+        None => Cell::Text("any"),
+        Some(sdi) => Cell::Number(u64::from(sdi.value())),
+    }
 }
 
 fn same_sdi(a: Option<Sdi>, b: Option<Sdi>) -> bool
@@ -83,88 +99,124 @@ fn same_sdi(a: Option<Sdi>, b: Option<Sdi>) -> bool
     }
 }
 
-fn same_source(a: &SourceRow, b: &SourceRow) -> bool
-    ensures { result ≡ same_source a.now b.now }
-{
-    a.name.as_str() == b.name.as_str()
-        && a.receiver == b.receiver
-        && a.label == b.label
-        && same_sdi(a.sdi, b.sdi)
-}
-
-fn same_sources(a: &[SourceRow], b: &[SourceRow]) -> bool
-    ensures { result ≡ all_agree same_source a.now b.now }
-{
-    a.len() == b.len() && a.iter().zip(b).all(|(a, b)| same_source(a, b))
-}
-
-fn same_groups(a: &[GroupRow], b: &[GroupRow]) -> bool
-    ensures { result ≡ all_agree (λ g h. bytes_eq g.name h.name) a.now b.now }
-{
-    a.len() == b.len()
-        && a.iter()
-            .zip(b)
-            .all(|(a, b)| a.name.as_str() == b.name.as_str())
-}
-
-fn same_rates(a: &[GroupRow], b: &[GroupRow]) -> bool
-    ensures { result ≡ all_agree (λ g h. g.rate == h.rate) a.now b.now }
-{
-    a.len() == b.len() && a.iter().zip(b).all(|(a, b)| a.rate == b.rate)
-}
-
-/// Whether a part of the station is the same in both tables.
-fn same_part(part: StationPart, a: &Equipment, b: &Equipment) -> bool
-    ensures { result ≡ same_part part a.now b.now }
-{
-    match part {
-        StationPart::Receivers => same_receivers(a.receivers(), b.receivers()),
-        StationPart::Filters => same_filters(a.receivers(), b.receivers()),
-        StationPart::Sources => same_sources(a.sources(), b.sources()),
-        StationPart::Groups => same_groups(a.groups(), b.groups()),
-        StationPart::Rates => same_rates(a.groups(), b.groups()),
-    }
-}
-
-fn part_name(part: StationPart) -> &'static str
-    ensures { result.now ≡ part_name part }
-{
-    match part {
-        StationPart::Receivers => "receivers",
-        StationPart::Filters => "filters",
-        StationPart::Sources => "sources",
-        StationPart::Groups => "groups",
-        StationPart::Rates => "rates",
-    }
-}
-
-/// Writes a part of the station, if it differs.
-fn write_part(
-    text: &mut String,
+/// Adds the row of the receiver of a source, if its name differs.
+fn add_receiver(
+    rows: &mut Rows,
     a: &Equipment,
     b: &Equipment,
-    part: StationPart,
-) -> Result<(), AllocError>
-    ensures { Writes result text.old text.new (station_line a.now b.now part) }
+    source: &SourceRow,
+    other: &SourceRow,
+)
+    ensures { rows.new ≡ rows.old ++ source_receiver_rows a.now.receivers b.now.receivers source.now other.now }
 {
-    if same_part(part, a, b) {
-        return Ok(());
-    }
-    let name = part_name(part);
-    writeln!(text, "station {name}")
+    let (own, others) = (
+        receiver_name(a, source.receiver),
+        receiver_name(b, other.receiver),
+    );
+    let (first, second) = (Cell::Text(own), Cell::Text(others));
+    add_unless(
+        rows,
+        own == others,
+        "source-receiver",
+        &source.subject(),
+        first,
+        second,
+    );
 }
 
-/// Writes those of these parts that differ.
-pub fn write_station(
-    text: &mut String,
-    a: &Equipment,
-    b: &Equipment,
-    parts: &[StationPart],
-) -> Result<(), AllocError>
-    ensures { Writes result text.old text.new (flat_map (station_line a.now b.now) parts.now) }
+/// Adds the row of the label of a source, if it differs.
+fn add_label(rows: &mut Rows, source: &SourceRow, other: &SourceRow)
+    ensures { rows.new ≡ rows.old ++ label_rows source.now other.now }
 {
-    for number in 0..parts.len() {
-        write_part(text, a, b, parts[number])?;
+    let (first, second) = (
+        Cell::Octal(source.label.value()),
+        Cell::Octal(other.label.value()),
+    );
+    add_unless(
+        rows,
+        source.label == other.label,
+        "label",
+        &source.subject(),
+        first,
+        second,
+    );
+}
+
+/// Adds the row of the SDI of a source, if it differs.
+fn add_sdi(rows: &mut Rows, source: &SourceRow, other: &SourceRow)
+    ensures { rows.new ≡ rows.old ++ sdi_rows source.now other.now }
+{
+    let (first, second) = (sdi_or_any(source.sdi), sdi_or_any(other.sdi));
+    add_unless(
+        rows,
+        same_sdi(source.sdi, other.sdi),
+        "sdi",
+        &source.subject(),
+        first,
+        second,
+    );
+}
+
+impl Named for SourceRow {
+    ghost list_of = { λ e. e.sources };
+
+    ghost name_of = { λ s. s.name };
+
+    ghost subject_of = { λ s. of_name s.name };
+
+    ghost change_rows = { source_rows };
+
+    fn list(equipment: &Equipment) -> &[Self] {
+        equipment.sources()
     }
-    Ok(())
+
+    fn name(&self) -> &str {
+        self.name.as_str()
+    }
+
+    fn subject(&self) -> Subject<'_> {
+        Subject::of_name(self.name.as_str())
+    }
+
+    fn add_changes(&self, other: &Self, rows: &mut Rows, a: &Equipment, b: &Equipment) {
+        add_receiver(rows, a, b, self, other);
+        add_label(rows, self, other);
+        add_sdi(rows, self, other);
+    }
+}
+
+impl Named for GroupRow {
+    ghost list_of = { λ e. e.groups };
+
+    ghost name_of = { λ g. g.name };
+
+    ghost subject_of = { λ g. of_group g.name };
+
+    ghost change_rows = { λ own others. rate_rows };
+
+    fn list(equipment: &Equipment) -> &[Self] {
+        equipment.groups()
+    }
+
+    fn name(&self) -> &str {
+        self.name.as_str()
+    }
+
+    fn subject(&self) -> Subject<'_> {
+        Subject::of_group(self.name.as_str())
+    }
+
+    fn add_changes(&self, other: &Self, rows: &mut Rows, _a: &Equipment, _b: &Equipment) {
+        let (own, others) = (u64::from(self.rate), u64::from(other.rate));
+        add_number(rows, "rate", &self.subject(), Some(own), Some(others));
+    }
+}
+
+/// Adds the rows of the station: there is none just if the two tables are of one station.
+pub fn add_station(rows: &mut Rows, a: &Equipment, b: &Equipment)
+    ensures { rows.new ≡ rows.old ++ station_rows a.now b.now }
+{
+    add_list::<ReceiverRow>(rows, "receiver", a, b);
+    add_list::<SourceRow>(rows, "source", a, b);
+    add_list::<GroupRow>(rows, "group", a, b);
 }

@@ -1,141 +1,117 @@
-//! Where the parts of an image stand, in pixels.
-ghost use Rattle.std.specs.Prelude.{◌≡◌, ◌≤◌, ◌<◌, ◌+◌, length};
+//! Where the parts of an image are, in pixels: from the left, and below the upper edge of their group.
+ghost use Rattle.std.specs.Prelude.{◌≡◌, ◌≤◌, ◌<◌, ◌+◌, ◌^◌, length};
 ghost use Rattle.a429_slots.specs.Tables.{groups_of};
-ghost use Rattle.a429_documents.specs.Drawing.{fold_top, fold_width, folds_of, group_height, height_of, image_height, legend_top, row_top, slot_left, slots_drawn, spread_of, width_of};
-ghost use Rattle.a429_documents.specs.Spreads.{IsDrawable};
+ghost use Rattle.a429_documents.specs.Drawing.{fold_top, fold_width, folds_of, group_height, height_of, legend_top, slots_of};
 
 use crate::drawing::DrawingForm;
 use a429_slots::{GroupPlan, OUTPUTS, Plan};
 
-/// How many slots stand in a row where nobody says how many, and at least; those that follow are folded below.
+/// How many slots are in a row if nobody says how many, and at least; those that follow are folded below.
 const NARROW: u32 = 64;
 
-/// How many slots stand in a row at most.
+/// How many slots are in a row at most.
 const WIDE: u32 = 256;
 
-/// How many slots of a frame are drawn at most where nobody says how many.
+/// How many slots of a frame are drawn at most if nobody says how many.
 const SHOWN: u32 = 256;
 
 /// How many slots are drawn at most: the greatest frame (profile).
 const MOST: u32 = 8192;
 
-/// How much of a group is drawn: so many slots, in rows of so many.
-#[derive(Clone, Copy)]
-pub(crate) struct Spread {
-    pub slots: u32,
-    pub width: u32,
-}
-
-/// How many slots are drawn.
-fn slots_drawn(slots: Option<u32>, frame: u32) -> u32
-    ensures value { result ≡ slots_drawn slots frame }
-    ensures few { result ≤ 8192 }
+/// How many slots of a group are drawn.
+pub(crate) fn slots_of(form: DrawingForm, table: &GroupPlan<OUTPUTS>) -> u32
+    ensures { result ≡ slots_of form table.now }
 {
-    match slots {
-        None => frame.min(SHOWN),
+    match form.slots {
+        None => table.frame().min(SHOWN),
         Some(slots) => slots.min(MOST),
     }
 }
 
-/// How many slots stand in a row.
-fn fold_width(width: Option<u32>) -> u32
-    ensures value { result ≡ fold_width width }
+/// How many slots are in a row.
+fn fold_width(form: DrawingForm) -> u32
+    ensures value { result ≡ fold_width form }
     ensures least { 64 ≤ result }
     ensures most { result ≤ 256 }
 {
-    match width {
+    match form.width {
         None => NARROW,
         Some(width) => width.min(WIDE).max(NARROW),
     }
 }
 
-/// How much of a group with a frame of so many slots is drawn.
-pub(crate) fn spread_of(form: DrawingForm, frame: u32) -> Spread
-    ensures value { result ≡ spread_of form frame }
-    ensures drawable { IsDrawable result }
-{
-    Spread {
-        slots: slots_drawn(form.slots, frame),
-        width: fold_width(form.width),
-    }
-}
-
 /// How wide an image is.
-pub(crate) fn width_of(form: DrawingForm) -> u32
-    ensures { result ≡ width_of form }
-{
-    166 + 16 * fold_width(form.width)
+pub(crate) fn width_of(form: DrawingForm) -> u32 {
+    166 + 16 * fold_width(form)
 }
 
-/// In how many rows the slots of a bus stand.
-pub(crate) fn folds_of(spread: Spread) -> u32
-    requires { IsDrawable spread }
-    ensures value { result ≡ folds_of spread }
-    ensures few { result ≤ 128 }
+/// In how many rows the slots of a bus are.
+pub(crate) fn folds_of(form: DrawingForm, table: &GroupPlan<OUTPUTS>) -> u32
+    ensures { result ≡ folds_of form table.now }
 {
-    spread.slots.div_ceil(spread.width)
+    slots_of(form, table).div_ceil(fold_width(form))
 }
 
-/// The upper edge of a fold, in pixels below that of its group.
-pub(crate) fn fold_top(buses: u32, fold: u32) -> u32
-    requires buses { buses ≤ 16 }
-    requires fold { fold ≤ 128 }
-    ensures value { result ≡ fold_top buses fold }
-    ensures few { result ≤ 40000 }
+/// The upper edge of a fold.
+pub(crate) fn fold_top(table: &GroupPlan<OUTPUTS>, fold: u32) -> u64
+    ensures value { result ≡ fold_top table.now fold }
+    ensures few { result < 2 ^ 42 }
 {
-    26 + fold * (22 + 18 * buses)
+    26 + u64::from(fold) * (22 + 18 * u64::from(table.buses()))
 }
 
-/// The upper edge of the row of a bus in a fold.
-pub(crate) fn row_top(buses: u32, fold: u32, bus: u32) -> u32
-    requires buses { buses ≤ 16 }
-    requires fold { fold ≤ 128 }
-    requires bus { bus < buses }
-    ensures value { result ≡ row_top buses fold bus }
-    ensures few { result ≤ 41000 }
+/// The upper edge of the legend of a group.
+pub(crate) fn legend_top(form: DrawingForm, table: &GroupPlan<OUTPUTS>) -> u64
+    ensures value { result ≡ legend_top form table.now }
+    ensures few { result < 2 ^ 43 }
 {
-    fold_top(buses, fold) + 14 + 18 * bus
+    fold_top(table, folds_of(form, table)) + 4
 }
 
-/// The left edge of a slot in rows of so many.
-pub(crate) fn slot_left(width: u32, slot: u32) -> u32
-    requires least { 64 ≤ width }
-    requires most { width ≤ 256 }
-    ensures { result ≡ slot_left width slot }
+/// The height of a group.
+fn group_height(form: DrawingForm, table: &GroupPlan<OUTPUTS>) -> u64
+    ensures value { result ≡ group_height form table.now }
+    ensures few { result < 2 ^ 44 }
 {
-    100 + 16 * (slot % width)
-}
-
-/// The upper edge of the legend of a group of which so much is drawn.
-pub(crate) fn legend_top(buses: u32, spread: Spread) -> u32
-    requires buses { buses ≤ 16 }
-    requires spread { IsDrawable spread }
-    ensures value { result ≡ legend_top buses spread }
-    ensures few { result ≤ 41000 }
-{
-    fold_top(buses, folds_of(spread)) + 4
-}
-
-/// The height of a group of which so much is drawn.
-fn group_height(table: &GroupPlan<OUTPUTS>, spread: Spread) -> u32
-    requires { IsDrawable spread }
-    ensures value { result ≡ group_height spread table.now }
-    ensures few { result ≤ 50000 }
-{
-    let outputs = table.outputs() as u32;
-    legend_top(table.buses(), spread) + 20 * outputs.div_ceil(2) + 24
+    let outputs = table.outputs() as u64;
+    legend_top(form, table) + 20 * outputs.div_ceil(2) + 24
 }
 
 /// The height of so many groups from a first one on, one below the other.
-pub(crate) fn height_of(plan: &Plan<OUTPUTS>, form: DrawingForm, first: usize, count: usize) -> u32
+pub(crate) fn height_of(plan: &Plan<OUTPUTS>, form: DrawingForm, first: usize, count: usize) -> u64
     requires known { first + count ≤ length (groups_of plan.now) }
     requires few { first + count ≤ 8 }
-    ensures { result ≡ height_of form plan.now first count }
+    ensures { result ≡ height_of plan.now form first count }
 {
     let mut height = 0;
     for place in 0..count {
-        let table = plan.group(first + place);
-        height += group_height(table, spread_of(form, table.frame()));
+        height += group_height(form, plan.group(first + place));
     }
     height
+}
+
+/// The upper edge of the row of a bus in a fold.
+pub(crate) fn row_top(table: &GroupPlan<OUTPUTS>, fold: u32, bus: u32) -> u64
+    ensures { result < 2 ^ 43 }
+{
+    fold_top(table, fold) + 14 + 18 * u64::from(bus)
+}
+
+/// In which fold a slot is.
+pub(crate) fn fold_at(form: DrawingForm, slot: u32) -> u32 {
+    slot / fold_width(form)
+}
+
+/// The left edge of a slot.
+pub(crate) fn slot_left(form: DrawingForm, slot: u32) -> u64 {
+    100 + 16 * u64::from(slot % fold_width(form))
+}
+
+/// How many slots are in a fold.
+pub(crate) fn slots_in(form: DrawingForm, table: &GroupPlan<OUTPUTS>, fold: u32) -> u64
+    ensures { result ≤ 256 }
+{
+    let width = u64::from(fold_width(form));
+    let before = width * u64::from(fold);
+    width.min(u64::from(slots_of(form, table)).saturating_sub(before))
 }

@@ -1,16 +1,16 @@
 //! What is found in the groups of an equipment.
-ghost use Rattle.std.specs.Prelude.{◌≡◌, ◌<◌, ◌≤◌, length, map};
-ghost use Rattle.a429_word.specs.Written.{Writes};
+ghost use Rattle.std.specs.Prelude.{◌≡◌, ◌<◌, ◌≤◌, ◌++◌, ◌∷◌, [], length, map};
+ghost use Rattle.a429_text.specs.Sheets.{field_of};
 ghost use Rattle.a429_slots.specs.Planned.{HaveSources};
-ghost use Rattle.a429_documents.specs.Lint.{AreAsked, alike_line, alike_lines, are_alike, full_line, group_finding, group_findings, is_full, needs_too_many, of_each, one_is_any, output_name, too_many_line, too_many_text, unfit_line};
+ghost use Rattle.a429_documents.specs.Lint.{AreAsked, alike_row, alike_rows, are_alike, full_rows, group_finding, group_findings, group_row, is_full, needed_row, needs_too_many, of_each, one_is_any, output_name, too_many_rows, unfit_rows};
 
+use crate::document::number;
 use crate::lint::GroupFinding;
 use crate::lint::demands::{are_fit, bus_count, cells_of, frame_of};
 use a429_equipment::{Equipment, OutputRow, SourceRow};
 use a429_pack::Demand;
+use a429_text::{Cell, Rows};
 use a429_word::Sdi;
-use std::alloc::AllocError;
-use std::fmt::Write;
 
 /// The name of the source of an output.
 fn output_name<'a>(sources: &'a [SourceRow], rows: &[OutputRow], output: usize) -> &'a str
@@ -21,43 +21,65 @@ fn output_name<'a>(sources: &'a [SourceRow], rows: &[OutputRow], output: usize) 
     sources[rows[output].source].name.as_str()
 }
 
-/// Writes an output that has no grid period.
-fn write_unfit(
-    text: &mut String,
+/// Adds a finding of a group: of one or two of its sources, or with a number.
+fn add_finding<'a>(
+    found: &mut Rows,
+    finding: &'a str,
+    group: &'a str,
+    source: Cell<'a>,
+    other: Cell<'a>,
+    number: Cell<'a>,
+)
+    ensures { found.new ≡ found.old ++ group_row finding.now group.now (field_of source.entry) (field_of other.entry) (field_of number.entry) ∷ [] }
+{
+    let nothing = Cell::Absent;
+    found.add(&[
+        Cell::Text(finding),
+        Cell::Text(group),
+        nothing,
+        source,
+        other,
+        number,
+    ]);
+}
+
+/// Adds an output that has no grid period.
+fn add_unfit(
+    found: &mut Rows,
     sources: &[SourceRow],
     group: &str,
     rows: &[OutputRow],
     demands: &[Demand],
     output: usize,
-) -> Result<(), AllocError>
+)
     requires output { output < length rows.now }
     requires known { HaveSources sources.now rows.now }
     requires each { length demands.now ≡ length rows.now }
-    ensures { Writes result text.old text.new (unfit_line sources.now group.now rows.now demands.now output) }
+    ensures { found.new ≡ found.old ++ unfit_rows sources.now group.now rows.now demands.now output }
 {
     if demands[output].period.is_some() {
-        return Ok(());
+        return;
     }
     let source = output_name(sources, rows, output);
-    writeln!(text, "unfit {group} {source}")
+    let source = Cell::Text(source);
+    add_finding(found, "unfit", group, source, Cell::Absent, Cell::Absent);
 }
 
-/// Writes the outputs that have no grid period.
-fn write_unfits(
-    text: &mut String,
+/// Adds the outputs that have no grid period.
+fn add_unfits(
+    found: &mut Rows,
     sources: &[SourceRow],
     group: &str,
     rows: &[OutputRow],
     demands: &[Demand],
-) -> Result<(), AllocError>
+)
     requires known { HaveSources sources.now rows.now }
     requires each { length demands.now ≡ length rows.now }
-    ensures { Writes result text.old text.new (of_each (length rows.now) (unfit_line sources.now group.now rows.now demands.now)) }
+    ensures { found.new ≡ found.old ++ of_each (length rows.now) (unfit_rows sources.now group.now rows.now demands.now) }
 {
     for output in 0..rows.len() {
-        write_unfit(text, sources, group, rows, demands, output)?;
+        add_unfit(found, sources, group, rows, demands, output);
     }
-    Ok(())
 }
 
 /// Whether each output has a grid period, and the fewest buses are more than a group can have.
@@ -68,22 +90,30 @@ fn needs_too_many(demands: &[Demand]) -> bool
     are_fit(demands) && bus_count(demands) > 16
 }
 
-/// Writes how many buses a group needs, which are too many.
-fn write_needed(text: &mut String, group: &str, buses: u32) -> Result<(), AllocError>
-    ensures { Writes result text.old text.new (too_many_text group.now buses) }
+/// Adds how many buses a group needs, which are too many.
+fn add_needed(found: &mut Rows, group: &str, buses: u32)
+    ensures { found.new ≡ found.old ++ needed_row group.now buses ∷ [] }
 {
-    writeln!(text, "too-many-buses {group} {buses}")
+    let nothing = Cell::Absent;
+    add_finding(
+        found,
+        "too-many-buses",
+        group,
+        nothing,
+        nothing,
+        number(buses),
+    );
 }
 
-/// Writes that a group needs more than 16 buses, if it does.
-fn write_too_many(text: &mut String, group: &str, demands: &[Demand]) -> Result<(), AllocError>
+/// Adds that a group needs more than 16 buses, if it does.
+fn add_too_many(found: &mut Rows, group: &str, demands: &[Demand])
     requires few { length demands.now ≤ 128 }
-    ensures { Writes result text.old text.new (too_many_line group.now demands.now) }
+    ensures { found.new ≡ found.old ++ too_many_rows group.now demands.now }
 {
     if !needs_too_many(demands) {
-        return Ok(());
+        return;
     }
-    write_needed(text, group, bus_count(demands))
+    add_needed(found, group, bus_count(demands));
 }
 
 /// Whether one of the two is any, and the other a certain one.
@@ -107,66 +137,64 @@ fn are_alike(demands: &[Demand], output: usize, other: usize) -> bool
     output < other && first.label == later.label && one_is_any(first.sdi, later.sdi)
 }
 
-/// Writes an output with a later one, if a receiver cannot tell them apart.
-fn write_alike(
-    text: &mut String,
+/// Adds an output with a later one, if a receiver cannot tell them apart.
+fn add_alike(
+    found: &mut Rows,
     sources: &[SourceRow],
     group: &str,
     rows: &[OutputRow],
     demands: &[Demand],
     output: usize,
     other: usize,
-) -> Result<(), AllocError>
+)
     requires output { output < length rows.now }
     requires other { other < length rows.now }
     requires known { HaveSources sources.now rows.now }
     requires each { length demands.now ≡ length rows.now }
-    ensures { Writes result text.old text.new (alike_line sources.now group.now rows.now demands.now output other) }
+    ensures { found.new ≡ found.old ++ alike_row sources.now group.now rows.now demands.now output other }
 {
     if !are_alike(demands, output, other) {
-        return Ok(());
+        return;
     }
-    let source = output_name(sources, rows, output);
-    let later = output_name(sources, rows, other);
-    writeln!(text, "alike {group} {source} {later}")
+    let source = Cell::Text(output_name(sources, rows, output));
+    let later = Cell::Text(output_name(sources, rows, other));
+    add_finding(found, "alike", group, source, later, Cell::Absent);
 }
 
-/// Writes an output with each later one that a receiver cannot tell apart from it.
-fn write_alikes_of(
-    text: &mut String,
+/// Adds an output with each later one that a receiver cannot tell apart from it.
+fn add_alikes_of(
+    found: &mut Rows,
     sources: &[SourceRow],
     group: &str,
     rows: &[OutputRow],
     demands: &[Demand],
     output: usize,
-) -> Result<(), AllocError>
+)
     requires output { output < length rows.now }
     requires known { HaveSources sources.now rows.now }
     requires each { length demands.now ≡ length rows.now }
-    ensures { Writes result text.old text.new (alike_lines sources.now group.now rows.now demands.now output) }
+    ensures { found.new ≡ found.old ++ alike_rows sources.now group.now rows.now demands.now output }
 {
     for other in 0..rows.len() {
-        write_alike(text, sources, group, rows, demands, output, other)?;
+        add_alike(found, sources, group, rows, demands, output, other);
     }
-    Ok(())
 }
 
-/// Writes the outputs that a receiver cannot tell apart.
-fn write_alikes(
-    text: &mut String,
+/// Adds the outputs that a receiver cannot tell apart.
+fn add_alikes(
+    found: &mut Rows,
     sources: &[SourceRow],
     group: &str,
     rows: &[OutputRow],
     demands: &[Demand],
-) -> Result<(), AllocError>
+)
     requires known { HaveSources sources.now rows.now }
     requires each { length demands.now ≡ length rows.now }
-    ensures { Writes result text.old text.new (of_each (length rows.now) (alike_lines sources.now group.now rows.now demands.now)) }
+    ensures { found.new ≡ found.old ++ of_each (length rows.now) (alike_rows sources.now group.now rows.now demands.now) }
 {
     for output in 0..rows.len() {
-        write_alikes_of(text, sources, group, rows, demands, output)?;
+        add_alikes_of(found, sources, group, rows, demands, output);
     }
-    Ok(())
 }
 
 /// Whether a group can be planned, and has no empty cell then.
@@ -180,56 +208,54 @@ fn is_full(demands: &[Demand]) -> bool
     are_fit(demands) && buses <= 16 && cells == buses * frame.slots()
 }
 
-/// Writes that a group has no empty cell, if that is so.
-fn write_full(text: &mut String, group: &str, demands: &[Demand]) -> Result<(), AllocError>
+/// Adds that a group has no empty cell, if that is so.
+fn add_full(found: &mut Rows, group: &str, demands: &[Demand])
     requires few { length demands.now ≤ 128 }
-    ensures { Writes result text.old text.new (full_line group.now demands.now) }
+    ensures { found.new ≡ found.old ++ full_rows group.now demands.now }
 {
     if is_full(demands) {
-        writeln!(text, "full {group}")
-    } else {
-        Ok(())
+        let nothing = Cell::Absent;
+        add_finding(found, "full", group, nothing, nothing, nothing);
     }
 }
 
-/// Writes the findings of one kind in a group.
-fn write_group(
-    text: &mut String,
+/// Adds the findings of one kind in a group.
+fn add_group(
+    found: &mut Rows,
     sources: &[SourceRow],
     kind: GroupFinding,
     group: &str,
     rows: &[OutputRow],
     demands: &[Demand],
-) -> Result<(), AllocError>
+)
     requires known { HaveSources sources.now rows.now }
     requires each { length demands.now ≡ length rows.now }
     requires few { length demands.now ≤ 128 }
-    ensures { Writes result text.old text.new (group_finding sources.now kind group.now rows.now demands.now) }
+    ensures { found.new ≡ found.old ++ group_finding sources.now kind group.now rows.now demands.now }
 {
     match kind {
-        GroupFinding::Unfit => write_unfits(text, sources, group, rows, demands),
-        GroupFinding::TooManyBuses => write_too_many(text, group, demands),
-        GroupFinding::Alike => write_alikes(text, sources, group, rows, demands),
-        GroupFinding::Full => write_full(text, group, demands),
+        GroupFinding::Unfit => add_unfits(found, sources, group, rows, demands),
+        GroupFinding::TooManyBuses => add_too_many(found, group, demands),
+        GroupFinding::Alike => add_alikes(found, sources, group, rows, demands),
+        GroupFinding::Full => add_full(found, group, demands),
     }
 }
 
-/// Writes the findings of one kind in each group.
-pub fn write_groups(
-    text: &mut String,
+/// Adds the findings of one kind in each group.
+pub fn add_groups(
+    found: &mut Rows,
     equipment: &Equipment,
     asked: &[Vec<Demand>],
     kind: GroupFinding,
-) -> Result<(), AllocError>
+)
     requires asked { AreAsked equipment.now (map (λ v. v.items) asked.now) }
-    ensures { Writes result text.old text.new (group_findings equipment.now (map (λ v. v.items) asked.now) kind) }
+    ensures { found.new ≡ found.old ++ group_findings equipment.now (map (λ v. v.items) asked.now) kind }
 {
     let sources = equipment.sources();
     let groups = equipment.groups();
     for number in 0..groups.len() {
         let name = groups[number].name.as_str();
         let rows = equipment.outputs(number);
-        write_group(text, sources, kind, name, rows, &asked[number])?;
+        add_group(found, sources, kind, name, rows, &asked[number]);
     }
-    Ok(())
 }

@@ -1,13 +1,12 @@
 //! What is found of the receivers of an equipment.
-ghost use Rattle.std.specs.Prelude.{◌≡◌, ◌<◌, length};
-ghost use Rattle.a429_word.specs.Written.{Writes};
-ghost use Rattle.a429_documents.specs.Lint.{blind_line, has_source, of_each, receiver_finding, receiver_lines, sees_source};
+ghost use Rattle.std.specs.Prelude.{◌≡◌, ◌<◌, ◌++◌, ◌∷◌, [], length};
+ghost use Rattle.a429_text.specs.Sheets.{field_of};
+ghost use Rattle.a429_documents.specs.Lint.{blind_rows, has_source, of_each, receiver_finding, receiver_row, receiver_rows, sees_source};
 
 use crate::lint::ReceiverFinding;
 use a429_equipment::{Equipment, ReceiverRow, SourceRow};
 use a429_filter::Filter;
-use std::alloc::AllocError;
-use std::fmt::Write;
+use a429_text::{Cell, Rows};
 
 /// Whether a receiver has a source.
 fn has_source(sources: &[SourceRow], receiver: usize) -> bool
@@ -23,101 +22,97 @@ fn sees_source(sources: &[SourceRow], receiver: usize, filter: Filter) -> bool
     sources.iter().any(|source| source.receiver == receiver && filter.passes(source.label))
 }
 
-/// Writes that a receiver has no source, if that is so.
-fn write_idle(
-    text: &mut String,
-    sources: &[SourceRow],
-    number: usize,
-    receiver: &ReceiverRow,
-) -> Result<(), AllocError>
-    ensures { Writes result text.old text.new (receiver_finding sources.now ReceiverFinding.Idle number receiver.now) }
+/// Adds a finding of a receiver, with a number if it has one.
+fn add_finding<'a>(found: &mut Rows, finding: &'a str, receiver: &'a str, number: Cell<'a>)
+    ensures { found.new ≡ found.old ++ receiver_row finding.now receiver.now (field_of number.entry) ∷ [] }
+{
+    found.add(&[
+        Cell::Text(finding),
+        Cell::Absent,
+        Cell::Text(receiver),
+        Cell::Absent,
+        Cell::Absent,
+        number,
+    ]);
+}
+
+/// Adds that a receiver has no source, if that is so.
+fn add_idle(found: &mut Rows, sources: &[SourceRow], number: usize, receiver: &ReceiverRow)
+    ensures { found.new ≡ found.old ++ receiver_finding sources.now ReceiverFinding.Idle number receiver.now }
 {
     if has_source(sources, number) {
-        return Ok(());
+        return;
     }
-    let name = receiver.name.as_str();
-    writeln!(text, "idle {name}")
+    add_finding(found, "idle", receiver.name.as_str(), Cell::Absent);
 }
 
-/// Writes that a filter passes no source of the receiver, if that is so.
-fn write_blind(
-    text: &mut String,
+/// Adds that a filter passes no source of the receiver, if that is so.
+fn add_blind(
+    found: &mut Rows,
     sources: &[SourceRow],
     receiver: usize,
     name: &str,
     filters: &[Filter],
     number: usize,
-) -> Result<(), AllocError>
+)
     requires { number < length filters.now }
-    ensures { Writes result text.old text.new (blind_line sources.now receiver name.now filters.now number) }
+    ensures { found.new ≡ found.old ++ blind_rows sources.now receiver name.now filters.now number }
 {
     if sees_source(sources, receiver, filters[number]) {
-        return Ok(());
+        return;
     }
-    let from_one = number + 1;
-    writeln!(text, "blind {name} {from_one}")
+    add_finding(found, "blind", name, Cell::Number(number as u64 + 1));
 }
 
-/// Writes the filters of a list that pass no source of the receiver.
-fn write_blinds(
-    text: &mut String,
+/// Adds the filters of a list that pass no source of the receiver.
+fn add_blinds(
+    found: &mut Rows,
     sources: &[SourceRow],
     receiver: usize,
     name: &str,
     filters: &[Filter],
-) -> Result<(), AllocError>
-    ensures { Writes result text.old text.new (of_each (length filters.now) (blind_line sources.now receiver name.now filters.now)) }
+)
+    ensures { found.new ≡ found.old ++ of_each (length filters.now) (blind_rows sources.now receiver name.now filters.now) }
 {
     for number in 0..filters.len() {
-        write_blind(text, sources, receiver, name, filters, number)?;
+        add_blind(found, sources, receiver, name, filters, number);
     }
-    Ok(())
 }
 
-/// Writes the filters of a receiver that pass no source of it.
-fn write_blind_filters(
-    text: &mut String,
-    sources: &[SourceRow],
-    number: usize,
-    receiver: &ReceiverRow,
-) -> Result<(), AllocError>
-    ensures { Writes result text.old text.new (receiver_finding sources.now ReceiverFinding.Blind number receiver.now) }
+/// Adds the filters of a receiver that pass no source of it.
+fn add_blind_filters(found: &mut Rows, sources: &[SourceRow], number: usize, receiver: &ReceiverRow)
+    ensures { found.new ≡ found.old ++ receiver_finding sources.now ReceiverFinding.Blind number receiver.now }
 {
     let name = receiver.name.as_str();
     match receiver.filters.list() {
-        Some(filters) => write_blinds(text, sources, number, name, filters),
-        None => Ok(()),
+        Some(filters) => add_blinds(found, sources, number, name, filters),
+        None => {}
     }
 }
 
-/// Writes the findings of one kind of a receiver.
-fn write_receiver(
-    text: &mut String,
+/// Adds the findings of one kind of a receiver.
+fn add_receiver(
+    found: &mut Rows,
     sources: &[SourceRow],
     kind: ReceiverFinding,
     number: usize,
     receiver: &ReceiverRow,
-) -> Result<(), AllocError>
-    ensures { Writes result text.old text.new (receiver_finding sources.now kind number receiver.now) }
+)
+    ensures { found.new ≡ found.old ++ receiver_finding sources.now kind number receiver.now }
 {
     match kind {
-        ReceiverFinding::Idle => write_idle(text, sources, number, receiver),
-        ReceiverFinding::Blind => write_blind_filters(text, sources, number, receiver),
+        ReceiverFinding::Idle => add_idle(found, sources, number, receiver),
+        ReceiverFinding::Blind => add_blind_filters(found, sources, number, receiver),
     }
 }
 
-/// Writes the findings of one kind of each receiver.
-pub fn write_receivers(
-    text: &mut String,
-    equipment: &Equipment,
-    kind: ReceiverFinding,
-) -> Result<(), AllocError>
-    ensures { Writes result text.old text.new (of_each (length equipment.now.receivers) (receiver_lines equipment.now kind)) }
+/// Adds the findings of one kind of each receiver.
+pub fn add_receivers(found: &mut Rows, equipment: &Equipment, kind: ReceiverFinding)
+    ensures { found.new ≡ found.old ++ of_each (length equipment.now.receivers) (receiver_rows equipment.now kind) }
 {
     let sources = equipment.sources();
     let receivers = equipment.receivers();
     for number in 0..receivers.len() {
-        write_receiver(text, sources, kind, number, &receivers[number])?;
+        add_receiver(found, sources, kind, number, &receivers[number]);
     }
-    Ok(())
 }

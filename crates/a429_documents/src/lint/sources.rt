@@ -1,12 +1,10 @@
 //! What is found of the sources of an equipment.
-ghost use Rattle.std.specs.Prelude.{◌≡◌, ◌<◌, length};
-ghost use Rattle.a429_word.specs.Written.{Writes};
-ghost use Rattle.a429_documents.specs.Lint.{has_output_of, is_heard, is_sent, of_each, source_finding, source_lines};
+ghost use Rattle.std.specs.Prelude.{◌≡◌, ◌<◌, ◌++◌, ◌∷◌, [], length};
+ghost use Rattle.a429_documents.specs.Lint.{has_output_of, is_heard, is_sent, of_each, source_finding, source_row, source_rows};
 
 use crate::lint::SourceFinding;
 use a429_equipment::{Equipment, OutputRow, ReceiverRow, SourceRow};
-use std::alloc::AllocError;
-use std::fmt::Write;
+use a429_text::{Cell, Rows};
 
 /// Whether a filter of its receiver passes the label of a source, or the receiver has no list of filters.
 fn is_heard(receivers: &[ReceiverRow], source: &SourceRow) -> bool
@@ -34,66 +32,64 @@ fn is_sent(equipment: &Equipment, source: usize) -> bool
     sent
 }
 
-/// Writes that a source is never accepted, if that is so.
-fn write_unheard(
-    text: &mut String,
-    equipment: &Equipment,
-    source: &SourceRow,
-) -> Result<(), AllocError>
+/// Adds a finding of a source.
+fn add_finding<'a>(found: &mut Rows, finding: &'a str, source: &'a SourceRow)
+    ensures { found.new ≡ found.old ++ source_row finding.now source.now.name ∷ [] }
+{
+    found.add(&[
+        Cell::Text(finding),
+        Cell::Absent,
+        Cell::Absent,
+        Cell::Text(source.name.as_str()),
+        Cell::Absent,
+        Cell::Absent,
+    ]);
+}
+
+/// Adds that a source is never accepted, if that is so.
+fn add_unheard(found: &mut Rows, equipment: &Equipment, source: &SourceRow)
     requires { source.now.receiver < length equipment.now.receivers }
-    ensures { Writes result text.old text.new (source_finding equipment.now SourceFinding.Unheard 0 source.now) }
+    ensures { found.new ≡ found.old ++ source_finding equipment.now SourceFinding.Unheard 0 source.now }
 {
     if is_heard(equipment.receivers(), source) {
-        return Ok(());
+        return;
     }
-    let name = source.name.as_str();
-    writeln!(text, "unheard {name}")
+    add_finding(found, "unheard", source);
 }
 
-/// Writes that a source is never sent, if that is so.
-fn write_unsent(
-    text: &mut String,
-    equipment: &Equipment,
-    number: usize,
-    source: &SourceRow,
-) -> Result<(), AllocError>
-    ensures { Writes result text.old text.new (source_finding equipment.now SourceFinding.Unsent number source.now) }
+/// Adds that a source is never sent, if that is so.
+fn add_unsent(found: &mut Rows, equipment: &Equipment, number: usize, source: &SourceRow)
+    ensures { found.new ≡ found.old ++ source_finding equipment.now SourceFinding.Unsent number source.now }
 {
     if is_sent(equipment, number) {
-        return Ok(());
+        return;
     }
-    let name = source.name.as_str();
-    writeln!(text, "unsent {name}")
+    add_finding(found, "unsent", source);
 }
 
-/// Writes the finding of one kind of a source, if it is so.
-fn write_source(
-    text: &mut String,
+/// Adds the finding of one kind of a source, if it is so.
+fn add_source(
+    found: &mut Rows,
     equipment: &Equipment,
     kind: SourceFinding,
     number: usize,
     source: &SourceRow,
-) -> Result<(), AllocError>
+)
     requires { source.now.receiver < length equipment.now.receivers }
-    ensures { Writes result text.old text.new (source_finding equipment.now kind number source.now) }
+    ensures { found.new ≡ found.old ++ source_finding equipment.now kind number source.now }
 {
     match kind {
-        SourceFinding::Unheard => write_unheard(text, equipment, source),
-        SourceFinding::Unsent => write_unsent(text, equipment, number, source),
+        SourceFinding::Unheard => add_unheard(found, equipment, source),
+        SourceFinding::Unsent => add_unsent(found, equipment, number, source),
     }
 }
 
-/// Writes the finding of one kind of each source.
-pub fn write_sources(
-    text: &mut String,
-    equipment: &Equipment,
-    kind: SourceFinding,
-) -> Result<(), AllocError>
-    ensures { Writes result text.old text.new (of_each (length equipment.now.sources) (source_lines equipment.now kind)) }
+/// Adds the finding of one kind of each source.
+pub fn add_sources(found: &mut Rows, equipment: &Equipment, kind: SourceFinding)
+    ensures { found.new ≡ found.old ++ of_each (length equipment.now.sources) (source_rows equipment.now kind) }
 {
     let sources = equipment.sources();
     for number in 0..sources.len() {
-        write_source(text, equipment, kind, number, &sources[number])?;
+        add_source(found, equipment, kind, number, &sources[number]);
     }
-    Ok(())
 }

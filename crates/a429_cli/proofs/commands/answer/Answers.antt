@@ -10,7 +10,7 @@ pub returns-in-Lines-clause-read : goal.returns-in-Lines-clause-read
 returns-in-Lines-clause-read g c =
     rw c.in-Lines.is
     (read_weaker c.tell_lines.ensures.told (λ file is. IfOk-weaker c.tell_lines.result _ _ (λ status told.
-    let reply : IsLinesReply file c.in-Lines.file.now (texts_of c.in-Lines.filters.items) status told.0 = rw c.deref.ensures.value at told.1 in
+    let reply : IsLinesReply file c.args.asked.now.first.now (texts_of c.args.asked.now.more.items) status told.0 = rw c.deref.ensures.value at told.1 in
     (told.0, inl reply, told.2))
     is))
 
@@ -22,7 +22,7 @@ pub returns-in-Replay-clause-read : goal.returns-in-Replay-clause-read
 returns-in-Replay-clause-read g c =
     rw c.in-Replay.is
     (read_weaker c.replay.ensures.replayed (λ file is. IfOk-weaker c.replay.result _ _ (λ status told.
-    let reply : IsReplay file c.in-Replay.table.now c.in-Replay.script.now (texts_of c.in-Replay.further.items) status told.0 = rw c.deref-in-Replay.ensures.value at told.1 in
+    let reply : IsReplay file c.args.asked.now.first.now c.args.asked.now.second.now (texts_of c.args.asked.now.more.items) status told.0 = rw c.deref-in-Replay.ensures.value at told.1 in
     (told.0, inl reply, told.2))
     is))
 
@@ -92,5 +92,5 @@ pub returns-in-Replay-clause-taken : goal.returns-in-Replay-clause-taken
 returns-in-Replay-clause-taken g c =
     rw c.in-Replay.is
     (read_weaker c.replay.ensures.taken (λ file is takes.
-    let takes_these : TakesFurther file c.in-Replay.table.now c.in-Replay.script.now (texts_of c.deref-in-Replay.result.now) = rw c.deref-in-Replay.ensures.value takes in
+    let takes_these : TakesFurther file c.args.asked.now.first.now c.args.asked.now.second.now (texts_of c.deref-in-Replay.result.now) = rw c.deref-in-Replay.ensures.value takes in
     is takes_these))

@@ -6,7 +6,7 @@ use Rattle.a429_console.specs.FileReadings.{IsFileRefusal}
 use Rattle.a429_console.specs.RefusalText.{OrMemory}
 use Rattle.a429_console.specs.Tables.{IsProposedBy}
 use Rattle.a429_console.proofs.Refused.{failed, matched_both, or_memory_weaker}
-use Rattle.a429_cli.specs.Drawings.{IsImage, IsImageOf, IsNoImage, IsUndrawn}
+use Rattle.a429_cli.specs.Drawings.{HasImage, HasImageOf, IsNoImage, IsUndrawn}
 use Rattle.a429_cli.proofs.drawings.image_of_file.Goals as goal
 
 pub returns-in_err-table : goal.returns-in_err-table
@@ -26,7 +26,7 @@ returns g c =
     let q = c.in_ok-proposal.proposal in
     let proposed = subst (λ (t : List ℕ). IsProposedBy t q) c.deref.ensures.value c.in_ok-proposal.ensures in
     read_weaker c.in_ok-table.ensures (λ file read.
-    matched_both c.image_of-image.result (λ text. IsImage q group c.args.picture text.items) (λ text. IsImageOf file name group c.args.picture text.items) (OrMemory (IsUndrawn q group c.args.picture)) (OrMemory (IsNoImage file name group c.args.picture))
+    matched_both c.image_of-image.result (λ _. HasImage q group c.args.picture) (λ _. HasImageOf file name group c.args.picture) (OrMemory (IsUndrawn q group c.args.picture)) (OrMemory (IsNoImage file name group c.args.picture))
     (λ text is. (table, q, read, proposed, is))
     (λ e bad. or_memory_weaker (IsUndrawn q group c.args.picture) (IsNoImage file name group c.args.picture) e (λ one. inr (table, q, read, proposed, one)) bad)
     c.image_of-image.ensures)

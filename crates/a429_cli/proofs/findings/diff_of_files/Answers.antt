@@ -34,8 +34,8 @@ returns g c =
     let compared = rw (c.deref.ensures.value, c.deref-2.ensures.value) at c.diff_between.ensures in
     read_then c.in_ok-table.ensures c.in_ok-other.ensures (λ file first second.
     let read : AreRead file (c.args.table.now ∷ c.args.other.now ∷ []) (a ∷ b ∷ []) = (first, (second, tt)) in
-    matched_both c.diff_between.result (λ text. IsDiffBetween a b text.items) (λ text. IsDiffOf file c.args.table.now c.args.other.now text.items)
+    matched_both c.diff_between.result (λ found. IsDiffBetween c.args.all c.args.form a b found.status found.bytes.items) (λ found. IsDiffOf file c.args.all c.args.form c.args.table.now c.args.other.now found.status found.bytes.items)
     (OrMemory (IsNoDiffBetween a b)) (OrMemory (IsNoDiff file c.args.table.now c.args.other.now))
-    (λ text is. (a, b, read, is))
+    (λ found is. (a, b, read, is))
     (λ e bad. or_memory_weaker (IsNoDiffBetween a b) (IsNoDiff file c.args.table.now c.args.other.now) e (λ one. inr (a, b, read, one)) bad)
     compared)

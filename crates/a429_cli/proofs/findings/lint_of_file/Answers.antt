@@ -29,13 +29,13 @@ returns-in_err-equipment g c =
     read_weaker c.in_ok-table.ensures (λ file read. failed c.from_residual-in_err-equipment.result _ (OrMemory (IsNoLint file name)) e (p.1 ∙ ap Err p.2)
     (or_memory_weaker (IsTableFault table) (IsNoLint file name) e (λ one. inr (table, read, one)) bad))
 
-pub returns-in_err-lint_text : goal.returns-in_err-lint_text
-returns-in_err-lint_text g c =
-    let p = err_from_is_err_and c.from_residual-in_err-lint_text.result c.from_residual-in_err-lint_text.ensures.1 in
-    read_weaker c.in_ok-table.ensures (λ file read. failed c.from_residual-in_err-lint_text.result _ (OrMemory (IsNoLint file c.args.name.now)) refused.Memory (p.1 ∙ ap Err p.2) tt)
+pub returns-in_err-lint : goal.returns-in_err-lint
+returns-in_err-lint g c =
+    let p = err_from_is_err_and c.from_residual-in_err-lint.result c.from_residual-in_err-lint.ensures.1 in
+    read_weaker c.in_ok-table.ensures (λ file read. failed c.from_residual-in_err-lint.result _ (OrMemory (IsNoLint file c.args.name.now)) refused.Memory (p.1 ∙ ap Err p.2) tt)
 
 pub returns : goal.returns
 returns g c =
     let t = c.in_ok-equipment.equipment in
     let is = subst (λ (table : List ℕ). reading table ≡ Ok t) c.deref.ensures.value c.in_ok-equipment.ensures in
-    read_weaker c.in_ok-table.ensures (λ file read. (c.in_ok-table.table.items, t, read, is, c.in_ok-lint_text.ensures))
+    read_weaker c.in_ok-table.ensures (λ file read. (c.in_ok-table.table.items, t, read, is, c.in_ok-lint.ensures))

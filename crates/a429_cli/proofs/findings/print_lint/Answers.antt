@@ -1,20 +1,19 @@
 use Rattle.a429_console.proofs.ReadingParts.{read_weaker}
 use Rattle.std.proofs.Common.{inl, inr, refl}
 use Rattle.a429_console.proofs.RefusalEndings.{refusal_put}
-use Rattle.a429_cli.specs.Findings.{IsLintReply, IsNoLint, lint_status}
+use Rattle.a429_cli.specs.Findings.{IsLintReply, IsNoLint}
 use Rattle.a429_cli.proofs.Found.{found_is_few, found_put}
 use Rattle.a429_cli.proofs.findings.print_lint.Goals as goal
 
 pub returns-in-Ok-clause-linted : goal.returns-in-Ok-clause-linted
 returns-in-Ok-clause-linted g c =
-    let text = c.in-Ok.text.items in
-    let due = rw c.deref.ensures.value at c.lint_status-status.ensures.due in
+    let found = c.in-Ok.found in
     read_weaker c.in-Ok.ensures (λ file is.
-    found_put c.put_found-result.result (IsLintReply file c.args.name.now) (g.O.Output.contents c.args.out.now) (g.O.Output.contents c.put_found-result.new.out) c.deref-in-Ok.result.now text
-    c.lint_status-status.result (lint_status text) c.deref-in-Ok.ensures.value due (inr (is, refl)) c.put_found-result.ensures.status c.put_found-result.ensures.put)
+    found_put c.put_found.result (IsLintReply file c.args.name.now) (g.O.Output.contents c.args.out.now) (g.O.Output.contents c.put_found.new.out) c.deref.result.now found.bytes.items
+    found.status found.status c.deref.ensures.value refl (inr is) c.put_found.ensures.status c.put_found.ensures.put)
 
 pub returns-in-Ok-clause-status : goal.returns-in-Ok-clause-status
-returns-in-Ok-clause-status g c = found_is_few c.put_found-result.result c.lint_status-status.result c.lint_status-status.ensures.few c.put_found-result.ensures.status
+returns-in-Ok-clause-status g c = found_is_few c.put_found.result c.in-Ok.found.status c.in-Ok.found.few c.put_found.ensures.status
 
 pub returns-in-Err-clause-linted : goal.returns-in-Err-clause-linted
 returns-in-Err-clause-linted g c =

@@ -2,7 +2,7 @@ use Rattle.a429_cli.proofs.program.answer_live.Goals as goal
 
 pub returns : goal.returns
 returns g c = record {
-  answered = λ r asks. (c.command_live.ensures.asked r asks, λ tells whole. c.command_live.ensures.replied r asks tells whole);
+  answered = λ r here asks. (c.command_live.ensures.asked r here asks, λ tells whole. c.command_live.ensures.replied r here asks tells whole);
   read = c.command_live.ensures.read;
   quiet = c.command_live.ensures.quiet;
   ends = c.command_live.ensures.ends;

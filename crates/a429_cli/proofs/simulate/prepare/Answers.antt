@@ -9,26 +9,26 @@ use Rattle.a429_cli.specs.SimulationLog.{IsLogFault, log_words}
 use Rattle.a429_cli.specs.SimulationReplies.{BeginsLog, BeginsNoLog, IsUnsimulated, files_of}
 use Rattle.a429_cli.proofs.simulate.prepare.Goals as goal
 
-pub returns-in_err-station : goal.returns-in_err-station
-returns-in_err-station c =
+pub returns-in_err-setting : goal.returns-in_err-setting
+returns-in_err-setting c =
     let i = files_of c.args.input.now in
-    let e = c.in_err-station.field-0.0 in
+    let e = c.in_err-setting.field-0.0 in
     let p = err_from_is_err_and c.from_residual.result c.from_residual.ensures.1 in
-    let fault = subst (λ (t : List ℕ). OrMemory (IsTableRefusal t) e) c.deref.ensures.value c.in_err-station.ensures in
-    failed c.from_residual.result _ (OrMemory (IsUnsimulated i c.args.until)) e (p.1 ∙ ap Err p.2)
-    (or_memory_weaker (IsTableRefusal i.table) (IsUnsimulated i c.args.until) e (λ one. inl (inl one)) fault)
+    let fault = subst (λ (t : List ℕ). OrMemory (IsTableRefusal t) e) c.deref.ensures.value c.in_err-setting.ensures in
+    failed c.from_residual.result _ (OrMemory (IsUnsimulated i c.args.form.until)) e (p.1 ∙ ap Err p.2)
+    (or_memory_weaker (IsTableRefusal i.table) (IsUnsimulated i c.args.form.until) e (λ one. inl (inl one)) fault)
 
-pub returns-in_err-beginning : goal.returns-in_err-beginning
-returns-in_err-beginning c =
+pub returns-in_err-player : goal.returns-in_err-player
+returns-in_err-player c =
     let i = files_of c.args.input.now in
-    let e = c.in_err-beginning.field-0.0 in
-    let p = err_from_is_err_and c.from_residual-in_err-beginning.result c.from_residual-in_err-beginning.ensures.1 in
-    let s = c.in_ok-station.station in
+    let e = c.in_err-player.field-0.0 in
+    let p = err_from_is_err_and c.from_residual-in_err-player.result c.from_residual-in_err-player.ensures.1 in
+    let s = c.in_ok-setting.setting in
     let q = s.proposal in
-    let names = c.in_ok-station.ensures.1 in
-    let proposed = subst (λ (t : List ℕ). IsProposedBy t q) c.deref.ensures.value c.in_ok-station.ensures.0 in
-    let fault = subst (λ (t : List ℕ). OrMemory (BeginsNoLog s t c.args.until) e) c.deref-2.ensures.value c.in_err-beginning.ensures in
-    let why : BeginsNoLog s i.log c.args.until e → IsUnsimulated i c.args.until e = λ why. elim why [
+    let names = c.in_ok-setting.ensures.1 in
+    let proposed = subst (λ (t : List ℕ). IsProposedBy t q) c.deref.ensures.value c.in_ok-setting.ensures.0 in
+    let fault = subst (λ (t : List ℕ). OrMemory (BeginsNoLog s t c.args.form.until) e) c.deref-2.ensures.value c.in_err-player.ensures in
+    let why : BeginsNoLog s i.log c.args.form.until e → IsUnsimulated i c.args.form.until e = λ why. elim why [
       | inl one ↦ inl (inr (q, proposed, subst (λ (n : Naming). IsLogFault n i.log e) names one))
       | inr more ↦ inr (
         q,
@@ -38,19 +38,20 @@ returns-in_err-beginning c =
         more.3,
       )
     ] in
-    failed c.from_residual-in_err-beginning.result _ (OrMemory (IsUnsimulated i c.args.until)) e (p.1 ∙ ap Err p.2)
-    (or_memory_weaker (BeginsNoLog s i.log c.args.until) (IsUnsimulated i c.args.until) e why fault)
+    failed c.from_residual-in_err-player.result _ (OrMemory (IsUnsimulated i c.args.form.until)) e (p.1 ∙ ap Err p.2)
+    (or_memory_weaker (BeginsNoLog s i.log c.args.form.until) (IsUnsimulated i c.args.form.until) e why fault)
 
 pub returns : goal.returns
 returns c =
     let i = files_of c.args.input.now in
-    let s = c.in_ok-station.station in
-    let names = c.in_ok-station.ensures.1 in
-    let proposed = subst (λ (t : List ℕ). IsProposedBy t s.proposal) c.deref.ensures.value c.in_ok-station.ensures.0 in
-    let start = subst (λ (t : List ℕ). BeginsLog s t c.args.until c.in_ok-beginning.beginning) c.deref-2.ensures.value c.in_ok-beginning.ensures in
+    let s = c.in_ok-setting.setting in
+    let names = c.in_ok-setting.ensures.1 in
+    let proposed = subst (λ (t : List ℕ). IsProposedBy t s.proposal) c.deref.ensures.value c.in_ok-setting.ensures.0 in
+    let start = subst (λ (t : List ℕ). BeginsLog s t c.args.form.until c.in_ok-player.player) c.deref-2.ensures.value c.in_ok-player.ensures in
     record {
       words = start.0;
       simulated = record { proposed = proposed; words_are = subst (λ (n : Naming). log_words n i.log ≡ Ok start.0) names start.1 };
-      names = names;
-      begin = start.2;
+      csv = c.in_ok-setting.ensures.2;
+      begin = start.2.0;
+      ready = record { names = names; playable = start.2.1 };
     }

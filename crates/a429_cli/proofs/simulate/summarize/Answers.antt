@@ -1,15 +1,32 @@
-use Rattle.std.proofs.Common.{◌∙◌, refl}
+use Rattle.std.proofs.Common.{◌∙◌, ◌-◌, ◌^◌, ◌≤◌, ◌++◌, ◌∷◌, [], ℕ, List, ap, length, refl, subst, sym}
 use Rattle.std.proofs.lemmas.Result.{IfOk-weaker}
-use Rattle.a429_cli.specs.Simulating.{steps_of}
+use Rattle.a429_cli.specs.Summary.{sends_of, summary_text}
+use Rattle.a429_cli.specs.SummaryRuns.{HasFigures}
+use Rattle.a429_cli.specs.declared.simulate.machine.Happening.{Happening}
+use Rattle.a429_cli.proofs.FigureSteps.{figures_next}
 use Rattle.a429_cli.proofs.SummedUp.{sends_counted, slots_few, text_is}
 use Rattle.a429_cli.proofs.simulate.summarize.Goals as goal
+
+pub loop-happening-preserved : goal.loop-happening-preserved
+loop-happening-preserved c = record {
+  noted = λ words last B.
+      let q = c.args.setting.now.proposal in
+      let h = c.in-Some.happening in
+      let (told, H, F) = c.loop-happening.invariant.noted words last B in
+      let next = c.in-Some.ensures.told words last told H in
+      (told ++ h ∷ [], next, subst (HasFigures q (told ++ h ∷ [])) (sym c.note.ensures) (figures_next q told h c.loop-happening.summary.figures.items next.steps next.told_is F));
+  playable = c.in-Some.ensures.playable;
+}
 
 pub returns : goal.returns
 returns c =
     IfOk-weaker c.text_of.result _ _ (λ text is words last B.
-    let q = c.args.proposal.now in
-    let (M, timeline, figures) = c.count_all.ensures words last B.timeline B.run c.in_ok-summary.ensures.none in
-    let slots = slots_few q last c.args.beginning.now.timeline.tracks.items B.timeline.tracks B.sound in
-    let few = sends_counted q words last M timeline c.open.ensures.planned slots in
-    (M, timeline, is ∙ text_is q (steps_of q M) c.count_all.new.summary figures few c.args.csv, refl))
+    let q = c.args.setting.now.proposal in
+    let csv = c.args.setting.now.csv in
+    let (told, H, F) = c.loop-happening.invariant.noted words last B in
+    let (M, timeline, all) = c.in_default.ensures.told words last told H in
+    let slots = slots_few q last c.args.player.now.timeline.tracks.items B.timeline.tracks c.requires.sound in
+    let few : (g i : ℕ) → length (sends_of g i told) ≤ 2 ^ 64 - 1 =
+    λ g i. subst (λ (l : List Happening). length (sends_of g i l) ≤ 2 ^ 64 - 1) (sym all) (sends_counted q words last M timeline B.run.planned slots g i) in
+    (M, timeline, is ∙ (text_is q B.run.sound B.run.planned told c.loop-happening.summary F few csv ∙ ap (λ (l : List Happening). summary_text q l csv) all), refl))
     c.text_of.ensures

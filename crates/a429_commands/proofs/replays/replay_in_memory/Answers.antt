@@ -2,18 +2,19 @@ use Rattle.std.proofs.Common.{rules, ◌≡◌, ◌∙◌, ℕ, [], refl, ap}
 use Rattle.std.specs.declared.vec.Vec.{Vec}
 use Rattle.std.specs.declared.alloc.Global.{Global}
 use Rattle.a429_console.specs.MemoryFile.{file_of}
-use Rattle.a429_console.specs.Requests.{Command, Replay}
+use Rattle.a429_console.specs.Requests.{asked_by_names}
+use Rattle.a429_console.specs.declared.arguments.forms.Verb.TheVariants as verb
 use Rattle.a429_cli.specs.Replies.{IsReplyOrMemory}
-use Rattle.a429_commands.proofs.RequestAnswers.{all_is_put}
+use Rattle.a429_commands.proofs.RequestAnswers.{all_is_put, replay_has_words}
 use Rattle.a429_commands.proofs.ToTheEnd.{played_to_the_end}
 use Rattle.a429_commands.proofs.replays.replay_in_memory.Goals as goal
 
 pub returns-clause-replied : goal.returns-clause-replied
 returns-clause-replied c =
-    let told = c.command-status.ensures.replied (Replay c.args.table.now c.args.script.now [])
-    (c.plain_words_ask.ensures (Command (Replay c.args.table.now c.args.script.now [])) (c.requires.table, c.requires.script, tt)) refl (search rules) in
+    let told = c.command-status.ensures.replied (asked_by_names verb.Replay c.args.table.now c.args.script.now []) refl
+    (c.plain_words_ask.ensures (asked_by_names verb.Replay c.args.table.now c.args.script.now []) (replay_has_words c.args.table.now c.args.script.now c.requires.table c.requires.script)) refl (search rules) in
     let none : c.new-out.result.writer.items ≡ [] = ap (λ (v : Vec ℕ Global). v.items) c.new-out.ensures.writer ∙ c.new.ensures.items in
-    all_is_put (IsReplyOrMemory (file_of c.args.files.now.files.items) (Replay c.args.table.now c.args.script.now [])) c.command-status.result c.new-out.result.writer.items
+    all_is_put (IsReplyOrMemory (file_of c.args.files.now.files.items) (asked_by_names verb.Replay c.args.table.now c.args.script.now [])) c.command-status.result c.new-out.result.writer.items
     c.command-status.new.out.writer.items none told
 
 pub returns-clause-done : goal.returns-clause-done

@@ -11,5 +11,5 @@ loop-row-preserved c =
     let rows : List OutputRow = c.args.rows.now in
     let k : ℕ = c.loop-row.row-index in
     let none : OutputRow = record { source = 0; min_us = 0; max_us = 0; hold = None } in
-    mapped_more (window_of c.args.rate) rows k (get_or rows k none) c.loop-row.windows.items c.push.new.self.items (slice_get-get_or rows k none c.loop-row-test.true) c.loop-row.invariant
-    (c.in_ok-push.ensures.items ∙ ap (λ (w : ℕ). c.loop-row.windows.items ++ w ∷ []) c.window.ensures)
+    mapped_more (window_of c.args.rate) rows k (get_or rows k none) c.loop-row.windows c.push.new.self (slice_get-get_or rows k none c.loop-row-test.true) c.loop-row.invariant
+    (c.push.ensures ∙ ap (λ (w : ℕ). c.loop-row.windows ++ w ∷ []) c.window.ensures)

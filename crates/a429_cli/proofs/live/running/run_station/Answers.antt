@@ -1,6 +1,6 @@
 use Rattle.std.proofs.Common.{inl, inr, refl}
 use Rattle.a429_cli.specs.LiveReplies.{IsLiveRefusal, IsLiveReply}
-use Rattle.a429_console.specs.Requests.{live_of}
+use Rattle.a429_console.specs.Requests.{asked_of}
 use Rattle.a429_console.proofs.Endings.{done_is_few, refused_is_few, text_put}
 use Rattle.a429_console.proofs.ReadingParts.{read_weaker}
 use Rattle.a429_console.proofs.RefusalEndings.{refusal_put}
@@ -9,7 +9,7 @@ use Rattle.a429_cli.proofs.live.running.run_station.Goals as goal
 pub returns-in-Ok-clause-replied : goal.returns-in-Ok-clause-replied
 returns-in-Ok-clause-replied g c =
     read_weaker c.in-Ok.ensures.report (λ file report.
-    text_put c.finish.result (IsLiveReply file (live_of c.args.request.now)) (g.O.Output.contents c.args.out.now) (g.O.Output.contents c.finish.new.out) c.deref.result.now c.in-Ok.text.items
+    text_put c.finish.result (IsLiveReply file (asked_of c.args.asked.now)) (g.O.Output.contents c.args.out.now) (g.O.Output.contents c.finish.new.out) c.deref.result.now c.in-Ok.text.items
     c.deref.ensures.value (inr (report, refl)) c.finish.ensures.status c.finish.ensures.put)
 
 pub returns-in-Ok-clause-status : goal.returns-in-Ok-clause-status
@@ -17,7 +17,7 @@ returns-in-Ok-clause-status g c = done_is_few c.finish.result c.finish.ensures.s
 
 pub returns-in-Err-clause-replied : goal.returns-in-Err-clause-replied
 returns-in-Err-clause-replied g c =
-    let r = live_of c.args.request.now in
+    let r = asked_of c.args.asked.now in
     read_weaker c.in-Err.ensures.report (λ file bad.
     refusal_put c.refuse.result (IsLiveRefusal file r) (IsLiveReply file r) c.in-Err.refusal (g.O.Output.contents c.args.out.now) (g.O.Output.contents c.refuse.new.out)
     (λ told why. inl (told, why, refl, refl)) bad c.refuse.ensures.status c.refuse.ensures.line)

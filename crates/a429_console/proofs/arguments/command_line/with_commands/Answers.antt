@@ -1,11 +1,28 @@
 use Rattle.std.proofs.Common.{◌≡◌, ◌∷◌, ◌+◌, [], drop, get_or}
+use Rattle.std.specs.Prelude.{None}
 use Rattle.std.proofs.Math.ListN.{drop_of_length-le}
 use Rattle.std.proofs.lemmas.List.{drop_more}
 use Rattle.a429_console.specs.declared.arguments.forms.CommandForm.{CommandForm}
+use Rattle.a429_console.specs.declared.arguments.forms.Verb.TheVariants as verb
+use Rattle.std.specs.Borrow.{Bor}
+use Rattle.clap.specs.Words.{Text}
 use Rattle.a429_console.proofs.arguments.command_line.with_commands.Goals as goal
 
+abbrev no_text : Bor Text
+no_text = record { ref_ptr = (0, 0); now = [] }
+
 abbrev none : CommandForm
-none = record { name = record { ref_ptr = (0, 0); now = [] }; about = record { ref_ptr = (0, 0); now = [] }; end = record { ref_ptr = (0, 0); now = [] }; arguments = record { ref_ptr = (0, 0); now = [] } }
+none = record {
+  verb = verb.Word;
+  name = no_text;
+  first = record { id = no_text; help = no_text };
+  second = None;
+  number = None;
+  more = None;
+  options = record { ref_ptr = (0, 0); now = [] };
+  about = no_text;
+  end = no_text;
+}
 
 pub loop-form-preserved : goal.loop-form-preserved
 loop-form-preserved c =

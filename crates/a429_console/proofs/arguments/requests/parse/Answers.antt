@@ -4,7 +4,7 @@ use Rattle.std.proofs.lemmas.Result.{err_from_is_err_and}
 use Rattle.clap.specs.Words.{App, HasKind, Row, Text, app_of, fault_of, is_simple, is_simple_and_free, kind_of, subcommand_of, subcommand_rows_of, takes}
 use Rattle.clap.specs.declared.error.Error.{Error}
 use Rattle.a429_console.specs.CommandLine.{command_line}
-use Rattle.a429_console.specs.RequestRows.{AsksFor, found_by, request_by}
+use Rattle.a429_console.specs.RequestRows.{AsksFor, IsFound}
 use Rattle.a429_console.specs.Usage.{ComesTo, found_kinds, is_live, is_run, kinds_of_words, live_kinds_of_words}
 use Rattle.a429_console.proofs.Elsewhere.{comes_to_after, kind_in_first}
 use Rattle.a429_console.proofs.CommandWords.{is_free_here, is_simple_here}
@@ -40,9 +40,9 @@ returns c =
     let found = subcommand_of command_line words in
     let kinds = subst (λ (f : Option (Text × List Row)). ComesTo (found_kinds f (is_live f)) is_run c.read_matches.result) met c.read_matches.ensures.kinds in
     let live_kinds =
-    subst (λ (f : Option (Text × List Row)). ComesTo (found_kinds f (not (is_live f))) (λ request. not (is_run request)) c.read_matches.result) met c.read_matches.ensures.live_kinds in
+    subst (λ (f : Option (Text × List Row)). ComesTo (found_kinds f (not (is_live f))) (λ verb. not (is_run verb)) c.read_matches.result) met c.read_matches.ensures.live_kinds in
     record {
-      asked = λ r asks. c.read_matches.ensures.asked r (ap (found_by request_by) met ∙ asks.1);
+      asked = λ r asks. c.read_matches.ensures.asked r (subst (λ (f : Option (Text × List Row)). IsFound f r) (sym met) asks.1);
       kinds = comes_to_after (fault_of command_line words) (found_kinds found (is_live found)) is_run c.read_matches.result none kinds;
-      live_kinds = comes_to_after (fault_of command_line words) (found_kinds found (not (is_live found))) (λ request. not (is_run request)) c.read_matches.result none live_kinds;
+      live_kinds = comes_to_after (fault_of command_line words) (found_kinds found (not (is_live found))) (λ verb. not (is_run verb)) c.read_matches.result none live_kinds;
     }

@@ -1,54 +1,34 @@
-use Rattle.std.proofs.Common.{◌≡◌, ◌∙◌, ◌∷◌, [], ◌++◌, ℕ, ap, refl, sym, subst}
+use Rattle.std.proofs.Common.{◌≡◌, ◌∙◌, ap, refl, sym}
 use Rattle.std.specs.Prelude.{Some, None}
-use Rattle.a429_slots.specs.Events.{Cell}
 use Rattle.a429_slots.specs.declared.answers.Answer.TheVariants.{Sent}
-use Rattle.a429_core.specs.MachineStates.{StandsForHistory}
 use Rattle.a429_core.specs.MachineSteps.{cell_sent}
-use Rattle.a429_cli.specs.Simulating.{Asks, history_of, opening_of}
-use Rattle.a429_cli.specs.SimulationRuns.{StandsAfter}
+use Rattle.a429_cli.specs.Simulating.{Asks, answer_after, history_of, opening_of, times_of}
 use Rattle.a429_cli.proofs.SentCells.{sent_source}
-use Rattle.a429_cli.proofs.SimulatedLines.{empty_is_quiet, sent_is}
-use Rattle.a429_cli.proofs.SimulatedSteps.{heard_kept, stands_asked}
+use Rattle.a429_cli.proofs.SimulatedSteps.{goes_on, quiet_cell, sends_word, stands_on}
 use Rattle.a429_cli.proofs.simulate.machine.Run.send.Goals as goal
 
-pub returns-in-None : goal.returns-in-None
-returns-in-None c = record {
-  word = λ q csv past t planned known S.
-      let v = c.args.self.now.state in
-      let none : cell_sent v c.args.group ≡ None = sym c.send_cell.ensures.sent ∙ c.in-None.is in
-      empty_is_quiet q csv past c.args.group t (λ bus slot raw e. c.sent_cells_are_answered.ensures.none 41 (opening_of q) (history_of past) v c.args.group bus slot raw S.state none e);
-  after = λ slot q past S.
-      let o = opening_of q in
-      let E = history_of past in
-      let e = Cell c.args.group in
-      let state : StandsForHistory 41 o (E ++ e ∷ []) c.send_cell.new.self =
-      subst (StandsForHistory 41 o (E ++ e ∷ [])) (sym c.send_cell.ensures.after) (c.calls_are_answered.ensures.stands 41 e c.args.self.now.state tt o E S.state) in
-      stands_asked q past (Asks c.args.group slot) c.args.self.now (record c.args.self.now { state = c.send_cell.new.self }) S (λ a. refl) state refl;
-}
+pub returns-in-None-clause-step : goal.returns-in-None-clause-step
+returns-in-None-clause-step c = λ q known past S.
+    let r = c.args.self.now in
+    let s = Asks c.args.group c.args.slot in
+    let (given, state) = goes_on c.calls_are_answered.ensures.answer c.calls_are_answered.ensures.stands q past s r S c.send_cell.new.self c.send_cell.ensures.after in
+    let none : cell_sent r.state c.args.group ≡ None = sym c.send_cell.ensures.sent ∙ c.in-None.is in (
+      stands_on q past s r (record r { state = c.send_cell.new.self }) S refl state refl,
+      quiet_cell q (times_of q past) c.args.group c.args.slot (answer_after q past s)
+          (λ bus slot raw e. c.sent_cells_are_answered.ensures.none 41 (opening_of q) (history_of past) r.state c.args.group bus slot raw S.state none e),
+    )
 
-pub returns-in-Some-clause-after : goal.returns-in-Some-clause-after
-returns-in-Some-clause-after c = λ slot q past S.
-    let o = opening_of q in
-    let E = history_of past in
-    let e = Cell c.args.group in
-    let state : StandsForHistory 41 o (E ++ e ∷ []) c.send_cell.new.self =
-    subst (StandsForHistory 41 o (E ++ e ∷ [])) (sym c.send_cell.ensures.after) (c.calls_are_answered.ensures.stands 41 e c.args.self.now.state tt o E S.state) in
-    stands_asked q past (Asks c.args.group slot) c.args.self.now (record c.args.self.now { state = c.send_cell.new.self }) S (λ a. refl) state refl
-
-pub returns-in-Some-clause-word : goal.returns-in-Some-clause-word
-returns-in-Some-clause-word c = λ q csv past t planned known S.
-    let o = opening_of q in
-    let E = history_of past in
-    let v = c.args.self.now.state in
-    let g : ℕ = c.args.group in
-    let e = Cell g in
+pub returns-in-Some-clause-step : goal.returns-in-Some-clause-step
+returns-in-Some-clause-step c = λ q known past S.
+    let r = c.args.self.now in
+    let g = c.args.group in
+    let s = Asks g c.args.slot in
+    let (given, state) = goes_on c.calls_are_answered.ensures.answer c.calls_are_answered.ensures.stands q past s r S c.send_cell.new.self c.send_cell.ensures.after in
     let cell = c.in-Some.cell in
-    let is : cell_sent v g ≡ Some cell = sym c.send_cell.ensures.sent ∙ c.in-Some.is in
-    let state : StandsForHistory 41 o (E ++ e ∷ []) c.send_cell.new.self =
-    subst (StandsForHistory 41 o (E ++ e ∷ [])) (sym c.send_cell.ensures.after) (c.calls_are_answered.ensures.stands 41 e v tt o E S.state) in
-    let after : StandsAfter q (past ++ Asks g t ∷ []) (record c.args.self.now { state = c.send_cell.new.self }) =
-    stands_asked q past (Asks g t) c.args.self.now (record c.args.self.now { state = c.send_cell.new.self }) S (λ a. refl) state refl in
-    sent_is q csv past g t cell.bus cell.slot c.raw.result cell.source c.time_of.result
-    (c.sent_cells_are_answered.ensures.sent 41 o E v g cell S.state is ∙ ap (λ (w : ℕ). Sent cell.bus cell.slot (Some w)) (sym c.raw.ensures.raw))
-    (sent_source q past c.args.self.now g cell planned known S is)
-    (c.time_of.ensures q (past ++ Asks g t ∷ []) after ∙ heard_kept q past (Asks g t) cell.source refl)
+    let is : cell_sent r.state g ≡ Some cell = sym c.send_cell.ensures.sent ∙ c.in-Some.is in
+    let answer : answer_after q past s ≡ Sent cell.bus cell.slot (Some c.raw.result) =
+    c.sent_cells_are_answered.ensures.sent 41 (opening_of q) (history_of past) r.state g cell S.state is ∙ ap (λ w. Sent cell.bus cell.slot (Some w)) (sym c.raw.ensures.raw) in (
+      stands_on q past s r (record r { state = c.send_cell.new.self }) S refl state refl,
+      sends_word q (times_of q past) g c.args.slot cell.bus cell.slot c.raw.result cell.source c.heard_of-heard.result (answer_after q past s) answer
+          (sent_source q past r g cell known S is) (c.heard_of-heard.ensures ∙ S.heard cell.source),
+    )

@@ -1,8 +1,0 @@
-use Rattle.std.proofs.Common.{◌∙◌, codes}
-use Rattle.clap.specs.Words.{found_of, rows_of}
-use Rattle.clap.proofs.WalkLemmas.{first_value-rows}
-use Rattle.a429_console.proofs.Found.{word_is}
-use Rattle.a429_console.proofs.arguments.requests.asked_word.Goals as goal
-
-pub returns-in-Some : goal.returns-in-Some
-returns-in-Some c = λ r asked. word_is (rows_of (found_of c.args.found.now)) c.in-Some.text.now r (c.in-Some.ensures ∙ first_value-rows (found_of c.args.found.now) (codes "HEX")) asked

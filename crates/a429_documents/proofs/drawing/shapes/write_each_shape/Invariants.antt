@@ -1,7 +1,0 @@
-use Rattle.std.proofs.Common.{◌≡◌, ◌++◌, string_bytes}
-use Rattle.std.specs.List.{flat_map, range_with_len}
-use Rattle.a429_documents.specs.Drawing.{output_shape}
-use Rattle.a429_documents.proofs.drawing.shapes.write_each_shape.Given as goal
-
-abbrev pub invariant-loop-output : goal.invariant-loop-output
-invariant-loop-output l = string_bytes l.text ≡ string_bytes l.fn.text ++ flat_map (output_shape l.sources l.group l.table) (range_with_len 0 l.output)

@@ -1,5 +1,0 @@
-use Rattle.a429_documents.proofs.Differences.{none_is_one, one_is_none}
-use Rattle.a429_documents.proofs.laws.no_station_line_is_one_station.Goals as goal
-
-pub returns : goal.returns
-returns c = λ a b. (none_is_one a b, one_is_none a b)

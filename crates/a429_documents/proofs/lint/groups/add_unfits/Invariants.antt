@@ -1,0 +1,6 @@
+use Rattle.std.proofs.Common.{◌≡◌, ◌++◌}
+use Rattle.a429_documents.specs.Lint.{of_each, unfit_rows}
+use Rattle.a429_documents.proofs.lint.groups.add_unfits.Given as goal
+
+abbrev pub invariant-loop-output : goal.invariant-loop-output
+invariant-loop-output l = l.found ≡ l.fn.found ++ of_each l.output (unfit_rows l.sources l.group l.rows l.demands)

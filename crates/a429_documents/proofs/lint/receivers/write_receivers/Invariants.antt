@@ -1,6 +1,0 @@
-use Rattle.std.proofs.Common.{◌≡◌, ◌++◌, string_bytes}
-use Rattle.a429_documents.specs.Lint.{of_each, receiver_lines}
-use Rattle.a429_documents.proofs.lint.receivers.write_receivers.Given as goal
-
-abbrev pub invariant-loop-number : goal.invariant-loop-number
-invariant-loop-number l = string_bytes l.text ≡ string_bytes l.fn.text ++ of_each l.number (receiver_lines l.equipment l.kind)

@@ -1,7 +1,0 @@
-use Rattle.std.proofs.Common.{◌≡◌, ◌++◌, option_map, string_bytes}
-use Rattle.std.specs.List.{flat_map, range_with_len}
-use Rattle.a429_documents.specs.Margins.{output_margin}
-use Rattle.a429_documents.proofs.margin.write_outputs.Given as goal
-
-abbrev pub invariant-loop-output : goal.invariant-loop-output
-invariant-loop-output l = string_bytes l.text ≡ string_bytes l.fn.text ++ flat_map (output_margin l.sources l.rate l.table (option_map (λ marks. marks.now) l.chosen)) (range_with_len 0 l.output)

@@ -1,0 +1,197 @@
+//! A group as a proposal has it, and its outputs.
+ghost use Rattle.std.specs.Prelude.{◌≡◌, ◌<◌, ◌≤◌, IfSome, Some, length, option_map, slice_get};
+ghost use Rattle.a429_text.specs.Sheets.{field_of};
+ghost use Rattle.a429_slots.specs.Tables.{buses_of, frame_of, outputs_of, placed_at};
+ghost use Rattle.a429_cert.specs.PlanText.{source_name};
+ghost use Rattle.a429_documents.specs.Diff.{compared_at, compared_of, gap_field, has_moved, name_at, output_named, sent_by};
+
+use crate::diff::rows::{same_number, wide};
+use a429_equipment::{OutputRow, SourceRow};
+use a429_slots::{GroupPlan, OUTPUTS, OutputId, Proposal, SendLimits, SlotPlace};
+use a429_text::Cell;
+use std::marker::Model;
+
+/// What is compared of an output.
+#[derive(Clone, Copy)]
+pub struct Compared {
+    pub min_us: Option<u64>,
+    pub max_us: Option<u64>,
+    /// In slots.
+    pub period: Option<u64>,
+    pub hold: Option<u64>,
+    pub bus: Option<u64>,
+    pub slot: Option<u64>,
+}
+
+impl Compared {
+    /// Whether nothing but the slot differs.
+    pub fn has_moved(&self, other: &Compared) -> bool
+        ensures { result ≡ has_moved self.now other.now }
+    {
+        same_number(self.min_us, other.min_us)
+            && same_number(self.max_us, other.max_us)
+            && same_number(self.period, other.period)
+            && same_number(self.hold, other.hold)
+            && same_number(self.bus, other.bus)
+            && !same_number(self.slot, other.slot)
+    }
+}
+
+/// A group as a proposal has it: the sources that its outputs name, the rows of its outputs, and its slot table.
+#[derive(Drop)]
+pub struct Side<'a> {
+    sources: &'a [SourceRow],
+    rows: &'a [OutputRow],
+    table: &'a GroupPlan<OUTPUTS>,
+}
+
+impl<'a> Model for Side<'a> {
+    ghost use Rattle.a429_documents.specs.Diff.{Sent};
+
+    ghost Value = { Sent };
+
+    ghost view = { λ s. record { sources = s.sources.now; rows = s.rows.now; table = s.table.now } };
+}
+
+/// The name of a source; after the last one, nothing.
+fn source_name(sources: &[SourceRow], number: usize) -> &str
+    ensures { result.now ≡ source_name sources.now number }
+{
+    match sources.get(number) {
+        None => "",
+        Some(source) => source.name.as_str(),
+    }
+}
+
+/// The interval of an output, if there is one of this number.
+fn interval(rows: &[OutputRow], output: usize) -> (Option<u64>, Option<u64>)
+    ensures least { result.0 ≡ option_map (λ r. r.min_us) (slice_get rows.now output) }
+    ensures greatest { result.1 ≡ option_map (λ r. r.max_us) (slice_get rows.now output) }
+{
+    match rows.get(output) {
+        None => (None, None),
+        Some(row) => (Some(u64::from(row.min_us)), Some(u64::from(row.max_us))),
+    }
+}
+
+/// What is compared of an output with this interval, place and hold.
+fn compared_of(
+    interval: (Option<u64>, Option<u64>),
+    place: SlotPlace,
+    hold: Option<u32>,
+) -> Compared
+    ensures { result ≡ compared_of interval.0 interval.1 place hold }
+{
+    Compared {
+        min_us: interval.0,
+        max_us: interval.1,
+        period: Some(u64::from(place.period.slots())),
+        hold: wide(hold),
+        bus: Some(u64::from(place.bus)),
+        slot: Some(u64::from(place.offset)),
+    }
+}
+
+impl<'a> Side<'a> {
+    /// The group of a proposal.
+    pub fn of(proposal: &'a Proposal<OUTPUTS>, group: usize) -> Side<'a>
+        requires { group < length proposal.now.station.groups }
+        ensures { result ≡ sent_by proposal.now group }
+    {
+        let equipment = proposal.equipment();
+        Side {
+            sources: equipment.sources(),
+            rows: equipment.outputs(group),
+            table: proposal.plan().group(group),
+        }
+    }
+
+    /// How many outputs there are.
+    pub fn outputs(&self) -> usize
+        ensures count { result ≡ length (outputs_of self.now.table) }
+        ensures few { result ≤ 128 }
+    {
+        self.table.outputs()
+    }
+
+    /// How many buses there are.
+    pub fn buses(&self) -> u64
+        ensures { result ≡ buses_of self.now.table }
+    {
+        u64::from(self.table.buses())
+    }
+
+    /// How many slots a frame has.
+    pub fn frame(&self) -> u64
+        ensures { result ≡ frame_of self.now.table }
+    {
+        u64::from(self.table.frame())
+    }
+
+    /// The name of the source of an output.
+    pub fn name(&self, output: OutputId) -> &'a str
+        requires { output < length (outputs_of self.now.table) }
+        ensures { result.now ≡ name_at self.now output }
+    {
+        source_name(self.sources, self.table.source(output))
+    }
+
+    /// The output whose source has this name.
+    pub fn output_named(&self, name: &str) -> Option<OutputId>
+        ensures number { result ≡ output_named self.now name.now }
+        ensures known { IfSome result (λ output. output < length (outputs_of self.now.table)) }
+    {
+        for number in 0..self.outputs() {
+            let output = OutputId::new(number);
+            if self.name(output) == name {
+                return Some(output);
+            }
+        }
+        None
+    }
+
+    /// The place of an output, and what limits its sends.
+    fn placed(&self, output: OutputId) -> (SlotPlace, SendLimits)
+        requires { output < length (outputs_of self.now.table) }
+        ensures place { result.0 ≡ (placed_at self.now.table output).place }
+        ensures limits { result.1 ≡ (placed_at self.now.table output).limits }
+    {
+        (self.table.place(output), self.table.limits(output))
+    }
+
+    /// What is compared of an output.
+    pub fn compared(&self, output: OutputId) -> Compared
+        requires { output < length (outputs_of self.now.table) }
+        ensures { result ≡ compared_at self.now output }
+    {
+        let (place, limits) = self.placed(output);
+        compared_of(interval(self.rows, output.number()), place, limits.hold)
+    }
+
+    /// How many slots after its last send by this plan an output is sent next by the other, if that can follow and no
+    /// hold has run out.
+    pub fn gap(
+        &self,
+        output: OutputId,
+        other: &Side<'_>,
+        next: OutputId,
+        has_gap: bool,
+    ) -> Cell<'static>
+        requires own { output < length (outputs_of self.now.table) }
+        requires other { next < length (outputs_of other.now.table) }
+        ensures { field_of result ≡ gap_field has_gap (placed_at self.now.table output) (placed_at other.now.table next) }
+    {
+        if !has_gap {
+            return Cell::Absent;
+        }
+        let (place, _limits) = self.placed(output);
+        let (next_place, limits) = other.placed(next);
+        let left = place.period.slots().saturating_sub(place.offset);
+        let first = u64::from(left) + u64::from(next_place.offset);
+        if first < u64::from(limits.spacing) {
+            Cell::Number(first + u64::from(next_place.period.slots()))
+        } else {
+            Cell::Number(first)
+        }
+    }
+}

@@ -1,0 +1,2 @@
+pub mod AlignedRows
+pub mod RowFields

@@ -1,0 +1,44 @@
+-- Rows of texts in columns, as people read them.
+use Rattle.std.specs.Prelude.{ℕ, ◌+◌, ◌-◌, List, [], ◌++◌, codes, if◌then◌else◌, length, max, map, nat_lt, replicate, slice_index, slice_index_or}
+use Rattle.std.specs.List.{flat_map, fold, range_with_len}
+
+-- the field of a row in a column; behind the last field, nothing
+abbrev pub field_in : ℕ → List (List ℕ) → List ℕ
+field_in column row = slice_index_or row column []
+
+-- how many bytes the widest field of a column has
+abbrev pub width_of : ℕ → List (List (List ℕ)) → ℕ
+width_of column rows = fold (λ width row. max width (length (field_in column row))) 0 rows
+
+-- how many columns there are: the fields of the longest row
+abbrev pub columns_of : List (List (List ℕ)) → ℕ
+columns_of rows = fold (λ columns row. max columns (length row)) 0 rows
+
+-- the width of each column
+abbrev pub widths_of : List (List (List ℕ)) → List ℕ
+widths_of rows = map (λ column. width_of column rows) (range_with_len 0 (columns_of rows))
+
+-- so many spaces
+abbrev pub spaces : ℕ → List ℕ
+spaces count = replicate count 32
+
+-- a field with spaces behind it, as many as its column has room for
+abbrev pub padded : ℕ → List ℕ → List ℕ
+padded width field = field ++ spaces (width - length field)
+
+-- what stands between two columns
+abbrev pub gap : List ℕ
+gap = spaces 2
+
+-- the field of a row in a column, and what stands between it and the next; behind the last field stands nothing
+abbrev pub column_text : List ℕ → List (List ℕ) → ℕ → List ℕ
+column_text widths row column =
+    if nat_lt (column + 1) (length row) then padded (slice_index widths column) (field_in column row) ++ gap else field_in column row
+
+-- a row, in columns of these widths
+abbrev pub aligned_row : List ℕ → List (List ℕ) → List ℕ
+aligned_row widths row = flat_map (column_text widths row) (range_with_len 0 (length row)) ++ codes "\n"
+
+-- a line for each row, each column as wide as its widest field
+unfoldable pub aligned_text : List (List (List ℕ)) → List ℕ
+aligned_text rows = flat_map (aligned_row (widths_of rows)) rows

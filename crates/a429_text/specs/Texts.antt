@@ -1,0 +1,20 @@
+-- What was written of a text.
+use Rattle.std.specs.Prelude.{ℕ, ◌+◌, ◌/◌, ◌%◌, ◌∷◌, [], ◌++◌, List, Option, None, Some}
+use Rattle.std.specs.Fmt.{decimal}
+use Rattle.a429_text.specs.declared.said.Said.{Said}
+use Rattle.a429_text.specs.Said.{bytes_of}
+
+-- what is kept, or what was lost if memory was refused
+abbrev pub written : Option Said → List ℕ → List ℕ
+written None kept = kept
+written (Some said) kept = bytes_of said
+
+-- words, and after each of them its number, as long as there are some
+abbrev pub filled : List (List ℕ) → List ℕ → List ℕ
+filled [] numbers = []
+filled (w ∷ ws) [] = w ++ filled ws []
+filled (w ∷ ws) (n ∷ ns) = w ++ (decimal n ++ filled ws ns)
+
+-- a number below 512 in three octal digits
+abbrev pub octal : ℕ → List ℕ
+octal value = (48 + value / 64) ∷ (48 + value / 8 % 8) ∷ (48 + value % 8) ∷ []

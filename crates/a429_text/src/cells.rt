@@ -1,0 +1,94 @@
+//! Cells of a sheet.
+ghost use Rattle.std.specs.Prelude.{◌≡◌, map, option_map, IfOk};
+ghost use Rattle.a429_text.specs.Sheets.{field_of, kept_field, text_in};
+
+use crate::gathered::Gathered;
+use crate::text::Text;
+use std::alloc::{AllocError, Global};
+use std::marker::Model;
+
+/// What is written into a cell.
+#[derive(Clone, Copy)]
+pub enum Cell<'a> {
+    Text(&'a str),
+    Number(u64),
+    /// Three octal digits, as labels are written: a text.
+    Octal(u8),
+    /// There is nothing to say in this column: `-`, as comma-separated values nothing, in JSON `null`.
+    Absent,
+}
+
+/// A cell as a row keeps it.
+#[derive(Drop)]
+pub enum KeptCell {
+    Text(Text),
+    Number(u64),
+    Absent,
+}
+
+impl KeptCell {
+    fn of(alloc: Global, cell: &Cell<'_>) -> KeptCell
+        ensures { kept_field result ≡ field_of cell.now }
+    {
+        match cell {
+            Cell::Text(words) => {
+                let mut text = Text::new(alloc);
+                text.put(*words);
+                KeptCell::Text(text)
+            }
+            Cell::Number(number) => KeptCell::Number(*number),
+            Cell::Octal(value) => {
+                let mut text = Text::new(alloc);
+                text.put_octal(*value);
+                KeptCell::Text(text)
+            }
+            Cell::Absent => KeptCell::Absent,
+        }
+    }
+}
+
+/// A row of a sheet.
+#[derive(Drop)]
+pub struct Row {
+    cells: Gathered<KeptCell>,
+}
+
+impl Model for Row {
+    ghost use Rattle.std.specs.Prelude.{List, map};
+    ghost use Rattle.a429_text.specs.Fields.{Field};
+    ghost use Rattle.a429_text.specs.Sheets.{kept_field};
+
+    ghost Value = { List Field };
+
+    ghost view = { λ row. map kept_field row.cells };
+}
+
+impl Row {
+    /// A row of these cells.
+    pub fn of(alloc: Global, cells: &[Cell<'_>]) -> Row
+        ensures { result ≡ map field_of cells.now }
+    {
+        let mut kept = Gathered::new(alloc);
+        for cell in cells {
+            kept.push(KeptCell::of(alloc, cell));
+        }
+        Row { cells: kept }
+    }
+
+    /// The text in a column; `None` if there is no such cell or it has no text. The error is that memory was refused.
+    pub fn text(&self, column: usize) -> Result<Option<&[u8]>, AllocError>
+        ensures { IfOk result (λ text. option_map (λ t. t.now) text ≡ text_in column self.now) }
+    {
+        match self.cells()?.get(column) {
+            Some(KeptCell::Text(text)) => Ok(Some(text.as_bytes()?)),
+            _ => Ok(None),
+        }
+    }
+
+    /// Its cells. The error is that memory was refused for one of them.
+    pub fn cells(&self) -> Result<&[KeptCell], AllocError>
+        ensures { IfOk result (λ cells. map kept_field cells.now ≡ self.now) }
+    {
+        self.cells.as_slice()
+    }
+}
