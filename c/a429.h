@@ -8,11 +8,11 @@
  *   - One thread at a time uses a station. A station may go to another thread if a lock, or the start or the end of a
  *     thread, orders the two uses. Different stations may be used on different threads at once.
  *   - No call is made from a signal handler.
- *   - malloc, realloc and free are those of one allocator, as in the C library.
- * A call on a closed station, a number that is out of range, a name that is not there and a room that is too small are
- * no mistakes of this kind: each has a status.
+ *   - malloc, realloc and free are those of one allocator, for example the C library's.
+ * Any other mistake has a status: a call on a closed station, a number that is out of range, a name that the station
+ * does not have, a room that is too small.
  *
- * The calls write no output, keep no global data and never abort. Only a429_open and a429_publish take memory. */
+ * The calls do not write output, keep global data or abort. Only a429_open and a429_publish allocate memory. */
 #ifndef A429_H
 #define A429_H
 
@@ -38,8 +38,8 @@ typedef struct a429_station {
 /* A closed station. */
 #define A429_STATION {0, 0, {0}}
 
-/* What a call answers. If it is not A429_OK, no output is written and the station stays as it was, but for the text of
- * its last refusal. */
+/* What a call answers. If it is not A429_OK, no output is written, and of the station only the text of its last refusal
+ * changes. */
 enum a429_status {
     A429_OK = 0,
     A429_NO_SUCH = 1,         /* the station has no receiver, group, source or name like this */
@@ -51,10 +51,10 @@ enum a429_status {
     A429_MID_FRAME = 7,       /* not all cells of the frame were sent */
     A429_SLOTS_SPENT = 8,     /* the slots of the next frame cannot be counted in 64 bits */
     A429_STATION_DIFFERS = 9, /* the table is of another station */
-    A429_CLOSED = 10,         /* no station is held; this comes first, whatever else is wrong */
-    A429_MEMORY = 11,         /* memory was refused */
+    A429_CLOSED = 10,         /* no station is held; this comes first, even if more is wrong */
+    A429_MEMORY = 11,         /* an allocation failed */
     A429_TABLE = 12,          /* the table has a fault */
-    A429_UNFIT = 13,          /* the interval of an output admits no period of slots */
+    A429_UNFIT = 13,          /* the interval of an output allows no period of slots */
     A429_TOO_MANY_BUSES = 14, /* a group needs more than 16 buses */
     A429_TOO_LARGE = 15,      /* the table has more than 16 MiB (16,777,216 bytes) */
     A429_NO_ROOM = 16         /* the text is longer than the room */
@@ -64,14 +64,14 @@ enum a429_status {
 typedef struct a429_sent {
     uint64_t slot;   /* absolute: the first cell of each group is in the slot `first_slot` of `a429_open` */
     uint32_t bus;    /* of the group, from 0 */
-    uint32_t filled; /* 1 if the cell has a word, else 0 */
+    uint32_t filled; /* 1 if the cell has a word, otherwise 0 */
     uint32_t word;   /* the 32 bits of the word; 0 if there is none */
 } a429_sent;
 
 /* ---- a station and its events */
 
 /* Opens the station of a table (the bytes of a TOML file), whose first frames begin at `first_slot`. If a station was
- * held before, it is closed then. If the call is refused, the station that was held stays, or none.
+ * held before, it is closed then. If the call is refused, only the text of its refusal changes.
  * A429_TOO_LARGE, A429_TABLE, A429_UNFIT, A429_TOO_MANY_BUSES, A429_SLOTS_SPENT, A429_MEMORY. */
 uint32_t a429_open(a429_station *station, const uint8_t *table, size_t table_length, uint64_t first_slot);
 
@@ -122,9 +122,9 @@ uint32_t a429_frame_slots(a429_station *station, size_t group, uint32_t *slots);
 /* ---- why */
 
 /* Puts the text of the last refusal at the start of the room, with no 0 at its end, and gives its length; 0 bytes if no
- * call was refused. It is the line that the program a429 prints, as `refused parity`; the texts of A429_CLOSED,
- * A429_TOO_LARGE and A429_NO_ROOM are the library's own. The call is answered on a closed station too, and changes
- * nothing of the station, not even that text. A429_NO_ROOM. */
+ * call was refused. It is the line that the program a429 prints, for example `refused parity`; the texts of
+ * A429_CLOSED, A429_TOO_LARGE and A429_NO_ROOM are the library's own. The call is answered on a closed station too. It
+ * leaves all of the station as it was, including that text. A429_NO_ROOM. */
 uint32_t a429_refusal(a429_station *station, uint8_t *room, size_t room_length, size_t *length);
 
 #ifdef __cplusplus

@@ -5,8 +5,8 @@
         for sent in station.cells(station.group("g")):
             print(sent)
 
-The library is liba429.so; the variable A429_LIBRARY names another file. A call that is refused raises `Refused`. One
-thread at a time uses a station.
+The library is liba429.so.0: that of the archive or prefix that this file is in; without it, the one that the loader finds. The
+variable A429_LIBRARY names another file. A call that is refused raises `Refused`. One thread at a time uses a station.
 """
 import ctypes
 import os
@@ -28,14 +28,14 @@ class _Sent(ctypes.Structure):
 
 
 class Sent(NamedTuple):
-    """A cell that was sent. The slot is absolute: the first cell of each group is in the first slot that the station was opened with. The word is None if there is none."""
+    """A cell that was sent. The slot is absolute: the first cell of each group is in the first slot that the station was opened with. The word is None if no word was sent in the cell."""
     bus: int
     slot: int
     word: Optional[int]
 
 
 class Refused(Exception):
-    """A call is refused: its status, and the text of why."""
+    """A refused call: its status, and its reason as a text."""
 
     def __init__(self, status: int, text: str):
         super().__init__(text)
@@ -64,8 +64,14 @@ _CALLS = {
 }
 
 
+def _library_file():
+    """The file of the library. In an archive or a prefix, this file is in lib/python3/dist-packages, and the library in lib."""
+    near = os.path.join(os.path.dirname(os.path.realpath(__file__)), "..", "..", "liba429.so.0")
+    return os.environ.get("A429_LIBRARY") or (near if os.path.exists(near) else "liba429.so.0")
+
+
 def _load():
-    library = ctypes.CDLL(os.environ.get("A429_LIBRARY", "liba429.so"))
+    library = ctypes.CDLL(_library_file())
     for name, arguments in _CALLS.items():
         call = getattr(library, "a429_" + name)
         call.argtypes, call.restype = [ctypes.POINTER(_Station)] + arguments, ctypes.c_uint32

@@ -1,9 +1,12 @@
-"""What the tools know of the repository: its crates, the files that each is made from, and how the toolchain is asked."""
+"""What the tools know of the repository: its crates, the files that each is made from, its version and commit, and how the
+toolchain is asked."""
 import functools
 import hashlib
 import os
+import re
 import subprocess
 import sys
+from typing import NamedTuple
 
 ROOT = os.path.dirname(os.path.dirname(os.path.realpath(__file__)))
 # The folders of a crate that a proof reads.
@@ -80,6 +83,40 @@ def stamp(name):
     for use in own_uses(name):
         found.update(stamp(use).encode())
     return found.hexdigest()
+
+
+# ---- The version and the commit
+
+class Commit(NamedTuple):
+    """The commit of a checkout."""
+    name: str
+    seconds: int
+    author: str
+    has_changes: bool
+
+
+def git(*words):
+    ran = subprocess.run(["git", "-C", ROOT, *words], check=True, capture_output=True, text=True, errors="replace")
+    return ran.stdout
+
+
+def commit():
+    """The commit of the checkout, and whether a file of these folders differs from it: what is built and installed, and how.
+    Raises an OSError or a CalledProcessError if git knows none."""
+    name, seconds, author = git("log", "-1", "--format=%H%n%ct%n%an <%ae>").splitlines()
+    parts = ("crates.txt", "crates", "c", "docs", "examples", "tools", "README.md", "CONTRIBUTING.md", "CHANGELOG.md")
+    return Commit(name, int(seconds), author, bool(git("status", "--porcelain", "--", *parts)))
+
+
+def tracked(folder):
+    """The files below a folder that git has, by their paths from the top."""
+    listed = git("ls-files", "-z", "--", folder).split("\0")
+    return sorted(path for path in listed if os.path.isfile(os.path.join(ROOT, path)))
+
+
+def version():
+    """The version that the changelog begins with."""
+    return re.search(rb"^## (\S+)", read(os.path.join(ROOT, "CHANGELOG.md")), re.M)[1].decode()
 
 
 # ---- The toolchain
