@@ -1,17 +1,43 @@
-# Completion of the words of a429 for bash. To use it:  source docs/a429.bash
+# Completion of the arguments of a429 for bash. To use it:  source docs/a429.bash
+# Prints each command with its line, as help has it; tools/docs writes the lines.
+_a429_lines() {
+    cat <<'END_OF_LINES'
+word      Print the fields of a 32-bit word, and its data as BNR and as BCD
+lines     Print what a reader of a line reports: words, faults, and the rest
+import    Print an equipment table, made from a spreadsheet's rows
+plan      Plan a station on the fewest buses, with the bound that shows it
+check     Check whether a plan's text shows the fewest buses for a station
+icd       Print what an interface control document says of each output
+margin    Print how far each group is from one bus less, and what would help
+lint      Print what a table does silently, such as words that never arrive
+diff      Print what changes from the plan of a table to that of another
+draw      Draw the slot tables of a plan as an image (SVG)
+replay    Play the events of a script on a station, and print the answers
+simulate  Print which words a station would have sent, by a log with times
+live      Run a station on threads, and print how many words and cells passed
+END_OF_LINES
+}
+
 _a429() {
     local word=${COMP_WORDS[COMP_CWORD]} command=${COMP_WORDS[1]} options=--help
-    local commands="word lines import plan check icd margin lint diff draw replay simulate live help"
+    local commands="$(_a429_lines | sed 's/ .*//') help"
     if [ "$COMP_CWORD" -eq 1 ]; then
-        COMPREPLY=($(compgen -W "$commands --help --version" -- "$word"))
+        mapfile -t COMPREPLY < <(compgen -W "$commands --help --version" -- "$word")
+        # A list of several commands (readline's `?`) has the line of each.
+        if [ "${COMP_TYPE:-9}" -eq 63 ] && [ "${#COMPREPLY[@]}" -gt 1 ]; then
+            mapfile -t COMPREPLY < <(for command in "${COMPREPLY[@]}"; do
+                _a429_lines | grep "^$command " || echo "$command"
+            done)
+        fi
         return
     fi
     case $command in
         help) COMPREPLY=($(compgen -W "$commands" -- "$word")); return ;;
         word) COMPREPLY=($(compgen -W "$options" -- "$word")); return ;;
-        icd) options="--csv $options" ;;
+        icd | margin | lint) options="--csv --json $options" ;;
+        diff) options="--all --csv --json $options" ;;
         draw) options="--group --slots --width --html $options" ;;
-        simulate) options="--until --summary --csv $options" ;;
+        simulate) options="--until --summary --csv --json $options" ;;
     esac
     case ${COMP_WORDS[COMP_CWORD - 1]} in
         --width) COMPREPLY=($(compgen -W "64 128 256" -- "$word")); return ;;
