@@ -81,7 +81,7 @@ same_if : (n : ℕ) (b : Bool) → (n == 0) ≡ b → either b 0 n ≡ n
 same_if n true is = let none : n ≡ 0 = grind (arith, nat_tests) in sym none
 same_if n false is = refl
 
--- nothing is written where 0 is to become 0
+-- nothing is written if 0 becomes 0
 same_word : (n : ℕ) → either (n == 0) 0 n ≡ n
 same_word n = same_if n (n == 0) refl
 

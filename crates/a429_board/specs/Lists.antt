@@ -28,7 +28,7 @@ pub record Planning : Type 0 where
 abbrev pub beginner : Planning → Watched
 beginner p = record { book = p.book; list = p.list; opened = p.last }
 
--- so many watchers, each of them this one
+-- this number of watchers, each equal to this one
 abbrev pub AreAlike : List Watched → ℕ → Watched → Type 0
 AreAlike watchers count one = (length watchers ≡ count) × All (λ w. w ≡ one) watchers
 
@@ -62,6 +62,6 @@ reserves s v found w = MatchBool (found == s.old) (w.1.0 ≡ nib may_make (s.old
 abbrev pub looks : Step PlanTable → View PlanTable ℕ → ℕ → View PlanTable ℕ → Type 0
 looks s v found w = (length w.0 ≤ v.1.0.key) × (w.1.0 ≡ v.1.0)
 
--- the plan stands after all that was seen
+-- the plan comes after all that was seen
 abbrev pub adds : Step PlanTable → View PlanTable ℕ → ℕ → View PlanTable ℕ → Type 0
 adds s v found w = w.0 ≡ v.0 ++ s.ask ∷ []

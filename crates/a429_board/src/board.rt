@@ -8,12 +8,12 @@ use a429_slots::{OUTPUTS, Plan};
 use std::alloc::{AllocError, Global};
 use std::sync::Wait;
 
-/// Where one planner publishes plans, and watchers read the newest.
+/// A board: one planner publishes plans on it, and watchers read the newest.
 pub struct Board;
 
 impl Board {
-    /// A board with so many watchers, which begins with this plan under the plan's own number. It is refused
-    /// where memory is, or one of the readers.
+    /// A board with this number of watchers, which begins with this plan under the plan's own number. Error: an
+    /// allocation failed, or a reader was refused.
     pub fn open<R: Wait>(
         rt: &R,
         alloc: Global,

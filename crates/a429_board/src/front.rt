@@ -88,7 +88,7 @@ pub(crate) type Token = Seen<Plan<OUTPUTS>, u64, Law>;
 
 pub(crate) type Asked = Offer<Plan<OUTPUTS>, u64, Law, Nothing>;
 
-/// The first word of a book, which counts the others.
+/// The head entry of a book: it counts the other entries.
 pub(crate) type Head = Word<Plan<OUTPUTS>, u64, Law>;
 
 /// A beginning of the list, which ends with `plan`.
@@ -151,7 +151,7 @@ impl Front {
         self.count
     }
 
-    /// A copy.
+    /// A copy of the front: the same newest plan and list.
     pub(crate) fn copied(&self) -> Front
         ensures { result ≡ self.now }
     {
@@ -162,7 +162,7 @@ impl Front {
         }
     }
 
-    /// Whether the other goes on where this one ends; else this one goes on where the other ends.
+    /// Whether the other list continues this one; if not, this one continues the other.
     pub(crate) fn is_behind(&self, other: &Front) -> bool
         requires { self.now.book ≡ other.now.book }
         ensures { MatchBool result (IsPrefix self.now.log other.now.log) (IsPrefix other.now.log self.now.log) }
@@ -175,7 +175,7 @@ impl Front {
         false
     }
 
-    /// The pen of the word after so many others. There is none where there are more, or the count is spent.
+    /// The pen of the entry after this number of others; `None` if there are more of them, or if the count is spent.
     pub(crate) fn reserve(&self, head: &Head, others: u64) -> Option<Pen>
         requires { head.now ≡ head_of self.now.book }
         ensures { IfSome result (λ pen. (pen.book ≡ self.now.book) × (pen.nib ≡ next_nib (others + 1)) × (others + 1 < 2 ^ 64)) }

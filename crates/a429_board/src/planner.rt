@@ -47,7 +47,7 @@ pub enum BoardFault {
     /// The last plan has the last number of 64 bits.
     #[error("count spent")]
     CountSpent,
-    /// Memory was refused.
+    /// An allocation failed.
     #[error("out of memory")]
     NoMemory,
 }
@@ -63,7 +63,7 @@ fn show<R: Wait>(rt: &R, writer: PlanWriter, front: &Front) -> PlanWriter
     writer.publish_as::<Learns, R>(rt).0
 }
 
-// Shows the front by a writer that has shown all. It is refused where memory is, and the writer is gone then.
+// Shows the front by a writer that has shown all. Error: an allocation failed; the writer is gone then.
 fn append_and_show<R: Wait>(
     rt: &R,
     mut writer: PlanWriter,
@@ -83,7 +83,7 @@ fn append_and_show<R: Wait>(
 }
 
 impl Planner {
-    /// The planner of a board that begins with this plan and has room for so many watchers.
+    /// The planner of a board that begins with this plan and has room for this number of watchers.
     pub(crate) fn begin<R: Wait>(
         rt: &R,
         alloc: Global,
@@ -102,8 +102,8 @@ impl Planner {
             front: front.copied(),
         };
         let writer: PlanWriter = Writer::new(alloc, first, second, watchers as usize)?;
-        // The log of the writer gets its room here, so that no later call grows it: beside the next plan it
-        // keeps the one that was shown last.
+        // The log of the writer gets its room here, so that no later call grows it: it keeps the next plan and the one
+        // that was shown last.
         let writer = append_and_show(rt, writer, &front)?;
         let writer = append_and_show(rt, writer, &front)?;
         Ok(Planner {
@@ -130,7 +130,7 @@ impl Planner {
         })
     }
 
-    /// So many watchers, each at the beginning.
+    /// This number of watchers, each at the beginning.
     pub(crate) fn watchers(&mut self, alloc: Global, count: u32) -> Result<Vec<Watcher>, AllocError>
         requires { self.old.list ≡ self.old.last ∷ [] }
         ensures planner { self.new ≡ self.old }
@@ -143,9 +143,9 @@ impl Planner {
         Ok(all)
     }
 
-    /// Appends the plan to the list, under the number that follows the last, and answers this number. It may
-    /// wait for watchers that read. It is refused where the last number is that of 64 bits, or memory is
-    /// refused; then nothing has changed.
+    /// Appends the plan to the list, under the number that follows the last, and answers this number. Errors:
+    /// `CountSpent` if the last number is the greatest of 64 bits; `NoMemory` if an allocation failed. Then nothing has
+    /// changed. The call may wait for watchers that read.
     pub fn publish<R: Wait>(&mut self, rt: &R, plan: Plan<OUTPUTS>) -> Result<u64, BoardFault>
         ensures next { IfOk result (λ n. n ≡ self.old.last.number + 1) }
         ensures list { IfOk result (λ n. self.new.list ≡ self.old.list ++ numbered plan n ∷ []) }
@@ -169,8 +169,8 @@ impl Planner {
             return Err(BoardFault::NoMemory);
         };
         let longer = front.with_plan(head, replace(pen, next), plan.numbered(number));
-        // The log has room for one since `begin`. Were it refused, watchers would have the plan once they are
-        // told, or from the next plan on.
+        // The log has room for one since `begin`. Without room, watchers would get the plan by `tell`, or from the next
+        // plan on.
         if writer.append(longer.copied()).is_ok() {
             replace_with(writer, (rt, &longer), |writer, (rt, longer)| {
                 (show(rt, writer, longer), ())
@@ -180,8 +180,8 @@ impl Planner {
         Ok(number)
     }
 
-    /// Tells a watcher of this board all that was published. Its list was a beginning of the planner's, and is
-    /// the planner's now. It waits for nobody and takes no memory.
+    /// Gives a watcher of this board all that was published. Its list was a beginning of the planner's, and is the
+    /// planner's now. The call waits for nobody and allocates no memory.
     pub fn tell(&mut self, watcher: &mut Watcher)
         requires board { watcher.old.book ≡ self.old.book }
         ensures planner { self.new ≡ self.old }

@@ -10,15 +10,15 @@ use a429_slots::{OUTPUTS, Plan};
 use core::mem::replace_with;
 use std::marker::Model;
 
-/// Reads the newest plan of a board. It has the list of plans up to the newest that it saw or was told, the
-/// opening one first. The list only grows.
+/// Reads the newest plan of a board. It has the list of plans up to the newest that it saw or was given, the opening
+/// one first. The list only grows.
 #[derive(Drop)]
 pub struct Watcher {
     pub(crate) sight: Sight,
     pub(crate) opened: Box<Plan<OUTPUTS>>,
 }
 
-/// What a watcher reads by, and the last that it saw or was told.
+/// What a watcher reads by, and the last plan that it saw or was given.
 // Plans are boxed: each is as large as all slot tables, and a watcher is handed on by value.
 #[derive(Drop)]
 pub(crate) struct Sight {
@@ -39,15 +39,15 @@ impl Model for Watcher {
     ghost invariant = { λ w. (w.sight.reader.place.me.0.client ≡ knower w.sight.front.value.book) × IsPrefix (w.opened.value ∷ []) w.sight.front.value.log };
 }
 
-// In a function of its own, since room for a copy is cleared wherever a function begins that has one.
+// In a function of its own: a function that has room for a copy clears it at its beginning.
 fn take_over(front: &mut Front, shown: &Front)
     ensures { front.new ≡ shown.now }
 {
     *front = shown.copied();
 }
 
-// Takes over what is shown now, where its list has more plans, unless the entry is refused. Nothing is copied where
-// it has no more: few entries find a new one.
+// Takes over what is shown now, if its list has more plans, unless the entry is refused. If it has no more, nothing is
+// copied: few entries find a new plan.
 fn read(reader: PlanReader, front: &mut Front) -> PlanReader
     requires { reader.place.me.0.client ≡ knower front.old.book }
     ensures reader { result.place.me.0.client ≡ reader.place.me.0.client }
@@ -90,8 +90,9 @@ impl Watcher {
         &self.opened
     }
 
-    /// Looks for the newest plan, as it is now: from then on it is the last. Where the entry is refused, the last plan
-    /// stays the one that the watcher was opened with, saw or was told. It waits for nobody and takes no memory.
+    /// Looks for the newest plan, as it is now: from then on it is the last. If the entry is refused, the last plan
+    /// stays: the one that the watcher was opened with, saw or was given. The call waits for nobody and allocates no
+    /// memory.
     pub fn look(&mut self)
         ensures grows { IsPrefix self.old.list self.new.list }
         ensures book { self.new.book ≡ self.old.book }
@@ -100,15 +101,15 @@ impl Watcher {
         replace_with(&mut self.sight, (), |sight, _| (look(sight), ()));
     }
 
-    /// The last plan that the watcher saw or was told.
+    /// The last plan that the watcher saw or was given.
     pub fn last(&self) -> &Plan<OUTPUTS>
         ensures last { EndsWith self.now.list result.now }
     {
         self.sight.front.last()
     }
 
-    /// The newest plan and its number, as they are now. Where the entry is refused, it is the last plan that the
-    /// watcher was opened with, gave or was told. It waits for nobody and takes no memory.
+    /// The newest plan and its number, as they are now. If the entry is refused, it is the last plan that the watcher
+    /// was opened with, saw or was given. The call waits for nobody and allocates no memory.
     pub fn newest(&mut self) -> (u64, Plan<OUTPUTS>)
         ensures grows { IsPrefix self.old.list self.new.list }
         ensures last { EndsWith self.new.list result.1 }

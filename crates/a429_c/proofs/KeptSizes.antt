@@ -174,7 +174,7 @@ pub publish_left : (v : MachineState) (q : Proposed) (a : Answer) → ((n : ℕ)
 publish_left v q a other is =
     untaken a (newest_sizes v) (map size_of (groups_of q.plan)) other ∙ (ap (λ (b : Answer). newest_by b (newest_sizes v) (map size_of (groups_of q.plan))) is ∙ publish_is v q)
 
--- where each frame begins by the table of its group, the sizes in force are those of the tables
+-- if each frame begins by the table of its group, the sizes in force are those of the tables
 same_tables : (ss : List FrameState) (ts : List SlotTable) (k : ℕ → SlotTable → FrameState) → ((g : ℕ) (p : SlotTable) → (k g p).table ≡ p)
     → ((g : ℕ) → slice_get ss g ≡ option_map (k g) (slice_get ts g)) → map f ss ≡ map size_of ts
 same_tables [] [] k e h = refl

@@ -1,4 +1,4 @@
--- A `BoxOrNull` as the machine has it: one pointer, beside what `held_at` owns at it. Assumes `Logic`.
+-- A `BoxOrNull` as the machine has it: one pointer, and what `held_at` owns at it. Assumes `Logic`.
 use Rattle.std.proofs.Common.{◌≡◌, ℕ, T, List, [], ◌∷◌, ◌++◌, refl, subst, lit<}
 use seplogic.Ra.Ura.{Ura}
 use mir.Raw.{raw as bare}

@@ -29,7 +29,7 @@ abbrev pub refusal_of : {X : Type 0} → Result X Status → Option Status
 refusal_of (Ok x) = None
 refusal_of (Err status) = Some status
 
--- the number of its status, 0 where it is not refused
+-- the number of its status; 0 if it is not refused
 abbrev pub status_in : Option Status → ℕ
 status_in refused = option_map_or code_of refused 0
 
@@ -63,7 +63,7 @@ cell_of (Sent bus slot None) = Ok (record { slot = slot; bus = bus; filled = 0; 
 cell_of (Refused why) = Err (status_for why)
 cell_of _ = Err NoSuch
 
--- the number of a plan; no frame and no publication is answered otherwise
+-- the number of a plan; a frame and a publication have only such answers
 abbrev pub plan_of : Answer → Result ℕ Status
 plan_of (Changed plan) = Ok plan
 plan_of (Published plan) = Ok plan

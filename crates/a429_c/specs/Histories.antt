@@ -28,7 +28,7 @@ pub record AnswersCalls (o : Opening) (E : List Event) (held : Option Held) : Ty
   pub frames : (g : ℕ) → asked plan_of (λ s. frame_asked s g) held ≡ plan_of (answer count_bits o E (Frame g))
   pub publishes : (q : Proposed) → HasTableForEach q → asked plan_of (λ s. publish_asked s q) held ≡ plan_of (answer count_bits o E (Publish q))
 
--- whatever calls were made of a station, it has their history, and the next call is answered by it
+-- after any calls of a station, it has their history, and the next call is answered by it
 abbrev pub StationsKeepHistory : Type 0
 StationsKeepHistory =
     (o : Opening) (E events : List Event) (held : Option Held) → HasHistory o E held → AllByRecursion IsWholeEvent events

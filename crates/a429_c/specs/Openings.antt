@@ -21,19 +21,21 @@ use Rattle.a429_c.specs.declared.tables.TableRefusal.TheVariants.{Call, Table}
 abbrev pub table_limit : ℕ
 table_limit = 16777216
 
--- why a table's bytes give no proposal: they are too many, or the table or its plan has this first fault, or memory was refused
+-- why a table's bytes give no proposal: they are too many, or the table or its plan has this first fault, or an
+-- allocation failed
 abbrev pub IsNoProposal : List ℕ → TableRefusal → Type 0
 IsNoProposal table (Call TooLarge) = table_limit < length table
 IsNoProposal table (Call status) = ⊥
 IsNoProposal table (Table refusal) = (length table ≤ table_limit) × OrMemory (IsTableRefusal table) refusal
 
--- why they give no station whose first frames begin at this slot: that, or the slots cannot be counted, or memory was refused
+-- why they give no station whose first frames begin at this slot: that, or the slots cannot be counted, or an
+-- allocation failed
 abbrev pub IsNoOpening : List ℕ → ℕ → TableRefusal → Type 0
 IsNoOpening table first (Call SlotsSpent) = (q : Proposed) × IsProposedBy table q × (all_fit first (groups_of q.plan) ≡ false)
 IsNoOpening table first (Call Memory) = Unit {0}
 IsNoOpening table first refusal = IsNoProposal table refusal
 
--- why nothing of them is published: that, or memory was refused
+-- why nothing of them is published: that, or an allocation failed
 abbrev pub IsNoPublication : List ℕ → TableRefusal → Type 0
 IsNoPublication table (Call Memory) = Unit {0}
 IsNoPublication table refusal = IsNoProposal table refusal
@@ -43,7 +45,7 @@ abbrev pub IsPutAs : TableRefusal → ℕ → List ℕ → Type 0
 IsPutAs (Call status) code text = (code ≡ code_of status) × (text ≡ kept_text (line_of status))
 IsPutAs (Table refusal) code text = (code ≡ table_code refusal) × (text ≡ kept_text (refusal_line refusal))
 
--- what is put for a refusal: it, or in place of a table's fault that memory was refused
+-- what is put for a refusal: it, or instead of a table's fault that an allocation failed
 abbrev pub IsPutFor : TableRefusal → TableRefusal → Type 0
 IsPutFor (Call status) put = put ≡ Call status
 IsPutFor (Table refusal) (Table put) = IsToldOf refusal put
@@ -104,7 +106,7 @@ pub record IsRefusedPublication (table : List ℕ) (m : Held) (before after : Pu
   pub held : after.held ≡ Some m
   pub number : after.number ≡ before.number
 
--- what a publication comes to
+-- the outcome of a publication
 abbrev pub IsPublishing : List ℕ → PublicationMemory → PublicationMemory → Option Held → ℕ → Type 0
 IsPublishing table before after None code = IsClosedPublication before after code
 IsPublishing table before after (Some m) code = IsAnsweredPublication table m before after code ⊎ IsRefusedPublication table m before after code

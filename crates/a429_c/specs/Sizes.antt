@@ -1,4 +1,4 @@
--- The sizes of the plans that are in force, beside what the machine keeps.
+-- The sizes of the plans that are in force, next to what the machine keeps.
 use Rattle.std.specs.Prelude.{◌&&◌, ℕ, List, if◌then◌else◌, nat_lt, get_or, length, map, slice_set}
 use Rattle.a429_slots.specs.Tables.{SlotTable, buses_of, frame_of, groups_of}
 use Rattle.a429_core.specs.MachineStates.{MachineState}

@@ -5,8 +5,8 @@ ghost use Rattle.a429_c.specs.Calls.{cell_of, plan_of, source_of};
 use crate::statuses::{Status, status_for};
 use a429_core::Answer;
 
-/// A cell that was sent, on a bus, in a slot. The slot is absolute: the first cell of each group is in the slot that the
-/// station was opened with. `filled` is 1 if the cell has a word, else 0, and then the word is 0.
+/// A cell that was sent, on a bus, in a slot. The slot is absolute: the first cell of each group is in the slot that
+/// the station was opened with. `filled` is 1 if the cell has a word. Otherwise it is 0, and then the word is 0.
 #[repr(C)]
 #[derive(Clone, Copy)]
 pub struct CellAnswer {

@@ -14,8 +14,9 @@ use crate::tables::{TableRefusal, read_proposal, refuse_table};
 use std::alloc::Global;
 
 /// Opens the station of a table, whose first frames begin at this slot. A station that was held before is closed then.
-/// Refused are a table of more than 16 MiB, the table's fault, or else the first fault of its plan, and slots that
-/// cannot be counted in 64 bits; or memory. Then the station that was held stays.
+/// Errors, in this order: the table has more than 16 MiB; the table has a fault; its plan has a fault; the slots of a
+/// first frame cannot be counted in 64 bits. Memory may run out instead of any of these. On an error the station that
+/// was held stays.
 #[unsafe(no_mangle)]
 pub extern "C" fn a429_open(
     alloc: Global,
@@ -110,8 +111,8 @@ pub extern "C" fn a429_frame(
     station.refusal_text.give(plan_of(answer), plan)
 }
 
-/// A table is read and planned, and its plan is proposed for all groups. Gives the number of the plan. Refused are a
-/// closed station, then what `a429_open` refuses of a table, then a table of another station.
+/// A table is read and planned, and its plan is proposed for all groups. Gives the number of the plan. Errors, in this
+/// order: the station is closed; an error of `a429_open` for this table; the table is of another station.
 #[unsafe(no_mangle)]
 pub extern "C" fn a429_publish(
     alloc: Global,
@@ -136,7 +137,7 @@ pub extern "C" fn a429_publish(
     }
 }
 
-/// The number of the plan that is published of a table, or why the machine refuses it; or else why the table is refused.
+/// The number of the plan that is published of a table, or why the machine refuses it. Error: why the table is refused.
 fn publish(
     alloc: Global,
     machine: &mut Machine,

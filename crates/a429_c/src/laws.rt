@@ -5,8 +5,8 @@ ghost use Rattle.a429_c.specs.contracts.station.StationHandle.{the_row as statio
 
 use a429_core::laws::calls_are_answered;
 
-/// Whatever calls were made of a station, each next one gives, or is refused for, what the definition of answers says
-/// after the history of all of them.
+/// After any calls of a station, the next one gives what the definition of answers says after the history of all of
+/// them. If that is a refusal, the call has its status.
 pub fn histories_are_answered()
     ensures { StationsKeepHistory }
 {

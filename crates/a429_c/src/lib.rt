@@ -1,8 +1,9 @@
 //! The machine for programs in C: a station in memory of its own, and a call for each thing that it does. The header
 //! `c/a429.h` says what a caller owes.
 //!
-//! Each call answers a status: 0, or the number of why it is refused. Then nothing is changed but the text of the last
-//! refusal. A call on a closed station is refused for that first, whatever else is wrong with it.
+//! Each call answers a status: 0 for success, otherwise the reason of its refusal as a number. A refused call changes
+//! only the text of the last refusal. A call on a closed station is refused for that first, even if something else is
+//! wrong too.
 #![tactic(auto)]
 
 mod answers;

@@ -199,9 +199,9 @@ pub extern "C" fn a429_frame_slots(
     station.refusal_text.give(or_no_such(found), slots)
 }
 
-/// Puts the text of the last refusal at the start of the caller's room, and gives its length; no bytes if no call was
-/// refused. It is answered for a closed station too: an opening that is refused leaves none. Its own refusal keeps the
-/// text.
+/// Puts the text of the last refusal at the start of the caller's room, and gives its length; 0 if every call so far
+/// succeeded. It answers for a closed station too, so that the reason of a refused opening can be read. If this call is
+/// refused, the text stays.
 #[unsafe(no_mangle)]
 pub extern "C" fn a429_refusal(
     station: &mut StationHandle,

@@ -37,7 +37,7 @@ impl RefusalText {
         }
     }
 
-    /// Keeps a text, of a longer one its first bytes.
+    /// Stores a text, cut to the 92 bytes of its room.
     pub(crate) fn keep(&mut self, line: &[u8])
         ensures { text_in self.new ≡ kept_text line.now }
     {

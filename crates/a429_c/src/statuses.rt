@@ -28,7 +28,7 @@ pub enum Status {
     StationDiffers,
     /// No station is held.
     Closed,
-    /// Memory was refused.
+    /// An allocation failed.
     Memory,
     /// The table has more than 16 MiB.
     TooLarge,

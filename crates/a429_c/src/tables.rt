@@ -24,7 +24,7 @@ const TABLE_LIMIT: usize = 16_777_216;
 pub enum TableRefusal {
     /// For a cause of the call.
     Call(Status),
-    /// The table or its plan has a fault, or memory was refused. Its text is the line that the program prints.
+    /// The table or its plan has a fault, or an allocation failed. Its text is the line that the program prints.
     Table(CommandRefusal),
 }
 

@@ -175,7 +175,7 @@ planned_four = record {
 
 -- ---- the history is planned
 
-apart : SourcesAreApart (station_at 720).sources
+pub apart : SourcesAreApart (station_at 720).sources
 apart r raw zero zero s t x b h k = refl
 apart r raw zero (suc j) s t x b h k = absurd (none-some t b)
 apart r raw (suc i) j s t x b h k = absurd (none-some s x)
@@ -185,7 +185,7 @@ own_sources us zero zero x y a b same = refl
 own_sources us zero (suc j) x y a b same = absurd (none-some y b)
 own_sources us (suc i) j x y a b same = absurd (none-some x a)
 
-next_is_own : IsOwnPlan next
+pub next_is_own : IsOwnPlan next
 next_is_own = record { plan = record { number = refl; count = refl; groups = (planned_four, tt) }; own = (own_sources 1440, tt) }
 
 published_of : Event → Proposed
@@ -216,19 +216,22 @@ at_length : (before after : List Event) (e : Event) → slice_get (before ++ e �
 at_length [] after e = refl
 at_length (x ∷ before) after e = at_length before after e
 
+pub opening_is_own : IsOwnPlan opening.proposal
+opening_is_own = record { plan = record { number = refl; count = refl; groups = (planned_two, tt) }; own = (own_sources 720, tt) }
+
 own : HaveOwnPlans opening history
 own = record {
-  opening = record { plan = record { number = refl; count = refl; groups = (planned_two, tt) }; own = (own_sources 720, tt) };
+  opening = opening_is_own;
   published = λ before after q split. subst IsOwnPlan (is_next (length before) q (ap (λ (E : List Event). slice_get E (length before)) split ∙ at_length before after (Publish q))) next_is_own;
 }
 
--- ---- what it comes to
+-- ---- the result
 
 accepted : IsAcceptedBefore 41 opening history 3 14 0
 unfolding ones_from number_from reversed_from cell_at
 accepted = record { word = record { receiver = 0; word = 1610612929; came = refl; accepted = refl }; after = omega arith; few = omega arith }
 
-only_output : (x z : Placed) (n : ℕ) → slice_get (x ∷ []) n ≡ Some z → x ≡ z
+pub only_output : (x z : Placed) (n : ℕ) → slice_get (x ∷ []) n ≡ Some z → x ≡ z
 only_output x z zero is = same_Some x z is
 only_output x z (suc n) is = absurd (none-some z is)
 
@@ -236,7 +239,7 @@ output_of : (x z : Placed) (n : Option ℕ) → option_and_then (λ o. slice_get
 output_of x z (Some n) is = only_output x z n is
 output_of x z None is = absurd (none-some z is)
 
-has : (k : ℕ) (x : Placed) → x.source ≡ 0 → HasOutput (table_of k x) 0 x.place
+pub has : (k : ℕ) (x : Placed) → x.source ≡ 0 → HasOutput (table_of k x) 0 x.place
 has k x is = record { number = 0; output = x; there = refl; of_source = is; at_place = refl }
 
 stays : KeepsOutput run 0 6 0 old.place

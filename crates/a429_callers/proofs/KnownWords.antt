@@ -123,7 +123,7 @@ words_grow law C o E source a b apart after few =
     let rest : (b - a) + a ≡ b = omega (arith, after) in
     subst (λ (z : ℕ). words_at C o E source a ≤ words_at C o E source z) rest (words_by law C o E source a (b - a) apart (omega (arith, few, rest)))
 
--- where the source accepted its word of this number
+-- the place at which the source accepted its word of this number
 record IsAcceptedBy (C : ℕ) (o : Opening) (E : List Event) (source n m : ℕ) : Type 0 where
   pub place : ℕ
   pub before : place < m
@@ -180,7 +180,7 @@ cell_call g (Turns plans t) bus slot word h =
     absurd (cc)
 cell_call g (Meets loads) bus slot word h = absurd (none-some (Cell g, Sent bus slot word) h)
 
--- a word goes out by a load alone
+-- a word goes out only by a load
 no_word : (earlier : List AnsweredCell) (slot : ℕ) (output : Option Placed) → word_of earlier slot output None ≡ None
 no_word earlier slot None = refl
 no_word earlier slot (Some x) = refl
@@ -208,7 +208,7 @@ module _ (law : AreLaws) (C : ℕ) (o : Opening) (g : ℕ) (p : SlotTable) (late
   counted : (n : ℕ) → count_at law.alike C o E (place_of n) ≡ many n
   counted n = ap (λ (xs : List (Event × Answer)). length xs) (R.places p n W.opens).sends
 
-  -- where as many cells and frames come before, the group stands where the calls led
+  -- if the same number of cells and frames come before, the group is in the state after the calls
   stands : (m n : ℕ) → m ≤ length E → count_at law.alike C o E m ≡ many n → stands_after o g p (take m E) ≡ frame_after made n
   stands m n within same = stands_alike law.alike C o E law.pass g p m (place_of n) within (few n) (same ∙ sym (counted n)) ∙ (R.places p n W.opens).frame
 
@@ -220,7 +220,7 @@ module _ (law : AreLaws) (C : ℕ) (o : Opening) (g : ℕ) (p : SlotTable) (late
       (omega (arith, counted h, count_grows law.alike C o E (place_of h) m from within)) (omega (arith, counted k, count_grows law.alike C o E m (place_of k) to (few k))) in
       subst (λ (s : FrameState). HasSpacedOutput s.table source at q) (sym (stands m S.number within (sym S.many))) (stays S.number S.from S.to)
 
-  -- a slot passes only where a cell or a frame does
+  -- a slot passes only if a cell or a frame does
   later_place : (a b bus : ℕ) → a ≤ b → next_after made a bus < next_after made b bus → place_of a < place_of b
   later_place a b bus after less = elim (cases_lt (many a) (many b)) [
     | inl more ↦ earlier law.alike C o E (place_of a) (place_of b) (few a) (omega (arith, more, counted a, counted b))

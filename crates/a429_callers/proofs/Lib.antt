@@ -8,5 +8,7 @@ pub mod Origins
 pub mod RunPlaces
 pub mod KnownWords
 pub mod Icd
+pub mod ReadBack
 pub mod NextSends
 pub mod ChangesExample
+pub mod ManyChangesExample

@@ -62,7 +62,7 @@ output_in_cell : (t : SlotTable) (bus slot n : ℕ) (y : Placed) → cell_at t b
 output_in_cell t bus slot n y cell there = ap (option_and_then (λ (m : ℕ). slice_get (outputs_of t) m)) cell ∙ there
 
 module _ (o : Opening) (g : ℕ) (p : SlotTable) (E : List Event) (there : slice_get (groups_of o.proposal.plan) g ≡ Some p) (spaced : AreSpacedTables o g p E) where
-  -- no cell of a source is where a Frame is taken
+  -- no cell of a source is at the place of a taken Frame
   no_cell_of : (c source : ℕ) (at : SlotPlace) (z : Placed) (s : ℕ) → c < length E → is_taken_at o g p E c ≡ true → HasOutput (frame_at_place o g p E c).table source at → IsOutputCell o g p E c z s → z.source ≡ source → ⊥
   no_cell_of c source at z s below taken here Z same =
       let X = cell_here o g p E spaced c source at z s here Z same in

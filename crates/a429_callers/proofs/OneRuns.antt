@@ -38,7 +38,7 @@ some_of_ok P (Err e) o is h = subst (λ o. IfSome o P) (sym is) tt
 
 -- ---- the planner's list
 
--- with the opening plan alone
+-- with only the opening plan
 pub shown_first : (t : TableRecord) (plan : PlanTable) (list : List PlanTable) → IsSound t → IsPlanOf t plan → list ≡ plan ∷ [] → AreShown (opening t plan) list
 shown_first t plan list sound planned is = record {
   later = [];
@@ -144,7 +144,7 @@ goes_on : (old told one other : Transmitting) (x y : Call) → GoesOnByCalls old
 goes_on old told one other x y first second third = λ o made S.
     subst (λ (l : List Call). StandsForCalls o l other) (same_calls made x y) (third o ((made ++ []) ++ x ∷ []) (second o (made ++ []) (first o made S)))
 
--- the planner's list, as a transmitter is told it
+-- the planner's list, as a transmitter gets it
 abbrev pub told_of : Transmitting → List PlanTable → Transmitting
 told_of v list = record v { watcher = record v.watcher { list = list } }
 

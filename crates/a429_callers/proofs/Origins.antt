@@ -156,7 +156,7 @@ either : (b : Bool) (x : Option ℕ) (w : ℕ) → (if b then None else x) ≡ S
 either true x w h = absurd (none-some w h)
 either false x w h = h
 
--- an output stands in the cell, and its source has the word
+-- the cell has an output, whose source has the word
 abbrev OutputHas : (ℕ → ℕ → Type 0) → Option Placed → ℕ → Type 0
 OutputHas Q out w = (output : Placed) × (out ≡ Some output) × Q output.source w
 
@@ -185,7 +185,7 @@ own_at g p s (x ∷ calls) more Q lawful all zero c w there is =
 own_at g p s (x ∷ calls) more Q lawful all (suc k) c w there is =
     own_at g p (after g p s x) calls more Q lawful.1 (all_back (LoadIs Q) (loads_in x) (loads_of (calls ++ more)) all) k c w there is
 
--- what holds of the word of each answered cell holds of that of each cell that was sent
+-- what is true of the word of each answered cell is true of that of each cell that was sent
 sent_all : (P : ℕ → Type 0) (calls : List Call) → ((k : ℕ) (c : Carried) (w : ℕ) → slice_get calls k ≡ Some (Asks (Some c)) → c.word ≡ Some w → P w)
     → AllByRecursion (λ s. (w : ℕ) → s.word ≡ Some w → P w) (sent_in calls)
 sent_all P [] each = tt
@@ -218,7 +218,7 @@ zipped P Q f (x ∷ xs) [] (z ∷ zs) h = absurd h
 zipped P Q f (x ∷ xs) (y ∷ ys) [] h = absurd h
 zipped P Q f (x ∷ xs) (y ∷ ys) (z ∷ zs) h = (f 0 x y z h.0, zipped (λ k. P (suc k)) Q (λ k. f (suc k)) xs ys zs h.1)
 
--- what stands at a place of three lists
+-- the items at a place of three lists
 record HasPlace {X Y Z : Type 0} (P : ℕ → X → Y → Z → Type 0) (ys : List Y) (r : ℕ) : Type 0 where
   pub first : X
   pub second : Y

@@ -48,7 +48,7 @@ cons_some f x xs z is = rw is refl
 cons_none : {X Y : Type 0} (f : X → Option Y) (x : X) (xs : List X) → f x ≡ None → filter_map f (x ∷ xs) ≡ filter_map f xs
 cons_none f x xs none = rw none refl
 
--- behind an element that passes
+-- after an element that passes
 nth_behind : {X Y : Type 0} (f : X → Option Y) (x : X) (xs : List X) (z : Y) → f x ≡ Some z → (n : ℕ) (y : Y) → slice_get (filter_map f (x ∷ xs)) n ≡ Some y
     → ((k : ℕ) → slice_get (filter_map f xs) k ≡ Some y → IsNth f xs k y) → IsNth f (x ∷ xs) n y
 nth_behind {X} {Y} f x xs z is zero y h rest =
@@ -197,7 +197,7 @@ module _ (alike : CutsAlike) (C : ℕ) (o : Opening) (E : List Event) where
       within : (k : ℕ) (e : Event) → slice_get E k ≡ Some e → k ≤ length E
       within k e there = let below : k < length E = slice_get_within E k e there in omega (arith, below)
 
-  -- ---- where the group stands
+  -- ---- the state of the group
 
   still : (g : ℕ) (e : Event) → is_sending e ≡ false → (is_frame g e ≡ false) × (is_cell g e ≡ false)
   still g (Arrive r raw) h = (refl, refl)

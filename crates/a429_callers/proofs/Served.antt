@@ -53,9 +53,9 @@ serves rate rows exps s fit S =
 pub none_fewer : (rate : ℕ) (rows : List OutputRow) (buses : ℕ) → AreFewestBusesFor rate rows buses → NoneHasFewer rate rows buses
 none_fewer rate rows buses F s S = F.fewest.least s (serves rate rows F.exponents s F.fit S)
 
--- ---- groups and what is beside them
+-- ---- groups and what is paired with them
 
--- an element of the second list has one beside it in the first
+-- an element of the second list is paired with one of the first
 pub record Beside {A B : Type 0} (R : A → B → Type 0) (xs : List A) (i : ℕ) (y : B) : Type 0 where
   pub x : A
   pub there : slice_get xs i ≡ Some x
@@ -70,7 +70,7 @@ beside R (x ∷ xs) (z ∷ ys) (suc i) y all h =
     let p : Beside R xs i y = beside R xs ys i y all.1 h in
     record { x = p.x; there = p.there; pair = p.pair }
 
--- rows beside the rate of their group
+-- rows paired with the bit rate of their group
 pub record IsRated (groups : List GroupRow) (outputs : List (List OutputRow)) (i : ℕ) (rated : ℕ × List OutputRow) : Type 0 where
   pub row : GroupRow
   pub here : slice_get groups i ≡ Some row

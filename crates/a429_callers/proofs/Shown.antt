@@ -38,7 +38,7 @@ stated_at e (x ∷ groups) (xs ∷ outputs) lines all zero row rows here there =
 stated_at e (x ∷ groups) (xs ∷ outputs) lines all (suc g) row rows here there =
     later e.version row rows (length xs + 2) lines (stated_at e groups outputs (drop (length xs + 2) lines) all.1 g row rows here there)
 
--- behind the lines of the version and the rate
+-- after the lines of the version and the bit rate
 behind : (version : ℕ) (row : GroupRow) (rows : List OutputRow) (rate : Option ℕ) (lines : List (List ℕ)) → IsStated version row rows (lines_of_groups rate lines) → IsStated version row rows lines
 behind version row rows None lines s = later version row rows 1 lines s
 behind version row rows (Some rate) lines s = later version row rows 2 lines s

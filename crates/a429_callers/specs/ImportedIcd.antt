@@ -31,14 +31,14 @@ pub record IsWholeInIcd (bytes : List ℕ) (a : Proposed) : Type 0 where
 
 -- ---- the same outputs
 
--- the sources have one name, label and SDI, and the same receiver, whatever its number
+-- the sources have the same name, label and SDI, and the same receiver, under any number
 pub record IsSameSource (t e : TableRecord) (s u : SourceRow) : Type 0 where
   pub name : s.name ≡ u.name
   pub label : s.label ≡ u.label
   pub sdi : s.sdi ≡ u.sdi
   pub receiver : slice_get t.receivers s.receiver ≡ slice_get e.receivers u.receiver
 
--- the outputs have one interval and one hold, and the same source, whatever its number
+-- the outputs have the same interval and hold, and the same source, under any number
 pub record IsSameOutput (t e : TableRecord) (o p : OutputRow) : Type 0 where
   pub least : o.min_us ≡ p.min_us
   pub most : o.max_us ≡ p.max_us

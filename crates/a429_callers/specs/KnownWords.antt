@@ -61,8 +61,8 @@ pub record SendsKnown (calls : List Call) (k source count end : ℕ) : Type 0 wh
   pub word : ℕ
   pub sent : cell.word ≡ Some word
 
--- Where an output had stayed for a period before call i, a word that the transmitter knew of by then has gone out, or a later one of its source,
--- before one period of slots has passed from there on.
+-- Let an output have stayed for a period before call i. Then a word that the transmitter knew of by then has gone out,
+-- or a later one of its source, before one period of slots has passed from there on.
 abbrev pub GoOutInTime : GroupCalls → Type 0
 GoOutInTime made =
     (h i k source : ℕ) (at : SlotPlace) (q count : ℕ) → h ≤ i → i ≤ k → k ≤ length made.calls → StaysInCalls made h k source at q
@@ -70,7 +70,7 @@ GoOutInTime made =
     → next_after made i at.bus + period_of at ≤ next_after made k at.bus
     → SendsKnown made.calls k source count (next_after made i at.bus + period_of at)
 
--- So it is in the calls of a working transmitter, where each plan is that of its own table.
+-- So it is in the calls of a working transmitter, if each plan is that of its own table.
 abbrev pub KnownWordsGoOutInTime : Type 0
 KnownWordsGoOutInTime =
     (C : ℕ) (o : Opening) (g : ℕ) (p : SlotTable) (later : List Proposed) (calls : List Call) (heard : ℕ → List (ℕ × ℕ))

@@ -3,5 +3,7 @@ pub mod Serving
 pub mod Origins
 pub mod KnownWords
 pub mod ImportedIcd
+pub mod ReadBack
 pub mod NextSends
 pub mod ChangesExample
+pub mod ManyChangesExample

@@ -34,8 +34,9 @@ pub record HasNextSend (C : ℕ) (E : GroupHistory) (j k source slot : ℕ) : Ty
   pub sent : CellIsAnswered C E place output slot (Some word)
   pub none : (a : ℕ) (z : Placed) (s w : ℕ) → j < a → a < place → CellIsAnswered C E a z s (Some w) → z.source ≡ source → ⊥
 
--- A group goes from a plan with output x of a source to one with output y of it. If the last cell by the first plan was sent, and no hold empties
--- a cell by the second, then the source is sent next `gap_of x y` slots later, once that slot has passed on the bus of y.
+-- A group goes from a plan with output x of a source to one with output y of it. The last cell by the first plan was
+-- sent, and no hold empties a cell by the second. Then the source is sent next `gap_of x y` slots later, once that slot
+-- has passed on the bus of y.
 abbrev pub NextSendIsAGapLater : Type 0
 NextSendIsAGapLater =
     (C : ℕ) (E : GroupHistory) (j c k source : ℕ) (x y : Placed) (slot : ℕ)

@@ -57,13 +57,13 @@ pub record IsRunOver {L : Type 0} {B : Type 0} (given : L → List ℕ) (taken :
 abbrev pub fresh : Place → ℕ → ReceiverEnd
 fresh at number = record { at = at; number = number; limit = 2 ^ 41 - 1; accepted = [] }
 
--- the line gave words, and where it came to its end the receiver took them all
+-- the line gave words, and if it came to its end the receiver took them all
 pub record HasHeard {L : Type 0} (given : L → List ℕ) (line rest : L) (old new : ReceiverEnd) (done : Bool) : Type 0 where
   pub words : List ℕ
   pub gave : given rest ≡ given line ++ words
   pub taken : done ≡ true → new ≡ after_words old words
 
--- the transmitter answered cells and changes, and where they are all that was asked for the sink took the cells
+-- the transmitter answered cells and changes, and if they are all that was asked for the sink took the cells
 pub record HasSentAll (old new : Transmitting) (before after : Option (List Sent)) (done : Bool) : Type 0 where
   pub calls : List Call
   pub sent : done ≡ true → HasSent old new before after calls []
@@ -82,7 +82,7 @@ pub record AreShown (o : Opening) (list : List PlanTable) : Type 0 where
   pub plans : list ≡ plans_of o later
   pub known : AllByRecursion (IsKnownPlan o.proposal.station) list
 
--- a transmitter met two receivers, and was told this list of plans
+-- a transmitter met two receivers, and was given this list of plans
 pub record HasMetTwo (old new : Transmitting) (first second : ReceiverEnd) (list : List PlanTable) : Type 0 where
   pub one : List Load
   pub other : List Load
@@ -94,8 +94,9 @@ pub record HasMetTwo (old new : Transmitting) (first second : ReceiverEnd) (list
   pub received_one : IsReceived first.limit first.at.station first.number first.accepted
   pub received_other : IsReceived second.limit second.at.station second.number second.accepted
 
--- Two receivers of a station that has no other took words, from nothing accepted on. The first group's transmitter, which began by the opening plan
--- of its watcher at slot 0 and with no load, sent frames, and then met both and was told the planner's list. So it was one run.
+-- Two receivers of a station that has no other took words, from nothing accepted on. The first group's transmitter
+-- began by the opening plan of its watcher at slot 0 and with no load. It sent frames, and then met both receivers and
+-- was given the planner's list. So it was one run.
 abbrev pub EndsRunOnce : Type 0
 EndsRunOnce =
     (at : Place) (w : Watched) (list : List PlanTable) (begun sent done : Transmitting) (first second : List ℕ) (calls : List Call) (before after : Option (List Sent))

@@ -1,4 +1,4 @@
--- Where the words that a running station sends come from.
+-- The origin of the words that a running station sends.
 use Rattle.std.specs.Prelude.{◌≡◌, ◌++◌, ℕ, List, Option, Some, Contains, IsTrue, slice_get, take}
 use Rattle.std.specs.List.{AllByRecursion, AllZip}
 use Rattle.a429_equipment.specs.Arrivals.{accepts}
@@ -62,13 +62,14 @@ pub record IsWordOf (t : TableRecord) (came : ℕ → List ℕ) (source w : ℕ)
   pub accepted : IsTrue (accepts t row (row.receiver, w))
   pub arrived : Contains (came row.receiver) w
 
--- an output stands in the cell that is due, and the word belongs to its source
+-- the cell that is due has an output, and the word belongs to its source
 pub record IsOwnWord (t : TableRecord) (came : ℕ → List ℕ) (s : GroupState) (w : ℕ) : Type 0 where
   pub output : Placed
   pub stands : output_due s ≡ Some output
   pub word : IsWordOf t came output.source w
 
--- each word that these calls of a group's transmitter sent belongs to the source of the output that stands in its cell, by the plan in force there
+-- each word that these calls of a group's transmitter sent belongs to the source of the output in its cell, by the plan
+-- in force there
 abbrev pub AreOwnWords : TableRecord → Course → ℕ → SlotTable → List Call → Type 0
 AreOwnWords t course g p calls =
     (k : ℕ) (c : Carried) (w : ℕ) → slice_get calls k ≡ Some (Asks (Some c)) → c.word ≡ Some w

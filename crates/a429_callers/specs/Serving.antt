@@ -40,7 +40,8 @@ pub record HasHeading (e : TableRecord) (text : List ℕ) (name : List ℕ) (h :
   pub read : group_line e.version (line_at (lines_of text) line) ≡ Some h
   pub named : h.name ≡ name
 
--- for each group of the table the text has a line with its name and so many buses that no schedule that serves it has fewer
+-- for each group of the table the text has a line with its name and a number of buses; no schedule that serves the
+-- group has fewer
 abbrev pub StatesFewestBuses : TableRecord → List ℕ → Type 0
 StatesFewestBuses e text =
     (g : ℕ) (row : GroupRow) (rows : List OutputRow) → HasGroup e g row rows

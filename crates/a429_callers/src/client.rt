@@ -1,5 +1,5 @@
-//! A caller of receivers, a transmitter and a planner on threads of their own, which concludes from what they promise
-//! that all that was done is one run of the machine.
+//! A caller of receivers, a transmitter and a planner on threads of their own. From what they promise it concludes that
+//! all that was done is one run of the machine.
 ghost use Rattle.std.specs.Prelude.{◌≡◌, ◌≢◌, ◌<◌, ◌∷◌, [], All, IfSome, length, true};
 ghost use Rattle.a429_equipment.specs.SameStation.{same_station};
 ghost use Rattle.a429_slots.specs.Planned.{IsPlanOf};
@@ -29,7 +29,7 @@ pub fn hear<L: LineSource>(line: &mut L, receiver: &mut Receiver) -> bool
     receive_all(line, receiver, 0, &OpenGate).is_ok()
 }
 
-/// Sends so many whole frames, and says whether they all went out.
+/// Sends this number of whole frames, and says whether they all went out.
 pub fn send<B: BusSink>(transmit: &mut Transmit, sink: &mut B, frames: u32) -> bool
     requires { transmit.old.frame.sent ≡ 0 }
     ensures sent { HasSentAll transmit.old transmit.new (B.taken sink.old) (B.taken sink.new) result }
@@ -38,7 +38,7 @@ pub fn send<B: BusSink>(transmit: &mut Transmit, sink: &mut B, frames: u32) -> b
     send_frames(transmit, sink, 0, frames, &OpenGate).is_ok()
 }
 
-/// Publishes one more plan of the station, where it can be.
+/// Publishes one more plan of the station, if it can be published.
 pub fn publish<R: Wait>(
     rt: &R,
     planner: &mut Planner,
@@ -56,7 +56,7 @@ pub fn publish<R: Wait>(
     let _ = planner.publish(rt, plan);
 }
 
-/// A transmitter is told what was published, and meets both receivers.
+/// A transmitter gets what was published, and meets both receivers.
 pub fn meet(
     transmit: &mut Transmit,
     first: &mut Receiver,
@@ -83,7 +83,7 @@ pub fn ends_run_once()
     one_run();
 }
 
-/// The plan of an equipment, where it has one and memory is not refused.
+/// The plan of an equipment, if it has one and no allocation fails.
 fn plan_of(alloc: Global, equipment: &Equipment) -> Option<Plan<OUTPUTS>>
     ensures { IfSome result (IsPlanOf equipment.now) }
 {
@@ -144,7 +144,7 @@ fn open_transmit(
     Transmit::open(alloc, transmitter, watcher, 0, 0).ok()
 }
 
-/// Sends frames on a thread of its own, and publishes a plan meanwhile. Says whether all frames went out.
+/// Sends frames on a thread of its own, and at the same time publishes a plan. Says whether all frames went out.
 fn send_and_publish<R: Threads + Wait + Sync, B: BusSink + Send>(
     rt: &R,
     transmit: &mut Transmit,
@@ -174,8 +174,9 @@ fn send_and_publish<R: Threads + Wait + Sync, B: BusSink + Send>(
     sent
 }
 
-/// Both receivers take the words of their lines, each on a thread of its own, beside a group that sends so many frames
-/// and a planner that publishes a plan meanwhile. Says whether both lines came to their ends and all frames went out.
+/// Both receivers take the words of their lines, each on a thread of its own. At the same time a group sends this
+/// number of frames, and a planner publishes a plan. Says whether both lines came to their ends and all frames went
+/// out.
 fn take_and_send<R: Threads + Wait + Sync, L: LineSource + Send, B: BusSink + Send>(
     rt: &R,
     first: &mut L,
@@ -215,10 +216,9 @@ fn take_and_send<R: Threads + Wait + Sync, L: LineSource + Send, B: BusSink + Se
     heard && also && sent
 }
 
-/// Runs a station of two receivers, each on a thread of its own that takes the words of its line, beside its first
-/// group, which sends so many frames, and beside a planner, which publishes the plan of the next table meanwhile.
-/// Nothing is answered where an equipment has no plan, memory is refused, a line does not come to its end, or the sink
-/// fails.
+/// Runs a station of two receivers, each on a thread of its own that takes the words of its line. At the same time its
+/// first group sends this number of frames, and a planner publishes the plan of the next table. `None` if an equipment
+/// lacks a plan, an allocation fails, a line stops before its end, or the sink fails.
 pub fn run_once<R: Threads + Wait + Sync, L: LineSource + Send, B: BusSink + Send>(
     rt: &R,
     alloc: Global,

@@ -7,10 +7,10 @@ use a429_core::laws::{
 use a429_slots::laws::frames_go_on;
 use a429_workers::laws::one_run;
 
-/// A word that a group's transmitter knows of, since it loaded it for a cell or when it met the word's receiver, has
-/// gone out, it or a later one of its source, before one period of slots has passed on the bus of the source's output,
-/// where the output had stayed for a period before. What the transmitter does is what the machine does, so the
-/// machine's law of latency holds of its calls. A hold does not keep a word from going out once.
+/// A group's transmitter knows of a word because it loaded the word for a cell, or met the word's receiver. Let the
+/// output of the word's source have stayed for a period before. Then the word has gone out, it or a later one of the
+/// source, before one period of slots has passed on the output's bus. What the transmitter does is what the machine
+/// does, so the machine's law of latency is true of its calls. A hold lets each word go out once.
 pub fn known_words_go_out_in_time()
     ensures { KnownWordsGoOutInTime }
 {

@@ -1,5 +1,5 @@
-//! Callers that stand on what the libraries below promise in public, and on nothing else of them: each is checked, and
-//! its conclusion is in plain words. And a law of definitions on which no running code rests.
+//! Callers that use only what the libraries below promise in public: each is checked, and its conclusion is in plain
+//! words. There is also a law of definitions that no running code uses.
 #![tactic(auto)]
 
 pub mod client;

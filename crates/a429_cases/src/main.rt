@@ -1,10 +1,10 @@
-//! Commands of the program `a429` that are played over files in memory, each case as data.
+//! Runs commands of the program `a429` over files in memory. Each case is data.
 //!
-//! The arguments are files. One whose name ends in `.cases` has cases: they are played, each that fails is reported
-//! in a line, and then how many there are. Any other file is a text that the cases of later files may name. The
+//! The arguments are files. A file whose name ends in `.cases` has cases: they are played, each failed case is reported in
+//! one line, and then the number of cases is printed. Any other file is a text that the cases of later files can name. The
 //! status is 1 if a case failed.
 //!
-//! `data/README.md` says how a file of cases is read.
+//! `data/README.md` describes the form of a file of cases.
 #![tactic(auto)]
 
 mod malformed;

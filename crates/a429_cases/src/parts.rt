@@ -16,7 +16,7 @@ fn find_file<'a>(files: &'a MemoryFiles, name: &str) -> Option<&'a [u8]> {
     None
 }
 
-/// Keeps a file under its name, which no other file may have.
+/// Keeps a file under its name. The name must be new.
 pub fn keep_file(
     alloc: Global,
     files: &mut MemoryFiles,
@@ -52,7 +52,7 @@ pub fn share_text(
     keep_file(alloc, texts, name, bytes)
 }
 
-/// The bytes of a part: its lines, or what the form says that is in its head.
+/// The bytes of a part: its lines, or what the form in its head says.
 pub fn part_bytes(
     alloc: Global,
     texts: &MemoryFiles,
@@ -78,8 +78,8 @@ fn form_bytes(alloc: Global, texts: &MemoryFiles, form: &str) -> Result<Vec<u8>,
     }
 }
 
-/// The bytes of lines, each with its line feed. The rest of a line that begins with a backslash is spelled, and no line
-/// feed follows it.
+/// The bytes of lines, each with its line feed. If a line begins with a backslash, the rest of it is spelled and has no
+/// line feed.
 fn lines_bytes(alloc: Global, lines: &str) -> Result<Vec<u8>, Malformed> {
     let mut bytes = Vec::new(alloc);
     for line in lines.split('\n') {
@@ -114,7 +114,7 @@ fn shared_bytes(alloc: Global, texts: &MemoryFiles, text: &str) -> Result<Vec<u8
     }
 }
 
-/// So many bytes of a text, from its beginning.
+/// The first bytes of a text, as many as given.
 fn first_bytes<'a>(texts: &'a MemoryFiles, count: usize, name: &str) -> Option<&'a [u8]> {
     find_file(texts, name)?.get(..count)
 }

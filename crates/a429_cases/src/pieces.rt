@@ -16,7 +16,7 @@ pub fn name_and_rest(head: &str) -> (&str, &str) {
     }
 }
 
-/// The number before the first mark of a text, and the text after the mark. None if no number is before it.
+/// The number before the first mark of a text, and the text after the mark. `None` if no number is before it.
 pub fn number_before<'a>(text: &'a str, mark: &str) -> Option<(usize, &'a str)> {
     let (number, rest) = text.split_once(mark)?;
     match number.trim().parse::<usize>() {
@@ -25,7 +25,7 @@ pub fn number_before<'a>(text: &'a str, mark: &str) -> Option<(usize, &'a str)> 
     }
 }
 
-/// The bytes before and after the first place of a part. An empty part has no place.
+/// The bytes before and after the first occurrence of a part. `None` if there is none, or if the part is empty.
 pub fn cut_around<'a>(bytes: &'a [u8], part: &[u8]) -> Option<(&'a [u8], &'a [u8])> {
     if part.is_empty() {
         return None;

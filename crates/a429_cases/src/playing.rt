@@ -1,4 +1,4 @@
-//! Cases are played one by one, and those that fail are reported.
+//! Plays cases one by one, and reports those that fail.
 
 use crate::malformed::Malformed;
 use crate::parts::{keep_file, share_text};
@@ -9,7 +9,7 @@ use a429_cli::MemoryFiles;
 use std::sync::Wait;
 use std::thread::Threads;
 
-/// What plays cases: the texts that they share, and the counts of what was played.
+/// The player of cases: the texts that they share, and the counts of what was played.
 #[derive(Drop)]
 pub struct Player<'a, R: Print + AllocGlobal + Threads + Wait> {
     rt: &'a R,
@@ -30,7 +30,7 @@ impl<'a, R: Print + AllocGlobal + Threads + Wait> Player<'a, R> {
         }
     }
 
-    /// Whether a case of any file failed, or what is to be printed was not.
+    /// Whether a case of any file failed, or a line could not be printed.
     pub fn has_failed(&self) -> bool {
         self.failures > 0
     }
@@ -41,7 +41,7 @@ impl<'a, R: Print + AllocGlobal + Threads + Wait> Player<'a, R> {
         self.report(name, kept);
     }
 
-    /// Plays the cases of a file, and prints how many there are. The texts that it shares are forgotten then.
+    /// Plays the cases of a file, and prints how many there are. Then it forgets the texts that the file shares.
     pub fn play_file(&mut self, name: &str, bytes: &[u8]) {
         let kept = self.texts.files.len();
         self.cases = 0;
@@ -66,7 +66,7 @@ impl<'a, R: Print + AllocGlobal + Threads + Wait> Player<'a, R> {
         }
     }
 
-    /// A section is a text that is shared, or cases.
+    /// Plays a section: a text that is shared, or cases.
     fn play_section(&mut self, section: &str) {
         let (title, text) = head_and_lines(section);
         match title.strip_prefix("text ") {
@@ -89,7 +89,7 @@ impl<'a, R: Print + AllocGlobal + Threads + Wait> Player<'a, R> {
     }
 
     fn play_row(&mut self, title: &str, text: &str, row: &str) {
-        // A part below the rows would be taken for a row.
+        // A part below the rows would be read as a row.
         if row.starts_with("--- ") || !has_place(text) {
             return self.report(title, Err(Malformed::Rows));
         }
@@ -131,7 +131,7 @@ impl<'a, R: Print + AllocGlobal + Threads + Wait> Player<'a, R> {
     }
 }
 
-/// Before the first case are comments alone.
+/// Only comments may be before the first case.
 fn check_head(head: &str) -> Result<(), Malformed> {
     for line in head.split('\n') {
         if !line.is_empty() && !line.starts_with('#') {

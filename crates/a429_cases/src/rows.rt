@@ -1,8 +1,8 @@
-//! Rows: the fields by which one text states many cases.
+//! Rows: one text with fields gives many cases.
 
 use std::alloc::{AllocError, Global};
 
-/// Where the fields of a row go.
+/// The marks that the fields of a row replace.
 static PLACES: [&str; 4] = ["{1}", "{2}", "{3}", "{4}"];
 
 fn count_places(text: &str) -> usize {
@@ -20,8 +20,8 @@ pub fn has_place(text: &str) -> bool {
     count_places(text) > 0
 }
 
-/// The text with the fields of a row in their places. The fields stand between bars; the last that the text asks
-/// for has all that is left of the row.
+/// The text with the fields of a row in their places. Bars separate the fields; the last field that the text uses has the
+/// rest of the row.
 pub fn fill_row(alloc: Global, text: &str, row: &str) -> Result<String, AllocError> {
     let mut filled = String::from_str(alloc, text)?;
     for (place, field) in PLACES.iter().zip(row.splitn(count_places(text), '|')) {

@@ -23,7 +23,7 @@ pub fn push_spelling(alloc: Global, bytes: &mut Vec<u8>, text: &str) -> Result<(
     push_times(bytes, part, count % 1000)
 }
 
-/// Appends a part, a thousand times for each of the count: a text of 16 MiB is not spelled byte by byte.
+/// Appends a part `count` thousand times: so a text of 16 MiB is not spelled byte by byte.
 fn push_thousands(
     alloc: Global,
     bytes: &mut Vec<u8>,
@@ -78,7 +78,7 @@ fn push_escaped(bytes: &mut Vec<u8>, text: &str) -> Result<(), Malformed> {
     Ok(push_plain(bytes, rest)?)
 }
 
-/// A text after edits `OLD => NEW`, with bars between them. Each is made at the first OLD.
+/// A text after edits `OLD => NEW`, separated by bars. Each edit replaces the first OLD.
 pub fn apply_edits(alloc: Global, text: &[u8], edits: &str) -> Result<Vec<u8>, Malformed> {
     let mut all = Vec::from_slice(alloc, text)?;
     for edit in edits.split('|') {

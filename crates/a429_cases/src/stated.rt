@@ -1,4 +1,4 @@
-//! What a case states, and whether a command does it.
+//! What a case expects, and whether a command does it.
 
 use crate::malformed::Malformed;
 use crate::parts::{keep_file, part_bytes};
@@ -19,23 +19,22 @@ struct Outcome {
     status: u8,
 }
 
-/// The words of a command, its files, what it is to write, and what it wrote.
+/// The arguments of a command, its files, what it must write, and what it wrote.
 #[derive(Drop)]
 pub struct Case<'a> {
     words: CaseWords<'a>,
     files: MemoryFiles,
-    /// The status. None if no part `out` is read so far.
+    /// The expected status. `None` if no part `out` was read yet.
     status: Option<u8>,
-    /// Standard output. A line `...` is for anything.
+    /// The expected standard output. A line `...` matches any text.
     out: Vec<u8>,
-    /// Texts, one a line, that are found on standard error. None if hints are all that may be there, and these only
-    /// with a refusal.
+    /// Texts, one a line, that must be on standard error. `None` if only hints may be there, and only after a refusal.
     err: Option<Vec<u8>>,
     outcome: Outcome,
 }
 
 impl<'a> Case<'a> {
-    /// A case that is not read yet.
+    /// A case before it is read.
     pub fn empty(alloc: Global) -> Case<'a> {
         Case {
             words: CaseWords {
@@ -55,7 +54,7 @@ impl<'a> Case<'a> {
         }
     }
 
-    /// Reads the case that a text states, from the line of its words on.
+    /// Reads a case from a text that begins with the line of arguments.
     pub fn read(
         &mut self,
         alloc: Global,
@@ -101,7 +100,7 @@ impl<'a> Case<'a> {
         self.take_file(alloc, name, bytes)
     }
 
-    /// Takes the status of the one part `out`.
+    /// Reads the status of the part `out`, of which a case has one.
     fn take_status(&mut self, status: &str) -> Result<(), Malformed> {
         if self.status.is_some() {
             return Err(Malformed::Twice);
@@ -113,7 +112,7 @@ impl<'a> Case<'a> {
         Ok(())
     }
 
-    /// Takes the texts of the part `err`, or a file.
+    /// Reads the texts of the part `err`, or a file.
     fn take_file(&mut self, alloc: Global, name: &str, bytes: Vec<u8>) -> Result<(), Malformed> {
         match name {
             "rows" => Err(Malformed::Rows),
@@ -126,7 +125,7 @@ impl<'a> Case<'a> {
         }
     }
 
-    /// Runs the program on the words of the case.
+    /// Runs the program with the arguments of the case.
     pub fn play<R: AllocGlobal + Threads + Wait>(&mut self, rt: &R) {
         let Case {
             words,
@@ -138,14 +137,14 @@ impl<'a> Case<'a> {
         *status = run_program(rt, &*words, &HintLines, files, out, err, &NoProgress);
     }
 
-    /// Whether the program did what the case states.
+    /// Whether the program did what the case expects.
     pub fn is_met(&self) -> bool {
         self.status == Some(self.outcome.status)
             && is_output(&self.out, &self.outcome.out.writer)
             && self.has_errors()
     }
 
-    /// Whether standard error has what the case states.
+    /// Whether standard error has what the case expects.
     fn has_errors(&self) -> bool {
         let err = text_of(&self.outcome.err.writer);
         if let Some(texts) = &self.err {
@@ -155,7 +154,8 @@ impl<'a> Case<'a> {
     }
 
     fn may_hint(&self) -> bool {
-        self.status == Some(1) || refuses_a_table(text_of(&self.outcome.out.writer))
+        let out = text_of(&self.outcome.out.writer);
+        self.status == Some(1) || out.starts_with("refused ") || refuses_a_table(out)
     }
 
     /// Prints what the program did, in one line.
@@ -168,7 +168,7 @@ impl<'a> Case<'a> {
     }
 }
 
-/// Whether an output is the stated one. A line `...` is for anything.
+/// Whether an output is the expected one. A line `...` matches any text.
 fn is_output(stated: &[u8], out: &[u8]) -> bool {
     let Some((start, end)) = cut_around(stated, b"...\n") else {
         return stated == out;
@@ -179,7 +179,7 @@ fn is_output(stated: &[u8], out: &[u8]) -> bool {
     }
 }
 
-/// An output as text. One that is no text has no line that a case asks for.
+/// An output as text. Bytes that are not UTF-8 become a text that no case expects.
 fn text_of(bytes: &[u8]) -> &str {
     match str::from_utf8(bytes) {
         Ok(text) => text,
@@ -197,7 +197,7 @@ fn has_lines(text: &str, lines: &str) -> bool {
     true
 }
 
-/// How a line begins that refuses a table, a further one while the command goes on.
+/// The beginnings of a line that refuses a table. After the refusal of a further table the command goes on.
 static TABLE_REFUSALS: [&str; 4] = [
     "refused table ",
     "refused unfit ",

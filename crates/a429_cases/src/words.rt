@@ -1,4 +1,4 @@
-//! The words of a command.
+//! The arguments of a command.
 
 ghost use Rattle.std.specs.Io.{WritesAtMost};
 
@@ -8,15 +8,15 @@ use a429_cli::Arguments;
 use std::alloc::AllocError;
 use std::env::FillError;
 
-/// The words of a case, given as those of a program are: at place 0 stands the program's name.
+/// The arguments of a case, as a program gets them: at place 0 is the name of the program.
 #[derive(Drop)]
 pub struct CaseWords<'a> {
     pub words: Vec<&'a str>,
 }
 
 impl<'a> CaseWords<'a> {
-    /// Reads the words of a line. Between quotes is one word, which may have spaces or be empty; `N*WORD` is the word N
-    /// times.
+    /// Reads the arguments of a line. Text between quotes is one argument, which may have spaces or be empty. `N*WORD` is
+    /// the argument N times.
     pub fn read(&mut self, line: &'a str) -> Result<(), Malformed> {
         if line.contains('\n') || line.starts_with("--- ") {
             return Err(Malformed::Words);
@@ -61,7 +61,7 @@ fn push_words<'a>(words: &mut Vec<&'a str>, line: &'a str) -> Result<(), AllocEr
     Ok(())
 }
 
-/// Appends words with spaces between them.
+/// Appends the arguments, separated by spaces.
 fn push_plain<'a>(words: &mut Vec<&'a str>, text: &'a str) -> Result<(), AllocError> {
     for word in text.split(' ') {
         if !word.is_empty() {

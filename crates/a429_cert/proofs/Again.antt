@@ -94,7 +94,7 @@ texts_listed : (version : ℕ) (ls : List Listing) → AllByRecursion (FitsListi
 texts_listed version [] h = refl
 texts_listed version (l ∷ ls) h = rw (output_again version l h.0, texts_listed version ls h.1) refl
 
--- each listing holds beside the ones before it
+-- each listing holds with the ones before it
 abbrev pub EachHolds : ℕ → DueGroup → ℕ → List Listing → List Listing → Type 0
 EachHolds version g buses earlier [] = Unit {0}
 EachHolds version g buses earlier (l ∷ ls) = ListingHolds version g buses earlier l × EachHolds version g buses (earlier ++ l ∷ []) ls
@@ -116,7 +116,7 @@ outputs_pass version g buses number lines rest earlier (l ∷ ls) fits-e fits-t 
     let regrouped : lines ≡ map output_text (earlier ++ l ∷ []) ++ (map output_text ls ++ rest) = e ∙ rw (map-append, append_assoc) refl in
     rw (none, ← next) (outputs_pass version g buses (number + 1) lines rest (earlier ++ l ∷ []) ls (all_push (FitsListing version) earlier l fits-e fits-t.0) fits-t.1 h.1 regrouped)
 
--- ---- from pairs to each listing beside the ones before it
+-- ---- from pairs to each listing with the ones before it
 
 all_at : (P : Listing → Type 0) (xs : List Listing) (y : Listing) (ys : List Listing) → AllByRecursion P (xs ++ y ∷ ys) → P y
 all_at P [] y ys h = h.0

@@ -38,7 +38,7 @@ pub order_once : (n : ℕ) (order : List ℕ) → IsPermutation (range_with_len 
 order_once n order moved =
     IsDistinct-IsPermutation eqb flips (range_with_len 0 n) order moved (IsDistinct-from_apart eqb (range_with_len 0 n) (λ i j d less below. range_apart n i j d less below))
 
--- ---- what holds of each number, or of any two, holds of their listings
+-- ---- what is true of each number, or of any two, is true of their listings
 
 later_pairs : (R : Listing → Listing → Type 0) (f : ℕ → Listing) (n o : ℕ) (order : List ℕ) → o < n → AllByRecursion (λ j. j < n) order → AllByRecursion (λ j. eqb o j ≡ false) order
     → ((i j : ℕ) → i < n → j < n → i ≢ j → R (f i) (f j)) → AllByRecursion (R (f o)) (map f order)

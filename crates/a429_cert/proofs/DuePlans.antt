@@ -38,11 +38,11 @@ pub record StatesAsDue (version : ℕ) (g : DueGroup) (lines : List (List ℕ)) 
   pub checked : IsCheckedAsDue version g stated
   pub states : stated.bound ≡ record { demand = demand g; full_buses = stated.heading.buses - 1; frame = frame g }
 
--- the same group by group, and nothing stands behind the last
+-- the same group by group, and nothing comes after the last
 abbrev pub StateAsDue : ℕ → List DueGroup → List (List ℕ) → Type 0
 StateAsDue version [] lines = lines ≡ []
 StateAsDue version (g ∷ gs) lines = StatesAsDue version g lines × StateAsDue version gs (drop (length g.outputs.items + 2) lines)
 
--- of two grid periods the smaller divides the greater, as it does for powers of two
+-- the smaller of two grid periods divides the greater: they are powers of two
 abbrev pub PeriodsNest : DueGroup → Type 0
 PeriodsNest g = (s t : List ℕ) (p q : ℕ) → period_of g s ≡ Some p → period_of g t ≡ Some q → p ≤ q → (c : ℕ) × (q ≡ p * c)

@@ -41,7 +41,7 @@ after_again text rest =
 
 -- ---- a word
 
--- what stands behind a word
+-- what comes after a word
 abbrev pub EndsWord : List ℕ → Type 0
 EndsWord rest = position_or_len is_break rest ≡ 0
 
@@ -142,7 +142,7 @@ pub number_again : (n : ℕ) (rest : List ℕ) → n < 10 ^ 10 → EndsWord rest
 unfolding number
 number_again n rest h ends = rw (word_again (decimal n) rest (decimal_word n h) ends, value_again n h) refl
 
--- ---- behind a text
+-- ---- after a text
 
 pub word_after_takes : (text bytes w rest : List ℕ) → word_after text bytes ≡ Some (w, rest) → (bytes ≡ text ++ (w ++ rest)) × IsWord w
 unfolding word_after

@@ -79,7 +79,7 @@ group_passes version g lines rest line last number buses r at-line at-rest fine 
     rw none (gives_along _ _ r (pass_front (number + 1) (output_faults version g (buses_of version (line_at lines 0)) (drop 1 lines) 0 (length g.outputs.items)) (bound_fault g (buses_of version (line_at lines 0)) (line_at lines (length g.outputs.items + 1)) ∷ []) passed)
     (subst (λ (k : ℕ). EndsCheckBy r (first_no k (bound_fault g (buses_of version (line_at lines 0)) (line_at lines (length g.outputs.items + 1)) ∷ []))) (sym count) ended))
 
--- ---- behind the last line
+-- ---- after the last line
 
 first_byte : (b : ℕ) (t : Bool) (lines : List (List ℕ)) → line_at (cond t ((b ∷ []) ∷ lines) (onto_first b lines)) 0 ≡ [] → ⊥
 first_byte b true lines e = absurd cc

@@ -10,7 +10,7 @@ use Rattle.a429_cert.specs.Checked.{Stated, stated_text}
 use Rattle.a429_cert.proofs.Fields.{decimal_word}
 use Rattle.a429_cert.proofs.Again.{FitsStated}
 
--- whatever follows it, it is the first line
+-- it is the first line, before any others
 abbrev pub IsLineText : List ℕ → Type 0
 IsLineText line = (rest : List ℕ) → lines_of (line ++ rest) ≡ line ∷ lines_of rest
 

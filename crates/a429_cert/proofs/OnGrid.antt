@@ -149,6 +149,6 @@ all_nest (g ∷ gs) on = (nest g on.0, all_nest gs on.1)
 
 -- ---- the fewest buses
 
--- that so many buses carry the demand and one fewer do not makes them the fewest
+-- a number of buses is the fewest if it carries the demand and one bus less does not
 abbrev pub FewestByDemand : Type 0
 FewestByDemand = (exponents : List ℕ) (buses : ℕ) → 1 ≤ length exponents → IsBusCount exponents buses → AreFewestBuses exponents buses

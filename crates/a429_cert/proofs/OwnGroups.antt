@@ -41,7 +41,7 @@ use Rattle.a429_cert.proofs.Parts.{part_said}
 use Rattle.a429_pack.proofs.Entries.{up_to_greatest}
 use Rattle.a429_slots.proofs.Rows.{blank}
 
--- the fewest buses of a schedule carry the demand, and one fewer do not
+-- the fewest buses of a schedule carry the demand, and one bus less does not
 abbrev pub FewestCarry : Type 0
 FewestCarry = (exponents : List ℕ) (buses : ℕ) → 1 ≤ length exponents → AreFewestBuses exponents buses → IsBusCount exponents buses
 

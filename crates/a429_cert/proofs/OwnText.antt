@@ -33,7 +33,7 @@ record AreOwnRows (e : TableRecord) (rowss : List (List OutputRow)) (groups : Li
   own : AllByRecursion HaveOwnSources rowss
   words : AllByRecursion IsGroupRow groups
 
--- what is left of the outputs beside their rates
+-- what is left of the outputs with their bit rates
 abbrev rated : List GroupRow → List (List OutputRow) → List (ℕ × List OutputRow)
 rated groups rowss = zip (map (λ g. g.rate) groups) rowss
 

@@ -14,7 +14,7 @@ use Rattle.a429_word.specs.Decimal.{decimal_number}
 use Rattle.a429_word.proofs.Numerals.{digits_model}
 use Rattle.a429_cert.proofs.Fields.{bind_some, after_takes, after_again, EndsWord, word_takes, word_again, value_takes, value_again, decimal_word, number_after_takes, number_after_again}
 
--- ---- what is said where a text says more
+-- ---- what is said if a text says more
 
 pub part_said : {A : Type 0} (P : A → Type 0) (version : ℕ) (x : A) → P x → IsPart version P (said_in version x)
 part_said P version x h = by_test (says_more version) refl

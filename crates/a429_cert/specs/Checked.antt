@@ -19,7 +19,7 @@ pub record Stated : Type 0 where
 abbrev pub stated_text : Stated → List ℕ
 stated_text s = group_text s.heading ++ (flat_map output_text s.outputs ++ bound_text s.bound)
 
--- the output stands in this cell
+-- the output is in this cell
 pub record Fills (l : Listing) (bus slot : ℕ) : Type 0 where
   pub on_bus : bus ≡ l.bus
   pub at_offset : slot % l.period ≡ l.offset
@@ -28,7 +28,7 @@ pub record Fills (l : Listing) (bus slot : ℕ) : Type 0 where
 abbrev pub CellsAreApart : Listing → Listing → Type 0
 CellsAreApart k l = (bus slot : ℕ) → Fills k bus slot → Fills l bus slot → ⊥
 
--- R holds of each element and each later one
+-- R is true of each element and each later one
 abbrev pub EachPair : (Listing → Listing → Type 0) → List Listing → Type 0
 EachPair R [] = Unit {0}
 EachPair R (l ∷ ls) = AllByRecursion (R l) ls × EachPair R ls
@@ -56,8 +56,9 @@ pub record IsPlaced (e : TableRecord) (rate : ℕ) (rows : List OutputRow) (buse
 abbrev pub stated_demand : Stated → ℕ
 stated_demand s = sum_by (λ l. s.heading.frame / l.period) s.outputs
 
--- The plan that is stated for a group of the table: the frame is the greatest grid period, each output is listed once in cells of its own,
--- and their demand fills more than all buses but one, and no more than all. In version 2 the group's rate is stated too.
+-- The plan that is stated for a group of the table: the frame is the greatest grid period, and each output is listed
+-- once in cells of its own. The demand of the outputs fills at most all buses, and more than all but the last. In
+-- version 2 the group's bit rate is stated too.
 pub record IsChecked (e : TableRecord) (group : GroupRow) (rows : List OutputRow) (s : Stated) : Type 0 where
   pub name : s.heading.name ≡ group.name
   pub rate : s.heading.rate ≡ said_in e.version group.rate

@@ -18,7 +18,7 @@ pub record IsDueOutput (e : TableRecord) (rate : ℕ) (row : OutputRow) (o : Due
   pub period : IsGridPeriod row.min_us row.max_us rate o.period
   pub hold : o.hold ≡ row.hold
 
--- what is due of a row: an output, or nothing where the row's interval admits no grid period
+-- what is due of a row: an output, or nothing if the row's interval allows no grid period
 abbrev pub IsDueOfRow : TableRecord → ℕ → OutputRow → Option DueOutput → Type 0
 IsDueOfRow e rate row due = MatchOption due (HasNoGridPeriod row.min_us row.max_us rate) (IsDueOutput e rate row)
 
@@ -31,18 +31,19 @@ pub record IsDueGroup (e : TableRecord) (rated : ℕ × List OutputRow) (g : Due
   pub rate : g.rate ≡ rated.0
   pub outputs : AllZip (IsDueOutput e rated.0) rated.1 g.outputs.items
 
--- the version, the rate of all groups where the table has one, and each group with its name, its rate and its outputs, in table order
+-- the version, the bit rate of all groups if the table has one, and each group with its name, its bit rate and its
+-- outputs, in table order
 pub record IsDue (e : TableRecord) (t : DueTable) : Type 0 where
   pub version : t.version ≡ e.version
   pub rate : t.rate ≡ e.rate
   pub names : map (λ g. g.name) t.groups.items ≡ map (λ g. g.name) e.groups
   pub groups : AllZip (IsDueGroup e) (rated_outputs e) t.groups.items
 
--- the interval of each output admits a grid period at the rate beside them
+-- the interval of each output allows a grid period at the bit rate that comes with them
 abbrev pub OutputsAreFit : ℕ × List OutputRow → Type 0
 OutputsAreFit rated = AllByRecursion (IsFit rated.0) rated.1
 
--- output o of group g is the first in table order whose interval admits no grid period at the rate of its group
+-- output o of group g is the first in table order whose interval allows no grid period at the bit rate of its group
 pub record IsFirstUnfitOf (e : TableRecord) (g o : ℕ) : Type 0 where
   pub rate : ℕ
   pub rows : List OutputRow

@@ -41,7 +41,7 @@ output_of g source = find (λ o. bytes_eq o.source source) g.outputs.items
 abbrev pub period_of : DueGroup → List ℕ → Option ℕ
 period_of g source = option_map (λ o. o.period) (output_of g source)
 
--- its hold; none where there is no limit
+-- its hold; none if there is no limit
 abbrev pub hold_of : DueGroup → List ℕ → Option ℕ
 hold_of g source = option_and_then (λ o. o.hold) (output_of g source)
 
@@ -51,7 +51,7 @@ due gs = sum_by (λ g. length g.outputs.items + 2) gs
 
 -- ---- one line
 
--- the first reason whose condition stands
+-- the first reason whose condition is true
 abbrev pub first_reason : List (Bool × Reason) → Option Reason
 first_reason [] = None
 first_reason (r ∷ rs) = if r.0 then Some r.1 else first_reason rs
@@ -119,7 +119,7 @@ bound_holds g buses b =
 unfoldable pub bound_fault : DueGroup → ℕ → List ℕ → Option Reason
 bound_fault g buses line = of_form (bound_line line) (λ said. (not (bound_holds g buses said), reasons.Bound) ∷ [])
 
--- behind the last line that is due
+-- after the last line that is due
 abbrev pub end_fault : List (List ℕ) → Option Reason
 end_fault [] = None
 end_fault (line ∷ lines) = Some reasons.Form
@@ -130,7 +130,7 @@ end_fault (line ∷ lines) = Some reasons.Form
 unfoldable pub buses_of : ℕ → List ℕ → ℕ
 buses_of version line = unwrap_or (option_map (λ said. said.buses) (group_line version line)) 0
 
--- for each of so many lines of outputs from line j on, what is wrong with it, by the lines before it
+-- for each of this number of lines of outputs, from line j on, what is wrong with it, by the lines before it
 abbrev pub output_faults : ℕ → DueGroup → ℕ → List (List ℕ) → ℕ → ℕ → List (Option Reason)
 output_faults version g buses lines j zero = []
 output_faults version g buses lines j (suc count) =
@@ -149,12 +149,12 @@ group_faults version g lines =
     ∷ (all_output_faults version g buses (drop 1 lines)
     ++ bound_fault g buses (line_at lines (length g.outputs.items + 1)) ∷ [])
 
--- the same group by group; nothing may stand behind the last
+-- the same group by group; nothing may come after the last
 abbrev pub groups_faults : ℕ → List DueGroup → List (List ℕ) → List (Option Reason)
 groups_faults version [] lines = end_fault lines ∷ []
 groups_faults version (g ∷ gs) lines = group_faults version g lines ++ groups_faults version gs (drop (length g.outputs.items + 2) lines)
 
--- the line of the rate of all groups is due where the table has one
+-- the line of the bit rate of all groups is due if the table has one
 abbrev pub rate_faults : Option ℕ → List ℕ → List (Option Reason)
 rate_faults None line = []
 rate_faults (Some rate) line = rate_fault rate line ∷ []
@@ -168,7 +168,7 @@ faults t lines =
 
 -- ---- the answer
 
--- the first line that fails, where the first of the lines has the number n
+-- the first line that fails, if the first of the lines has the number n
 abbrev pub first_no : ℕ → List (Option Reason) → Option No
 first_no n [] = None
 first_no n (None ∷ fs) = first_no (n + 1) fs
@@ -183,6 +183,6 @@ abbrev pub EndsCheckBy : {A : Type 0} → Result A CheckStop → Option No → T
 EndsCheckBy (Ok x) answer = answer ≡ None
 EndsCheckBy (Err stop) answer = Stops stop answer
 
--- an answer is the reason against a line, where there is one
+-- an answer is the reason against a line, if there is one
 abbrev pub GivesReason : {A : Type 0} → Result A Reason → Option Reason → Type 0
 GivesReason answer reason = MatchResult answer (λ _. reason ≡ None) (λ r. reason ≡ Some r)

@@ -34,7 +34,7 @@ pub record StatesFewest (e : TableRecord) (group : GroupRow) (rows : List Output
   pub plan : StatesPlan e group rows lines
   pub fewest : AreFewestBusesFor group.rate rows plan.stated.heading.buses
 
--- the same group by group, each with its outputs, and nothing stands behind the last
+-- the same group by group, each with its outputs, and nothing comes after the last
 abbrev pub StateFewest : TableRecord → List (GroupRow × List OutputRow) → List (List ℕ) → Type 0
 StateFewest e [] lines = lines ≡ []
 StateFewest e (g ∷ gs) lines = StatesFewest e g.0 g.1 lines × StateFewest e gs (drop (length g.1 + 2) lines)
@@ -61,7 +61,7 @@ FewestIsShown =
 abbrev pub IsVerdictOnBytes : List ℕ → List ℕ → Verdict → Type 0
 IsVerdictOnBytes table text v = (e : TableRecord) × (due : DueTable) × (reading table ≡ Ok e) × IsDue e due × (v ≡ verdict due text)
 
--- the fault stands in the table, unless memory ran out
+-- the fault is one of the table, unless memory ran out
 abbrev pub IsNoVerdict : TableRecord → NoVerdict → Type 0
 IsNoVerdict e (judge.Unfit g o) = IsFirstUnfitOf e g o
 IsNoVerdict e judge.NoMemory = ⊤
@@ -72,7 +72,7 @@ IsGroupUnfit e rate g (judge.Unfit group o) =
     (group ≡ g) × ((rows : List OutputRow) × (slice_get e.outputs g ≡ Some rows) × IsFirstUnfit rate rows o)
 IsGroupUnfit e rate g judge.NoMemory = ⊤
 
--- want of memory in reading a table is the check's own
+-- if memory runs out while a table is read, that is the check's own fault
 abbrev pub of_table : TableFault → CheckFault
 of_table (table.At kind place) = check.Table (table.At kind place)
 of_table table.NoMemory = check.NoMemory
@@ -81,7 +81,8 @@ abbrev pub of_judge : NoVerdict → CheckFault
 of_judge (judge.Unfit g o) = check.Unfit g o
 of_judge judge.NoMemory = check.NoMemory
 
--- The bytes of the table state this fault; or they state a table with this fault. Want of memory is never a fault of the table.
+-- The bytes of the table state this fault; or they state a table with this fault. `NoMemory` is never a fault of the
+-- table.
 abbrev pub IsCheckFault : List ℕ → CheckFault → Type 0
 IsCheckFault bytes (check.Table (table.At kind place)) = reading bytes ≡ Err (kind, place)
 IsCheckFault bytes (check.Table table.NoMemory) = ⊥

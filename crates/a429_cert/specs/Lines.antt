@@ -11,7 +11,8 @@ lines_of (b ∷ bs) = if b == 10 then (b ∷ []) ∷ lines_of bs else onto_first
 abbrev pub line_at : List (List ℕ) → ℕ → List ℕ
 line_at lines n = slice_index_or lines n []
 
--- the lines from the first group on: behind the line of the version, and behind that of the rate where all groups have one
+-- the lines from the first group on: after the line of the version, and after that of the bit rate if all groups have
+-- one
 abbrev pub lines_of_groups : Option ℕ → List (List ℕ) → List (List ℕ)
 lines_of_groups None lines = drop 1 lines
 lines_of_groups (Some rate) lines = drop 2 lines

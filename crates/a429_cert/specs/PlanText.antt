@@ -10,7 +10,7 @@ use Rattle.a429_slots.specs.Tables.{SlotTable, PlanTable, placed_at, outputs_of,
 use Rattle.a429_cert.specs.Spelling.{Heading, Listing, Bounding, said_in, version_text, rate_text, output_text}
 use Rattle.a429_cert.specs.Checked.{Stated, stated_text}
 
--- the name of a source; behind the last source, nothing
+-- the name of a source; after the last source, nothing
 abbrev pub source_name : List SourceRow → ℕ → List ℕ
 source_name sources n = option_map_or (λ s. s.name) (slice_get sources n) []
 
@@ -18,7 +18,7 @@ source_name sources n = option_map_or (λ s. s.name) (slice_get sources n) []
 abbrev pub heading_of : ℕ → GroupRow → SlotTable → Heading
 heading_of version g t = record { name = g.name; rate = said_in version g.rate; frame = frame_of t; buses = buses_of t }
 
--- an output that stands at a place: its period in slots, its bus and its offset, and in version 2 its hold
+-- an output at a place: its period in slots, its bus and its offset, and in version 2 its hold
 abbrev pub placed_listing : ℕ → List ℕ → SlotPlace → Option ℕ → Listing
 placed_listing version name place hold =
     record { source = name; period = 2 ^ place.period; bus = place.bus; offset = place.offset; hold = said_in version hold }
@@ -33,7 +33,7 @@ listing_of version sources t o =
     let placed = placed_at t o in
     placed_listing version (source_name sources placed.source) placed.place placed.limits.hold
 
--- the group's demand, against one bus fewer than it has
+-- the group's demand, against one bus less than it has
 abbrev pub bound_of : SlotTable → Bounding
 bound_of t = record { demand = sum (demands_of t); full_buses = buses_of t - 1; frame = frame_of t }
 
@@ -56,7 +56,7 @@ outputs_text version sources t = flat_map output_text (map (listing_of version s
 abbrev pub groups_text : TableRecord → PlanTable → List ℕ
 groups_text e p = flat_map stated_text (stated_groups e.version e.sources e.groups (groups_of p))
 
--- the version, and the rate where all groups have one
+-- the version, and the bit rate if all groups have one
 abbrev pub head_text : TableRecord → List ℕ
 head_text e = version_text e.version ++ option_map_or rate_text e.rate []
 

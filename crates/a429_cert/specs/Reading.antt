@@ -30,11 +30,11 @@ number bytes = do
   n ← decimal_number w.0
   Some (n, w.1)
 
--- the word behind a text, and the bytes after it
+-- the word after a text, and the bytes that follow the word
 unfoldable pub word_after : List ℕ → List ℕ → Option (List ℕ × List ℕ)
 word_after text bytes = after text bytes >>= word
 
--- the number behind a text, and the bytes after it
+-- the number after a text, and the bytes that follow the number
 unfoldable pub number_after : List ℕ → List ℕ → Option (ℕ × List ℕ)
 number_after text bytes = after text bytes >>= number
 
@@ -53,7 +53,7 @@ limit bytes = do
 unfoldable pub is_end : List ℕ → Bool
 is_end bytes = bytes_eq bytes (codes "\n")
 
--- a number behind a text, and nothing else
+-- a number after a text, and nothing else
 unfoldable pub number_line : List ℕ → List ℕ → Option ℕ
 number_line text line = do
   n ← number_after text line

@@ -6,7 +6,8 @@ use Rattle.std.specs.Fmt.{decimal}
 abbrev pub when : {A : Type 0} → Bool → A → Option A
 when b x = if b then Some x else None
 
--- whether a text of this version says the rate of each group and the hold of each output (profile: plan text, versions 1 and 2)
+-- whether a text of this version says each group's bit rate and each output's hold (profile: plan text, versions 1 and
+-- 2)
 abbrev pub says_more : ℕ → Bool
 says_more version = version == 2
 
@@ -17,7 +18,7 @@ said_in version x = when (says_more version) x
 -- what a group's first line says
 pub record Heading : Type 0 where
   pub name : List ℕ
-  -- in bit/s; none where it is not said
+  -- in bit/s; none if the text leaves it out
   pub rate : Option ℕ
   pub frame : ℕ
   pub buses : ℕ
@@ -28,7 +29,7 @@ pub record Listing : Type 0 where
   pub period : ℕ
   pub bus : ℕ
   pub offset : ℕ
-  -- a number, or that there is no limit; none where it is not said
+  -- a number, or that there is no limit; none if the text leaves it out
   pub hold : Option (Option ℕ)
 
 -- what a group's last line says
@@ -43,7 +44,7 @@ version_text version = codes "plan " ++ (decimal version ++ codes "\n")
 abbrev pub rate_text : ℕ → List ℕ
 rate_text rate = codes "rate " ++ (decimal rate ++ codes "\n")
 
--- the rate, where it is said, before the rest of a line
+-- the bit rate, if it is said, before the rest of a line
 abbrev pub rate_before : Option ℕ → List ℕ → List ℕ
 rate_before None rest = rest
 rate_before (Some rate) rest = codes " rate " ++ (decimal rate ++ rest)
@@ -53,7 +54,7 @@ abbrev pub limit_text : Option ℕ → List ℕ
 limit_text None = codes "none"
 limit_text (Some limit) = decimal limit
 
--- the hold, where it is said, before the rest of a line
+-- the hold, if it is said, before the rest of a line
 abbrev pub hold_before : Option (Option ℕ) → List ℕ → List ℕ
 hold_before None rest = rest
 hold_before (Some hold) rest = codes " hold " ++ (limit_text hold ++ rest)
@@ -84,11 +85,11 @@ pub record IsWord (w : List ℕ) : Type 0 where
 abbrev pub IsShort : ℕ → Type 0
 IsShort n = n < 10 ^ 10
 
--- at most ten digits, where it is a number
+-- at most ten digits, if it is a number
 abbrev pub IsShortLimit : Option ℕ → Type 0
 IsShortLimit limit = IfSome limit IsShort
 
--- it is said just where a text of this version says more, and P holds of it
+-- it is said if and only if a text of this version says more, and P is true of it
 pub record IsPart {A : Type 0} (version : ℕ) (P : A → Type 0) (said : Option A) : Type 0 where
   pub there : is_some said ≡ says_more version
   pub holds : IfSome said P

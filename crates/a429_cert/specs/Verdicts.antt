@@ -11,6 +11,6 @@ abbrev pub verdict_of : Option No → Verdict
 verdict_of None = verdicts.Fewest
 verdict_of (Some refusal) = verdicts.No refusal
 
--- the first line that fails, with its first reason; else fewest
+-- the first line that fails, with its first reason; fewest if no line fails
 abbrev pub verdict : DueTable → List ℕ → Verdict
 verdict t text = verdict_of (first_no 1 (faults t (lines_of text)))

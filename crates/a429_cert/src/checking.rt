@@ -12,13 +12,13 @@ use thiserror::Error;
 /// Why a text was not checked. Groups and outputs are numbered from 0 in table order.
 #[derive(Debug, Drop, Error)]
 pub enum CheckFault {
-    /// The table is not read, for this kind of fault at this place. Want of memory is `NoMemory`.
+    /// The table is not read, for this kind of fault at this place. If memory runs out, the error is `NoMemory`.
     #[error("{0}")]
     Table(TableFault),
-    /// The output is the first in table order whose interval admits no period of the grid.
+    /// The output is the first in table order whose interval allows no period of the grid.
     #[error("output {output} of group {group} has no period")]
     Unfit { group: usize, output: usize },
-    /// Memory was refused. It may come in place of any other answer.
+    /// An allocation failed. This may come instead of any other answer.
     #[error("out of memory")]
     NoMemory,
 }
@@ -51,9 +51,9 @@ impl From<NoVerdict> for CheckFault {
     }
 }
 
-/// Checks a plan text against the bytes of an equipment table (profile: plan text and equipment table,
-/// versions 1 and 2). The table is read first (`Table`), then its first output in table order whose interval
-/// admits no grid period is refused (`Unfit`), and then the text is judged as `judge` does.
+/// Checks a plan text against the bytes of an equipment table (profile: plan text and equipment table, versions 1 and
+/// 2). Errors, in this order: `Table`, a fault of the table; `Unfit`, the first output in table order whose interval
+/// allows no grid period; `NoMemory` at any time. Then the text is judged in the way of `judge`.
 pub fn check(alloc: Global, table: &[u8], text: &[u8]) -> Result<Verdict, CheckFault>
     // The first line that fails, with its first reason.
     ensures answer { IfOk result (IsVerdictOnBytes table.now text.now) }

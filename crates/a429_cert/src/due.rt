@@ -15,11 +15,11 @@ use std::alloc::{AllocError, Global};
 pub struct DueOutput {
     pub source: Name,
     pub period: u64,
-    /// How often one accepted word is sent at most; None where there is no limit.
+    /// One accepted word is sent at most this number of times; `None`: no limit.
     pub hold: Option<u64>,
 }
 
-/// A group with its rate, and its outputs in table order.
+/// A group with its bit rate, and its outputs in table order.
 #[derive(Drop)]
 pub struct DueGroup {
     pub name: Name,
@@ -28,12 +28,12 @@ pub struct DueGroup {
     pub outputs: Vec<DueOutput>,
 }
 
-/// The version of the table, its rate, and the groups in table order.
+/// The version of the table, its bit rate, and the groups in table order.
 #[derive(Drop)]
 pub struct DueTable {
     /// 1 or 2: that of the text.
     pub version: u32,
-    /// In bit/s; None in version 2, where each group has its own.
+    /// In bit/s; `None` in version 2, in which each group has its own.
     pub rate: Option<u64>,
     pub groups: Vec<DueGroup>,
 }
@@ -45,7 +45,7 @@ fn to_u64(number: Option<u32>) -> Option<u64>
     number.map(u64::from)
 }
 
-/// What is due of a row, at the rate of its group in bit/s; none where its interval admits no grid period.
+/// What is due of a row, at the bit rate of its group in bit/s; `None` if its interval allows no grid period.
 fn due_output(
     alloc: Global,
     equipment: &Equipment,
@@ -68,7 +68,8 @@ fn due_output(
     }))
 }
 
-/// The outputs of a group, at this rate in bit/s; refused is the first whose interval admits no grid period.
+/// The outputs of a group, at this bit rate in bit/s. Error: the first output whose interval allows no grid period, or
+/// an allocation failed.
 fn due_outputs(
     alloc: Global,
     equipment: &Equipment,
@@ -90,8 +91,8 @@ fn due_outputs(
     Ok(outputs)
 }
 
-/// What a text has to state; refused is the first output in table order whose interval admits no grid
-/// period at the rate of its group (`Unfit`).
+/// What a text has to state. Error: `Unfit`, the first output in table order whose interval allows no grid period at
+/// the bit rate of its group; `NoMemory`, an allocation failed.
 pub fn due_of(alloc: Global, equipment: &Equipment) -> Result<DueTable, NoVerdict>
     ensures due { IfOk result (IsDue equipment.now) }
     ensures fault { IfErr result (IsNoVerdict equipment.now) }

@@ -18,10 +18,10 @@ use thiserror::Error;
 /// Why there is no verdict. Groups and outputs are numbered from 0 in table order.
 #[derive(Clone, Copy, Debug, PartialEq, Eq, Error)]
 pub enum NoVerdict {
-    /// The output is the first in table order whose interval admits no period of the grid.
+    /// The output is the first in table order whose interval allows no period of the grid.
     #[error("output {output} of group {group} has no period")]
     Unfit { group: usize, output: usize },
-    /// Memory was refused. It may come in place of any other answer.
+    /// An allocation failed. This may come instead of any other answer.
     #[error("out of memory")]
     NoMemory,
 }
@@ -48,10 +48,10 @@ impl<T: Drop> From<AllocFailed<T>> for NoVerdict {
     }
 }
 
-/// Judges a plan text by an equipment (profile: plan text, in the version of the equipment table). The text
-/// is walked line by line against the table; the verdict is the first line that fails, counted from 1, with
-/// the first reason that fits it, else `Fewest`. Before that the first output in table order whose interval
-/// admits no grid period at the rate of its group is refused (`Unfit`).
+/// Judges a plan text by an equipment (profile: plan text, in the version of the equipment table). The text is compared
+/// line by line with the table. The verdict is the first line that fails, counted from 1, with the first reason that
+/// fits it; `Fewest` if no line fails. Errors: `Unfit`, the first output in table order whose interval allows no grid
+/// period at the bit rate of its group; `NoMemory`, an allocation failed.
 pub fn judge(alloc: Global, equipment: &Equipment, text: &[u8]) -> Result<Verdict, NoVerdict>
     // The first line that fails, with its first reason.
     ensures answer { IfOk result (λ v. (t : Due) × IsDue equipment.now t × (v ≡ verdict t text.now)) }

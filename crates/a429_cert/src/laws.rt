@@ -1,4 +1,4 @@
-//! What holds of the definitions that the contracts cite.
+//! What is true of the definitions that the contracts cite.
 ghost use Rattle.std.specs.Prelude.{◌≡◌, ℕ};
 ghost use Rattle.a429_cert.specs.Judged.{CheckedPlansAreFewest, FewestIsShown, OwnTextsAreFewest};
 ghost use Rattle.a429_equipment.specs.TableRecord.{TableRecord};
@@ -11,7 +11,7 @@ ghost use Rattle.a429_cert.specs.PlanText.{plan_text_of};
 use a429_pack::laws::fewest_by_demand;
 use a429_slots::laws::plans_are_unique;
 
-/// A first line that is read is spelled so, and one that is spelled so is read (profile: plan text).
+/// The first line is read if and only if it is spelled in its form (profile: plan text).
 pub fn plan_lines()
     ensures found { IsReadOnlyAs plan_line version_text IsShort }
     ensures only { IsReadAs plan_line version_text IsShort }
@@ -48,23 +48,23 @@ pub fn plan_texts_are_unique()
     plans_are_unique();
 }
 
-/// The text of a table's own plan is answered by `fewest`: the text that `plan_text` gives of a proposal, checked against
-/// the table of its equipment.
+/// The check of a table's own plan answers `fewest`: the text is the one that `plan_text` gives of a proposal, and the
+/// table that of its equipment.
 pub fn own_text_is_fewest()
     ensures { OwnTextsAreFewest }
 {
     fewest_by_demand();
 }
 
-/// A checked plan of a group, by whomever it is stated, is on the fewest buses: no schedule that serves the group has
-/// fewer.
+/// A checked plan of a group is on the fewest buses, from any author: no schedule that serves the group has fewer.
 pub fn checked_plans_are_fewest()
     ensures { CheckedPlansAreFewest }
 {
     fewest_by_demand();
 }
 
-/// A text that is answered by `fewest` states a plan of every group, and no schedule that serves the group has fewer buses.
+/// If the check of a text answers `fewest`, the text states a plan of every group, and no schedule that serves the
+/// group has fewer buses.
 pub fn fewest_is_shown()
     ensures { FewestIsShown }
 {

@@ -1,8 +1,8 @@
 //! The text of a plan, and the check of any text against an equipment table (profile: plan text).
 //!
-//! `plan_text` is the text of a proposal, with the bound that shows how few buses are enough. `check` reads a table
-//! and a text, whoever wrote it, and answers `Fewest`, or the first line that is wrong with the reason. `judge` does
-//! the same with an equipment that was read before.
+//! `plan_text` is the text of a proposal, with the bound that shows how few buses are enough. `check` reads a table and
+//! a text from any author, and answers `Fewest`, or the first line that is wrong with the reason. `judge` does the same
+//! with an equipment that was read before.
 //!
 //! ```text
 //! let text = plan_text(alloc, &proposal)?;

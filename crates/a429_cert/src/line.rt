@@ -25,8 +25,8 @@ pub struct OutputLine<'a> {
     pub period: u64,
     pub bus: u64,
     pub offset: u64,
-    /// How often one accepted word is sent at most, or none where there is no limit; only a line of
-    /// version 2 says it.
+    /// The hold: one accepted word is sent at most this number of times, and the inner `None` is no limit. Only a line
+    /// of version 2 says it; the outer `None` is a line of version 1.
     pub hold: Option<Option<u64>>,
 }
 
@@ -38,7 +38,7 @@ pub struct BoundLine {
     pub frame: u64,
 }
 
-/// Whether a text of this version says the rate of each group and the hold of each output.
+/// Whether a text of this version says each group's bit rate and each output's hold.
 pub fn says_more(version: u32) -> bool
     ensures { result ≡ says_more version }
 {
@@ -94,7 +94,7 @@ fn number(bytes: &[u8]) -> Option<(u64, &[u8])>
     Some((decimal_number(word)?, rest))
 }
 
-/// The word behind a text, and the bytes after it.
+/// The word after a text, and the bytes that follow the word.
 #[tactic(auto, unfolding(crate::specs::Reading::word_after))]
 fn word_after<'a>(bytes: &'a [u8], text: &str) -> Option<(&'a [u8], &'a [u8])>
     ensures { option_map (λ x. (x.0.now, x.1.now)) result ≡ word_after text.now bytes.now }
@@ -102,7 +102,7 @@ fn word_after<'a>(bytes: &'a [u8], text: &str) -> Option<(&'a [u8], &'a [u8])>
     word(after(bytes, text)?)
 }
 
-/// The number behind a text, and the bytes after it.
+/// The number after a text, and the bytes that follow the number.
 #[tactic(auto, unfolding(crate::specs::Reading::number_after))]
 fn number_after<'a>(bytes: &'a [u8], text: &str) -> Option<(u64, &'a [u8])>
     ensures { option_map (λ x. (x.0, x.1.now)) result ≡ number_after text.now bytes.now }
@@ -138,7 +138,7 @@ fn is_end(bytes: &[u8]) -> bool
     bytes == "\n".as_bytes()
 }
 
-/// The number that a line says behind a text; none where it is not of this form.
+/// The number that a line says after a text; `None` if the line is not of this form.
 #[tactic(auto, unfolding(crate::specs::Reading::number_line))]
 fn number_line(line: &[u8], text: &str) -> Option<u64>
     ensures { result ≡ number_line text.now line.now }
@@ -147,14 +147,14 @@ fn number_line(line: &[u8], text: &str) -> Option<u64>
     if is_end(rest) { Some(number) } else { None }
 }
 
-/// The version that the first line of a text states; none where it is not of its form.
+/// The version that the first line of a text states; `None` if the line is not of its form.
 pub fn plan_line(line: &[u8]) -> Option<u64>
     ensures { result ≡ plan_line line.now }
 {
     number_line(line, "plan ")
 }
 
-/// The rate in bit/s that the second line of a text of version 1 states; none where it is not of its form.
+/// The bit rate in bit/s that the second line of a text of version 1 states; `None` if the line is not of its form.
 pub fn rate_line(line: &[u8]) -> Option<u64>
     ensures { result ≡ rate_line line.now }
 {
@@ -185,7 +185,7 @@ fn hold_part(version: u32, bytes: &[u8]) -> Option<(Option<Option<u64>>, &[u8])>
     Some((Some(hold), rest))
 }
 
-/// What a group's first line says; none where it is not of the form of this version.
+/// What a group's first line says; `None` if it is not of the form of this version.
 #[tactic(auto, unfolding(crate::specs::Reading::group_line))]
 pub fn group_line(version: u32, line: &[u8]) -> Option<GroupLine<'_>>
     ensures { option_map heading result ≡ group_line version line.now }
@@ -206,7 +206,7 @@ pub fn group_line(version: u32, line: &[u8]) -> Option<GroupLine<'_>>
     }
 }
 
-/// What the line of an output says; none where it is not of the form of this version.
+/// What the line of an output says; `None` if it is not of the form of this version.
 #[tactic(auto, unfolding(crate::specs::Reading::output_line))]
 pub fn output_line(version: u32, line: &[u8]) -> Option<OutputLine<'_>>
     ensures { option_map listing result ≡ output_line version line.now }
@@ -229,7 +229,7 @@ pub fn output_line(version: u32, line: &[u8]) -> Option<OutputLine<'_>>
     }
 }
 
-/// What a group's last line says; none where it is not of its form.
+/// What a group's last line says; `None` if it is not of its form.
 #[tactic(auto, unfolding(crate::specs::Reading::bound_line))]
 pub fn bound_line(line: &[u8]) -> Option<BoundLine>
     ensures { option_map bounding result ≡ bound_line line.now }

@@ -15,7 +15,7 @@ use crate::stops::CheckStop;
 use crate::verdicts::{No, Reason};
 use std::alloc::Global;
 
-/// The output with this source; none where the group has no such output.
+/// The output with this source; `None` if the group has no such output.
 fn output_of<'a>(group: &'a DueGroup, source: &[u8]) -> Option<&'a DueOutput>
     ensures { option_copied result ≡ output_of group.now source.now }
 {

@@ -8,7 +8,7 @@ use std::alloc::{AllocError, AllocFailed};
 /// What ends a check early.
 #[derive(Drop)]
 pub enum CheckStop {
-    /// Memory was refused.
+    /// An allocation failed.
     Memory,
     /// A line is refused.
     Refused(No),

@@ -12,8 +12,8 @@ use a429_slots::{GroupPlan, OUTPUTS, OutputId, Proposal, SlotPlace};
 use std::alloc::{AllocError, Global};
 use std::fmt::Write;
 
-/// Appends a group's first line to a text: in version 1 its name, its frame in slots and its buses, in version 2 also its
-/// rate in bit/s (profile: plan text). The error is that memory was refused.
+/// Appends a group's first line to a text: in version 1 its name, its frame in slots and its buses, in version 2 also
+/// its bit rate in bit/s (profile: plan text). Error: an allocation failed.
 pub fn write_heading(
     text: &mut String,
     version: u32,
@@ -33,7 +33,7 @@ pub fn write_heading(
     }
 }
 
-/// Writes the hold of an output, where a text of this version says it, and ends the line.
+/// Writes an output's hold, if a text of this version says it, and ends the line.
 fn write_hold(text: &mut String, version: u32, hold: Option<u32>) -> Result<(), AllocError>
     ensures { Writes result text.old text.new (hold_before (said_in version hold) (codes "\n")) }
 {
@@ -46,7 +46,7 @@ fn write_hold(text: &mut String, version: u32, hold: Option<u32>) -> Result<(), 
     }
 }
 
-/// Writes the line of an output that stands at a place.
+/// Writes the line of an output at a place.
 fn write_place(
     text: &mut String,
     version: u32,
@@ -150,7 +150,7 @@ fn write_groups(text: &mut String, proposal: &Proposal<OUTPUTS>) -> Result<(), A
     Ok(())
 }
 
-/// Writes the lines before the groups: the version, and the rate in bit/s where all groups have one.
+/// Writes the lines before the groups: the version, and the bit rate in bit/s if all groups have one.
 fn write_head(text: &mut String, equipment: &Equipment) -> Result<(), AllocError>
     ensures { Writes result text.old text.new (head_text equipment.now) }
 {
@@ -162,10 +162,11 @@ fn write_head(text: &mut String, equipment: &Equipment) -> Result<(), AllocError
     }
 }
 
-/// The text of a proposal's plan (profile: plan text, in the version of the equipment table): the version, in version 1
-/// the rate in bit/s, and for each group in table order its name, in version 2 its rate, its frame in slots and number of
-/// buses, then its outputs in layout order, each with its period in slots, bus and offset, and in version 2 its hold, then
-/// its demand in cells of a frame against those of one bus fewer. The error is that memory was refused.
+/// The text of a proposal's plan (profile: plan text, in the version of the equipment table). It states the version,
+/// and in version 1 the bit rate in bit/s. The groups follow in table order, each with its name, in version 2 its bit
+/// rate, its frame in slots and its number of buses. The outputs of a group follow in layout order, each with its
+/// period in slots, bus and offset, and in version 2 its hold. The last line of a group has its demand in cells of a
+/// frame, against those of one bus less. Error: an allocation failed.
 pub fn plan_text(alloc: Global, proposal: &Proposal<OUTPUTS>) -> Result<Vec<u8>, AllocError>
     ensures { IfOk result (λ text. text.items ≡ plan_text_of proposal.now.station proposal.now.plan) }
 {

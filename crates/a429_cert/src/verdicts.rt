@@ -5,11 +5,10 @@ ghost use Rattle.a429_cert.specs.Printed.{reason_text, no_text, verdict_text};
 
 use std::fmt;
 
-/// Why a line is refused, in the order in which reasons are asked (profile: plan text).
+/// Why a line is refused, in the order in which reasons are tested (profile: plan text).
 #[derive(Clone, Copy, Debug, PartialEq, Eq)]
 pub enum Reason {
-    /// The line is not of the form due here, is not ended by a line feed, is absent, or stands after the
-    /// last line due.
+    /// The line is not of the form due here, lacks its line feed, is absent, or follows the last line due.
     Form,
     /// The rate is not the table's, or not that of the group due.
     Rate,
@@ -19,7 +18,7 @@ pub enum Reason {
     Frame,
     /// The number of buses is 0 or above 16.
     Buses,
-    /// The source is that of no output of the group, or was listed before in it.
+    /// No output of the group has this source, or an earlier line of the group lists it.
     Output,
     /// The period is not the grid period of the output.
     Period,
@@ -28,8 +27,8 @@ pub enum Reason {
     /// An earlier output of the group has the same bus, and an offset that is equal modulo the smaller
     /// of the two periods.
     Shared,
-    /// The demand is not the group's, the full buses are not one fewer than the buses, the frame is not
-    /// the group's, or the full buses carry the demand in a frame, or the buses do not.
+    /// A number of the line is wrong: the demand or the frame is not the group's, or the full buses are not one less
+    /// than the buses. Or the full buses carry the demand in a frame, or the buses do not carry it.
     Bound,
     /// The hold is not that of the output.
     Hold,
@@ -38,13 +37,13 @@ pub enum Reason {
 /// The first line that is refused, counted from 1, with the first reason against it.
 #[derive(Clone, Copy, Debug, PartialEq, Eq)]
 pub struct No {
-    /// The first reason that stands against the line.
+    /// The first reason that fits the line.
     pub reason: Reason,
     /// The line's number, from 1. An absent line has the number that it would have.
     pub line: usize,
 }
 
-/// What a plan text is answered.
+/// The answer to a plan text.
 #[derive(Clone, Copy, Debug, PartialEq, Eq)]
 pub enum Verdict {
     /// No line is refused: the text states a plan of the table's groups on the fewest buses.
@@ -87,7 +86,7 @@ impl fmt::Display for Reason {
 impl fmt::Display for No {
     ghost output = { λ no. Some (no_text no) };
 
-    /// As answers print it: `no shared 6`.
+    /// Its form in answers, for example `no shared 6`.
     fn fmt<W: fmt::Write>(&self, f: &mut fmt::Formatter<W>) -> fmt::Result {
         write!(f, "no {} {}", self.reason, self.line)
     }
@@ -96,7 +95,7 @@ impl fmt::Display for No {
 impl fmt::Display for Verdict {
     ghost output = { λ verdict. Some (verdict_text verdict) };
 
-    /// As answers print it: `fewest`, or `no` with the reason and the line.
+    /// Its form in answers: `fewest`, or `no` with the reason and the line.
     fn fmt<W: fmt::Write>(&self, f: &mut fmt::Formatter<W>) -> fmt::Result {
         match self {
             Verdict::Fewest => write!(f, "fewest"),

@@ -25,9 +25,9 @@ use Rattle.a429_cli.specs.declared.simulate.machine.SentWord.{SentWord}
 use Rattle.a429_cli.proofs.SendFigures.{AreUpTo, figures_push, none_up_to, up_to_later, up_to_push}
 use Rattle.a429_cli.proofs.SimulatedSteps.{happenings_more, times_grow}
 
--- ---- a group sends the words of a source in turn
+-- ---- a group sends the words of a source one after another
 
--- nothing more of a source is sent, or the last accepted word of so many
+-- nothing more of a source is sent, or only its last accepted word, which has this number
 SendsOne : ℕ → List OutputSend → Type 0
 SendsOne n sends = (sends ≡ []) ⊎ ((s : OutputSend) × (sends ≡ s ∷ []) × (s.word ≡ n))
 

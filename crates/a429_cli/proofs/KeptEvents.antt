@@ -21,7 +21,7 @@ pub tables-push : (further : ℕ) (before after : List KeptEvent) (k : KeptEvent
 tables-push further before after k event pushed is all one =
     subst (λ (xs : List KeptEvent). TakesAllTables further xs) (sym pushed) (all_tables-push further before k all (subst (λ (e : ScriptEvent). HasTable further e) (sym is) one))
 
--- a line that publishes no table, beside any number of them
+-- a line that publishes no table, with any number of them
 pub entry_of_line : (names : Naming) (further : ℕ) (text : List ℕ) (before after : List KeptEvent) (rest : List ℕ) → KeepsLine names text before after rest → KeepsEntry names further text before after rest
 entry_of_line names further text before after rest line = record {
   event = line.event;

@@ -1,5 +1,4 @@
 pub mod Refused
-pub mod WordEndings
 pub mod PlayedLines
 pub mod PlainTexts
 pub mod KeptEvents
@@ -17,7 +16,7 @@ pub mod WholeFrames
 pub mod Left
 pub mod Ran
 pub mod Taken
-pub mod Found
+pub mod WholeAnswers
 pub mod Imported
 pub mod LogTimes
 pub mod LogLines
@@ -32,4 +31,9 @@ pub mod SimulationPrinted
 pub mod SendFigures
 pub mod FigureSteps
 pub mod SummedUp
+pub mod SlotTimes
+pub mod StepOrder
+pub mod LastAccepted
+pub mod LateWords
+pub mod LateRows
 pub mod LiveAnswers

@@ -37,17 +37,17 @@ lines_of arrivals n = map (λ r. at_start (words_for arrivals r)) (range_with_le
 
 -- ---- a line in memory, a sink that counts
 
--- what the lines tell
+-- what the lines report
 abbrev pub memory_lines : (Memory → SourceAnswer → Memory → Type 0) → LineSource.Ghosts Memory
 memory_lines steps = record { given = λ line. line.given; ended = all_given; failed = λ line. 0; left = λ line. Some line.left; steps = steps }
 
--- what the sinks tell: they do not fail
+-- what the sinks report: they do not fail
 abbrev pub sure_sinks : {B : Type 0} → (B → Option (List Sent)) → (B → Option ℕ) → BusSink.Ghosts B
 sure_sinks taken counted = record { taken = taken; counted = counted; failed = λ sink. 0 }
 
--- where the gate lets pass, and that it ends no loop
+-- the points at which the gate lets pass, and that it ends no loop
 abbrev pub never_shut : (Point → Type 0) → GatePoints
-never_shut passes = record { passes = passes; shuts = λ point. ⊥ }
+never_shut passes = record { passes = passes; shuts = λ point. ⊥; asked = λ point S shown. Unit {0}; told = λ answer totals. Unit {0} }
 
 module _ {B : Type 0} (idle : Type 0) (steps : Memory → SourceAnswer → Memory → Type 0) (taken : B → Option (List Sent)) (counted : B → Option ℕ) (passes : Point → Type 0) (t : TableRecord) (arrivals : List Arrival) (frames : ℕ) (sinks : List B) where
   abbrev pub source : LineSource.Ghosts Memory
@@ -119,7 +119,7 @@ module _ {B : Type 0} (idle : Type 0) (steps : Memory → SourceAnswer → Memor
       by None (Some send.Change) sent h = h
       by None None sent h = absurd (cc h)
 
-  -- ---- what is told of it
+  -- ---- its refusal
 
   pub refusal_told : (fault : LiveFault) → IsLiveFault idle source sink gate ask fault → OrMemory (IsRunRefusal t arrivals frames) (refusal_of fault)
   refusal_told (live.Plan why) h = tt

@@ -1,4 +1,4 @@
--- What a run of a station tells of its totals.
+-- What a run of a station says of its totals.
 use Rattle.std.proofs.Common.{◌≡◌, ◌∙◌, ◌+◌, ◌≤◌, ◌∷◌, [], ◌++◌, ℕ, zero, suc, Bool, true, false, List, length, map, ap, subst, sym, refl, arith, append-nil}
 use Rattle.std.specs.Prelude.{Some, ◌&&◌}
 use Rattle.std.specs.List.{range_with_len}

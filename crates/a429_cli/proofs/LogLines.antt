@@ -13,7 +13,7 @@ use Rattle.a429_cli.specs.declared.simulate.log.LogEntry.{LogEntry}
 use Rattle.a429_cli.specs.declared.simulate.log.LogEntry.TheVariants.{PassedOver, Word}
 use Rattle.a429_cli.specs.declared.simulate.log.LogWord.{LogWord}
 
--- what the first entry of a text tells of all
+-- what the first entry of a text says of all
 abbrev pub after_entry : Naming → ℕ → ℕ → Option (LogEntry × List ℕ) → Result (List LogWord) ℕ
 after_entry names last n None = Err (n + 1)
 after_entry names last n (Some p) = log_then (Some p.0) (n + 1) last (λ time. log_after names time (n + 1) p.1)

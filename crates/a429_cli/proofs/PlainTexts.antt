@@ -1,4 +1,4 @@
--- Texts without a byte, and where they are cut at that byte.
+-- Texts without a byte, and their cuts at that byte.
 use Rattle.std.proofs.Common.{rules, ◌≡◌, ◌+◌, ◌*◌, ℕ, Bool, true, false, cond, List, [], ◌∷◌, ◌++◌, ◌<◌, length, drop, take, take-append-drop, get_or, length-drop, ◌∙◌, ◌-◌, sym, ap, arith, refl, eq-eqb}
 use Rattle.std.specs.Prelude.{◌==◌, Option, Some, None, option_and_then}
 use Rattle.std.proofs.lemmas.List.{drop_more, take_all}
@@ -74,6 +74,6 @@ named_front name text end below ends same =
     let left : drop n text ≡ end ∷ drop (n + 1) text = drop_more text n 0 below ∙ ap (λ (x : ℕ). x ∷ drop (n + 1) text) ends in
     sym (take-append-drop n text) ∙ (ap (λ (xs : List ℕ). xs ++ drop n text) same ∙ (ap (λ (xs : List ℕ). name ++ xs) left ∙ ap (λ (xs : List ℕ). name ++ end ∷ xs) (sym after)))
 
--- the text after so many bytes, as the code cuts it
+-- the text after this number of bytes, as the code cuts it
 pub whole_rest : (n : ℕ) (text : List ℕ) → take (length text - n) (drop n text) ≡ drop n text
 whole_rest n text = take_all _ _ (omega (arith, length-drop n text))

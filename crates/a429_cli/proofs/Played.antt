@@ -123,7 +123,7 @@ module _ (q : Proposed) (words : List LogWord) (last : ℕ) where
   pub untold_if : (told : List Happening) (h : Option Happening) (r : Player) → HasPlayed q words last (told ++ listed h) r → is_some h ≡ false → HasPlayed q words last told r
   untold_if told h r H none = subst (λ (l : List Happening). HasPlayed q words last l r) (ap (λ (l : List Happening). told ++ l) (none_sent h none) ∙ append-nil told) H
 
-  -- where no slot is under way, all steps were taken
+  -- if no slot is under way, all steps were taken
   whole : (told : List Happening) (p : Player) (H : HasPlayed q words last told p) → p.slot ≡ None → H.steps ≡ steps_of q H.moments
   whole told p H none = sym (append-nil H.steps) ∙ (ap (λ (s : Option SlotLeft). H.steps ++ left_of q s) (sym none) ∙ H.begun)
 
@@ -160,7 +160,7 @@ module _ (q : Proposed) (words : List LogWord) (last : ℕ) where
         told_is = ap (λ (x : Option Happening). told ++ listed x) quiet ∙ (append-nil told ∙ H.told_is);
       }
 
-  -- what was told before the last of it
+  -- the events that were given before the last
   pub played_part : (told : List Happening) (h : Happening) (p : Player) → HasPlayed q words last (told ++ h ∷ []) p
       → (moments : List Moment) × (n : ℕ) × TimelineIsBegun q words last moments × (told ≡ take n (happenings_of q (steps_of q moments)))
   played_part told h p H =

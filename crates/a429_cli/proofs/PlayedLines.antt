@@ -25,7 +25,7 @@ played_push o names further E [] event M N bytes line (same, none) h =
 played_push o names further E (x ∷ xs) event M N bytes line (next, first, rest, here, later, whole) h =
     (next, first, rest ++ line, here, played_push o names further next xs event M N rest line later h, ap (λ (bs : List ℕ). bs ++ line) whole ∙ append_assoc first rest line)
 
--- what an event comes to whose answer the machine gives
+-- the outcome of an event whose answer the machine gives
 pub played_answer : CallsAreAnswered → ((C : ℕ) (e : Event) (v : MachineState) → IsWholeEvent e → GoesOnByEvents C v (e ∷ []) (stepped C v e).1)
     → (names further : List (List ℕ)) (event : ScriptEvent) (e : Event) (old new : MachineState) (a : Answer) (before after : List ℕ)
     → IsWholeEvent e → IsEventOf further event e → a ≡ (stepped count_bits old e).0 → new ≡ (stepped count_bits old e).1 → after ≡ before ++ answer_line names a

@@ -1,12 +1,10 @@
 -- Refusals that are handed on.
-use Rattle.std.proofs.Common.{◌≡◌, ◌⊎◌, ℕ, List, inl, inr}
-use Rattle.std.specs.Prelude.{Option, Ok}
+use Rattle.std.proofs.Common.{◌≡◌, ℕ, List}
+use Rattle.std.specs.Prelude.{Ok}
 use Rattle.a429_equipment.specs.TableRecord.{TableRecord}
 use Rattle.a429_table.specs.Reading.{reading}
 use Rattle.a429_cert.specs.Due.{IsFirstUnfitOf}
-use Rattle.a429_cert.specs.declared.verdicts.Verdict.{Verdict}
-use Rattle.a429_console.specs.Outputs.{IsMemoryReply}
-use Rattle.a429_cli.specs.PlanReplies.{IsUnjudged, IsVerdictOf, IsVerdictReply, IsCheckReply}
+use Rattle.a429_cli.specs.PlanReplies.{IsUnjudged}
 use Rattle.a429_console.specs.Tables.{IsTableFault, IsUnfitNamed}
 use Rattle.a429_console.specs.declared.refusals.CommandRefusal.{CommandRefusal}
 use Rattle.a429_console.specs.declared.refusals.CommandRefusal.TheVariants as refused
@@ -50,9 +48,3 @@ unfit_unjudged table t g o is first refused.Source named = absurd named
 unfit_unjudged table t g o is first refused.Sink named = absurd named
 unfit_unjudged table t g o is first refused.TooMuch named = absurd named
 unfit_unjudged table t g o is first refused.Memory named = absurd named
-
--- the line of a verdict, or in its place that memory was refused
-pub verdict_told : (file : List ℕ → Option (List ℕ)) (name plan : List ℕ) (v : Verdict) (status : ℕ) (bytes : List ℕ) → IsVerdictOf file name plan v → IsVerdictReply v status bytes ⊎ IsMemoryReply status bytes
-    → IsCheckReply file name plan status bytes
-verdict_told file name plan v status bytes is (inl reply) = inr (v, is, reply)
-verdict_told file name plan v status bytes is (inr memory) = inl (refused.Memory, tt, memory.0, memory.1)

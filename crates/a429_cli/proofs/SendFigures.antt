@@ -66,7 +66,7 @@ lateness_push rate earlier (t ∷ sends) s =
     ∙ (ap (λ (l : List OutputSend). one ++ (latenesses_from rate (earlier ++ t ∷ []) sends ++ end l)) (append_assoc earlier (t ∷ []) sends)
     ∙ sym (append_assoc one (latenesses_from rate (earlier ++ t ∷ []) sends) (end (earlier ++ t ∷ sends))))
 
--- ---- words in turn
+-- ---- words one after another
 
 -- no word is later than that of number n, nor than that of the last send
 pub record AreUpTo (n : ℕ) (sends : List OutputSend) : Type 0 where

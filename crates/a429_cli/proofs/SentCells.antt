@@ -26,7 +26,7 @@ use Rattle.a429_cli.specs.Timeline.{table_of}
 use Rattle.a429_cli.specs.declared.simulate.machine.Run.{Run}
 use Rattle.a429_cli.proofs.SimulatedSteps.{table_at}
 
--- ---- what stands in the cell of a word that is sent
+-- ---- the content of the cell of a word that is sent
 
 abbrev asked_type : Type 0
 asked_type = Option (ℕ × ℕ × Option Due)
@@ -82,7 +82,7 @@ stands_in_frame f (Some (b, n)) bus slot due h =
 
 -- ---- frames by one plan
 
-none_published : (o : Opening) (steps : List Step) → filter_map (proposal_for o) (history_of steps) ≡ []
+pub none_published : (o : Opening) (steps : List Step) → filter_map (proposal_for o) (history_of steps) ≡ []
 none_published o [] = refl
 none_published o (Comes w ∷ steps) = none_published o steps
 none_published o (Asks g t ∷ steps) = none_published o steps
@@ -92,19 +92,19 @@ left_nil : {A : Type 0} (xs ys : List A) → xs ++ ys ≡ [] → xs ≡ []
 left_nil [] ys h = refl
 left_nil (x ∷ xs) ys h = absurd (cc h)
 
-table_kept : (o : Opening) (g : ℕ) (p : SlotTable) (E : List Event) → OpensWith o g p → filter_map (proposal_for o) E ≡ [] → newest_table o g p E ≡ p
+pub table_kept : (o : Opening) (g : ℕ) (p : SlotTable) (E : List Event) → OpensWith o g p → filter_map (proposal_for o) E ≡ [] → newest_table o g p E ≡ p
 table_kept o g p E opens none =
     let nothing : published o E ≡ [] = ap (λ (qs : List Proposed). take (numbers_left o) qs) none ∙ none_cut (numbers_left o) in
     ap (λ (qs : List Proposed). unwrap_or (slice_get (groups_of (option_map_or (λ q. q.plan) (last_of qs) o.proposal.plan)) g) p) nothing
     ∙ ap (λ (x : Option SlotTable). unwrap_or x p) opens
 
 -- the table is the opening one, and whole frames came before
-record IsWholeFrames (p : SlotTable) (f : Current) : Type 0 where
+pub record IsWholeFrames (p : SlotTable) (f : Current) : Type 0 where
   pub table : f.table ≡ p
   pub times : ℕ
   pub first : f.first ≡ times * frame_of p
 
-whole_frames : (o : Opening) (g : ℕ) (p : SlotTable) → OpensWith o g p → o.first ≡ 0 → (E : List Event) → filter_map (proposal_for o) E ≡ [] → IsWholeFrames p (current o g p E)
+pub whole_frames : (o : Opening) (g : ℕ) (p : SlotTable) → OpensWith o g p → o.first ≡ 0 → (E : List Event) → filter_map (proposal_for o) E ≡ [] → IsWholeFrames p (current o g p E)
 whole_frames o g p opens begins =
     by_ends (λ (E : List Event). filter_map (proposal_for o) E ≡ [] → IsWholeFrames p (current o g p E))
     (λ none. record { table = refl; times = 0; first = omega (arith, begins) })

@@ -98,7 +98,7 @@ times_by q past w source (Changed plan) is none = times_kept q past (Comes w) so
 times_by q past w source (Published plan) is none = times_kept q past (Comes w) source (ap (accepted_in (Comes w)) (sym is))
 times_by q past w source (Refused why) is none = times_kept q past (Comes w) source (ap (accepted_in (Comes w)) (sym is))
 
-times_same : (q : Proposed) (past : List Step) (s : Step) (source : ℕ) → (answer_after q past s ≡ Accepted source → ⊥) → times_of q (past ++ s ∷ []) source ≡ times_of q past source
+pub times_same : (q : Proposed) (past : List Step) (s : Step) (source : ℕ) → (answer_after q past s ≡ Accepted source → ⊥) → times_of q (past ++ s ∷ []) source ≡ times_of q past source
 times_same q past (Comes w) source none = times_by q past w source (answer_after q past (Comes w)) refl none
 times_same q past (Asks g t) source none = times_kept q past (Asks g t) source refl
 times_same q past (Turns g) source none = times_kept q past (Turns g) source refl
@@ -119,22 +119,22 @@ few_accepted C o i E = by (slice_get o.proposal.station.sources i)
     by None = omega arith
     by (Some s) = omega (arith, length-take (2 ^ C - 1) (words_in o s E))
 
-none_accepted : (q : Proposed) (i : ℕ) → length (accepted_by count_bits (opening_of q) i []) ≡ 0
+pub none_accepted : (q : Proposed) (i : ℕ) → length (accepted_by count_bits (opening_of q) i []) ≡ 0
 none_accepted q i = by (slice_get q.station.sources i)
   where
     by : (x : Option SourceRow) → length (option_map_or (λ s. accepted_words count_bits (opening_of q) s []) x []) ≡ 0
     by None = refl
     by (Some s) = omega (arith, length-take (2 ^ count_bits - 1) (words_in (opening_of q) s []))
 
-abbrev CountsWords : Proposed → ℕ → List Step → Type 0
+abbrev pub CountsWords : Proposed → ℕ → List Step → Type 0
 CountsWords q i past = length (times_of q past i) ≡ length (accepted_by count_bits (opening_of q) i (history_of past))
 
-count_own : (q : Proposed) (past : List Step) (s : Step) (i : ℕ) → answer_after q past s ≡ Accepted i → ((r raw : ℕ) → event_of s ≡ Arrive r raw → ⊥) ⊎ ((w : LogWord) × (s ≡ Comes w))
+pub count_own : (q : Proposed) (past : List Step) (s : Step) (i : ℕ) → answer_after q past s ≡ Accepted i → ((r raw : ℕ) → event_of s ≡ Arrive r raw → ⊥) ⊎ ((w : LogWord) × (s ≡ Comes w))
 count_own q past (Comes w) i is = inr (w, refl)
 count_own q past (Asks g t) i is = inl (λ r raw e. cc)
 count_own q past (Turns g) i is = inl (λ r raw e. cc)
 
-count_more : (q : Proposed) (i : ℕ) → SourcesAreApart q.station.sources → (past : List Step) (s : Step) → CountsWords q i past → CountsWords q i (past ++ s ∷ [])
+pub count_more : (q : Proposed) (i : ℕ) → SourcesAreApart q.station.sources → (past : List Step) (s : Step) → CountsWords q i past → CountsWords q i (past ++ s ∷ [])
 count_more q i apart past s before =
     let o = opening_of q in
     let E = history_of past in
@@ -151,7 +151,7 @@ count_more q i apart past s before =
       | inr N ↦ ap length (times_same q past s i N.other) ∙ (before ∙ sym (ap length (next ∙ N.same)))
     ]
 
-none_in_time : (q : Proposed) (i : ℕ) → times_of q [] i ≡ []
+pub none_in_time : (q : Proposed) (i : ℕ) → times_of q [] i ≡ []
 unfolding times_of
 none_in_time q i = refl
 
@@ -276,7 +276,7 @@ happenings-append q past (x ∷ xs) ys =
 pub happenings_more : (q : Proposed) (past : List Step) (s : Step) → happenings_of q (past ++ s ∷ []) ≡ happenings_of q past ++ listed (happening_after q past s)
 happenings_more q past s = happenings-append q [] past (s ∷ []) ∙ ap (λ (l : List Happening). happenings_of q past ++ l) (append-nil (listed (happening_after q past s)))
 
--- nothing happens where a word is answered otherwise than by a refusal
+-- nothing happens if a word is answered otherwise than by a refusal
 pub quiet_word : (q : Proposed) (times : ℕ → List ℕ) (w : LogWord) (a : Answer) → ((why : Refusal) → a ≡ Refused why → ⊥) → None ≡ happening_by q times (Comes w) a
 quiet_word q times w (Accepted source) other = refl
 quiet_word q times w (Sent bus slot word) other = refl
@@ -298,7 +298,7 @@ unaccepted w (Changed plan) other = refl
 unaccepted w (Published plan) other = refl
 unaccepted w (Refused why) other = refl
 
--- nor where a cell has no word
+-- nor if a cell has no word
 pub quiet_cell : (q : Proposed) (times : ℕ → List ℕ) (g t : ℕ) (a : Answer) → ((bus slot raw : ℕ) → a ≡ Sent bus slot (Some raw) → ⊥) → None ≡ happening_by q times (Asks g t) a
 quiet_cell q times g t (Accepted source) other = refl
 quiet_cell q times g t (Sent bus slot None) other = refl

@@ -8,6 +8,7 @@ use Rattle.std.proofs.lemmas.List.Concat.{flat_map-append}
 use Rattle.std.proofs.lemmas.List.Elements.{filter_map-append}
 use Rattle.std.proofs.lemmas.List.FromFn.{length-range_with_len}
 use Rattle.std.proofs.lemmas.Option.{get_or_from_slice_get}
+use Rattle.a429_text.specs.Fields.{Field}
 use Rattle.a429_word.proofs.Lists.{all_at, get_within, range_next}
 use Rattle.a429_equipment.specs.Sound.{IsSound, OfEach}
 use Rattle.a429_equipment.specs.declared.rows.OutputRow.{OutputRow}
@@ -19,7 +20,7 @@ use Rattle.a429_slots.specs.declared.answers.Answer.{Answer}
 use Rattle.a429_slots.specs.declared.answers.Answer.TheVariants.{Accepted, Sent, Changed, Published, Refused}
 use Rattle.a429_cert.proofs.PlanLines.{plan_known}
 use Rattle.a429_cli.specs.Simulating.{Step, Asks, Comes, Turns, answer_after, happening_after, happening_by, happenings_after, happenings_of, last_word, listed, source_in, steps_in, steps_of, times_of, turn_after}
-use Rattle.a429_cli.specs.Summary.{bound_fields, group_rows, name_fields, rows_text, send_fields, send_in, sends_of, summary_columns, summary_row, summary_rows, summary_text}
+use Rattle.a429_cli.specs.Summary.{bound_fields, group_rows, name_fields, send_fields, send_in, sends_of, summary_row, summary_rows}
 use Rattle.a429_cli.specs.SummaryRuns.{HasFigures, figure_fields, figures_of, kept_at, kept_group, kept_row, kept_rows, nothing_sent}
 use Rattle.a429_cli.specs.Timeline.{IsTimeline, rate_of, slot_of, slots_by, table_of}
 use Rattle.a429_cli.specs.Tracks.{AreTracks, IsTrack}
@@ -161,11 +162,11 @@ rows_more f old rows new n x so now is =
     ∙ ap (λ ys. old ++ ys) (sym (ap (map f) (range_more n) ∙ map-append f (range_with_len 0 n) (n ∷ [])))))
 
 -- a group more
-pub groups_more : {X : Type 0} (f : ℕ → List X) (head : X) (rows new : List X) (n : ℕ) → rows ≡ head ∷ flat_map f (range_with_len 0 n) → new ≡ rows ++ f n
-    → new ≡ head ∷ flat_map f (range_with_len 0 (n + 1))
-groups_more f head rows new n so now =
-    now ∙ (ap (λ ys. ys ++ f n) so
-    ∙ ap (λ ys. head ∷ ys) (sym (ap (flat_map f) (range_more n) ∙ (flat_map-append f (range_with_len 0 n) (n ∷ []) ∙ ap (λ ys. flat_map f (range_with_len 0 n) ++ ys) (append-nil (f n))))))
+pub groups_more : {X : Type 0} (f : ℕ → List X) (old rows new : List X) (n : ℕ) → rows ≡ old ++ flat_map f (range_with_len 0 n) → new ≡ rows ++ f n
+    → new ≡ old ++ flat_map f (range_with_len 0 (n + 1))
+groups_more f old rows new n so now =
+    now ∙ (ap (λ ys. ys ++ f n) so ∙ (append_assoc old (flat_map f (range_with_len 0 n)) (f n)
+    ∙ ap (λ ys. old ++ ys) (sym (ap (flat_map f) (range_more n) ∙ (flat_map-append f (range_with_len 0 n) (n ∷ []) ∙ ap (λ ys. flat_map f (range_with_len 0 n) ++ ys) (append-nil (f n)))))))
 
 map_range : {X : Type 0} (f h : ℕ → X) (a n : ℕ) → ((k : ℕ) → k < a + n → f k ≡ h k) → map f (range_with_len a n) ≡ map h (range_with_len a n)
 map_range f h a zero same = refl
@@ -200,14 +201,10 @@ module _ (q : Proposed) (sound : IsSound q.station) (planned : IsPlanOf q.statio
         let i : ℕ = (placed_at (table_of q g) o).source in
         let kept : kept_at s g i ≡ figures_of (rate_of q g) (sends_of g i told) =
         ap (λ (x : Option OutputFigures). unwrap_or x nothing_sent) (F g i (group_few g below) (source_few g o below within)) in
-        ap (λ (fields : List (List ℕ)). name_fields q.station g o ++ fields ++ bound_fields (rate_of q g) (placed_at (table_of q g) o)) (ap figure_fields kept ∙ fields_are g i)
+        ap (λ (fields : List Field). name_fields q.station g o ++ fields ++ bound_fields (rate_of q g) (placed_at (table_of q g) o)) (ap figure_fields kept ∙ fields_are g i)
 
     group_is : (g : ℕ) → g < length (groups_of q.plan) → kept_group q s g ≡ group_rows q told g
     group_is g below = map_range (kept_row q s g) (summary_row q told g) 0 (length (outputs_of (table_of q g))) (λ o within. row_is g o below (omega (arith, within)))
 
-    rows_are : kept_rows q s ≡ summary_rows q told
-    rows_are = ap (λ (rows : List (List (List ℕ))). summary_columns ∷ rows) (flat_map_range (kept_group q s) (group_rows q told) 0 (length (groups_of q.plan)) (λ g below. group_is g (omega (arith, below))))
-
-    pub text_is : (csv : Bool) → rows_text csv (kept_rows q s) ≡ summary_text q told csv
-    unfolding summary_text
-    text_is csv = ap (rows_text csv) rows_are
+    pub rows_are : kept_rows q s ≡ summary_rows q told
+    rows_are = flat_map_range (kept_group q s) (group_rows q told) 0 (length (groups_of q.plan)) (λ g below. group_is g (omega (arith, below)))

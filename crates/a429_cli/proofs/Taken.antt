@@ -37,7 +37,7 @@ unrefused law table q (refused.Table kind place) is fault = let reads = is.0 in 
 unrefused law table q refused.Memory is why = plan_unrefused law table q why.0 refused.Memory is why.1 why.2
 unrefused law table q refusal is why = plan_unrefused law table q why.0 refusal is why.1 why.2
 
--- where a table that a station takes is not proposed, memory was refused
+-- if a table that a station takes is not proposed, an allocation failed
 pub no_cause : PlansHaveNoFault → (t : TableRecord) (table : List ℕ) (refusal : CommandRefusal) → IsTakenBy t table → OrMemory (IsTableRefusal table) refusal → refusal ≡ refused.Memory
 no_cause law t table refused.Memory taken why = refl
 no_cause law t table refusal (q, is, same) why = absurd (unrefused law table q refusal is why)

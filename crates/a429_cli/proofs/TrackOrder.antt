@@ -168,7 +168,7 @@ module _ (q : Proposed) (last : ℕ) (tracks : List Track) (A : AreTracks q last
     | inr miss ↦ absurd (omega (arith, left, none_by g miss.1))
   ]
 
-  -- where no slot is left
+  -- if no slot is left
   pub done_by : ((g : ℕ) (x : Track) → slice_get tracks g ≡ Some x → x.slots ≤ x.next) → (g : ℕ) → slots_by q last g ≤ next_at tracks g
   done_by done g = elim (slice_get_cases tracks g).1 [
     | inl hit ↦ omega (arith, next_is g hit.0 hit.2, done g hit.0 hit.2, A.slots g hit.0 hit.2)

@@ -1,4 +1,4 @@
--- How many cells a group sends in whole frames, by the plan that a run began with and those that were published meanwhile.
+-- How many cells a group sends in whole frames, by the plan that a run began with and those that were published during the run.
 use Rattle.std.proofs.Common.{◌≡◌, ◌∙◌, ◌+◌, ◌-◌, ◌≤◌, ◌<◌, ◌∷◌, [], ◌++◌, ℕ, zero, suc, Bool, true, false, List, length, map, ap, subst, sym, refl, arith, inl, inr}
 use Rattle.std.specs.Prelude.{Option, Some, None, IsTrue, cond, count_by, if◌then◌else◌, nat_lt, slice_get, sum_by, unwrap_or}
 use Rattle.std.specs.List.{AllByRecursion}
@@ -126,7 +126,7 @@ module _ (g : ℕ) (p : SlotTable) where
         let end = state_after g p next (calls ++ rest) in
         (fits plans (all_beginning Gives plans end.seen (seen_on g p next (calls ++ rest) law.1) seen), all_fit rest next calls law.1 seen)
 
--- ---- the plans that were published meanwhile
+-- ---- the plans that were published during the run
 
 module _ (t : TableRecord) (g : ℕ) (R : SlotTable → Type 0) where
   abbrev Given : PlanTable → Type 0

@@ -41,7 +41,7 @@ pub record IsHeading (csv : Bool) (lines : PendingLines) : Type 0 where
   pub text : lines.text.items ≡ heading csv
   pub begin : (q : Proposed) → IsBeginOfSlot q csv lines.begin
 
--- the line of what happens is appended; if memory is refused, nothing is
+-- the line of what happens is appended; if an allocation fails, nothing is
 pub record PushesLine {T E : Type 0} (q : Proposed) (csv : Bool) (h : Happening) (old new : PendingLines) (result : Result T E) : Type 0 where
   pub line : Gains result old.text.items new.text.items (line_of q csv h)
   pub kept : OnErr result (new.text.items ≡ old.text.items)

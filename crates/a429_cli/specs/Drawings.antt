@@ -1,9 +1,7 @@
 -- The command `draw`: its status, and when it is refused (profile: output). A picture is written of a `Drawing` of `a429_documents`, whose marks are the
 -- cells of the plan; no clause says how it is spelled.
-use Rattle.std.specs.Prelude.{◌≡◌, ◌≤◌, ◌∷◌, [], ◌++◌, ◌⊎◌, ℕ, List, Bool, Option, Result, MatchResult, Some, None, option_map, position}
+use Rattle.std.specs.Prelude.{◌≡◌, ◌≤◌, ◌⊎◌, ℕ, List, Option, Result, MatchResult, Some, None, option_map, position}
 use Rattle.std.specs.Str.{bytes_eq}
-use Rattle.std.specs.declared.vec.Vec.{Vec}
-use Rattle.std.specs.declared.alloc.Global.{Global}
 use Rattle.a429_equipment.specs.declared.rows.GroupRow.{GroupRow}
 use Rattle.a429_slots.specs.Proposed.{Proposed}
 use Rattle.a429_documents.specs.Drawing.{IsDrawingFault, image_height}
@@ -12,26 +10,25 @@ use Rattle.a429_documents.specs.declared.drawing.DrawingFault.TheVariants as dra
 use Rattle.a429_documents.specs.declared.drawing.DrawingForm.{DrawingForm}
 use Rattle.a429_console.specs.FileReadings.{readable}
 use Rattle.a429_console.specs.Requests.{OptionBytes}
-use Rattle.a429_console.specs.Replying.{HasReplied}
-use Rattle.a429_console.specs.declared.files.FileFault.{FileFault}
-use Rattle.a429_console.specs.declared.output.OutputFault.{OutputFault}
 use Rattle.a429_console.specs.Tables.{IsGroupRefusal, IsProposedBy}
-use Rattle.a429_console.specs.RefusalText.{OrMemory, refusal_line}
+use Rattle.a429_console.specs.RefusalText.{OrMemory}
 use Rattle.a429_console.specs.declared.refusals.CommandRefusal.{CommandRefusal}
 use Rattle.a429_console.specs.declared.refusals.CommandRefusal.TheVariants as refused
 use Rattle.a429_cli.specs.declared.drawings.Picture.{Picture}
+use Rattle.a429_cli.specs.declared.replies.reply.Reply.{Reply}
 use Rattle.a429_cli.specs.PlanReplies.{IsNoPlan}
+use Rattle.a429_cli.specs.WholeReplies.{Replies}
 
 -- the number of the first group of this name
 unfoldable pub group_numbered : List GroupRow → List ℕ → Option ℕ
 group_numbered groups name = position (λ g. bytes_eq g.name name) groups
 
--- the group that is drawn, by the name that was asked for: where none was, no certain one, which means all
+-- the number of the group to draw, by the name that was asked for: Some None draws all, and None means that no group has this name
 abbrev pub group_asked : List GroupRow → Option (List ℕ) → Option (Option ℕ)
 group_asked groups None = Some None
 group_asked groups (Some name) = option_map Some (group_numbered groups name)
 
--- so many slots of each bus in rows of so many, and whether it is a page
+-- how many slots of each bus are drawn, in rows of how many, and whether it is a page
 abbrev pub picture_of : OptionBytes → Picture
 picture_of o = record { form = record { slots = o.slots; width = o.width }; is_page = o.html }
 
@@ -62,31 +59,21 @@ abbrev pub IsNoImage : (List ℕ → Option (List ℕ)) → List ℕ → Option 
 IsNoImage file name group picture refusal =
     IsNoPlan file name refusal ⊎ ((table : List ℕ) × (q : Proposed) × (readable (file name) ≡ Some table) × IsProposedBy table q × IsUndrawn q group picture refusal)
 
--- drawing the plan of the table in a file gives a picture if there is one, or says why there is none
-abbrev pub IsDrawing : (List ℕ → Option (List ℕ)) → List ℕ → Option (List ℕ) → Picture → Result (Vec ℕ Global) CommandRefusal → Type 0
-IsDrawing file name group picture result = MatchResult result (λ _. HasImageOf file name group picture) (OrMemory (IsNoImage file name group picture))
-
--- what is written of the table in a file, and the status: the line of a refusal, or a picture
-abbrev pub IsDrawReply : (List ℕ → Option (List ℕ)) → List ℕ → Option (List ℕ) → Picture → ℕ → List ℕ → Type 0
-IsDrawReply file name group picture status bytes =
-    ((refusal : CommandRefusal) × OrMemory (IsNoImage file name group picture) refusal × (status ≡ 1) × (bytes ≡ refusal_line refusal ++ 10 ∷ []))
-    ⊎ (HasImageOf file name group picture × (status ≡ 0))
-
--- what `draw` answers of the files of a reader: the files are those that give what the reader answered in the call
-abbrev pub HasDrawn : {S X : Type 0} → (S → List ℕ → Result (List ℕ) FileFault → S → Type 0) → (X → Option (List ℕ)) → List ℕ → Option (List ℕ) → Picture → S → S → X → X → Result ℕ OutputFault → Type 0
-HasDrawn Answers contents name group picture = HasReplied Answers contents (λ file. IsDrawReply file name group picture)
+-- a picture of it is printed, with status 0; nothing is said of its bytes
+abbrev pub IsImageOf : (List ℕ → Option (List ℕ)) → List ℕ → Option (List ℕ) → Picture → ℕ → List ℕ → Type 0
+IsImageOf file name group picture status bytes = HasImageOf file name group picture × (status ≡ 0)
 
 -- the group that is drawn, or that no group has the name that was asked for
 abbrev pub GivesGroup : List GroupRow → Option (List ℕ) → Result (Option ℕ) CommandRefusal → Type 0
 GivesGroup groups group result = MatchResult result (λ number. group_asked groups group ≡ Some number) (OrMemory (IsNoGroup groups group))
 
 -- a picture of the plan of a proposal, of the group of this number or of all, or that it is too high
-abbrev pub GivesNumbered : Proposed → Option ℕ → Picture → Result (Vec ℕ Global) CommandRefusal → Type 0
-GivesNumbered q number picture result = MatchResult result (λ _. image_height q.plan picture.form number ≤ 32767) (OrMemory (IsTooHigh q number picture))
+abbrev pub GivesNumbered : Proposed → Option ℕ → Picture → Result Reply CommandRefusal → Type 0
+GivesNumbered q number picture = Replies (λ status bytes. (image_height q.plan picture.form number ≤ 32767) × (status ≡ 0)) (IsTooHigh q number picture)
 
 -- a picture of the plan of a proposal, or why there is none
-abbrev pub GivesNamedImage : Proposed → Option (List ℕ) → Picture → Result (Vec ℕ Global) CommandRefusal → Type 0
-GivesNamedImage q group picture result = MatchResult result (λ _. HasImage q group picture) (OrMemory (IsUndrawn q group picture))
+abbrev pub GivesNamedImage : Proposed → Option (List ℕ) → Picture → Result Reply CommandRefusal → Type 0
+GivesNamedImage q group picture = Replies (λ status bytes. HasImage q group picture × (status ≡ 0)) (IsUndrawn q group picture)
 
 -- the refusal of an image
 abbrev pub refusal_of : DrawingFault → CommandRefusal

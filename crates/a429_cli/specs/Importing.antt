@@ -1,7 +1,5 @@
 -- The command `import`: what it writes, and its status (profile: import).
-use Rattle.std.specs.Prelude.{◌≡◌, ◌∷◌, [], ◌++◌, ◌⊎◌, ℕ, List, Option, Result, MatchResult, Ok, Err, Some}
-use Rattle.std.specs.declared.vec.Vec.{Vec}
-use Rattle.std.specs.declared.alloc.Global.{Global}
+use Rattle.std.specs.Prelude.{◌≡◌, ◌⊎◌, ℕ, List, Option, Ok, Err, Some}
 use Rattle.a429_table.specs.Reading.{reading}
 use Rattle.a429_table.specs.declared.fault.TableFault.TheVariants as fault
 use Rattle.a429_documents.specs.ImportRows.{rows_stated}
@@ -14,10 +12,6 @@ use Rattle.a429_documents.specs.declared.import.fault.ImportFault.TheVariants as
 use Rattle.a429_documents.specs.declared.import.lines.CsvLine.{CsvLine}
 use Rattle.a429_documents.specs.declared.import.rows.ImportRow.{ImportRow}
 use Rattle.a429_console.specs.FileReadings.{IsFileRefusal, readable}
-use Rattle.a429_console.specs.Replying.{HasReplied}
-use Rattle.a429_console.specs.RefusalText.{OrMemory, refusal_line}
-use Rattle.a429_console.specs.declared.files.FileFault.{FileFault}
-use Rattle.a429_console.specs.declared.output.OutputFault.{OutputFault}
 use Rattle.a429_console.specs.declared.refusals.CommandRefusal.{CommandRefusal}
 use Rattle.a429_console.specs.declared.refusals.CommandRefusal.TheVariants as refused
 use Rattle.a429_console.specs.declared.refusals.CsvKind.{CsvKind}
@@ -45,28 +39,14 @@ IsImportText bytes text =
 abbrev pub IsImportFault : List ℕ → ImportFault → Type 0
 IsImportFault bytes fault = IsImport bytes (Err fault)
 
--- why the bytes are refused: the first fault of their rows, else that of the table which these state
+-- why the bytes are refused: the first fault of their rows, otherwise that of the table which these state
 abbrev pub IsImportRefusal : List ℕ → CommandRefusal → Type 0
 IsImportRefusal bytes refusal = (fault : ImportFault) × IsImportFault bytes fault × (refusal ≡ import_refusal fault)
 
--- a text is read as the record that the rows in a file state
-abbrev pub IsImported : (List ℕ → Option (List ℕ)) → List ℕ → List ℕ → Type 0
-IsImported file name text = (bytes : List ℕ) × (readable (file name) ≡ Some bytes) × IsImportText bytes text
+-- a text is read as the record that the rows in a file state, and the status is 0
+abbrev pub IsImported : (List ℕ → Option (List ℕ)) → List ℕ → ℕ → List ℕ → Type 0
+IsImported file name status text = (bytes : List ℕ) × (readable (file name) ≡ Some bytes) × IsImportText bytes text × (status ≡ 0)
 
 -- why there is none: the file, or what is in it
 abbrev pub IsNoImport : (List ℕ → Option (List ℕ)) → List ℕ → CommandRefusal → Type 0
 IsNoImport file name refusal = IsFileRefusal file name refusal ⊎ ((bytes : List ℕ) × (readable (file name) ≡ Some bytes) × IsImportRefusal bytes refusal)
-
--- what importing a file gives: the text, or why there is none
-abbrev pub IsImporting : (List ℕ → Option (List ℕ)) → List ℕ → Result (Vec ℕ Global) CommandRefusal → Type 0
-IsImporting file name result = MatchResult result (λ text. IsImported file name text.items) (OrMemory (IsNoImport file name))
-
--- what is written of the rows in a file, and the status: the line of a refusal, or the text of the table
-abbrev pub IsImportReply : (List ℕ → Option (List ℕ)) → List ℕ → ℕ → List ℕ → Type 0
-IsImportReply file name status bytes =
-    ((refusal : CommandRefusal) × OrMemory (IsNoImport file name) refusal × (status ≡ 1) × (bytes ≡ refusal_line refusal ++ 10 ∷ []))
-    ⊎ (IsImported file name bytes × (status ≡ 0))
-
--- what `import` answers of the files of a reader: the files are those that give what the reader answered in the call
-abbrev pub HasImported : {S X : Type 0} → (S → List ℕ → Result (List ℕ) FileFault → S → Type 0) → (X → Option (List ℕ)) → List ℕ → S → S → X → X → Result ℕ OutputFault → Type 0
-HasImported Answers contents name = HasReplied Answers contents (λ file. IsImportReply file name)

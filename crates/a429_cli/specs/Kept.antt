@@ -51,7 +51,7 @@ BeginsWithCell text = (slice_index text 0 ≡ 99) × (slice_index text 1 ≡ 101
 abbrev pub IsWordLine : List ℕ → ℕ → List ℕ → Type 0
 IsWordLine text raw rest = (digits : List ℕ) × (text ≡ digits ++ 10 ∷ rest) × (raw_word digits ≡ Some raw)
 
--- an event beside so many further tables
+-- an event that can be kept, if there is this number of further tables
 abbrev pub CanBeKept : ℕ → ScriptEvent → Type 0
 CanBeKept further e = HasTable further e × IsShortEvent e
 
@@ -73,7 +73,7 @@ pub record KeepsLine (names : Naming) (text : List ℕ) (before after : List Kep
   pub starts : StartsWithEvent names text event rest
   pub last : IsKeptAfter before after event
 
--- the same beside so many further tables, which the event may publish
+-- the same with this number of further tables, which the event may publish
 pub record KeepsEntry (names : Naming) (further : ℕ) (text : List ℕ) (before after : List KeptEvent) (rest : List ℕ) : Type 0 where
   pub event : ScriptEvent
   pub states : first_entry (line_event names further) text ≡ Some (event, rest)
@@ -81,11 +81,11 @@ pub record KeepsEntry (names : Naming) (further : ℕ) (text : List ℕ) (before
   pub shorter : length rest < length text
   pub last : IsKeptAfter before after event
 
--- the line after so many events, of this number, is faulty
+-- the line of this number, which follows these events, is faulty
 abbrev pub IsFaultyLine : Naming → ℕ → List ℕ → List KeptEvent → LinesFault → Type 0
 IsFaultyLine names further text before e = (n : ℕ) → e ≡ fault.Line n → (n ≡ length before + 1) × (first_entry (line_event names further) text ≡ None)
 
--- the tables that are published are among so many
+-- each table that is published is one of this number
 abbrev pub TakesAllTables : ℕ → List KeptEvent → Type 0
 TakesAllTables further kept = AllByRecursion (λ k. HasTable further (event_of k)) kept
 

@@ -1,3 +1,4 @@
+pub mod WholeReplies
 pub mod WordLines
 pub mod Script
 pub mod NameLists
@@ -26,4 +27,5 @@ pub mod SimulationRuns
 pub mod CellLines
 pub mod Summary
 pub mod SummaryRuns
+pub mod SummaryLaws
 pub mod SimulationReplies

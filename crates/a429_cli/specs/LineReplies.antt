@@ -17,12 +17,12 @@ use Rattle.a429_cli.specs.declared.lines.LineInput.{LineInput}
 use Rattle.a429_console.specs.declared.refusals.CommandRefusal.{CommandRefusal}
 use Rattle.a429_console.specs.declared.refusals.CommandRefusal.TheVariants as refused
 
--- the number from 1 of the first filter that is refused, behind n that are not: it is not of its form, or 32 stand before it
+-- the number from 1 of the first filter that is refused, after n that are not: it is not of its form, or 32 are before it
 abbrev pub first_bad_filter : ℕ → List (List ℕ) → Option ℕ
 first_bad_filter n [] = None
 first_bad_filter n (text ∷ texts) = if n == 32 || is_none (filter_read text) then Some (n + 1) else first_bad_filter (n + 1) texts
 
--- the filters of texts; no list where there are none
+-- the filters of texts; without texts there is no list
 abbrev pub filter_list : List (List ℕ) → Option (List Filter)
 filter_list [] = None
 filter_list (text ∷ texts) = Some (map filter_of (text ∷ texts))
@@ -45,7 +45,7 @@ IsByteRefusal bytes _ = ⊥
 abbrev pub AreLineBytes : (List ℕ → Option (List ℕ)) → List ℕ → List (List ℕ) → List ℕ → Type 0
 AreLineBytes file name filters bytes = (readable (file name) ≡ Some bytes) × (first_bad_filter 0 filters ≡ None)
 
--- why nothing is told of a line: the file, then a filter, then a byte
+-- why no report of a line is printed: the file, then a filter, then a byte
 abbrev pub IsLinesRefusal : (List ℕ → Option (List ℕ)) → List ℕ → List (List ℕ) → CommandRefusal → Type 0
 IsLinesRefusal file name filters refusal =
     IsFileRefusal file name refusal
@@ -56,7 +56,7 @@ IsLinesRefusal file name filters refusal =
 abbrev pub IsLineOf : (List ℕ → Option (List ℕ)) → List ℕ → List (List ℕ) → LineInput → Type 0
 IsLineOf file name filters l = AreLineBytes file name filters l.bytes.items × (first_bad_byte l.bytes.items ≡ None) × (l.filters ≡ filter_list filters)
 
--- what reading a line file gives: the line, or why nothing is told of it
+-- what reading a line file gives: the line, or why no report of it is printed
 abbrev pub IsLineReading : (List ℕ → Option (List ℕ)) → List ℕ → List (List ℕ) → Result LineInput CommandRefusal → Type 0
 IsLineReading file name filters result = MatchResult result (IsLineOf file name filters) (OrMemory (IsLinesRefusal file name filters))
 
@@ -64,12 +64,12 @@ IsLineReading file name filters result = MatchResult result (IsLineOf file name 
 abbrev pub IsToldInPart : Option (List Filter) → List Symbol → List ℕ → Type 0
 IsToldInPart filters line lines = (k : ℕ) × (n : ℕ) × (lines ≡ printed filters (take n (reports (take k line))))
 
--- these lines are what is printed of all reports of a line and of its rest, or else of some reports
+-- these lines are what is printed of all reports of a line and of its rest, or of some reports
 abbrev pub IsPrinted : Option (List Filter) → List Symbol → Bool → List ℕ → Type 0
 IsPrinted filters line true lines = lines ≡ printed filters (reports line) ++ rest_line filters (rest line)
 IsPrinted filters line false lines = IsToldInPart filters line lines
 
--- what is told of a line, and the status: all its reports and its rest, or some reports and then that memory was refused
+-- what is printed of a line, and the status: all its reports and its rest, or some reports and then that an allocation failed
 abbrev pub IsTold : Option (List Filter) → List Symbol → ℕ → List ℕ → Type 0
 IsTold filters line status bytes =
     ((bytes ≡ printed filters (reports line) ++ rest_line filters (rest line)) × (status ≡ 0))
@@ -79,11 +79,11 @@ IsTold filters line status bytes =
 abbrev pub IsLinePrinted : LineInput → Bool → List ℕ → Type 0
 IsLinePrinted l sufficed lines = IsPrinted l.filters (symbols_of l.bytes.items) sufficed lines
 
--- what is told of a line that was read, and the status
+-- what is printed of a line that was read, and the status
 abbrev pub IsLineTold : LineInput → ℕ → List ℕ → Type 0
 IsLineTold l status bytes = IsTold l.filters (symbols_of l.bytes.items) status bytes
 
--- what is written of a line file with filters of these texts, and the status: the line of a refusal, or what is told of the line
+-- what is written of a line file with filters of these texts, and the status: the line of a refusal, or what is printed of the line
 abbrev pub IsLinesReply : (List ℕ → Option (List ℕ)) → List ℕ → List (List ℕ) → ℕ → List ℕ → Type 0
 IsLinesReply file name filters status bytes =
     ((refusal : CommandRefusal) × OrMemory (IsLinesRefusal file name filters) refusal × (status ≡ 1) × (bytes ≡ refusal_line refusal ++ 10 ∷ []))

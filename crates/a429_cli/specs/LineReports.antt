@@ -25,16 +25,16 @@ found_line (Gap nulls) = codes "gap " ++ decimal nulls ++ 10 ∷ []
 abbrev pub received : Option (List Filter) → List Found → List ℕ
 received filters found = filter (accepts filters) (filter_map raw_found found)
 
--- each report, or where there is a list of filters each word that a socket gives
+-- each report, or if there is a list of filters each word that a socket gives
 abbrev pub printed : Option (List Filter) → List Found → List ℕ
 printed None found = flat_map found_line found
 printed (Some filters) found = flat_map word_line (received (Some filters) found)
 
--- what is printed of one report, where memory sufficed for it
+-- what is printed of one report, if memory sufficed for it
 abbrev pub printed_if : Bool → Option (List Filter) → Found → List ℕ
 printed_if sufficed filters found = if sufficed then printed filters (found ∷ []) else []
 
--- the bits at the end of a line that have no report, where there are any and no list of filters
+-- the bits at the end of a line that have no report, if there are any and there is no list of filters
 abbrev pub rest_line : Option (List Filter) → ℕ → List ℕ
 rest_line None rest = if nat_lt 0 rest then codes "rest " ++ decimal rest ++ 10 ∷ [] else []
 rest_line (Some filters) rest = []

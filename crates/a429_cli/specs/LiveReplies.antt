@@ -71,9 +71,9 @@ IsNoLiveStart i refusal = IsTableRefusal i.table refusal ⊎ IsWordsRefusal i re
 abbrev pub HasTooMuch : TableRecord → List Arrival → Type 0
 HasTooMuch t arrivals = (r : ℕ) × (r < length t.receivers) × (1000000 < length (words_for arrivals r))
 
--- Why a run of the station with these words for so many frames did not come to its end: a thread could not be started or taken in; or more than a
--- million frames were asked for, or a receiver gets more than a million words. Lines in memory, sinks that count and a gate that shuts nowhere have no
--- fault, so no refusal tells of one.
+-- Why a run of the station with these words for this number of frames did not come to its end: a thread could not be started or taken in; or more
+-- than a million frames were asked for, or a receiver gets more than a million words. Lines in memory, sinks that count and a gate that is always
+-- open have no fault, so no refusal is for one.
 abbrev pub IsRunRefusal : TableRecord → List Arrival → ℕ → CommandRefusal → Type 0
 IsRunRefusal t arrivals frames refused.Join = frames ≤ 1000000
 IsRunRefusal t arrivals frames refused.TooMuch = (1000000 < frames) ⊎ HasTooMuch t arrivals
@@ -83,7 +83,7 @@ IsRunRefusal t arrivals frames _ = ⊥
 abbrev pub IsLiveRunFault : LiveFiles → ℕ → CommandRefusal → Type 0
 IsLiveRunFault i frames refusal = (q : Proposed) × (arrivals : List Arrival) × IsLiveStart i q arrivals × IsRunRefusal q.station arrivals frames refusal
 
--- the refusal that tells of a fault of a run; its plan was made before, so where it cannot be made again memory was refused
+-- the refusal for a fault of a run; its plan was made before, so if it cannot be made again an allocation failed
 abbrev pub refusal_of : LiveFault → CommandRefusal
 refusal_of (live.Plan why) = refused.Memory
 refusal_of live.TooMuch = refused.TooMuch
@@ -93,7 +93,7 @@ refusal_of live.Gate = refused.Gate
 refusal_of live.Sink = refused.Sink
 refusal_of live.NoMemory = refused.Memory
 
--- why there is no report, the first that stands: a file, the bytes, or the run
+-- why there is no report, the first that is true: a file, the bytes, or the run
 abbrev pub IsLiveRefusal : (List ℕ → Option (List ℕ)) → AskedBytes → CommandRefusal → Type 0
 IsLiveRefusal file r refusal =
     IsFirstUnread file (r.first ∷ r.second ∷ r.more) refusal
@@ -162,7 +162,7 @@ HasTableOf t g p (table ∷ tables) =
 abbrev pub IsSlotTableOf : TableRecord → PlanTable → List (List ℕ) → ℕ → SlotTable → Type 0
 IsSlotTableOf t plan further g p = (slice_get (groups_of plan) g ≡ Some p) ⊎ HasTableOf t g p further
 
--- group g sent so many frames, whole: the first by the plan of the station, each later one by it or by that of a further table
+-- group g sent this number of frames, whole: the first by the plan of the station, each later one by it or by that of a further table
 abbrev pub IsSentWhole : TableRecord → PlanTable → List (List ℕ) → ℕ → ℕ → SendTotals → Type 0
 IsSentWhole t plan further zero g sent = sent.cells ≡ 0
 IsSentWhole t plan further (suc n) g sent =
@@ -173,7 +173,7 @@ IsSentWhole t plan further (suc n) g sent =
 abbrev pub AreSentWhole : TableRecord → ℕ → List (List ℕ) → List SendTotals → Type 0
 AreSentWhole t frames further sent = (plan : PlanTable) × IsPlanOf t plan × AllNumbered (IsSentWhole t plan further frames) sent
 
--- a run of the station with these words for so many frames, at most a million, with further tables: totals for each receiver, and for each group
+-- a run of the station with these words for this number of frames, at most a million, with further tables: totals for each receiver and each group
 pub record HasLiveRun (t : TableRecord) (arrivals : List Arrival) (frames : ℕ) (further : List (List ℕ)) (totals : List ReceiveTotals) (sent : List SendTotals) : Type 0 where
   pub few : frames ≤ 1000000
   pub heard : AllNumbered (IsHeard t arrivals) totals
@@ -181,7 +181,7 @@ pub record HasLiveRun (t : TableRecord) (arrivals : List Arrival) (frames : ℕ)
   pub groups : length sent ≡ length t.groups
   pub cells : AreSentWhole t frames further sent
 
--- the report of a run of the station with these words for so many frames, with further tables
+-- the report of a run of the station with these words for this number of frames, with further tables
 abbrev pub IsRunReport : TableRecord → List Arrival → ℕ → List (List ℕ) → List ℕ → Type 0
 IsRunReport t arrivals frames further bytes = (totals : List ReceiveTotals) × (sent : List SendTotals) × HasLiveRun t arrivals frames further totals sent × IsReport t further totals sent bytes
 
@@ -208,7 +208,7 @@ IsLiveReading file r result = MatchResult result (λ i. AreLiveFiles file r (fil
 abbrev pub IsPreparedLive : LiveFiles → PreparedRun → Type 0
 IsPreparedLive i p = IsLiveStart i p.proposal p.arrivals.items
 
--- behind a text stands the line of a table that was submitted again between these two states of a station
+-- after a text comes the line of a table that was submitted again between these two states of a station
 abbrev pub IsAppended : Running → Running → List ℕ → List ℕ → List ℕ → Type 0
 IsAppended v w table old new = (line : List ℕ) × IsResubmitLine v.station v.planner.last.number table w.planner.last.number line × (new ≡ old ++ line)
 
@@ -216,7 +216,7 @@ IsAppended v w table old new = (line : List ℕ) × IsResubmitLine v.station v.p
 abbrev pub AppendsLine : {A E : Type 0} → Running → Running → List ℕ → List ℕ → List ℕ → Result A E → Type 0
 AppendsLine v w table old new result = v.planner.last.number + 1 < 2 ^ 64 → OnOk result (IsAppended v w table old new)
 
--- behind a text stand the lines of tables that were submitted again to a station for which no plan was published
+-- after a text come the lines of tables that were submitted again to a station for which no plan was published
 abbrev pub AreAppended : TableRecord → List (List ℕ) → List ℕ → List ℕ → Type 0
 AreAppended t tables old new = (lines : List (List ℕ)) × AreResubmitLines t 0 tables lines × (new ≡ old ++ concat lines)
 

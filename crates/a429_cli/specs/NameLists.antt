@@ -15,7 +15,7 @@ IsFirstPlain names number = (number_named names (name_at names number) ≡ Some 
 abbrev pub AreFirst : List (List ℕ) → ℕ → Type 0
 AreFirst names n = (number : ℕ) → number < n → IsFirstPlain names number
 
--- a text begins with the plain name of a number, after which this byte and this rest stand
+-- a text begins with the plain name of a number, which this byte and this rest follow
 pub record BeginsWithName (names : List (List ℕ)) (end : ℕ) (text : List ℕ) (number : ℕ) (rest : List ℕ) : Type 0 where
   pub name : List ℕ
   pub plain : IsPlain name

@@ -22,11 +22,11 @@ use Rattle.a429_cli.specs.declared.replay.station.ReplayStation.{ReplayStation}
 abbrev pub IsOpened : Proposed → ReplayStation → Type 0
 IsOpened q s = (s.names ≡ naming_of q.station) × StandsForHistory count_bits (record { proposal = q; first = 0 }) [] s.state
 
--- the machine of a proposal, to which nothing has happened, or that memory was refused
+-- the machine of a proposal, to which nothing has happened, or that an allocation failed
 abbrev pub OpensMachine : Proposed → Result MachineState CommandRefusal → Type 0
 OpensMachine q result = MatchResult result (StandsForHistory count_bits (record { proposal = q; first = 0 }) []) (λ e. e ≡ refused.Memory)
 
--- the station of a proposal, just opened, or that memory was refused
+-- the station of a proposal, just opened, or that an allocation failed
 abbrev pub OpensStation : Proposed → Result ReplayStation CommandRefusal → Type 0
 OpensStation q result = MatchResult result (IsOpened q) (λ e. e ≡ refused.Memory)
 
@@ -50,7 +50,7 @@ IsInputReading file table script further result =
 abbrev pub IsPreparedFor : ReplayInput → PreparedReplay → Type 0
 IsPreparedFor i p = (q : Proposed) × IsStart i q (events_of p.events.items) × IsOpened q p.station × TakesAllTables (length i.further) p.events.items
 
--- of a station just opened: what the events come to was put
+-- of a station just opened: the outcome of the events was put
 abbrev pub IsOutcomePut : ReplayInput → PreparedReplay → Option (List ℕ) → Option (List ℕ) → ℕ → Type 0
 IsOutcomePut i p old new status =
     (q : Proposed) → IsStart i q (events_of p.events.items) → IsOpened q p.station → IsPut (IsOutcome i q (events_of p.events.items)) old new status

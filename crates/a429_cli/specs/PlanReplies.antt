@@ -1,7 +1,5 @@
--- The commands that tell of a table's plan, and `check`: what they write, and their status (profile: output).
+-- The commands that print a table's plan, and `check`: what they write, and their status (profile: output).
 use Rattle.std.specs.Prelude.{◌≡◌, ◌∷◌, [], ◌++◌, ◌⊎◌, ℕ, List, Option, Result, MatchResult, Ok, Err, Some, string_bytes}
-use Rattle.std.specs.declared.vec.Vec.{Vec}
-use Rattle.std.specs.declared.alloc.Global.{Global}
 use Rattle.a429_equipment.specs.TableRecord.{TableRecord}
 use Rattle.a429_table.specs.Reading.{reading}
 use Rattle.a429_slots.specs.Proposed.{Proposed}
@@ -9,60 +7,42 @@ use Rattle.a429_slots.specs.Tables.{PlanTable}
 use Rattle.a429_cert.specs.PlanText.{plan_text_of}
 use Rattle.a429_text.specs.Fields.{Field}
 use Rattle.a429_text.specs.Sheets.{sheet_text}
-use Rattle.a429_text.specs.declared.sheets.SheetForm.TheVariants as form
 use Rattle.a429_documents.specs.Document.{icd_columns, icd_rows}
 use Rattle.a429_documents.specs.Margins.{IsMargin, margin_columns}
 use Rattle.a429_cli.specs.declared.plan_texts.PlanText.{PlanText}
-use Rattle.a429_cli.specs.declared.plan_texts.PlanText.TheVariants.{Plan, Document, Sheet, Margin}
+use Rattle.a429_cli.specs.declared.plan_texts.PlanText.TheVariants.{Plan, Document, Margin}
 use Rattle.a429_cert.specs.Due.{IsFirstUnfitOf}
 use Rattle.a429_cert.specs.Judged.{IsVerdictOnBytes}
 use Rattle.a429_cert.specs.Printed.{verdict_text}
 use Rattle.a429_cert.specs.declared.verdicts.Verdict.{Verdict}
 use Rattle.a429_cert.specs.declared.verdicts.Verdict.TheVariants as verdicts
 use Rattle.a429_console.specs.FileReadings.{AreRead, IsFirstUnread, IsFileRefusal, readable}
-use Rattle.a429_console.specs.Replying.{HasReplied}
-use Rattle.a429_console.specs.declared.files.FileFault.{FileFault}
-use Rattle.a429_console.specs.declared.output.OutputFault.{OutputFault}
 use Rattle.a429_console.specs.Names.{group_name, output_name}
 use Rattle.a429_console.specs.Tables.{IsProposedBy, IsTableRefusal}
-use Rattle.a429_console.specs.RefusalText.{OrMemory, refusal_line}
+use Rattle.a429_console.specs.RefusalText.{OrMemory}
 use Rattle.a429_console.specs.declared.refusals.CommandRefusal.{CommandRefusal}
 use Rattle.a429_console.specs.declared.refusals.CommandRefusal.TheVariants as refused
 
 -- ---- plan, icd and margin
 
--- the text tells this of a station's plan
+-- the text has this of a station's plan
 abbrev pub IsTextOf : PlanText → TableRecord → PlanTable → List ℕ → Type 0
 IsTextOf Plan e p text = text ≡ plan_text_of e p
-IsTextOf Document e p text = text ≡ sheet_text form.Columns icd_columns (icd_rows e p)
-IsTextOf Sheet e p text = text ≡ sheet_text form.Csv icd_columns (icd_rows e p)
-IsTextOf Margin e p text = (rows : List (List Field)) × IsMargin e p rows × (text ≡ sheet_text form.Columns margin_columns rows)
+IsTextOf (Document form) e p text = text ≡ sheet_text form icd_columns (icd_rows e p)
+IsTextOf (Margin form) e p text = (rows : List (List Field)) × IsMargin e p rows × (text ≡ sheet_text form margin_columns rows)
 
--- it tells this of the plan of the table in a file
-abbrev pub IsPlanTextOf : (List ℕ → Option (List ℕ)) → PlanText → List ℕ → List ℕ → Type 0
-IsPlanTextOf file kind name text = (table : List ℕ) × (q : Proposed) × (readable (file name) ≡ Some table) × IsProposedBy table q × IsTextOf kind q.station q.plan text
+-- it has this of the plan of the table in a file, and the status is 0
+abbrev pub IsPlanTextOf : (List ℕ → Option (List ℕ)) → PlanText → List ℕ → ℕ → List ℕ → Type 0
+IsPlanTextOf file kind name status text =
+    (table : List ℕ) × (q : Proposed) × (readable (file name) ≡ Some table) × IsProposedBy table q × IsTextOf kind q.station q.plan text × (status ≡ 0)
 
 -- why there is none: the file, or its table, or the plan of that
 abbrev pub IsNoPlan : (List ℕ → Option (List ℕ)) → List ℕ → CommandRefusal → Type 0
 IsNoPlan file name refusal = IsFileRefusal file name refusal ⊎ ((table : List ℕ) × (readable (file name) ≡ Some table) × IsTableRefusal table refusal)
 
--- what planning the table in a file gives: a text that tells this of its plan, or why there is none
-abbrev pub IsPlanning : (List ℕ → Option (List ℕ)) → PlanText → List ℕ → Result (Vec ℕ Global) CommandRefusal → Type 0
-IsPlanning file kind name result = MatchResult result (λ text. IsPlanTextOf file kind name text.items) (OrMemory (IsNoPlan file name))
-
--- what is written of the table in a file, and the status: the line of a refusal, or the text
-abbrev pub IsPlanReply : (List ℕ → Option (List ℕ)) → PlanText → List ℕ → ℕ → List ℕ → Type 0
-IsPlanReply file kind name status bytes =
-    ((refusal : CommandRefusal) × OrMemory (IsNoPlan file name) refusal × (status ≡ 1) × (bytes ≡ refusal_line refusal ++ 10 ∷ []))
-    ⊎ (IsPlanTextOf file kind name bytes × (status ≡ 0))
-
--- what `plan`, `icd` and `margin` answer of the files of a reader: the files are those that give what the reader answered in the call
-abbrev pub HasToldPlan : {S X : Type 0} → (S → List ℕ → Result (List ℕ) FileFault → S → Type 0) → (X → Option (List ℕ)) → PlanText → List ℕ → S → S → X → X → Result ℕ OutputFault → Type 0
-HasToldPlan Answers contents kind name = HasReplied Answers contents (λ file. IsPlanReply file kind name)
-
 -- ---- check
 
--- the fault of a table, or else its first output in table order that admits no grid period, by the names of group and source
+-- the fault of a table, otherwise its first output in table order that fits no grid period, by the names of group and source
 abbrev pub IsUnjudged : List ℕ → CommandRefusal → Type 0
 IsUnjudged table (refused.Table kind place) = reading table ≡ Err (kind, place)
 IsUnjudged table (refused.Unfit group source) =
@@ -82,7 +62,7 @@ IsNoCheck file name plan refusal =
 abbrev pub IsJudging : (List ℕ → Option (List ℕ)) → List ℕ → List ℕ → Result Verdict CommandRefusal → Type 0
 IsJudging file name plan result = MatchResult result (IsVerdictOf file name plan) (OrMemory (IsNoCheck file name plan))
 
--- 0 where the text shows the fewest buses
+-- 0 if the text shows the fewest buses
 abbrev pub verdict_status : Verdict → ℕ
 verdict_status verdicts.Fewest = 0
 verdict_status (verdicts.No _) = 1
@@ -91,12 +71,6 @@ verdict_status (verdicts.No _) = 1
 abbrev pub IsVerdictReply : Verdict → ℕ → List ℕ → Type 0
 IsVerdictReply v status bytes = (status ≡ verdict_status v) × (bytes ≡ verdict_text v ++ 10 ∷ [])
 
--- what is written of a table and a text in files, and the status: the line of a refusal, or of the verdict
-abbrev pub IsCheckReply : (List ℕ → Option (List ℕ)) → List ℕ → List ℕ → ℕ → List ℕ → Type 0
-IsCheckReply file name plan status bytes =
-    ((refusal : CommandRefusal) × OrMemory (IsNoCheck file name plan) refusal × (status ≡ 1) × (bytes ≡ refusal_line refusal ++ 10 ∷ []))
-    ⊎ ((v : Verdict) × IsVerdictOf file name plan v × IsVerdictReply v status bytes)
-
--- what `check` answers of the files of a reader: the files are those that give what the reader answered in the call
-abbrev pub HasToldVerdict : {S X : Type 0} → (S → List ℕ → Result (List ℕ) FileFault → S → Type 0) → (X → Option (List ℕ)) → List ℕ → List ℕ → S → S → X → X → Result ℕ OutputFault → Type 0
-HasToldVerdict Answers contents name plan = HasReplied Answers contents (λ file. IsCheckReply file name plan)
+-- the line of the verdict on the text in a file by the table in another, and its status
+abbrev pub IsCheckOf : (List ℕ → Option (List ℕ)) → List ℕ → List ℕ → ℕ → List ℕ → Type 0
+IsCheckOf file name plan status bytes = (v : Verdict) × IsVerdictOf file name plan v × IsVerdictReply v status bytes

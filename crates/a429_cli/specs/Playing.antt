@@ -19,7 +19,7 @@ use Rattle.a429_cli.specs.declared.pending.Pending.{Pending}
 use Rattle.a429_cli.specs.declared.replay.script.ScriptEvent.{ScriptEvent}
 use Rattle.a429_cli.specs.declared.replay.script.ScriptEvent.TheVariants.{Arrive, Cell, Frame, Publish}
 
--- a table that is published is one of so many
+-- a table that is published is one of this number
 abbrev pub HasTable : ℕ → ScriptEvent → Type 0
 HasTable further (Publish n) = (1 ≤ n) × (n ≤ further)
 HasTable further _ = ⊤
@@ -58,8 +58,8 @@ PlaysOne names further event old new before after =
     (o : Opening) (E : List Event) → StandsForHistory count_bits o E old
     → (E' : List Event) × (line : List ℕ) × Happens o names further E event E' line × StandsForHistory count_bits o E' new × (after ≡ before ++ line)
 
--- the first of these events happen to a state, whatever history the state stands for, and the bytes that are printed are put as Puts says;
--- where memory sufficed, all of them happen
+-- the first of these events happen to a state, whatever history the state stands for, and the bytes that are printed are put as Puts says; if memory
+-- sufficed, all of them happen
 abbrev pub PlaysEvents : List (List ℕ) → List (List ℕ) → List ScriptEvent → MachineState → (List ℕ → Type 0) → Bool → Type 0
 PlaysEvents names further events old Puts sufficed =
     (o : Opening) (E : List Event) → StandsForHistory count_bits o E old
@@ -70,6 +70,6 @@ abbrev pub PlaysAll : {X E : Type 0} → (X → Option (List ℕ)) → List (Lis
 PlaysAll contents names further events old out out' lines lines' result =
     IfOk result (PlaysEvents names further events old (AppendsPending (contents out) lines.text.items (contents out') lines'.text.items))
 
--- an event of a history that is as Is says; or why there is none, as Not tells, or that memory was refused
+-- an event of a history that is as Is says; or why there is none, as Not says, or that an allocation failed
 abbrev pub GivesEvent : (Event → Type 0) → (CommandRefusal → Type 0) → Result MachineEvent (Option (Bor CommandRefusal)) → Type 0
 GivesEvent Is Not result = MatchResult result (λ e. Is (event_of e)) (λ why. IfSome why (λ refusal. OrMemory Not refusal.now))

@@ -6,9 +6,9 @@ use Rattle.a429_console.specs.GivenWords.{AreAllWords, HasNoText}
 use Rattle.a429_console.specs.RequestRows.{AsksFor}
 use Rattle.a429_console.specs.Requests.{AskedBytes}
 use Rattle.a429_console.specs.Usage.{is_run, kinds_of_words, live_kinds_of_words}
-use Rattle.a429_cli.specs.Replies.{IsReplyOrMemory, TakesEach}
+use Rattle.a429_cli.specs.Replies.{IsReplyOrMemory, TakesEach, trouble_of}
 
--- what files a reader has, and whether it tells them
+-- what files a reader has, and whether they are known
 pub record Reader : Type 0 where
   pub tells : Bool
   pub file : List ℕ → Option (List ℕ)
@@ -18,10 +18,10 @@ abbrev pub is_live : List (List ℕ) → Bool
 is_live [] = false
 is_live (word ∷ words) = bytes_eq word (codes "live")
 
--- The words went to `command_live`, or to `command`, which does the other commands; Reads tells what holds of all files that give what the reader answered
--- meanwhile.
+-- The words went to `command_live`, or to `command`, which does the other commands; Reads says what is true of all files that give what the reader
+-- answered during the call.
 pub record IsCallDone {X Y : Type 0} (live : Bool) (words : List (List ℕ)) (reader : Reader) (Reads : ((List ℕ → Option (List ℕ)) → Type 0) → Type 0) (out : Writing X) (err : Writing Y) (status : ℕ) : Type 0 where
-  pub answered : (r : AskedBytes) → is_run r.verb ≡ live → AsksFor words r → (status ≤ 1) × (IsTrue reader.tells → IsWhole out → IsPutTo (IsReplyOrMemory reader.file r) out status)
+  pub answered : (r : AskedBytes) → is_run r.verb ≡ live → AsksFor words r → (status ≤ trouble_of r.verb) × (IsTrue reader.tells → IsWhole out → IsPutTo (IsReplyOrMemory reader.file r) out status)
   pub read : (r : AskedBytes) → is_run r.verb ≡ live → AsksFor words r → IsWhole out → Reads (λ file. IsPutTo (IsReplyOrMemory file r) out status)
   pub quiet : (r : AskedBytes) → is_run r.verb ≡ live → AsksFor words r → Reads (λ file. TakesEach file r → status ≡ 0 → IsLeft err)
   pub ends : EndsBy (if live then live_kinds_of_words words else kinds_of_words words) out err status
@@ -30,11 +30,11 @@ pub record IsCallDone {X Y : Type 0} (live : Bool) (words : List (List ℕ)) (re
 abbrev pub CommandIsDone : {X Y : Type 0} → List (List ℕ) → Reader → (((List ℕ → Option (List ℕ)) → Type 0) → Type 0) → Writing X → Writing Y → ℕ → Type 0
 CommandIsDone words = IsCallDone (is_live words) words
 
--- or memory was refused
+-- or an allocation failed
 abbrev pub IsDoneOrRefused : {X Y : Type 0} → List (List ℕ) → Reader → (((List ℕ → Option (List ℕ)) → Type 0) → Type 0) → Writing X → Writing Y → ℕ → Type 0
 IsDoneOrRefused words reader Reads out err status = CommandIsDone words reader Reads out err status ⊎ IsMemoryRefused out err status
 
--- the words that were given went to their command, or they are not all UTF-8, or memory was refused
+-- the words that were given went to their command, or they are not all UTF-8, or an allocation failed
 abbrev pub HasRunProgram : {X Y : Type 0} → (ℕ → List ℕ → Type 0) → (ℕ → Type 0) → Reader → (((List ℕ → Option (List ℕ)) → Type 0) → Type 0) → Writing X → Writing Y → ℕ → Type 0
 HasRunProgram gives ends reader Reads out err status =
     ((words : List (List ℕ)) × AreAllWords gives ends words × CommandIsDone words reader Reads out err status)

@@ -55,13 +55,13 @@ abbrev pub IsPlayed : ReplayInput → Proposed → List ScriptEvent → List ℕ
 IsPlayed i q events bytes =
     (E : List Event) × Played (record { proposal = q; first = 0 }) (naming_of q.station).sources i.further [] events E bytes
 
--- what a replay that began writes, and its status: the lines of all events, or those of some and then that memory was refused
+-- what a replay that began writes, and its status: the lines of all events, or those of some and then that an allocation failed
 abbrev pub IsOutcome : ReplayInput → Proposed → List ScriptEvent → ℕ → List ℕ → Type 0
 IsOutcome i q events status bytes =
     (IsPlayed i q events bytes × (status ≡ 0))
     ⊎ ((n : ℕ) × (lines : List ℕ) × IsPlayed i q (take n events) lines × (status ≡ 1) × (bytes ≡ lines ++ memory_refused ++ 10 ∷ []))
 
--- what a replay writes, and its status: the line of a refusal, or what it comes to from its beginning
+-- what a replay writes, and its status: the line of a refusal, or its outcome from its beginning
 abbrev pub IsReplay : (List ℕ → Option (List ℕ)) → List ℕ → List ℕ → List (List ℕ) → ℕ → List ℕ → Type 0
 IsReplay file table script further status bytes =
     ((refusal : CommandRefusal) × OrMemory (IsReplayRefusal file table script further) refusal × (status ≡ 1) × (bytes ≡ refusal_line refusal ++ 10 ∷ []))

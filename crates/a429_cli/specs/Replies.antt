@@ -1,38 +1,68 @@
 -- What is answered to what is asked for.
-use Rattle.std.specs.Prelude.{⊤, ℕ, List, Bool, true, false, Option, Result, if◌then◌else◌}
-use Rattle.a429_text.specs.declared.sheets.SheetForm.TheVariants.{Columns}
+use Rattle.std.specs.Prelude.{⊤, ℕ, List, Bool, true, false, Option, Result}
 use Rattle.a429_console.specs.Outputs.{FailedCalls, OrNoMemory}
 use Rattle.a429_console.specs.Replying.{RepliesByReader, RepliesToWords}
 use Rattle.a429_console.specs.Requests.{AskedBytes}
 use Rattle.a429_console.specs.declared.arguments.forms.Verb.{Verb}
 use Rattle.a429_console.specs.declared.arguments.forms.Verb.TheVariants as verb
 use Rattle.a429_console.specs.declared.files.FileFault.{FileFault}
-use Rattle.a429_cli.specs.WordLines.{IsWordReply}
+use Rattle.a429_console.specs.declared.refusals.CommandRefusal.{CommandRefusal}
+use Rattle.a429_cli.specs.WordLines.{IsNoWord, IsWordOf}
 use Rattle.a429_cli.specs.LineReplies.{IsLinesReply}
-use Rattle.a429_cli.specs.PlanReplies.{IsPlanReply, IsCheckReply}
-use Rattle.a429_cli.specs.Drawings.{IsDrawReply, picture_of}
-use Rattle.a429_cli.specs.Findings.{IsDiffReply, IsLintReply}
-use Rattle.a429_cli.specs.Importing.{IsImportReply}
+use Rattle.a429_cli.specs.PlanReplies.{IsCheckOf, IsNoCheck, IsNoPlan, IsPlanTextOf}
+use Rattle.a429_cli.specs.Drawings.{IsImageOf, IsNoImage, picture_of}
+use Rattle.a429_cli.specs.Findings.{IsDiffOf, IsLinted, IsNoDiff, IsNoLint}
+use Rattle.a429_cli.specs.Importing.{IsImported, IsNoImport}
 use Rattle.a429_cli.specs.LiveReplies.{IsLiveReply, TakesLive}
 use Rattle.a429_cli.specs.Replaying.{IsReplay, TakesFurther}
 use Rattle.a429_cli.specs.SimulationReplies.{IsSimulation}
+use Rattle.a429_cli.specs.WholeReplies.{IsReplyBy}
 use Rattle.a429_cli.specs.declared.plan_texts.PlanText.TheVariants as told
+
+-- the command prints nothing before it has its whole answer
+abbrev pub is_whole : Verb → Bool
+is_whole verb.Lines = false
+is_whole verb.Replay = false
+is_whole verb.Simulate = false
+is_whole verb.Live = false
+is_whole _ = true
+
+-- the status of a refusal: `lint` and `diff` keep 1 for what they find
+abbrev pub trouble_of : Verb → ℕ
+trouble_of verb.Lint = 2
+trouble_of verb.Diff = 2
+trouble_of _ = 1
+
+-- the status and the bytes of such an answer, by these files and by what the command is given
+abbrev pub IsAnswerOf : Verb → (List ℕ → Option (List ℕ)) → AskedBytes → ℕ → List ℕ → Type 0
+IsAnswerOf verb.Word file r = IsWordOf r.first
+IsAnswerOf verb.Import file r = IsImported file r.first
+IsAnswerOf verb.Plan file r = IsPlanTextOf file told.Plan r.first
+IsAnswerOf verb.Check file r = IsCheckOf file r.first r.second
+IsAnswerOf verb.Icd file r = IsPlanTextOf file (told.Document r.options.form) r.first
+IsAnswerOf verb.Margin file r = IsPlanTextOf file (told.Margin r.options.form) r.first
+IsAnswerOf verb.Lint file r = IsLinted file r.options.form r.first
+IsAnswerOf verb.Diff file r = IsDiffOf file r.options.all r.options.form r.first r.second
+IsAnswerOf verb.Draw file r = IsImageOf file r.first r.options.group (picture_of r.options)
+IsAnswerOf _ file r = λ status bytes. ⊥
+
+-- why there is none
+abbrev pub IsNoAnswer : Verb → (List ℕ → Option (List ℕ)) → AskedBytes → CommandRefusal → Type 0
+IsNoAnswer verb.Word file r = IsNoWord r.first
+IsNoAnswer verb.Import file r = IsNoImport file r.first
+IsNoAnswer verb.Check file r = IsNoCheck file r.first r.second
+IsNoAnswer verb.Lint file r = IsNoLint file r.first
+IsNoAnswer verb.Diff file r = IsNoDiff file r.first r.second
+IsNoAnswer verb.Draw file r = IsNoImage file r.first r.options.group (picture_of r.options)
+IsNoAnswer _ file r = IsNoPlan file r.first
 
 -- the status and the bytes that answer a command, by these files and by what it is given
 abbrev pub IsReplyOf : Verb → (List ℕ → Option (List ℕ)) → AskedBytes → ℕ → List ℕ → Type 0
-IsReplyOf verb.Word file r = IsWordReply r.first
 IsReplyOf verb.Lines file r = IsLinesReply file r.first r.more
-IsReplyOf verb.Import file r = IsImportReply file r.first
-IsReplyOf verb.Plan file r = IsPlanReply file told.Plan r.first
-IsReplyOf verb.Check file r = IsCheckReply file r.first r.second
-IsReplyOf verb.Icd file r = IsPlanReply file (if r.options.csv then told.Sheet else told.Document) r.first
-IsReplyOf verb.Margin file r = IsPlanReply file told.Margin r.first
-IsReplyOf verb.Lint file r = IsLintReply file r.first
-IsReplyOf verb.Diff file r = IsDiffReply file true Columns r.first r.second
-IsReplyOf verb.Draw file r = IsDrawReply file r.first r.options.group (picture_of r.options)
 IsReplyOf verb.Replay file r = IsReplay file r.first r.second r.more
-IsReplyOf verb.Simulate file r = IsSimulation file r.first r.second (record { until = r.options.until; summary = r.options.summary; csv = r.options.csv })
+IsReplyOf verb.Simulate file r = IsSimulation file r.first r.second (record { until = r.options.until; summary = r.options.summary; form = r.options.form })
 IsReplyOf verb.Live file r = IsLiveReply file r
+IsReplyOf v file r = IsReplyBy (trouble_of v) (IsAnswerOf v file r) (IsNoAnswer v file r)
 
 -- the station takes the plans of all further tables
 abbrev pub TakesTables : Verb → (List ℕ → Option (List ℕ)) → AskedBytes → Type 0
@@ -43,11 +73,11 @@ TakesTables _ file r = ⊤
 abbrev pub TakesEach : (List ℕ → Option (List ℕ)) → AskedBytes → Type 0
 TakesEach file r = TakesTables r.verb file r
 
--- what answers a request, or want of memory, before anything else was written
+-- what answers a request, or that an allocation failed before anything was written
 abbrev pub IsReplyOrMemory : (List ℕ → Option (List ℕ)) → AskedBytes → ℕ → List ℕ → Type 0
 IsReplyOrMemory file r = OrNoMemory (IsReplyOf r.verb file r)
 
--- what `command` answers to words that ask for something, if the reader tells its files and no call of the output failed
+-- what `command` answers to a request, if the files of the reader are known and no call of the output failed
 abbrev pub RepliesToCommand : {S X : Type 0} → (S → Bool) → (S → List ℕ → Option (List ℕ)) → (X → Option (List ℕ)) → (X → FailedCalls) → List (List ℕ) → S → X → X → ℕ → Type 0
 RepliesToCommand = RepliesToWords false IsReplyOrMemory
 

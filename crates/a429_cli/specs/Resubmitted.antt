@@ -1,4 +1,4 @@
--- What it comes to that tables are submitted again to a running station, one after another.
+-- The outcome of tables that are submitted again to a running station, one after another.
 use Rattle.std.specs.Prelude.{◌≡◌, ◌+◌, ◌^◌, ◌∷◌, [], ℕ, Bool, true, false, List, Ok, IfOk, OnOk, Result, MatchResult}
 use Rattle.std.specs.declared.vec.Vec.{Vec}
 use Rattle.std.specs.declared.alloc.Global.{Global}
@@ -45,12 +45,12 @@ AreAnswers v [] [] w = w ≡ v
 AreAnswers v (table ∷ tables) (given ∷ answers) w = (u : Running) × IsAnswer v table given u × AreAnswers u tables answers w
 AreAnswers v _ _ w = ⊥
 
--- behind a text stand the lines of these tables, which were answered so by a station for which no plan was published, if memory suffices
+-- after a text come the lines of these tables, which were answered so by a station for which no plan was published, if memory suffices
 abbrev pub AppendsAll : {A E : Type 0} → List (List ℕ) → List SubmitAnswer → List ℕ → List ℕ → Result A E → Type 0
 AppendsAll tables answers old new result =
     (begin end : Running) → begin.planner.last.number ≡ 0 → AreAnswers begin tables answers end → OnOk result (AreAppended begin.station tables old new)
 
--- the report of a station for which no plan was published before, to which these tables were submitted again and answered so; or memory was refused
+-- the report of a station for which no plan was published before, to which these tables were submitted again and answered so; or an allocation failed
 abbrev pub ReportsRun : TableRecord → List (List ℕ) → List SubmitAnswer → List ReceiveTotals → List SendTotals → Result (Vec ℕ Global) CommandRefusal → Type 0
 ReportsRun station tables answers received sent result =
     (begin end : Running) → begin.station ≡ station → begin.planner.last.number ≡ 0 → AreAnswers begin tables answers end

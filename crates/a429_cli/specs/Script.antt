@@ -25,7 +25,7 @@ arrive_event names words = option_and_then (λ p. arrival (number_named names.re
 abbrev pub publish_event : ℕ → List ℕ → Option ScriptEvent
 publish_event further number = option_and_then (λ n. if nat_lt 0 n && nat_le n further then Some (Publish n) else None) (decimal_number number)
 
--- of a verb and what stands after the space that follows it
+-- of a verb and the rest after the space that follows it
 abbrev pub event_by : Naming → ℕ → List ℕ → List ℕ → Option ScriptEvent
 event_by names further verb words =
     if bytes_eq verb (codes "arrive") then arrive_event names words

@@ -88,7 +88,8 @@ time_for source w = if w.0 == source then Some w.1 else None
 unfoldable pub times_of : Proposed → List Step → ℕ → List ℕ
 times_of q past source = filter_map (time_for source) (accepted_from q [] past)
 
--- the last of so many words of a source: its number among them, and its time; 0 before the first one, when no word of the source is sent
+-- the last of the words of a source that came in at these times: its number among them, and its time; 0 before the first one, when no word of the
+-- source is sent
 abbrev pub last_word : List ℕ → Heard
 last_word times = record { word = length times; time = unwrap_or (last_of times) 0 }
 
@@ -98,8 +99,8 @@ last_word times = record { word = length times; time = unwrap_or (last_of times)
 abbrev pub source_in : Proposed → ℕ → ℕ → ℕ → ℕ
 source_in q g bus slot = unwrap_or (source_at (table_of q g) bus slot) 0
 
--- a word of a source that a group sends on a bus in slot t, after so many accepted words of that source. An equal word that is accepted again is
--- another word.
+-- a word of a source that a group sends on a bus in slot t, with the number and the time of the last accepted word of that source. An equal word that
+-- is accepted again is another word.
 abbrev pub word_sent : ℕ → ℕ → ℕ → ℕ → ℕ → Heard → SentWord
 word_sent g t bus raw source heard = record {
   group = g;
@@ -109,7 +110,7 @@ word_sent g t bus raw source heard = record {
   send = record { slot = t; word = heard.word; time = heard.time };
 }
 
--- what happens in a step by its answer, where Times has those of the accepted words: a word is refused, or a cell has a word
+-- what happens in a step by its answer; `times` gives those of the accepted words: a word is refused, or a cell has a word
 abbrev pub happening_by : Proposed → (ℕ → List ℕ) → Step → Answer → Option Happening
 happening_by q times (Comes w) (Refused why) = Some (Refuses w why)
 happening_by q times (Asks g t) (Sent bus slot (Some raw)) =

@@ -57,8 +57,8 @@ log_then None n last later = Err n
 log_then (Some PassedOver) n last later = later last
 log_then (Some (Word w)) n last later = entries_before (w ∷ []) (later w.time)
 
--- Of lines from number n on, and what stands after the last: the words, or the number of the first faulty line. No time is below the one
--- before it, nor below the last.
+-- Of lines from number n on, and the rest after the last: the words, or the number of the first faulty line. No time is below the one before it, nor
+-- below the last.
 abbrev pub log_from : Naming → ℕ → ℕ → List (List ℕ) → List ℕ → Result (List LogWord) ℕ
 log_from names last n [] [] = Ok []
 log_from names last n [] (x ∷ xs) = Err n

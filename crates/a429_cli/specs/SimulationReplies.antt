@@ -1,10 +1,12 @@
 -- The command `simulate`: what it writes, and its status.
 use Rattle.std.specs.Prelude.{◌≡◌, ◌∷◌, [], ◌++◌, ◌⊎◌, ℕ, List, Bool, true, false, Option, Ok, Result, MatchResult, IfOk, codes, take}
+use Rattle.a429_text.specs.declared.sheets.SheetForm.{SheetForm}
 use Rattle.a429_slots.specs.Proposed.{Proposed}
 use Rattle.a429_console.specs.FileReadings.{AreRead, IsFirstUnread}
 use Rattle.a429_console.specs.Names.{naming_of}
 use Rattle.a429_console.specs.Outputs.{AppendsPending, IsPut, OrNoMemory, memory_refused}
 use Rattle.a429_console.specs.RefusalText.{OrMemory, refusal_line}
+use Rattle.a429_console.specs.Requests.{is_csv}
 use Rattle.a429_console.specs.Tables.{IsProposedBy, IsTableRefusal}
 use Rattle.a429_console.specs.declared.refusals.CommandRefusal.{CommandRefusal}
 use Rattle.a429_console.specs.declared.refusals.CommandRefusal.TheVariants as refused
@@ -75,28 +77,28 @@ IsPrintedInPart q words last csv bytes =
     (moments : List Moment) × (n : ℕ) × TimelineIsBegun q words last moments
     × (bytes ≡ heading csv ++ text_of q csv (take n (happenings_of q (steps_of q moments))))
 
--- what a simulation that began writes, and its status: all lines, or the first ones and then that memory was refused
+-- what a simulation that began writes, and its status: all lines, or the first ones and then that an allocation failed
 abbrev pub IsPrinting : Proposed → List LogWord → ℕ → Bool → ℕ → List ℕ → Type 0
 IsPrinting q words last csv status bytes =
     (IsPrinted q words last csv bytes × (status ≡ 0))
     ⊎ ((lines : List ℕ) × IsPrintedInPart q words last csv lines × (status ≡ 1) × (bytes ≡ lines ++ memory_refused ++ 10 ∷ []))
 
 -- what a simulation that began writes in place of its lines, and its status: the summary of the whole timeline
-abbrev pub IsSummary : Proposed → List LogWord → ℕ → Bool → ℕ → List ℕ → Type 0
-IsSummary q words last csv status bytes =
-    (moments : List Moment) × IsTimeline q words last moments × (bytes ≡ summary_text q (happenings_of q (steps_of q moments)) csv) × (status ≡ 0)
+abbrev pub IsSummary : Proposed → List LogWord → ℕ → SheetForm → ℕ → List ℕ → Type 0
+IsSummary q words last form status bytes =
+    (moments : List Moment) × IsTimeline q words last moments × (bytes ≡ summary_text q (happenings_of q (steps_of q moments)) form) × (status ≡ 0)
 
--- what it writes, by whether the summary is asked for
-abbrev pub IsWritten : Proposed → List LogWord → ℕ → Bool → Bool → ℕ → List ℕ → Type 0
-IsWritten q words last true csv = IsSummary q words last csv
-IsWritten q words last false csv = IsPrinting q words last csv
+-- what it writes in a form, by whether the summary is asked for
+abbrev pub IsWritten : Proposed → List LogWord → ℕ → Bool → SheetForm → ℕ → List ℕ → Type 0
+IsWritten q words last true form = IsSummary q words last form
+IsWritten q words last false form = IsPrinting q words last (is_csv form)
 
 -- what `simulate` writes, and its status: the line of a refusal, or what the simulation prints
 abbrev pub IsSimulation : (List ℕ → Option (List ℕ)) → List ℕ → List ℕ → SimulationForm → ℕ → List ℕ → Type 0
 IsSimulation file table log form status bytes =
     ((refusal : CommandRefusal) × OrMemory (IsSimulationRefusal file table log form.until) refusal × (status ≡ 1) × (bytes ≡ refusal_line refusal ++ 10 ∷ []))
     ⊎ ((i : SimulationFiles) × (q : Proposed) × (words : List LogWord) × AreSimulationFiles file table log i × IsSimulated i q words
-    × IsWritten q words (end_of q words form.until) form.summary form.csv status bytes)
+    × IsWritten q words (end_of q words form.until) form.summary form.form status bytes)
 
 -- ---- by the values of the program
 
@@ -131,11 +133,11 @@ pub record SimulationIsReady (s : Simulation) : Type 0 where
 pub record IsPreparedFor (i : SimulationFiles) (form : SimulationForm) (s : Simulation) : Type 0 where
   pub words : List LogWord
   pub simulated : IsSimulated i s.setting.proposal words
-  pub csv : s.setting.csv ≡ form.csv
+  pub csv : s.setting.csv ≡ is_csv form.form
   pub begin : HasPlayed s.setting.proposal words (end_of s.setting.proposal words form.until) [] s.player
   pub ready : SimulationIsReady s
 
--- these lines were printed by a simulation to its end, or where memory was refused those of what happened first
+-- these lines were printed by a simulation to its end, or if an allocation failed those of what happened first
 abbrev pub ArePrinted : Proposed → List LogWord → ℕ → Bool → Bool → List ℕ → Type 0
 ArePrinted q words last csv true bytes = (told : List Happening) × AreHappenings q words last told × (bytes ≡ text_of q csv told)
 ArePrinted q words last csv false bytes =
@@ -148,12 +150,24 @@ PutsLines contents q csv player out out' text text' result =
     (words : List LogWord) (last : ℕ) → HasPlayed q words last [] player
     → IfOk result (λ sufficed. (bytes : List ℕ) × ArePrinted q words last csv sufficed bytes × AppendsPending (contents out) text (contents out') text' bytes)
 
--- what a simulation that begins so prints was put, or that memory was refused before that
-abbrev pub HasPrinted : {E : Type 0} → Simulation → Bool → Option (List ℕ) → Option (List ℕ) → Result ℕ E → Type 0
-HasPrinted s summary old new result =
+-- the lines of a simulation that begins so were put, or that an allocation failed before that
+abbrev pub HasPrintedLines : {E : Type 0} → Simulation → Option (List ℕ) → Option (List ℕ) → Result ℕ E → Type 0
+HasPrintedLines s old new result =
     (words : List LogWord) (last : ℕ) → HasPlayed s.setting.proposal words last [] s.player
-    → IfOk result (λ status. IsPut (OrNoMemory (IsWritten s.setting.proposal words last summary s.setting.csv)) old new status)
+    → IfOk result (λ status. IsPut (OrNoMemory (IsPrinting s.setting.proposal words last s.setting.csv)) old new status)
 
--- the text is the summary of a simulation that begins so
-abbrev pub HasSummary : Setting → Player → List ℕ → Type 0
-HasSummary s player text = (words : List LogWord) (last : ℕ) → HasPlayed s.proposal words last [] player → IsSummary s.proposal words last s.csv 0 text
+-- the summary of a simulation that begins so was put in a form, or that an allocation failed before that
+abbrev pub HasPrintedSummary : {E : Type 0} → Simulation → SheetForm → Option (List ℕ) → Option (List ℕ) → Result ℕ E → Type 0
+HasPrintedSummary s form old new result =
+    (words : List LogWord) (last : ℕ) → HasPlayed s.setting.proposal words last [] s.player
+    → IfOk result (λ status. IsPut (OrNoMemory (IsSummary s.setting.proposal words last form)) old new status)
+
+-- what it prints was put, or that an allocation failed before that
+abbrev pub HasPrinted : {E : Type 0} → Simulation → SimulationForm → Option (List ℕ) → Option (List ℕ) → Result ℕ E → Type 0
+HasPrinted s form old new result =
+    (words : List LogWord) (last : ℕ) → HasPlayed s.setting.proposal words last [] s.player
+    → IfOk result (λ status. IsPut (OrNoMemory (IsWritten s.setting.proposal words last form.summary form.form)) old new status)
+
+-- the text is the summary of a simulation that begins so, in a form
+abbrev pub HasSummary : Setting → Player → SheetForm → List ℕ → Type 0
+HasSummary s player form text = (words : List LogWord) (last : ℕ) → HasPlayed s.proposal words last [] player → IsSummary s.proposal words last form 0 text

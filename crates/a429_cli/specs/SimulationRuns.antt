@@ -112,13 +112,13 @@ pub record HasPlayed (q : Proposed) (words : List LogWord) (last : ℕ) (told : 
 abbrev pub AreHappenings : Proposed → List LogWord → ℕ → List Happening → Type 0
 AreHappenings q words last told = (moments : List Moment) × IsTimeline q words last moments × (told ≡ happenings_of q (steps_of q moments))
 
--- whatever was told of what happened, this happened next; if there is nothing more, all of the timeline was played
+-- after any events that were given before, this happened next; without a next event, all of the timeline was played
 abbrev pub Tells : Proposed → Player → Player → Option Happening → Type 0
 Tells q old new result =
     (words : List LogWord) (last : ℕ) (told : List Happening) → HasPlayed q words last told old
     → MatchOption result (AreHappenings q words last told) (λ h. HasPlayed q words last (told ++ h ∷ []) new)
 
--- a moment begins where no slot is under way
+-- a moment begins when no slot is under way
 abbrev pub BeginsMoment : Proposed → Moment → Player → Player → Option Happening → Type 0
 BeginsMoment q (Word w) old new result = TakesStep q (Comes w) old.run new.run result × (new.slot ≡ old.slot) × (new.timeline ≡ old.timeline)
 BeginsMoment q (Slot g t) old new result =

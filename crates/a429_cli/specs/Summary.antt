@@ -1,10 +1,10 @@
 -- The summary of a simulation: of each output how many words it sent, and at which times.
 use Rattle.std.specs.Prelude.{◌==◌, ◌&&◌, ◌+◌, ◌-◌, ◌^◌, ◌++◌, ◌∷◌, [], ℕ, Bool, not, List, Option, Some, None, filter_map, if◌then◌else◌, codes, length, map, max, min}
-use Rattle.std.specs.Fmt.{decimal}
 use Rattle.std.specs.List.{flat_map, fold, list_any, range_with_len}
 use Rattle.a429_equipment.specs.TableRecord.{TableRecord}
-use Rattle.a429_documents.specs.Aligned.{aligned_text}
-use Rattle.a429_documents.specs.CsvLines.{csv_text_of}
+use Rattle.a429_text.specs.Fields.{Absent, Field, Number, Text}
+use Rattle.a429_text.specs.Sheets.{sheet_text}
+use Rattle.a429_text.specs.declared.sheets.SheetForm.{SheetForm}
 use Rattle.a429_documents.specs.Document.{latency_us, slots_us}
 use Rattle.a429_slots.specs.Proposed.{Proposed}
 use Rattle.a429_slots.specs.Tables.{Placed, groups_of, outputs_of, placed_at}
@@ -31,8 +31,8 @@ output_sends q g o happenings = sends_of g (placed_at (table_of q g) o).source h
 
 -- ---- their times, at the bit rate of the group
 
--- The times between two sends in turn, from the beginning of a slot to that of another: slot t begins at t * 36000000 / rate microseconds, so they
--- are as long as the slots between. Each is rounded up to whole microseconds.
+-- The times between each send and the next, from the beginning of a slot to that of another: slot t begins at t * 36000000 / rate microseconds, so
+-- they are as long as the slots between. Each is rounded up to whole microseconds.
 abbrev pub times_after : ℕ → OutputSend → List OutputSend → List ℕ
 times_after rate before [] = []
 times_after rate before (s ∷ sends) = slots_us rate (s.slot - before.slot) ∷ times_after rate s sends
@@ -68,45 +68,42 @@ abbrev pub greatest_in : List ℕ → Option ℕ
 greatest_in [] = None
 greatest_in (x ∷ xs) = Some (fold max x xs)
 
--- a number, or that there is none
-abbrev pub number_or_dash : Option ℕ → List ℕ
-number_or_dash None = codes "-"
-number_or_dash (Some n) = decimal n
+-- a number, if there is one
+abbrev pub number_field : Option ℕ → Field
+number_field None = Absent
+number_field (Some n) = Number n
 
 -- how many words were sent, the least and the greatest time between two, and the greatest lateness of a word when it first went out
-abbrev pub send_fields : ℕ → List OutputSend → List (List ℕ)
+abbrev pub send_fields : ℕ → List OutputSend → List Field
 send_fields rate sends =
-    decimal (length sends) ∷ number_or_dash (least_in (times_between rate sends)) ∷ number_or_dash (greatest_in (times_between rate sends))
-    ∷ number_or_dash (greatest_in (latenesses rate sends)) ∷ []
+    Number (length sends) ∷ number_field (least_in (times_between rate sends)) ∷ number_field (greatest_in (times_between rate sends))
+    ∷ number_field (greatest_in (latenesses rate sends)) ∷ []
 
 -- the bound of that lateness: the period of the output and one slot
-abbrev pub bound_fields : ℕ → Placed → List (List ℕ)
-bound_fields rate placed = decimal (latency_us rate (2 ^ placed.place.period)) ∷ []
+abbrev pub bound_fields : ℕ → Placed → List Field
+bound_fields rate placed = Number (latency_us rate (2 ^ placed.place.period)) ∷ []
 
 -- the names of its group and of its source
-abbrev pub name_fields : TableRecord → ℕ → ℕ → List (List ℕ)
-name_fields t g o = group_name t g ∷ output_name t g o ∷ []
+abbrev pub name_fields : TableRecord → ℕ → ℕ → List Field
+name_fields t g o = Text (group_name t g) ∷ Text (output_name t g o) ∷ []
 
 -- output o of group g after all of this happened
-abbrev pub summary_row : Proposed → List Happening → ℕ → ℕ → List (List ℕ)
+abbrev pub summary_row : Proposed → List Happening → ℕ → ℕ → List Field
 summary_row q happenings g o =
     name_fields q.station g o ++ send_fields (rate_of q g) (output_sends q g o happenings) ++ bound_fields (rate_of q g) (placed_at (table_of q g) o)
 
 -- the outputs of a group, in table order
-abbrev pub group_rows : Proposed → List Happening → ℕ → List (List (List ℕ))
+abbrev pub group_rows : Proposed → List Happening → ℕ → List (List Field)
 group_rows q happenings g = map (summary_row q happenings g) (range_with_len 0 (length (outputs_of (table_of q g))))
 
 abbrev pub summary_columns : List (List ℕ)
 summary_columns =
     codes "group" ∷ codes "source" ∷ codes "sent" ∷ codes "least_us" ∷ codes "greatest_us" ∷ codes "late_us" ∷ codes "bound_us" ∷ []
 
--- the names of the columns, and a row for each output, groups and outputs in table order
-abbrev pub summary_rows : Proposed → List Happening → List (List (List ℕ))
-summary_rows q happenings = summary_columns ∷ flat_map (group_rows q happenings) (range_with_len 0 (length (groups_of q.plan)))
+-- a row for each output, groups and outputs in table order
+abbrev pub summary_rows : Proposed → List Happening → List (List Field)
+summary_rows q happenings = flat_map (group_rows q happenings) (range_with_len 0 (length (groups_of q.plan)))
 
--- rows in columns as `icd` has them, or as comma-separated values
-abbrev pub rows_text : Bool → List (List (List ℕ)) → List ℕ
-rows_text csv rows = if csv then csv_text_of rows else aligned_text rows
-
-unfoldable pub summary_text : Proposed → List Happening → Bool → List ℕ
-summary_text q happenings csv = rows_text csv (summary_rows q happenings)
+-- the summary in a form
+abbrev pub summary_text : Proposed → List Happening → SheetForm → List ℕ
+summary_text q happenings form = sheet_text form summary_columns (summary_rows q happenings)

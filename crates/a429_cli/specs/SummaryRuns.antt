@@ -1,13 +1,13 @@
 -- The summary of a simulation by the values of the program.
 use Rattle.std.specs.Prelude.{◌≡◌, ◌==◌, ◌&&◌, ◌+◌, ◌-◌, ◌*◌, ◌^◌, ◌<◌, ◌++◌, ◌∷◌, [], ℕ, Bool, true, not, List, Option, Some, None, if◌then◌else◌, length, map, max, min, nat_lt, option_and_then, option_map, slice_get, slice_set, unwrap_or}
-use Rattle.std.specs.Fmt.{decimal}
 use Rattle.std.specs.List.{flat_map, range_with_len}
 use Rattle.std.specs.Option.{option_map_or}
+use Rattle.a429_text.specs.Fields.{Field, Number}
 use Rattle.a429_equipment.specs.Agreement.{last_of}
 use Rattle.a429_documents.specs.Document.{slots_us}
 use Rattle.a429_slots.specs.Proposed.{Proposed}
 use Rattle.a429_slots.specs.Tables.{groups_of, outputs_of, placed_at}
-use Rattle.a429_cli.specs.Summary.{bound_fields, greatest_in, latenesses, lateness, least_in, name_fields, number_or_dash, sends_of, summary_columns, times_between}
+use Rattle.a429_cli.specs.Summary.{bound_fields, greatest_in, latenesses, lateness, least_in, name_fields, number_field, sends_of, times_between}
 use Rattle.a429_cli.specs.Timeline.{rate_of, table_of}
 use Rattle.a429_cli.specs.declared.simulate.figures.OutputFigures.{OutputFigures}
 use Rattle.a429_cli.specs.declared.simulate.figures.OutputSend.{OutputSend}
@@ -86,26 +86,26 @@ abbrev pub figures_noted : Proposed → List OutputFigures → Happening → Lis
 figures_noted q figures (Refuses w why) = figures
 figures_noted q figures (Sends s) = figures_with figures s (rate_of q s.group)
 
--- these are the figures of what was told
+-- these are the figures of the events that were given
 abbrev pub HasFigures : Proposed → List Happening → List OutputFigures → Type 0
 HasFigures q told figures = (g source : ℕ) → g < 8 → source < 256 → figures_at figures g source ≡ Some (figures_of (rate_of q g) (sends_of g source told))
 
 -- ---- rows
 
 -- the fields of what is kept of an output's sends
-abbrev pub figure_fields : OutputFigures → List (List ℕ)
-figure_fields x = decimal x.sent ∷ number_or_dash x.least ∷ number_or_dash x.greatest ∷ number_or_dash x.late ∷ []
+abbrev pub figure_fields : OutputFigures → List Field
+figure_fields x = Number x.sent ∷ number_field x.least ∷ number_field x.greatest ∷ number_field x.late ∷ []
 
 -- what is kept of what a group sent of a source
 abbrev pub kept_at : Summary → ℕ → ℕ → OutputFigures
 kept_at s g source = unwrap_or (figures_at s.figures.items g source) nothing_sent
 
 -- output o of group g by what is kept of it
-abbrev pub kept_row : Proposed → Summary → ℕ → ℕ → List (List ℕ)
+abbrev pub kept_row : Proposed → Summary → ℕ → ℕ → List Field
 kept_row q s g o = name_fields q.station g o ++ figure_fields (kept_at s g (placed_at (table_of q g) o).source) ++ bound_fields (rate_of q g) (placed_at (table_of q g) o)
 
-abbrev pub kept_group : Proposed → Summary → ℕ → List (List (List ℕ))
+abbrev pub kept_group : Proposed → Summary → ℕ → List (List Field)
 kept_group q s g = map (kept_row q s g) (range_with_len 0 (length (outputs_of (table_of q g))))
 
-abbrev pub kept_rows : Proposed → Summary → List (List (List ℕ))
-kept_rows q s = summary_columns ∷ flat_map (kept_group q s) (range_with_len 0 (length (groups_of q.plan)))
+abbrev pub kept_rows : Proposed → Summary → List (List Field)
+kept_rows q s = flat_map (kept_group q s) (range_with_len 0 (length (groups_of q.plan)))

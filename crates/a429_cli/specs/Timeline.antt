@@ -22,7 +22,7 @@ rate_of q g = option_map_or (λ row. row.rate) (slice_get q.station.groups g) 1
 abbrev pub table_of : Proposed → ℕ → SlotTable
 table_of q g = unwrap_or (slice_get (groups_of q.plan) g) no_table
 
--- an instant, exactly: so many microseconds, divided by a number
+-- an instant, exactly: a number of microseconds, divided by a divisor
 pub record Instant : Type 0 where
   pub micros : ℕ
   pub divisor : ℕ
@@ -81,7 +81,8 @@ pub record HasHappened (q : Proposed) (words : List LogWord) (last : ℕ) (momen
 abbrev pub TimelineIsBegun : Proposed → List LogWord → ℕ → List Moment → Type 0
 TimelineIsBegun q words last moments = (left : List LogWord) × (next : ℕ → ℕ) × HasHappened q words last moments left next
 
--- The timeline: the words of the log in order, and of each group all slots that begin at the last time or before, in turn, all in the order of time.
+-- The timeline: the words of the log in order, and of each group all slots that begin at the last time or before, in their order. All are in the
+-- order of time.
 pub record IsTimeline (q : Proposed) (words : List LogWord) (last : ℕ) (moments : List Moment) : Type 0 where
   pub words_are : filter_map word_of moments ≡ words
   pub slots_are : (g : ℕ) → filter_map (slot_of g) moments ≡ range_with_len 0 (slots_by q last g)

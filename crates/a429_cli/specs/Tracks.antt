@@ -18,14 +18,14 @@ use Rattle.a429_cli.specs.declared.simulate.moments.Moment.TheVariants.{Word, Sl
 use Rattle.a429_cli.specs.declared.simulate.moments.Timeline.{Timeline}
 use Rattle.a429_cli.specs.declared.simulate.tracks.Track.{Track}
 
--- a rate in bit/s, and so few slots that 64 bits can count their microseconds
+-- a rate in bit/s, and few enough slots that 64 bits can count their microseconds
 pub record IsTrack (x : Track) : Type 0 where
   pub some_rate : 1 ≤ x.rate
   pub few_rate : x.rate ≤ 100000
   pub few_slots : x.slots ≤ 8192000000
   pub within : x.next ≤ x.slots
 
--- the next slot of a group; 0 where there is no group of this number
+-- the next slot of a group; 0 if there is no group of this number
 abbrev pub next_at : List Track → ℕ → ℕ
 next_at tracks g = option_map_or (λ x. x.next) (slice_get tracks g) 0
 
@@ -74,7 +74,7 @@ pub record AreTracks (q : Proposed) (last : ℕ) (tracks : List Track) : Type 0 
   pub rates : (g : ℕ) (x : Track) → slice_get tracks g ≡ Some x → x.rate ≡ rate_of q g
   pub slots : (g : ℕ) (x : Track) → slice_get tracks g ≡ Some x → x.slots ≡ slots_by q last g
 
--- the timeline of these words, where these moments have happened
+-- the timeline of these words after these moments
 pub record IsTimelineAt (q : Proposed) (words : List LogWord) (last : ℕ) (moments : List Moment) (l : Timeline) : Type 0 where
   pub words_are : l.words.items ≡ words
   pub in_time : AreInTime words

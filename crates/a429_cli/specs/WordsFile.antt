@@ -32,7 +32,7 @@ IsWordsFault names text _ = ⊥
 abbrev pub IsWordsReading : Naming → List ℕ → Result (Vec Arrival Global) CommandRefusal → Type 0
 IsWordsReading names text result = MatchResult result (λ arrivals. arrivals_of names text ≡ Ok arrivals.items) (OrMemory (IsWordsFault names text))
 
--- the raw word, where it is for this receiver
+-- the raw word, if it is for this receiver
 abbrev pub raw_for : ℕ → Arrival → Option ℕ
 raw_for r a = if a.receiver == r then Some a.raw else None
 

@@ -1,23 +1,26 @@
 //! Commands, from words and files to bytes.
-ghost use Rattle.std.specs.Prelude.{[], ◌≡◌, ◌≤◌, ◌+◌, ◌⊎◌, false, IfOk, IsTrue, OnErr, OnOk};
+ghost use Rattle.std.specs.Prelude.{[], ◌≡◌, ◌≤◌, ◌+◌, ◌⊎◌, false, true, IfOk, IsTrue, OnErr, OnOk};
 ghost use Rattle.a429_console.specs.Ends.{EndsBy, EndsOrFails, writing};
 ghost use Rattle.a429_console.specs.Files.{texts_of};
 ghost use Rattle.a429_console.specs.Outputs.{CountsFault, IsPut};
 ghost use Rattle.a429_console.specs.Readings.{HasRead, HasReadFrom};
 ghost use Rattle.a429_console.specs.RequestRows.{AsksFor};
 ghost use Rattle.a429_console.specs.Requests.{AskedBytes, asked_of};
-ghost use Rattle.a429_cli.specs.Replies.{IsReplyOrMemory, RepliesToCommand, RepliesToCommandByReader, TakesEach};
+ghost use Rattle.a429_cli.specs.Replies.{IsAnswerOf, IsNoAnswer, IsReplyOrMemory, RepliesToCommand, RepliesToCommandByReader, TakesEach, is_whole, trouble_of};
+ghost use Rattle.a429_cli.specs.WholeReplies.{Replies};
 ghost use Rattle.a429_console.specs.Usage.{elsewhere, is_run, kinds_of_words};
 
-use crate::drawings::{Picture, print_drawing};
-use crate::findings::{print_diff, print_lint};
-use crate::import::print_import;
+use crate::drawings::{Picture, drawing_reply};
+use crate::findings::{diff_reply, lint_reply};
+use crate::import::import_reply;
 use crate::lines::tell_lines;
-use crate::plan_texts::{PlanText, document_kind, print_plan, print_verdict};
+use crate::plan_texts::{PlanText, check_reply, plan_reply};
 use crate::replay::replay;
-use crate::runs::is_run;
+use crate::replies::put_reply;
+use crate::replies::reply::Reply;
+use crate::runs::{is_run, is_whole, trouble_of};
 use crate::simulate::{SimulationForm, simulate};
-use crate::word::tell_word;
+use crate::word::word_reply;
 use a429_console::arguments::forms::Verb;
 use a429_console::arguments::replies::explain;
 use a429_console::arguments::requests::{Asked, other_call_error, parse};
@@ -25,13 +28,14 @@ use a429_console::files::FileReader;
 use a429_console::hints::{FurtherFault, Hints, Seen, tell_hints};
 use a429_console::output::endings::tell_fault;
 use a429_console::output::{Output, OutputFault};
-use a429_text::SheetForm;
+use a429_console::refusals::CommandRefusal;
 use std::alloc::Global;
 
-/// Does a command: `words` are those of the command line without the program's name. Answers, refusals and help that is
-/// asked for go to `out`, the text of a usage fault and what `hints` tells about a refusal to `err`. The status is 0 if
-/// the command was done, 1 if it was refused, and 2 if the words are a mistake, as those of `live` are here. If the
-/// output or `err` fails, the status is 1 and nothing more is written there.
+/// Does a command: `words` are the arguments without the program's name. Answers, refusals and help that is asked for
+/// go to `out`. The text of a usage error, and what `hints` says about a refusal, go to `err`. The status is 0 if the
+/// command was done, 1 if it was refused, and 2 after a usage error. The command `live` is a usage error here. The
+/// status of `lint` and `diff` is 1 if something was found, and 2 after a refusal. If the output or `err` fails, the
+/// status is 1 and nothing more is written there.
 pub fn command<'a, H: Hints, F: FileReader, O: Output, V: Output>(
     alloc: Global,
     words: &'a [&'a str],
@@ -47,7 +51,8 @@ pub fn command<'a, H: Hints, F: FileReader, O: Output, V: Output>(
     // With status 0 nothing is written to the other output, if each further table was taken: that of any files which give what the reader answered.
     ensures quiet { (r : AskedBytes) → is_run r.verb ≡ false → AsksFor (texts_of words.entry.now) r
         → HasReadFrom F.answers (λ file. TakesEach file r → result ≡ 0 → err.new ≡ err.old) files.old }
-    ensures asked { (r : AskedBytes) → is_run r.verb ≡ false → AsksFor (texts_of words.entry.now) r → result ≤ 1 }
+    // The status is at most 1, or at most 2 of a command whose status 1 says that it found something.
+    ensures asked { (r : AskedBytes) → is_run r.verb ≡ false → AsksFor (texts_of words.entry.now) r → result ≤ trouble_of r.verb }
     // How it ends: help, mistakes, failures of either output, and what was passed on.
     ensures ends { EndsBy (kinds_of_words (texts_of words.entry.now)) (writing O.contents O.failures O.is_flushed out.old out.new)
         (writing V.contents V.failures V.is_flushed err.old err.new) result }
@@ -74,7 +79,7 @@ fn answer_words<'a, H: Hints, F: FileReader, O: Output, V: Output>(
         → HasReadFrom F.answers (λ file. IfOk result (IsPut (IsReplyOrMemory file r) (O.contents out.old) (O.contents out.new))) files.old }
     ensures quiet { (r : AskedBytes) → is_run r.verb ≡ false → AsksFor (texts_of words.entry.now) r
         → HasReadFrom F.answers (λ file. TakesEach file r → IfOk result (λ status. status ≡ 0 → err.new ≡ err.old)) files.old }
-    ensures asked { (r : AskedBytes) → is_run r.verb ≡ false → AsksFor (texts_of words.entry.now) r → IfOk result (λ status. status ≤ 1) }
+    ensures asked { (r : AskedBytes) → is_run r.verb ≡ false → AsksFor (texts_of words.entry.now) r → IfOk result (λ status. status ≤ trouble_of r.verb) }
     ensures ends { EndsOrFails (kinds_of_words (texts_of words.entry.now)) (writing O.contents O.failures O.is_flushed out.old out.new)
         (writing V.contents V.failures V.is_flushed err.old err.new) result }
 {
@@ -97,7 +102,7 @@ fn answer_here<H: Hints, F: FileReader, O: Output, V: Output>(
         (IsPut (IsReplyOrMemory file (asked_of asked.now)) (O.contents out.old) (O.contents out.new))) files.old }
     ensures quiet { is_run asked.now.verb ≡ false → HasReadFrom F.answers (λ file. TakesEach file (asked_of asked.now)
         → IfOk result (λ status. status ≡ 0 → err.new ≡ err.old)) files.old }
-    ensures asked { is_run asked.now.verb ≡ false → IfOk result (λ status. status ≤ 1) }
+    ensures asked { is_run asked.now.verb ≡ false → IfOk result (λ status. status ≤ trouble_of asked.now.verb) }
     ensures ends { EndsOrFails (elsewhere (is_run asked.now.verb)) (writing O.contents O.failures O.is_flushed out.old out.new)
         (writing V.contents V.failures V.is_flushed err.old err.new) result }
 {
@@ -109,7 +114,7 @@ fn answer_here<H: Hints, F: FileReader, O: Output, V: Output>(
     }
 }
 
-/// Tells on `err` what can be done about a refusal, also of a further table, if the output took the answer.
+/// Writes to `err` what can be done about a refusal, or about that of a further table, if the output took the answer.
 fn tell_result<H: Hints, V: Output>(
     alloc: Global,
     asked: &Asked,
@@ -128,8 +133,8 @@ fn tell_result<H: Hints, V: Output>(
     }
 }
 
-/// Answers what `command` is asked for. After a refusal, also of a further table, it tells on `err` what can be done
-/// about it.
+/// Answers what `command` is asked for. After a refusal, or that of a further table, it writes to `err` what can be
+/// done about it.
 fn answer_with_hint<H: Hints, F: FileReader, O: Output, V: Output>(
     alloc: Global,
     asked: &Asked,
@@ -141,7 +146,8 @@ fn answer_with_hint<H: Hints, F: FileReader, O: Output, V: Output>(
     requires { is_run asked.now.verb ≡ false }
     ensures read { HasReadFrom F.answers (λ file. IfOk result
         (IsPut (IsReplyOrMemory file (asked_of asked.now)) (O.contents out.old) (O.contents out.new))) files.old }
-    ensures status { IfOk result (λ status. status ≤ 1) }
+    ensures status { IfOk result (λ status. status ≤ trouble_of asked.now.verb) }
+    ensures few { IfOk result (λ status. status ≤ 2) }
     ensures flushed { OnOk result (IsTrue (O.is_flushed out.new)) }
     ensures faults { CountsFault result (O.failures out.old) (O.failures out.new) }
     ensures quiet { HasReadFrom F.answers (λ file. TakesEach file (asked_of asked.now)
@@ -159,8 +165,63 @@ fn answer_with_hint<H: Hints, F: FileReader, O: Output, V: Output>(
     result
 }
 
-/// Answers what `command` is asked for. The status is 0 if it was done, and 1 if it was refused.
-fn answer<F: FileReader, O: Output>(
+/// What a command answers that prints nothing before it has its whole answer.
+fn reply_to<F: FileReader>(
+    alloc: Global,
+    asked: &Asked,
+    files: &mut F,
+    seen: &mut Seen,
+) -> Result<Reply, CommandRefusal>
+    requires { is_whole asked.now.verb ≡ true }
+    ensures { HasRead F.answers (λ file. Replies (IsAnswerOf asked.now.verb file (asked_of asked.now))
+        (IsNoAnswer asked.now.verb file (asked_of asked.now)) result) files.old files.new }
+{
+    let Asked {
+        first,
+        second,
+        options,
+        ..
+    } = asked;
+    let form = options.form;
+    match asked.verb {
+        Verb::Word => word_reply(alloc, first),
+        Verb::Import => import_reply(alloc, files, first, seen),
+        Verb::Plan => plan_reply(alloc, files, first, PlanText::Plan, seen),
+        Verb::Check => check_reply(alloc, files, first, second, seen),
+        Verb::Icd => plan_reply(alloc, files, first, PlanText::Document(form), seen),
+        Verb::Margin => plan_reply(alloc, files, first, PlanText::Margin(form), seen),
+        Verb::Lint => lint_reply(alloc, files, first, form, seen),
+        Verb::Diff => diff_reply(alloc, files, first, second, options.all, form, seen),
+        Verb::Draw => {
+            let picture = Picture::of(options);
+            drawing_reply(alloc, files, first, options.group, picture, seen)
+        }
+        Verb::Lines | Verb::Replay | Verb::Simulate | Verb::Live => unreachable!(),
+    }
+}
+
+/// Answers by a command that prints nothing before it has its whole answer.
+fn answer_whole<F: FileReader, O: Output>(
+    alloc: Global,
+    asked: &Asked,
+    files: &mut F,
+    seen: &mut Seen,
+    out: &mut O,
+) -> Result<u8, OutputFault>
+    requires { is_whole asked.now.verb ≡ true }
+    ensures read { HasRead F.answers (λ file. IfOk result
+        (IsPut (IsReplyOrMemory file (asked_of asked.now)) (O.contents out.old) (O.contents out.new))) files.old files.new }
+    ensures status { IfOk result (λ status. status ≤ trouble_of asked.now.verb) }
+    ensures few { IfOk result (λ status. status ≤ 2) }
+    ensures flushed { OnOk result (IsTrue (O.is_flushed out.new)) }
+    ensures faults { CountsFault result (O.failures out.old) (O.failures out.new) }
+{
+    let reply = reply_to(alloc, asked, files, seen);
+    put_reply(alloc, reply, trouble_of(asked.verb), seen, out)
+}
+
+/// Answers by a command that prints line by line.
+fn answer_by_lines<F: FileReader, O: Output>(
     alloc: Global,
     asked: &Asked,
     files: &mut F,
@@ -168,7 +229,8 @@ fn answer<F: FileReader, O: Output>(
     faults: &mut Vec<FurtherFault>,
     out: &mut O,
 ) -> Result<u8, OutputFault>
-    requires { is_run asked.now.verb ≡ false }
+    requires run { is_run asked.now.verb ≡ false }
+    requires whole { is_whole asked.now.verb ≡ false }
     ensures read { HasRead F.answers (λ file. IfOk result
         (IsPut (IsReplyOrMemory file (asked_of asked.now)) (O.contents out.old) (O.contents out.new))) files.old files.new }
     ensures taken { HasRead F.answers (λ file. TakesEach file (asked_of asked.now)
@@ -185,27 +247,38 @@ fn answer<F: FileReader, O: Output>(
         ..
     } = asked;
     match asked.verb {
-        Verb::Word => tell_word(alloc, first, seen, out),
         Verb::Lines => tell_lines(alloc, files, first, more, seen, out),
-        Verb::Import => print_import(alloc, files, first, seen, out),
-        Verb::Plan => print_plan(alloc, files, first, PlanText::Plan, seen, out),
-        Verb::Check => print_verdict(alloc, files, first, second, seen, out),
-        Verb::Icd => print_plan(alloc, files, first, document_kind(options.csv), seen, out),
-        Verb::Margin => print_plan(alloc, files, first, PlanText::Margin, seen, out),
-        Verb::Lint => print_lint(alloc, files, first, seen, out),
-        Verb::Diff => {
-            let form = SheetForm::Columns;
-            print_diff(alloc, files, first, second, true, form, seen, out)
-        }
-        Verb::Draw => {
-            let picture = Picture::of(options);
-            print_drawing(alloc, files, first, options.group, picture, seen, out)
-        }
         Verb::Replay => replay(alloc, files, first, second, more, seen, faults, out),
         Verb::Simulate => {
             let form = SimulationForm::of(options);
             simulate(alloc, files, first, second, form, seen, out)
         }
-        Verb::Live => unreachable!(),
+        _ => unreachable!(),
+    }
+}
+
+/// Answers what `command` is asked for. The status is 0 if it was done.
+fn answer<F: FileReader, O: Output>(
+    alloc: Global,
+    asked: &Asked,
+    files: &mut F,
+    seen: &mut Seen,
+    faults: &mut Vec<FurtherFault>,
+    out: &mut O,
+) -> Result<u8, OutputFault>
+    requires { is_run asked.now.verb ≡ false }
+    ensures read { HasRead F.answers (λ file. IfOk result
+        (IsPut (IsReplyOrMemory file (asked_of asked.now)) (O.contents out.old) (O.contents out.new))) files.old files.new }
+    ensures taken { HasRead F.answers (λ file. TakesEach file (asked_of asked.now)
+        → faults.new.items ≡ faults.old.items) files.old files.new }
+    ensures status { IfOk result (λ status. status ≤ trouble_of asked.now.verb) }
+    ensures few { IfOk result (λ status. status ≤ 2) }
+    ensures flushed { OnOk result (IsTrue (O.is_flushed out.new)) }
+    ensures faults { CountsFault result (O.failures out.old) (O.failures out.new) }
+{
+    if is_whole(asked.verb) {
+        answer_whole(alloc, asked, files, seen, out)
+    } else {
+        answer_by_lines(alloc, asked, files, seen, faults, out)
     }
 }

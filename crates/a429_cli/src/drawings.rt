@@ -1,20 +1,19 @@
 //! The command that draws the plan of a table.
-ghost use Rattle.std.specs.Prelude.{◌≡◌, ◌≤◌, ◌<◌, IfErr, IfOk, IfSome, IsTrue, OnOk, Some, length};
+ghost use Rattle.std.specs.Prelude.{◌≡◌, ◌<◌, IfErr, IfOk, IfSome, Some, length};
 ghost use Rattle.std.specs.Option.{option_copied};
 ghost use Rattle.a429_console.specs.Readings.{HasRead};
-ghost use Rattle.a429_console.specs.Outputs.{CountsFault};
-ghost use Rattle.a429_cli.specs.Drawings.{GivesGroup, GivesNamedImage, GivesNumbered, HasDrawn, IsDrawing, group_numbered, refusal_of};
+ghost use Rattle.a429_cli.specs.Drawings.{GivesGroup, GivesNamedImage, GivesNumbered, IsImageOf, IsNoImage, group_numbered, refusal_of};
+ghost use Rattle.a429_cli.specs.WholeReplies.{Replies};
 ghost use Rattle.a429_console.specs.declared.refusals.CommandRefusal.TheVariants.{Memory};
 ghost use Rattle.a429_slots.specs.Tables.{groups_of};
 
+use crate::replies::reply::Reply;
 use a429_console::arguments::requests::Options;
 use a429_console::files::FileReader;
 use a429_console::files::reading::read_file;
 use a429_console::hints::Seen;
-use a429_console::output::endings::finish;
-use a429_console::output::{Output, OutputFault};
+use a429_console::refusals::CommandRefusal;
 use a429_console::refusals::tables::{no_group, propose};
-use a429_console::refusals::{CommandRefusal, refuse};
 use a429_documents::{Drawing, DrawingFault, DrawingForm, draw_text, page_text};
 use a429_equipment::GroupRow;
 use a429_slots::{OUTPUTS, Proposal};
@@ -56,8 +55,7 @@ fn group_numbered(groups: &[GroupRow], name: &str) -> Option<usize>
     groups.iter().position(|group| group.name.as_str() == name)
 }
 
-/// The group that is drawn, by the name that was asked for: where none was, no certain one, which means all. Refused is
-/// a name that no group has.
+/// The number of the group that is drawn, or `None` for all if no name was given. A name that no group has is refused.
 fn group_asked(
     alloc: Global,
     groups: &[GroupRow],
@@ -85,13 +83,14 @@ fn refusal_of(fault: DrawingFault) -> CommandRefusal
     }
 }
 
-/// A picture of what is drawn: an image, or a page with it.
+/// A picture of what is drawn: an image, or a page with it. An allocation that fails is refused.
 fn picture_text(
     alloc: Global,
     drawing: &Drawing<'_>,
     is_page: bool,
-) -> Result<Vec<u8>, CommandRefusal>
-    ensures { IfErr result (λ refusal. refusal ≡ Memory) }
+) -> Result<Reply, CommandRefusal>
+    ensures done { IfOk result (λ reply. reply.status ≡ 0) }
+    ensures refused { IfErr result (λ refusal. refusal ≡ Memory) }
 {
     let text = if is_page {
         page_text(alloc, drawing)
@@ -99,18 +98,18 @@ fn picture_text(
         draw_text(alloc, drawing)
     };
     match text {
-        Ok(text) => Ok(text),
+        Ok(text) => Ok(Reply::done(text)),
         Err(_) => Err(CommandRefusal::Memory),
     }
 }
 
-/// The picture of a proposal's plan, of the group of this number or of all. Refused is one that is too high.
+/// The picture of a proposal's plan, of the group of this number or of all. One that is too high is refused.
 fn image_numbered(
     alloc: Global,
     proposal: &Proposal<OUTPUTS>,
     number: Option<usize>,
     picture: Picture,
-) -> Result<Vec<u8>, CommandRefusal>
+) -> Result<Reply, CommandRefusal>
     requires { IfSome number (λ number. number < length (groups_of proposal.now.plan)) }
     ensures { GivesNumbered proposal.now number picture result }
 {
@@ -120,14 +119,14 @@ fn image_numbered(
     }
 }
 
-/// The picture of a proposal's plan, of the group of this name or of all. Refused is a name that no group has, then an image
-/// that is too high.
+/// The picture of a proposal's plan, of the group of this name or of all. A name that no group has is refused first, then an
+/// image that is too high.
 fn image_of(
     alloc: Global,
     proposal: &Proposal<OUTPUTS>,
     group: Option<&str>,
     picture: Picture,
-) -> Result<Vec<u8>, CommandRefusal>
+) -> Result<Reply, CommandRefusal>
     ensures { GivesNamedImage proposal.now (option_copied group.entry) picture result }
 {
     let _plan = proposal.plan();
@@ -135,17 +134,18 @@ fn image_of(
     image_numbered(alloc, proposal, number, picture)
 }
 
-/// The picture of the plan of the table in a file, of the group of this name or of all. Refused is the file, then the table,
-/// then its plan, then the name, then an image that is too high.
-fn image_of_file<F: FileReader>(
+/// The picture of the plan of the table in a file, of the group of this name or of all, with status 0. The file is refused
+/// first, then the table, then its plan, then the name, then an image that is too high.
+pub fn drawing_reply<F: FileReader>(
     alloc: Global,
     files: &mut F,
     name: &str,
     group: Option<&str>,
     picture: Picture,
     seen: &mut Seen,
-) -> Result<Vec<u8>, CommandRefusal>
-    ensures { HasRead F.answers (λ file. IsDrawing file name.now (option_copied group.entry) picture result) files.old files.new }
+) -> Result<Reply, CommandRefusal>
+    ensures { HasRead F.answers (λ file. Replies (IsImageOf file name.now (option_copied group.entry) picture)
+        (IsNoImage file name.now (option_copied group.entry) picture) result) files.old files.new }
 {
     let table = read_file(alloc, files, name, seen)?;
     let proposal = propose(alloc, &table, &mut seen.table)?;
@@ -154,25 +154,4 @@ fn image_of_file<F: FileReader>(
         seen.proposal = Some(proposal);
     }
     image
-}
-
-/// Puts the picture of the plan of the table in a file, of the group of this name or of all, or the one line of a refusal. The status is 0, or 1 where it was refused.
-pub fn print_drawing<F: FileReader, O: Output>(
-    alloc: Global,
-    files: &mut F,
-    name: &str,
-    group: Option<&str>,
-    picture: Picture,
-    seen: &mut Seen,
-    out: &mut O,
-) -> Result<u8, OutputFault>
-    ensures drawn { HasDrawn F.answers O.contents name.now (option_copied group.entry) picture files.old files.new out.old out.new result }
-    ensures status { IfOk result (λ status. status ≤ 1) }
-    ensures flushed { OnOk result (IsTrue (O.is_flushed out.new)) }
-    ensures faults { CountsFault result (O.failures out.old) (O.failures out.new) }
-{
-    match image_of_file(alloc, files, name, group, picture, seen) {
-        Ok(text) => finish(&text, true, out),
-        Err(refusal) => refuse(alloc, refusal, seen, out),
-    }
 }

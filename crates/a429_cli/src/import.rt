@@ -1,15 +1,14 @@
 //! The command `import`: an equipment table from rows of comma-separated values.
-ghost use Rattle.std.specs.Prelude.{◌≡◌, ◌≤◌, IfOk, IsTrue, OnOk};
-ghost use Rattle.a429_console.specs.Outputs.{CountsFault};
+ghost use Rattle.std.specs.Prelude.{◌≡◌};
 ghost use Rattle.a429_console.specs.Readings.{HasRead};
-ghost use Rattle.a429_cli.specs.Importing.{HasImported, IsImporting, csv_kind, import_refusal};
+ghost use Rattle.a429_cli.specs.Importing.{IsImported, IsNoImport, csv_kind, import_refusal};
+ghost use Rattle.a429_cli.specs.WholeReplies.{Replies};
 
+use crate::replies::reply::Reply;
 use a429_console::files::FileReader;
 use a429_console::files::reading::read_file;
 use a429_console::hints::{Seen, SeenRows};
-use a429_console::output::endings::finish;
-use a429_console::output::{Output, OutputFault};
-use a429_console::refusals::{CommandRefusal, CsvKind, refuse};
+use a429_console::refusals::{CommandRefusal, CsvKind};
 use a429_documents::{CsvFaultKind, ImportFault, import_table};
 use a429_table::TableFault;
 use std::alloc::Global;
@@ -52,41 +51,22 @@ fn seen_rows(bytes: Vec<u8>, fault: &ImportFault) -> SeenRows {
     }
 }
 
-/// The table that the rows in a file state. Refused is the file, then the first of the rows that has a fault, then the
-/// table.
-fn table_of_file<F: FileReader>(
+/// The table that the rows in a file state, with status 0. The file is refused first, then the first of the rows that has a
+/// fault, then the table.
+pub fn import_reply<F: FileReader>(
     alloc: Global,
     files: &mut F,
     name: &str,
     seen: &mut Seen,
-) -> Result<Vec<u8>, CommandRefusal>
-    ensures { HasRead F.answers (λ file. IsImporting file name.now result) files.old files.new }
+) -> Result<Reply, CommandRefusal>
+    ensures { HasRead F.answers (λ file. Replies (IsImported file name.now) (IsNoImport file name.now) result) files.old files.new }
 {
     let bytes = read_file(alloc, files, name, seen)?;
     match import_table(alloc, &bytes) {
-        Ok(text) => Ok(text),
+        Ok(text) => Ok(Reply::done(text)),
         Err(fault) => {
             seen.rows = Some(seen_rows(bytes, &fault));
             Err(import_refusal(&fault))
         }
-    }
-}
-
-/// Puts the table that the rows in a file state, or the one line of a refusal. The status is 0, or 1 where it was refused.
-pub fn print_import<F: FileReader, O: Output>(
-    alloc: Global,
-    files: &mut F,
-    name: &str,
-    seen: &mut Seen,
-    out: &mut O,
-) -> Result<u8, OutputFault>
-    ensures imported { HasImported F.answers O.contents name.now files.old files.new out.old out.new result }
-    ensures status { IfOk result (λ status. status ≤ 1) }
-    ensures flushed { OnOk result (IsTrue (O.is_flushed out.new)) }
-    ensures faults { CountsFault result (O.failures out.old) (O.failures out.new) }
-{
-    match table_of_file(alloc, files, name, seen) {
-        Ok(text) => finish(&text, true, out),
-        Err(refusal) => refuse(alloc, refusal, seen, out),
     }
 }

@@ -1,5 +1,5 @@
-//! Commands of the program `a429`: from the words of a command line and files to output bytes and a status. `command`
-//! does all but `live`, which `command_live` does.
+//! Commands of the program `a429`: from arguments and files to output bytes and a status. `command` does all but
+//! `live`, which `command_live` does.
 //!
 //! `run_program` is the whole program: it is given what has the words, hints, files, both outputs and threads, and
 //! answers the status. So tests run it over files in memory. A folder of `src/` is a command.
@@ -16,6 +16,7 @@ mod commands;
 mod drawings;
 mod findings;
 mod import;
+pub mod laws;
 mod lines;
 mod live;
 mod names;
@@ -24,6 +25,7 @@ mod pending;
 mod plan_texts;
 mod program;
 mod replay;
+mod replies;
 mod runs;
 mod simulate;
 mod word;

@@ -41,7 +41,7 @@ fn add_filter(filters: &mut FilterSet, text: &str) -> bool
     }
 }
 
-/// The filters of texts, no list where there are none. Refused is the first that is no filter, or the 33rd.
+/// The filters of texts. Without texts there is no list. Error: the first text that is no filter, or the 33rd.
 fn read_filters(texts: &[&str]) -> Result<FilterSet, CommandRefusal>
     ensures { MatchResult result (AreFiltersOf (texts_of texts.now)) (IsFilterRefusal (texts_of texts.now)) }
 {
@@ -54,20 +54,20 @@ fn read_filters(texts: &[&str]) -> Result<FilterSet, CommandRefusal>
     Ok(filters)
 }
 
-/// The line of the byte at this place, up to that byte, for a hint. `None` if memory is refused.
+/// The line of the byte at this place, up to that byte, for a hint. `None` if an allocation fails.
 fn line_at(alloc: Global, bytes: &[u8], place: usize) -> Option<SeenLine> {
     let before = bytes.get(..place)?;
     let feeds = before.iter().filter(|byte| **byte == b'\n').count();
     SeenLine::of(alloc, before, feeds.saturating_add(1)).ok()
 }
 
-/// Keeps the byte at this place, and its line up to that byte, for a hint. If memory is refused, no line is kept.
+/// Keeps the byte at this place, and its line up to that byte, for a hint. If an allocation fails, no line is kept.
 fn keep_byte(alloc: Global, bytes: &[u8], place: usize, seen: &mut Seen) {
     seen.line = line_at(alloc, bytes, place);
     seen.byte = bytes.get(place).copied();
 }
 
-/// Reads a line file, and the filters of its receiver. Refused is the file, then a filter, then a byte.
+/// Reads a line file, and the filters of its receiver. Error: the file, then a filter, then a byte.
 fn read_line<F: FileReader>(
     alloc: Global,
     files: &mut F,
@@ -88,8 +88,8 @@ fn read_line<F: FileReader>(
     }
 }
 
-/// Appends what is printed of a line's reports, one after another, and of its rest. The lines are put out where
-/// they have become many, and those that are left stand in `lines`. Whether memory sufficed for all.
+/// Appends what is printed of a line's reports, one after another, and of its rest. The lines are put out when they
+/// have become many, and those that are left are in `lines`. The result is whether memory sufficed for all.
 fn print_line<O: Output>(
     line: &LineInput,
     lines: &mut Pending,
@@ -113,8 +113,7 @@ fn print_line<O: Output>(
     Ok(true)
 }
 
-/// Puts what is printed of a line. Where memory is refused in the midst, the lines so far end with the one
-/// that says so.
+/// Puts what is printed of a line. If an allocation fails before the end, the lines so far end with `refused memory`.
 fn tell_line<O: Output>(alloc: Global, line: &LineInput, out: &mut O) -> Result<u8, OutputFault>
     ensures told { IfOk result (IsPut (IsLineTold line.now) (O.contents out.old) (O.contents out.new)) }
     ensures status { IfOk result (λ status. status ≤ 1) }
@@ -126,11 +125,11 @@ fn tell_line<O: Output>(alloc: Global, line: &LineInput, out: &mut O) -> Result<
     finish(&lines.text, sufficed, out)
 }
 
-/// Tells what a reader reports of the line in a file: one line for each report, and one for a rest that has
-/// none. With filters, at most 32, one line for each word that a socket on the line gives. In their place stands
-/// the one line of a refusal: the file cannot be read (`file`), a filter is not `LLL/MMM` or is the 33rd
-/// (`filter`), a byte is neither a symbol nor a space or a line feed (`line byte`). The status is 0, or 1 where
-/// it was refused, by want of memory also in the midst.
+/// Prints what a reader reports of the line in a file: one line for each report, and one for a rest that has none. With
+/// filters, at most 32, there is one line for each word that a socket on the line gives. A refusal is one line instead.
+/// It is `file` if the file cannot be read, and `filter` if a filter is not `LLL/MMM` or is the 33rd. It is `line byte`
+/// if a byte is neither a symbol nor a space or a line feed. The status is 0, or 1 after a refusal, or if an allocation
+/// fails after the first lines.
 pub fn tell_lines<F: FileReader, O: Output>(
     alloc: Global,
     files: &mut F,

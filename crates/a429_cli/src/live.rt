@@ -1,5 +1,4 @@
-//! The command `live`: a station on threads, from the words of a command line and files to the bytes of a report and a
-//! status.
+//! The command `live`: a station on threads, from arguments and files to the bytes of a report and a status.
 
 pub mod commands;
 pub mod control;

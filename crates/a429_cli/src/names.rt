@@ -94,8 +94,8 @@ impl Names {
         })
     }
 
-    /// Keeps the refused line of a text with these names in `seen`, for a hint. It can publish so many further tables. If
-    /// memory is refused, no line is kept.
+    /// Keeps the refused line of a text with these names in `seen`, for a hint. The text can publish this number of
+    /// further tables. If an allocation fails, no line is kept.
     pub fn keep_line(
         &self,
         alloc: Global,
@@ -107,7 +107,7 @@ impl Names {
         seen.line = self.seen_line(alloc, text, number, further);
     }
 
-    /// The line of this number of a text with these names. `None` if memory is refused.
+    /// The line of this number of a text with these names. `None` if an allocation fails.
     fn seen_line(
         &self,
         alloc: Global,
@@ -123,7 +123,7 @@ impl Names {
         }
     }
 
-    /// Adds the names that a line can have. The error is that memory was refused.
+    /// Adds the names that a line can have. Error: an allocation fails.
     fn name_line(&self, alloc: Global, line: &mut SeenLine) -> Result<(), AllocError> {
         push_names(alloc, &mut line.receivers, self.receivers.names())?;
         push_names(alloc, &mut line.groups, self.groups.names())
@@ -161,21 +161,21 @@ impl Names {
         self.groups.number_before(text, b'\n')
     }
 
-    /// The name of the receiver of this number; nothing where there is none.
+    /// The name of the receiver of this number. Empty if there is no such receiver.
     pub fn receiver_name(&self, number: usize) -> &[u8]
         ensures { result.now ≡ name_at self.now.receivers number }
     {
         self.receivers.name(number)
     }
 
-    /// The name of the group of this number; nothing where there is none.
+    /// The name of the group of this number. Empty if there is no such group.
     pub fn group_name(&self, number: usize) -> &[u8]
         ensures { result.now ≡ name_at self.now.groups number }
     {
         self.groups.name(number)
     }
 
-    /// The name of the source of this number; nothing where there is none.
+    /// The name of the source of this number. Empty if there is no such source.
     pub fn source_name(&self, number: usize) -> &[u8]
         ensures { result.now ≡ name_at self.now.sources number }
     {
@@ -185,7 +185,7 @@ impl Names {
         }
     }
 
-    /// The line of an accepted word of the source of this number, whose name is nothing where there is none.
+    /// The line of an accepted word of the source of this number. The name is empty if there is no such source.
     pub fn accepted_line(&self, source: usize) -> &[u8]
         ensures { result.now ≡ answer_line self.now.sources (Accepted source) }
     {
@@ -196,7 +196,7 @@ impl Names {
     }
 }
 
-/// Adds names at the end of a list. The error is that memory was refused.
+/// Adds names at the end of a list. Error: an allocation fails.
 fn push_names(alloc: Global, list: &mut Vec<String>, names: &[String]) -> Result<(), AllocError> {
     for name in names {
         list.push(String::from_str(alloc, name.as_str())?)?;

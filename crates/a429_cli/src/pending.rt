@@ -38,7 +38,7 @@ impl Pending {
         }
     }
 
-    /// Appends the line of an answer. Where memory is refused, nothing is appended.
+    /// Appends the line of an answer. If an allocation fails, nothing is appended.
     #[inline(always)]
     pub fn push_answer(&mut self, names: &Names, answer: Answer) -> Result<(), AllocError>
         ensures line { OnOk result (self.new.text.items ≡ self.old.text.items ++ answer_line names.now.sources answer) }
@@ -47,7 +47,7 @@ impl Pending {
         push_answer(&mut self.text, names, answer)
     }
 
-    /// Appends the line of a refusal. Where memory is refused, nothing is appended.
+    /// Appends the line of a refusal. If an allocation fails, nothing is appended.
     pub fn push_refusal(&mut self, refusal: &CommandRefusal) -> Result<(), AllocError>
         ensures line { OnOk result (self.new.text.items ≡ self.old.text.items ++ refusal_line refusal.now ++ 10 ∷ []) }
         ensures kept { OnErr result (self.new.text.items ≡ self.old.text.items) }
@@ -59,7 +59,7 @@ impl Pending {
         }
     }
 
-    /// Appends the line of a report. Where memory is refused, nothing is appended.
+    /// Appends the line of a report. If an allocation fails, nothing is appended.
     pub fn push_found(&mut self, found: Found) -> Result<(), AllocError>
         ensures line { OnOk result (self.new.text.items ≡ self.old.text.items ++ found_line found) }
         ensures kept { OnErr result (self.new.text.items ≡ self.old.text.items) }
@@ -67,7 +67,7 @@ impl Pending {
         push_found(&mut self.text, found)
     }
 
-    /// Appends the line of a rest of so many bits. Where memory is refused, nothing is appended.
+    /// Appends the line of a rest of this number of bits. If an allocation fails, nothing is appended.
     pub fn push_rest(&mut self, bits: u32) -> Result<(), AllocError>
         ensures line { OnOk result (self.new.text.items ≡ self.old.text.items ++ codes "rest " ++ decimal bits ++ 10 ∷ []) }
         ensures kept { OnErr result (self.new.text.items ≡ self.old.text.items) }
@@ -76,7 +76,7 @@ impl Pending {
     }
 }
 
-/// Puts lines out where they have become many, and goes on with none.
+/// Puts lines out if they have become many, and goes on with none then.
 pub fn put_if_full<O: Output>(text: &mut Vec<u8>, out: &mut O) -> Result<(), OutputFault>
     ensures put { OnOk result (AppendsPending (O.contents out.old) text.old.items (O.contents out.new) text.new.items []) }
     ensures few { OnOk result (length text.new.items < 65536) }

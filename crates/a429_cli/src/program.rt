@@ -18,7 +18,7 @@ use std::alloc::{AllocError, Global};
 use std::sync::Wait;
 use std::thread::Threads;
 
-/// What is told of words that are not all UTF-8.
+/// The line for arguments that are not all UTF-8.
 const NOT_TEXT: &[u8] = b"error: the words of the command line are not all UTF-8\n";
 
 fn texts(alloc: Global, words: &[String]) -> Result<Vec<&str>, AllocError>
@@ -41,7 +41,7 @@ fn is_live(words: &[&str]) -> bool
     }
 }
 
-/// Puts the line that says that memory was refused. The status is 1.
+/// Puts the line `refused memory`. The status is 1.
 fn refuse_without_memory<O: Output, V: Output>(out: &mut O, err: &mut V) -> u8
     ensures { IsMemoryRefused (writing O.contents O.failures O.is_flushed out.old out.new)
         (writing V.contents V.failures V.is_flushed err.old err.new) result }
@@ -96,7 +96,7 @@ fn answer<'a, H: Hints, F: FileReader, O: Output, V: Output>(
     command(alloc, words, hints, files, out, err)
 }
 
-/// Does what the words ask for. The status is the one that `command` answers, or `command_live` where the first word is
+/// Does what the words ask for. The status is the one that `command` answers, or `command_live` if the first word is
 /// `live`.
 fn run_words<
     H: Hints,
@@ -121,9 +121,10 @@ fn run_words<
 }
 
 /// Runs the program: does the command that its words ask for, `live` too. Answers and refusals go to `out`, the text of
-/// a mistake and hints to `err`; words that are not all UTF-8 are a mistake. While a station runs, `progress` is told
-/// how far it is. The status is the program's: 0 if the command was done, 1 if it was refused or an output failed, and
-/// 2 for a mistake. It may wait for the threads of a station.
+/// a usage error and hints to `err`; arguments that are not all UTF-8 are a usage error. While a station runs,
+/// `progress` gets reports of how far it is. The status is the program's: 0 if the command was done; 1 if it was
+/// refused, if something was found, or if an output failed; 2 after a usage error, and after a refusal of `lint` or
+/// `diff`. It may wait for the threads of a station.
 pub fn run_program<
     R: AllocGlobal + Threads + Wait,
     A: Arguments,

@@ -31,7 +31,7 @@ use a429_console::output::{Output, OutputFault};
 use a429_console::refusals::{CommandRefusal, refuse};
 use std::alloc::Global;
 
-/// The bytes of the files that a replay reads; of the further tables also what they come to.
+/// The bytes of the files that a replay reads, and the further tables, each with its proposal or refusal.
 #[derive(Drop)]
 struct Input {
     table: Vec<u8>,
@@ -80,8 +80,8 @@ struct PreparedReplay {
     events: Vec<KeptEvent>,
 }
 
-/// The station that is given, with the events of the script, if that is one of it. Refused is the table, its plan, or the
-/// script. The further tables whose plans the station does not take are noted.
+/// The station that is given, with the events of the script, if that is one of it. Error: the table, its plan, or the
+/// script is refused. The further tables whose plans the station does not take are noted.
 fn prepare(
     alloc: Global,
     input: &Input,
@@ -100,8 +100,8 @@ fn prepare(
     Ok(PreparedReplay { station, events })
 }
 
-/// Plays events on the station, and puts the lines that they come to. Where memory is refused in the midst, these lines
-/// end with the one that says so.
+/// Plays events on the station, and puts their lines. If an allocation fails before the end, these lines end with
+/// `refused memory`.
 fn play_prepared<O: Output>(
     alloc: Global,
     prepared: &mut PreparedReplay,
@@ -131,9 +131,9 @@ fn play_prepared<O: Output>(
     finish(&lines.text, sufficed, out)
 }
 
-/// Plays a script on the station of a table, and puts one line for each event, or in their place the
-/// one line of a refusal. The status is 0, or 1 where it was refused, by want of memory also in the midst. The further
-/// tables that were published, and that the station did not take, are noted.
+/// Plays a script on the station of a table, and puts one line for each event. A refusal is one line instead. The
+/// status is 0, or 1 after a refusal, or if an allocation fails after the first lines. The further tables that were
+/// published, and that the station did not take, are noted.
 pub fn replay<F: FileReader, O: Output>(
     alloc: Global,
     files: &mut F,

@@ -1,12 +1,13 @@
 //! The command `simulate`.
-ghost use Rattle.std.specs.Prelude.{◌≡◌, ◌≤◌, false, true, IfOk, IsTrue, MatchResult, OnOk};
+ghost use Rattle.std.specs.Prelude.{◌≡◌, ◌≤◌, true, IfOk, IsTrue, MatchResult, OnOk};
 ghost use Rattle.a429_console.specs.Readings.{HasRead};
 ghost use Rattle.a429_console.specs.Outputs.{CountsFault};
 ghost use Rattle.a429_console.specs.RefusalText.{OrMemory};
 ghost use Rattle.a429_console.specs.Replying.{HasReplied};
+ghost use Rattle.a429_console.specs.Requests.{is_csv};
 ghost use Rattle.a429_console.specs.Tables.{IsTableRefusal};
 ghost use Rattle.a429_cli.specs.CellLines.{IsBeginOfSlot};
-ghost use Rattle.a429_cli.specs.SimulationReplies.{BeginsLog, BeginsNoLog, HasPrinted, HasSummary, IsPreparedFor, IsSettingOf, IsSimulation, IsSimulationReading, IsUnsimulated, PutsLines, SimulationIsReady, files_of};
+ghost use Rattle.a429_cli.specs.SimulationReplies.{BeginsLog, BeginsNoLog, HasPrinted, HasPrintedLines, HasPrintedSummary, HasSummary, IsPreparedFor, IsSettingOf, IsSimulation, IsSimulationReading, IsUnsimulated, PutsLines, SimulationIsReady, files_of};
 ghost use Rattle.a429_cli.specs.SimulationRuns.{CanBePlayed, HasStationNames};
 
 pub mod figures;
@@ -24,7 +25,7 @@ use crate::simulate::figures::Summary;
 use crate::simulate::lines::{PendingLines, Setting};
 use crate::simulate::log::read_log;
 use crate::simulate::playing::Player;
-use crate::simulate::summary_rows::text_of;
+use crate::simulate::summary_rows::summary_sheet;
 use a429_console::arguments::requests::Options;
 use a429_console::files::FileReader;
 use a429_console::files::reading::read_file;
@@ -33,15 +34,16 @@ use a429_console::output::endings::{finish, refuse_memory};
 use a429_console::output::{Output, OutputFault};
 use a429_console::refusals::tables::propose;
 use a429_console::refusals::{CommandRefusal, refuse};
+use a429_text::SheetForm;
 use std::alloc::{AllocError, Global};
 
-/// What a simulation prints, the summary or all lines, in columns or as comma-separated values; and until when in
-/// microseconds it asks for cells.
+/// What a simulation prints, the summary or all lines, and in which form; and until when in microseconds it asks for cells.
+/// Lines have no form as JSON.
 #[derive(Clone, Copy)]
 pub struct SimulationForm {
     pub until: Option<u64>,
     pub summary: bool,
-    pub csv: bool,
+    pub form: SheetForm,
 }
 
 impl SimulationForm {
@@ -49,13 +51,23 @@ impl SimulationForm {
 
     /// What is asked for.
     pub fn of(options: &Options) -> SimulationForm
-        ensures { result ≡ record { until = options.now.until; summary = options.now.summary; csv = options.now.csv } }
+        ensures { result ≡ record { until = options.now.until; summary = options.now.summary; form = options.now.form } }
     {
         SimulationForm {
             until: options.until,
             summary: options.summary,
-            csv: options.csv,
+            form: options.form,
         }
+    }
+}
+
+/// Whether fields are separated by commas.
+fn is_csv(form: SheetForm) -> bool
+    ensures { result ≡ is_csv form }
+{
+    match form {
+        SheetForm::Csv => true,
+        _ => false,
     }
 }
 
@@ -66,7 +78,7 @@ struct SimulationInput {
     log: Vec<u8>,
 }
 
-/// What is simulated, where nothing has happened: with what lines are written, and a timeline on a station.
+/// What is simulated, before anything has happened: what the lines are written with, and a timeline on a station.
 #[derive(Drop)]
 struct Simulation {
     setting: Setting,
@@ -88,7 +100,7 @@ fn read_input<F: FileReader>(
     Ok(SimulationInput { table, log })
 }
 
-/// The station of a table's bytes. Refused is the table, or its plan.
+/// The station of a table's bytes. Error: the table, or its plan, is refused.
 fn read_station(
     alloc: Global,
     table: &[u8],
@@ -106,7 +118,7 @@ fn read_station(
     })
 }
 
-/// A log on a station, with slots up to this time. Refused is the log, or a group that would send too much.
+/// A log on a station, with slots up to this time. Error: the log is refused, or a group would send too much.
 fn read_player(
     alloc: Global,
     setting: &Setting,
@@ -120,7 +132,7 @@ fn read_player(
     Player::open(alloc, &setting.proposal, words, until)
 }
 
-/// What is simulated. Refused is the table, its plan, the log, or a group that would send too much.
+/// What is simulated. Error: the table, its plan or the log is refused, or a group would send too much.
 fn prepare(
     alloc: Global,
     input: &SimulationInput,
@@ -129,7 +141,7 @@ fn prepare(
 ) -> Result<Simulation, CommandRefusal>
     ensures { MatchResult result (IsPreparedFor (files_of input.now) form) (OrMemory (IsUnsimulated (files_of input.now) form.until)) }
 {
-    let setting = read_station(alloc, &input.table, form.csv, seen)?;
+    let setting = read_station(alloc, &input.table, is_csv(form.form), seen)?;
     let player = read_player(alloc, &setting, &input.log, form.until, seen)?;
     Ok(Simulation { setting, player })
 }
@@ -158,15 +170,15 @@ fn put_lines<O: Output>(
     Ok(true)
 }
 
-/// Plays what is simulated, and puts the lines of that. If memory is refused in the midst, these lines end with the one that
-/// says so.
+/// Plays what is simulated, and puts the lines of that. If an allocation fails before the end, these lines end with
+/// `refused memory`.
 fn print_lines<O: Output>(
     alloc: Global,
     simulation: &mut Simulation,
     out: &mut O,
 ) -> Result<u8, OutputFault>
     requires { SimulationIsReady simulation.old }
-    ensures printed { HasPrinted simulation.old false (O.contents out.old) (O.contents out.new) result }
+    ensures printed { HasPrintedLines simulation.old (O.contents out.old) (O.contents out.new) result }
     ensures status { IfOk result (λ status. status ≤ 1) }
     ensures flushed { OnOk result (IsTrue (O.is_flushed out.new)) }
     ensures faults { CountsFault result (O.failures out.old) (O.failures out.new) }
@@ -179,43 +191,66 @@ fn print_lines<O: Output>(
     finish(&lines.text, sufficed, out)
 }
 
-/// Plays what is simulated to its end: the text of the summary of that. The error is that memory is refused.
-fn summarize(alloc: Global, setting: &Setting, player: &mut Player) -> Result<Vec<u8>, AllocError>
+/// Plays what is simulated to its end: the summary of that in a form. Error: an allocation failed.
+fn summarize(
+    alloc: Global,
+    setting: &Setting,
+    player: &mut Player,
+    form: SheetForm,
+) -> Result<Vec<u8>, AllocError>
     requires { CanBePlayed setting.now.proposal player.old }
-    ensures { IfOk result (λ text. HasSummary setting.now player.old text.items) }
+    ensures { IfOk result (λ text. HasSummary setting.now player.old form text.items) }
 {
     let mut summary = Summary::open(alloc)?;
     while let Some(happening) = player.next(&setting.proposal) {
         summary.note(&setting.proposal, happening);
     }
-    text_of(alloc, &setting.proposal, &summary, setting.csv)
+    summary_sheet(alloc, &setting.proposal, &summary).render(alloc, form)
+}
+
+/// Plays what is simulated, and puts the summary of that in a form.
+fn print_summary<O: Output>(
+    alloc: Global,
+    simulation: &mut Simulation,
+    form: SheetForm,
+    out: &mut O,
+) -> Result<u8, OutputFault>
+    requires { SimulationIsReady simulation.old }
+    ensures printed { HasPrintedSummary simulation.old form (O.contents out.old) (O.contents out.new) result }
+    ensures status { IfOk result (λ status. status ≤ 1) }
+    ensures flushed { OnOk result (IsTrue (O.is_flushed out.new)) }
+    ensures faults { CountsFault result (O.failures out.old) (O.failures out.new) }
+{
+    match summarize(alloc, &simulation.setting, &mut simulation.player, form) {
+        Ok(text) => finish(&text, true, out),
+        Err(_) => refuse_memory(out),
+    }
 }
 
 /// Plays what is simulated, and puts the summary of that, or its lines.
 fn print_simulation<O: Output>(
     alloc: Global,
     simulation: &mut Simulation,
-    summary: bool,
+    form: SimulationForm,
     out: &mut O,
 ) -> Result<u8, OutputFault>
-    requires { SimulationIsReady simulation.old }
-    ensures printed { HasPrinted simulation.old summary (O.contents out.old) (O.contents out.new) result }
+    requires ready { SimulationIsReady simulation.old }
+    requires csv { simulation.old.setting.csv ≡ is_csv form.form }
+    ensures printed { HasPrinted simulation.old form (O.contents out.old) (O.contents out.new) result }
     ensures status { IfOk result (λ status. status ≤ 1) }
     ensures flushed { OnOk result (IsTrue (O.is_flushed out.new)) }
     ensures faults { CountsFault result (O.failures out.old) (O.failures out.new) }
 {
-    if !summary {
-        return print_lines(alloc, simulation, out);
-    }
-    match summarize(alloc, &simulation.setting, &mut simulation.player) {
-        Ok(text) => finish(&text, true, out),
-        Err(_) => refuse_memory(out),
+    if form.summary {
+        print_summary(alloc, simulation, form.form, out)
+    } else {
+        print_lines(alloc, simulation, out)
     }
 }
 
-/// Plays the words of a log on the station of a table, at their times, and puts a line for each word that is sent, and for each
-/// that is refused, or in place of these lines the summary of what each output sent; or the one line of a refusal. The
-/// status is 0, or 1 where it was refused, by want of memory also in the midst.
+/// Plays the words of a log on the station of a table, at their times. It puts a line for each word that is sent or
+/// refused, or instead the summary of what each output sent. A refusal is one line instead. The status is 0, or 1 after
+/// a refusal, or if an allocation fails after the first lines.
 pub fn simulate<F: FileReader, O: Output>(
     alloc: Global,
     files: &mut F,
@@ -236,7 +271,7 @@ pub fn simulate<F: FileReader, O: Output>(
         Err(refusal) => return refuse(alloc, refusal, seen, out),
     };
     match prepare(alloc, &input, form, seen) {
-        Ok(mut simulation) => print_simulation(alloc, &mut simulation, form.summary, out),
+        Ok(mut simulation) => print_simulation(alloc, &mut simulation, form, out),
         Err(refusal) => refuse(alloc, refusal, seen, out),
     }
 }

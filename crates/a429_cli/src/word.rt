@@ -1,16 +1,14 @@
 //! The command `word`.
-ghost use Rattle.std.specs.Prelude.{◌≤◌, IfOk, OnOk, IsTrue};
+ghost use Rattle.std.specs.Prelude.{OnOk};
 ghost use Rattle.std.specs.List.{flat_map};
 ghost use Rattle.a429_word.specs.Bits.{bcd_of};
 ghost use Rattle.std.specs.Fmt.{decimal};
 ghost use Rattle.std.specs.Io.KnownBytes.{Appends};
-ghost use Rattle.a429_console.specs.Outputs.{CountsFault, IsPut, OrNoMemory};
-ghost use Rattle.a429_cli.specs.WordLines.{IsWordReply, bcd_digits, bcd_line, bnr_line, data_text, fields_line, name_text, status_text, word_lines};
+ghost use Rattle.a429_cli.specs.WordLines.{IsNoWord, IsWordOf, bcd_digits, bcd_line, bnr_line, data_text, fields_line, name_text, status_text, word_lines};
+ghost use Rattle.a429_cli.specs.WholeReplies.{Replies};
 
-use a429_console::hints::Seen;
-use a429_console::output::endings::{finish, refuse_memory};
-use a429_console::output::{Output, OutputFault};
-use a429_console::refusals::{CommandRefusal, refuse};
+use crate::replies::reply::Reply;
+use a429_console::refusals::CommandRefusal;
 use a429_word::{Label, Sdi, Ssm, Word, raw_word};
 use std::alloc::Global;
 use std::io;
@@ -95,28 +93,20 @@ fn write_word<W: Write>(out: &mut W, word: Word) -> io::Result<()>
     write_bcd(out, word)
 }
 
-/// Tells what the word of eight hexadecimal digits says, in either case. Another text is refused
-/// (`word-text`), and one of even parity (`parity`). The status is 0, or 1 where it was refused.
-pub fn tell_word<O: Output>(
-    alloc: Global,
-    text: &str,
-    seen: &mut Seen,
-    out: &mut O,
-) -> Result<u8, OutputFault>
-    ensures replied { IfOk result (IsPut (OrNoMemory (IsWordReply text.now)) (O.contents out.old) (O.contents out.new)) }
-    ensures status { IfOk result (λ status. status ≤ 1) }
-    ensures flushed { OnOk result (IsTrue (O.is_flushed out.new)) }
-    ensures faults { CountsFault result (O.failures out.old) (O.failures out.new) }
+/// What the word of eight hexadecimal digits says, in either case, with status 0. Another text is refused (`word-text`), and
+/// one of even parity (`parity`).
+pub fn word_reply(alloc: Global, text: &str) -> Result<Reply, CommandRefusal>
+    ensures { Replies (IsWordOf text.now) (IsNoWord text.now) result }
 {
     let Some(raw) = raw_word(text.as_bytes()) else {
-        return refuse(alloc, CommandRefusal::WordText, seen, out);
+        return Err(CommandRefusal::WordText);
     };
     let Ok(word) = Word::from_raw(raw) else {
-        return refuse(alloc, CommandRefusal::Parity, seen, out);
+        return Err(CommandRefusal::Parity);
     };
     let mut lines = Vec::new(alloc);
     match write_word(&mut lines, word) {
-        Ok(()) => finish(&lines, true, out),
-        Err(_) => refuse_memory(out),
+        Ok(()) => Ok(Reply::done(lines)),
+        Err(_) => Err(CommandRefusal::Memory),
     }
 }

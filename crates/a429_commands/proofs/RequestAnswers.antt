@@ -28,10 +28,18 @@ replay_is_text =
 
 -- a replay of two names has words
 pub replay_has_words : (table script : List ℕ) → IsName table → IsName script → HasWords (asked_by_names verb.Replay table script [])
-replay_has_words table script a b = record { first = a; second = b; number = refl; more = tt; options = can_give_nothing; others = λ name none. nothing_given name }
+replay_has_words table script a b = record {
+  first = a;
+  second = b;
+  number = refl;
+  more = tt;
+  options = can_give_nothing;
+  summarized = λ _ json. absurd (false≢true json);
+  others = λ name none. nothing_given name;
+}
 
 module _ {X Y : Type 0} (reader : Reader) (Reads : ((List ℕ → Option (List ℕ)) → Type 0) → Type 0) (out : Writing X) (err : Writing Y) (status : ℕ) where
-  -- the words of a request went to `command`, which answered it
+  -- the arguments of a request went to `command`, which answered it
   request_is_answered : (words : List (List ℕ)) (r : AskedBytes) → is_live words ≡ false → is_run r.verb ≡ false → AsksFor words r → IsTrue reader.tells → IsWhole out
       → IsDoneOrRefused words reader Reads out err status → IsPutTo (IsReplyOrMemory reader.file r) out status
   request_is_answered words r other command asks tells whole (inl done) = (done.answered r (command ∙ sym other) asks).1 tells whole

@@ -7,7 +7,7 @@ use Rattle.a429_cli.specs.Replies.{IsReplyOrMemory}
 use Rattle.a429_cli.specs.Replaying.{IsInput, IsPlayed, IsStart, ReplayInput}
 use Rattle.a429_cli.specs.declared.replay.script.ScriptEvent.{ScriptEvent}
 
--- the files of these names are a table with a plan and a script, and the bytes are what all of its events come to
+-- the files of these names are a table with a plan and a script, and the bytes are the answers to all of its events
 pub record IsPlayedToTheEnd (file : List ℕ → Option (List ℕ)) (table script bytes : List ℕ) : Type 0 where
   pub input : ReplayInput
   pub proposal : Proposed

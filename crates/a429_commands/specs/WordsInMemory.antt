@@ -5,7 +5,7 @@ use Rattle.std.specs.Str.{IsUtf8}
 use Rattle.a429_console.specs.Ends.{IsMistakeTold, Writing}
 use Rattle.a429_cli.specs.ProgramRuns.{IsDoneOrRefused, Reader}
 
--- the word at this place has just these bytes
+-- the word at this place has exactly these bytes
 abbrev pub IsWordAt : List (List ℕ) → ℕ → List ℕ → Type 0
 IsWordAt words place bytes = slice_get words place ≡ Some bytes
 
@@ -21,8 +21,8 @@ after_path words = drop 1 words
 abbrev pub AreTexts : List (List ℕ) → Type 0
 AreTexts words = AllByRecursion IsUtf8 words
 
--- the words that follow the path, all of them and unaltered, went to the command that the first of them names, or memory was refused; or they are not
--- all UTF-8, which is a mistake
+-- Either the arguments after the path went to the command that the first of them names, all of them and unaltered, or
+-- an allocation failed. Or they are not all UTF-8, which is a usage error.
 abbrev pub ProgramGetsItsWords : {X Y : Type 0} → List (List ℕ) → Reader → (((List ℕ → Option (List ℕ)) → Type 0) → Type 0) → Writing X → Writing Y → ℕ → Type 0
 ProgramGetsItsWords words reader Reads out err status =
     IsDoneOrRefused (after_path words) reader Reads out err status ⊎ ((¬ (AreTexts (after_path words))) × IsMistakeTold out err status)

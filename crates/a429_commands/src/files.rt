@@ -1,110 +1,59 @@
 //! Readers that refuse a file, and writers that fail.
 
-use crate::failing::{CutShort, Failing, Written, run_on};
-use crate::support::memory_files;
-use a429_cli::{CountedWriter, FileFault, FileReader, command};
-use a429_hints::HintLines;
+use crate::failing::{Failing, run_on};
+use crate::support::TextFiles;
+use a429_cli::FileFault;
 use std::alloc::Global;
 use std::io::ErrorKind;
-use std::process::Abort;
 
-/// Gives empty files, and refuses the one that it is asked for after so many.
-#[derive(Drop)]
-struct Refusing {
-    alloc: Global,
-    given: usize,
-    fault: FileFault,
-    reads: usize,
-}
-
-impl FileReader for Refusing {
-    ghost use Rattle.std.specs.Prelude.{false, None, ⊤};
-    ghost use Rattle.a429_console.specs.Readings.{not_told};
-
-    ghost tells = { λ _. false };
-
-    ghost file = { λ _ _. None };
-
-    ghost answers = { λ _ _ _ _. ⊤ };
-
-    ghost known = { λ _ _ _ _ told _. not_told told };
-
-    fn read(&mut self, _name: &str) -> Result<Vec<u8>, FileFault> {
-        self.reads = self.reads.saturating_add(1);
-        if self.reads > self.given {
-            return Err(self.fault);
-        }
-        Ok(Vec::new(self.alloc))
-    }
-}
-
-/// How a command ended: its status, how many files it read, what it wrote, and whether the other output has nothing.
-#[derive(Drop)]
-struct Ended {
-    status: u8,
-    reads: usize,
-    out: Vec<u8>,
-    is_quiet: bool,
-}
-
-impl Ended {
-    /// Whether it was refused with this line, after so many files.
-    fn is_refused(&self, given: usize, line: &str) -> bool {
-        self.status == 1
-            && self.is_quiet
-            && self.reads == given.saturating_add(1)
-            && self.out.as_slice() == line.as_bytes()
-    }
-}
-
-/// Does a command with a reader that refuses the file which it is asked for after so many.
-fn run_refused(alloc: Global, words: &[&str], given: usize, fault: FileFault) -> Ended {
-    let mut files = Refusing {
-        alloc,
-        given,
-        fault,
-        reads: 0,
-    };
-    let mut out = CountedWriter::new(Vec::new(alloc));
-    let mut err = CountedWriter::new(Vec::new(alloc));
-    let status = command(alloc, words, &HintLines, &mut files, &mut out, &mut err);
-    Ended {
-        status,
-        reads: files.reads,
-        out: out.writer,
-        is_quiet: err.writer.is_empty(),
-    }
-}
+/// A command, how many files it is given before one is refused and why, and its line.
+type RefusalRow = (&'static [&'static str], usize, FileFault, &'static [u8]);
 
 /// A replay of four files.
-static REPLAY_OF_FOUR: [&str; 5] = ["replay", "t", "s", "u", "v"];
+const REPLAY: &[&str] = &["replay", "t", "s", "u", "v"];
 
-/// A replay of four files that refuses one after so many tells this line.
-fn tells(rt: &impl Abort, alloc: Global, given: usize, fault: FileFault, line: &str) {
-    let ended = run_refused(alloc, &REPLAY_OF_FOUR, given, fault);
-    assert!(rt; ended.is_refused(given, line), "after {given} files");
-    drop(ended);
-}
-
-/// The lines of a replay, by how many files it read before one was refused.
-static REFUSED: [&str; 4] = [
-    "refused file t\n",
-    "refused file s\n",
-    "refused file u\n",
-    "refused file v\n",
+static REFUSALS: [RefusalRow; 10] = [
+    (REPLAY, 0, FileFault::Refused, b"refused file t\n"),
+    (REPLAY, 1, FileFault::Refused, b"refused file s\n"),
+    (REPLAY, 2, FileFault::Refused, b"refused file u\n"),
+    (REPLAY, 3, FileFault::Refused, b"refused file v\n"),
+    (REPLAY, 0, FileFault::NoMemory, b"refused memory\n"),
+    (REPLAY, 1, FileFault::NoMemory, b"refused memory\n"),
+    (REPLAY, 2, FileFault::NoMemory, b"refused memory\n"),
+    (REPLAY, 3, FileFault::NoMemory, b"refused memory\n"),
+    (&["plan", "u"], 0, FileFault::Refused, b"refused file u\n"),
+    // A refusal is one line even if the name has bytes that no line can have.
+    (
+        &["plan", "a\nb\u{1b}[2J\u{7f}\u{85}\u{e9} ?\r"],
+        0,
+        FileFault::Refused,
+        b"refused file a?b?[2J??\xc3\xa9 ??\n",
+    ),
 ];
+
+/// Whether a command is refused so. A refusal stays if its hint cannot be written: then standard error fails at once. If
+/// an allocation failed there is no hint, and standard error is only flushed.
+fn is_refused(alloc: Global, row: &RefusalRow) -> bool {
+    let (words, given, fault, line) = *row;
+    let mut files = TextFiles::new(alloc, "", 0);
+    files.given = given;
+    files.fault = fault;
+    let mut err = Failing::new(b"", false);
+    if fault == FileFault::Refused {
+        err.good_calls = 0;
+    }
+    let ended = run_on(words, files, Failing::new(line, false), err);
+    ended.status == 1
+        && ended.out.has_all()
+        && ended.err.has_all()
+        && ended.err.calls == 1
+        && ended.reads == given.saturating_add(1)
+}
 
 #[test]
 fn a_reader_may_refuse_any_file(rt: HostRuntime) {
-    for (given, line) in REFUSED.iter().enumerate() {
-        tells(&rt, rt.alloc(), given, FileFault::Refused, *line);
-        tells(
-            &rt,
-            rt.alloc(),
-            given,
-            FileFault::NoMemory,
-            "refused memory\n",
-        );
+    for row in &REFUSALS {
+        assert!(rt; is_refused(rt.alloc(), row));
     }
 }
 
@@ -124,10 +73,11 @@ static COMMANDS: [(&[&str], usize); 12] = [
     (&["simulate", "t", "s"], 2),
 ];
 
-/// How many files a command reads, if it is no mistake.
+/// How many files a command reads, if it is no mistake: a mistake writes nothing to standard output.
 fn count_reads(alloc: Global, words: &[&str]) -> Option<usize> {
-    let ended = run_refused(alloc, words, usize::MAX, FileFault::Refused);
-    if ended.status > 1 {
+    let any = Failing::new(b"", true);
+    let ended = run_on(words, TextFiles::new(alloc, "", 0), any, any);
+    if ended.status > 1 && ended.out.calls == 0 {
         return None;
     }
     Some(ended.reads)
@@ -135,213 +85,194 @@ fn count_reads(alloc: Global, words: &[&str]) -> Option<usize> {
 
 #[test]
 fn each_file_is_read_once(rt: HostRuntime) {
-    for (words, reads) in COMMANDS.iter() {
+    for (words, reads) in &COMMANDS {
         assert!(rt; count_reads(rt.alloc(), words) == Some(*reads));
     }
 }
 
-/// Commands over the table `t` and the script `s`.
-static WRITTEN: [Written<'static>; 5] = [
+/// A command over the table `t` and a script, what it writes, and how. Of its two outputs one is watched.
+#[derive(Clone, Copy)]
+struct Written<'a> {
+    words: &'a [&'a str],
+    /// The script, which is this text a number of times.
+    script: (&'a str, usize),
+    /// The text of the watched output, and whether more comes after it.
+    text: (&'a [u8], bool),
+    /// How many bytes a writer takes in one call.
+    piece: usize,
+    /// How many calls the watched output has at least.
+    calls: usize,
+    /// Whether that is standard error.
+    is_err: bool,
+}
+
+static WRITTEN: [Written<'static>; 10] = [
     Written {
         words: &["replay", "t", "s"],
-        script: "cell g\nframe g\n",
+        script: ("cell g\nframe g\n", 1),
+        text: (b"sent 0 0 none\nchanged 0\n", false),
         piece: 1,
-        lines: b"sent 0 0 none\nchanged 0\n",
+        calls: 25,
+        is_err: false,
     },
     Written {
         words: &["replay", "t", "s"],
-        script: "x\n",
+        script: ("x\n", 1),
+        text: (b"refused script line 1\n", false),
         piece: 1,
-        lines: b"refused script line 1\n",
+        calls: 23,
+        is_err: false,
     },
     Written {
         words: &["simulate", "t", "s"],
-        script: "0 r 600000c1\n360 r 800000c1\n",
+        script: ("0 r 600000c1\n360 r 800000c1\n", 1),
+        text: (
+            b"0 g 0 600000c1 s 360\n360 r 800000c1 refused parity\n360 g 0 600000c1 s 720\n720 g 0 600000c1 s 1080\n",
+            false,
+        ),
         piece: 1,
-        lines: b"0 g 0 600000c1 s 360\n360 r 800000c1 refused parity\n360 g 0 600000c1 s 720\n720 g 0 600000c1 s 1080\n",
+        calls: 99,
+        is_err: false,
     },
     Written {
         words: &["simulate", "t", "s"],
-        script: "x\n",
+        script: ("x\n", 1),
+        text: (b"refused log line 1\n", false),
         piece: 1,
-        lines: b"refused log line 1\n",
+        calls: 20,
+        is_err: false,
     },
     Written {
         words: &["word", "12"],
-        script: "",
+        script: ("", 0),
+        text: (b"refused word-text\n", false),
         piece: 1,
-        lines: b"refused word-text\n",
+        calls: 19,
+        is_err: false,
+    },
+    Written {
+        words: &["word", "600000c1"],
+        script: ("", 0),
+        text: (
+            b"label 203 sdi 0 ssm 11 data 00000\nbnr 0 normal operation\nbcd 00000 minus\n",
+            false,
+        ),
+        piece: usize::MAX,
+        calls: 2,
+        is_err: false,
+    },
+    // Help.
+    Written {
+        words: &["--help"],
+        script: ("", 0),
+        text: (b"", true),
+        piece: 64,
+        calls: 10,
+        is_err: false,
+    },
+    // A usage error.
+    Written {
+        words: &["odd"],
+        script: ("", 0),
+        text: (b"", true),
+        piece: 64,
+        calls: 2,
+        is_err: true,
+    },
+    // Many answers are written in pieces.
+    Written {
+        words: &["replay", "t", "s"],
+        script: ("cell g\nframe g\n", 20000),
+        text: (b"sent 0 0 none\nchanged 0\nsent 0 1 none\n", true),
+        piece: usize::MAX,
+        calls: 4,
+        is_err: false,
+    },
+    Written {
+        words: &["simulate", "t", "s", "--until", "3600000"],
+        script: ("0 r 600000c1\n", 1),
+        text: (b"0 g 0 600000c1 s 360\n360 g 0 600000c1 s 720\n", true),
+        piece: usize::MAX,
+        calls: 4,
+        is_err: false,
     },
 ];
 
-/// A command whose writers take all bytes in one call.
-static WORD: Written<'static> = Written {
-    words: &["word", "600000c1"],
-    script: "",
-    piece: usize::MAX,
-    lines: b"label 203 sdi 0 ssm 11 data 00000\nbnr 0 normal operation\nbcd 00000 minus\n",
-};
+/// What standard error gets if an output failed.
+const OUTPUT_FAILED: &[u8] = b"a429: standard output failed\n";
 
-/// Each of these commands ends with the call of its output that fails with an error of this kind.
-fn end_at_each_call(rt: &impl Abort, alloc: Global, kind: ErrorKind) {
-    for written in WRITTEN.iter() {
-        written.ends_at_each_call(rt, alloc, kind);
+impl<'a> Written<'a> {
+    /// The status of the command with this watched output, and its two outputs, the watched one first. The other one has
+    /// this text.
+    fn run(
+        &self,
+        alloc: Global,
+        watched: Failing<'a>,
+        other: &'a [u8],
+    ) -> (u8, Failing<'a>, Failing<'a>) {
+        let (script, times) = self.script;
+        let files = TextFiles::new(alloc, script, times);
+        let other = Failing::new(other, false);
+        if self.is_err {
+            let ended = run_on(self.words, files, other, watched);
+            return (ended.status, ended.err, ended.out);
+        }
+        let ended = run_on(self.words, files, watched, other);
+        (ended.status, ended.out, ended.err)
     }
-    WORD.ends_at_each_call(rt, alloc, kind);
-}
 
-#[test]
-fn a_writer_may_fail_at_any_call(rt: HostRuntime) {
-    end_at_each_call(&rt, rt.alloc(), ErrorKind::WriteZero);
-}
+    /// The watched output, which fails with an error of this kind after this number of calls.
+    fn watched(&self, kind: ErrorKind, good_calls: usize) -> Failing<'a> {
+        let (text, goes_on) = self.text;
+        let mut watched = Failing::new(text, goes_on);
+        watched.piece = self.piece;
+        watched.kind = kind;
+        watched.good_calls = good_calls;
+        watched
+    }
 
-#[test]
-fn nobody_is_told_of_an_output_that_its_reader_closed(rt: HostRuntime) {
-    end_at_each_call(&rt, rt.alloc(), ErrorKind::BrokenPipe);
-}
+    /// How many calls the watched output has if none fails. `None` if it was not given all of the text, or not flushed
+    /// after it.
+    fn count_calls(&self, alloc: Global) -> Option<usize> {
+        let watched = self.watched(ErrorKind::WriteZero, usize::MAX);
+        let (_, watched, _) = self.run(alloc, watched, b"");
+        if !watched.has_all() || !watched.is_flushed || watched.calls < self.calls {
+            return None;
+        }
+        Some(watched.calls)
+    }
 
-/// What a command writes, which is done.
-fn lines_of(rt: &impl Abort, alloc: Global, words: &[&str], script: &str) -> Vec<u8> {
-    let mut files = memory_files(rt, alloc, script);
-    let mut out = CountedWriter::new(Vec::new(alloc));
-    let mut err = CountedWriter::new(Vec::new(alloc));
-    let status = command(alloc, words, &HintLines, &mut files, &mut out, &mut err);
-    // `drop` keeps the proof short: a drop in place goes through all parts.
-    drop(files);
-    assert!(rt; status == 0 && err.writer.is_empty());
-    out.writer
-}
+    /// Whether the command ends with status 1 at the call of its watched output that fails. Standard error names the failed
+    /// standard output, if its reader did not close it. Nothing more is written.
+    fn is_cut_short(&self, alloc: Global, kind: ErrorKind, good_calls: usize) -> bool {
+        let is_told = !self.is_err && !matches!(kind, ErrorKind::BrokenPipe);
+        let told: &[u8] = if is_told { OUTPUT_FAILED } else { b"" };
+        let (status, watched, other) = self.run(alloc, self.watched(kind, good_calls), told);
+        status == 1
+            && watched.calls == good_calls.saturating_add(1)
+            && !watched.differs
+            && other.has_all()
+            && is_told == (other.calls > 0)
+    }
 
-#[test]
-fn help_ends_where_the_output_fails(rt: HostRuntime) {
-    let lines = lines_of(&rt, rt.alloc(), &["--help"], "");
-    let help = Written {
-        words: &["--help"],
-        script: "",
-        piece: 64,
-        lines: lines.as_slice(),
-    };
-    help.ends_at_each_call(&rt, rt.alloc(), ErrorKind::WriteZero);
-}
-
-/// A mistake, which is told on the other output.
-static ODD: Written<'static> = Written {
-    words: &["odd"],
-    script: "",
-    piece: 64,
-    lines: b"",
-};
-
-/// Whether a mistake that could not be told has status 1, and nothing more was told.
-fn is_untold(cut: &CutShort, good_calls: usize) -> bool {
-    cut.status == 1
-        && cut.out.calls == 0
-        && cut.err.calls == good_calls.saturating_add(1)
-        && cut.untold == 1
-}
-
-#[test]
-fn a_mistake_that_cannot_be_told_has_status_1(rt: HostRuntime) {
-    let whole = ODD.run_alone(&rt, rt.alloc(), usize::MAX);
-    assert!(rt; whole.status == 2 && whole.out.calls == 0);
-    for good_calls in 0..whole.err.calls {
-        let cut = ODD.run_alone(&rt, rt.alloc(), good_calls);
-        assert!(rt; is_untold(&cut, good_calls));
+    /// Whether it does so at each of the calls, both for an error and for a reader that closed the output.
+    fn is_cut_short_at_each(&self, alloc: Global) -> bool {
+        let Some(calls) = self.count_calls(alloc) else {
+            return false;
+        };
+        let mut as_said = true;
+        for good_calls in 0..calls {
+            as_said = as_said
+                && self.is_cut_short(alloc, ErrorKind::WriteZero, good_calls)
+                && self.is_cut_short(alloc, ErrorKind::BrokenPipe, good_calls);
+        }
+        as_said
     }
 }
 
-/// A refusal whose output takes all, and whose other output fails at once.
-fn cut_hint_off(rt: &impl Abort, alloc: Global) -> CutShort<'static> {
-    let mut files = memory_files(rt, alloc, "");
-    let out = Failing::new(b"refused file u\n", 64, usize::MAX);
-    let err = Failing::new(b"", 64, 0);
-    run_on(alloc, &["plan", "u"], &mut files, out, err)
-}
-
 #[test]
-fn a_refusal_stays_where_its_hint_cannot_be_told(rt: HostRuntime) {
-    let cut = cut_hint_off(&rt, rt.alloc());
-    assert!(rt; cut.status == 1 && cut.failures == 0 && cut.out.has_all());
-    assert!(rt; cut.err.calls == 1 && cut.untold == 1);
-}
-
-#[test]
-fn an_output_that_failed_is_told(rt: HostRuntime) {
-    let cut = WORD.run_alone(&rt, rt.alloc(), 1);
-    assert!(rt; cut.status == 1 && cut.failures == 1 && cut.err.has_all());
-}
-
-/// A command whose output is flushed in its second call.
-static VERSION: Written<'static> = Written {
-    words: &["--version"],
-    script: "",
-    piece: usize::MAX,
-    lines: b"",
-};
-
-#[test]
-fn a_flush_that_fails_is_an_output_that_failed(rt: HostRuntime) {
-    let cut = VERSION.run_alone(&rt, rt.alloc(), 1);
-    assert!(rt; cut.status == 1 && cut.failures == 1 && cut.out.calls == 2);
-}
-
-/// A refusal of a file whose name has bytes that no line can have.
-static UNUSUAL: Written<'static> = Written {
-    words: &["plan", "a\nb\u{1b}[2J\u{7f}\u{85}\u{e9} ?\r"],
-    script: "",
-    piece: usize::MAX,
-    lines: b"refused file a?b?[2J??\xc3\xa9 ??\n",
-};
-
-#[test]
-fn a_refusal_is_one_line_whatever_the_name(rt: HostRuntime) {
-    let whole = UNUSUAL.run_alone(&rt, rt.alloc(), usize::MAX);
-    assert!(rt; whole.status == 1 && whole.out.has_all());
-}
-
-/// The command writes these lines in pieces, and each of the calls may fail.
-fn is_written_in_pieces(
-    rt: &impl Abort,
-    alloc: Global,
-    words: &[&str],
-    script: &str,
-    lines: &[u8],
-) {
-    let written = Written {
-        words,
-        script,
-        piece: usize::MAX,
-        lines,
-    };
-    assert!(rt; written.ends_at_each_call(rt, alloc, ErrorKind::WriteZero) > 3);
-}
-
-/// A replay of the script, and a simulation of ten thousand frames.
-static REPLAY: [&str; 3] = ["replay", "t", "s"];
-
-static SIMULATE: [&str; 5] = ["simulate", "t", "s", "--until", "3600000"];
-
-/// Whether lines begin and end so.
-fn run_from_to(lines: &[u8], from: &[u8], to: &[u8]) -> bool {
-    lines.starts_with(from) && lines.ends_with(to)
-}
-
-#[test]
-fn many_answers_are_written_in_pieces(rt: HostRuntime) {
-    let script = "cell g\nframe g\n"
-        .repeat(rt.alloc(), 20000)
-        .expect(&rt, "memory");
-    let lines = lines_of(&rt, rt.alloc(), &REPLAY, &script);
-    let from = b"sent 0 0 none\nchanged 0\nsent 0 1 none\n";
-    assert!(rt; run_from_to(&lines, from, b"\nsent 0 19999 none\nchanged 0\n"));
-    is_written_in_pieces(&rt, rt.alloc(), &REPLAY, &script, &lines);
-}
-
-#[test]
-fn many_sent_words_are_written_in_pieces(rt: HostRuntime) {
-    let log = "0 r 600000c1\n";
-    let lines = lines_of(&rt, rt.alloc(), &SIMULATE, log);
-    let from = b"0 g 0 600000c1 s 360\n360 g 0 600000c1 s 720\n";
-    assert!(rt; run_from_to(&lines, from, b"\n3600000 g 0 600000c1 s 3600360\n"));
-    is_written_in_pieces(&rt, rt.alloc(), &SIMULATE, log, &lines);
+fn an_output_may_fail_at_any_call(rt: HostRuntime) {
+    for written in &WRITTEN {
+        assert!(rt; written.is_cut_short_at_each(rt.alloc()));
+    }
 }

@@ -1,5 +1,5 @@
-//! Callers of commands and of the program that conclude from what they promise, and tests of commands whose readers
-//! refuse files or whose writers fail, of what a run tells while it works, and of the program on words of its own.
+//! Callers of commands and of the program that conclude from what these promise. Tests of commands whose readers refuse
+//! files or whose writers fail, of what a run reports while it works, and of the program on arguments of its own.
 #![tactic(auto)]
 
 #[cfg(test)]

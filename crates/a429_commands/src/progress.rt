@@ -1,6 +1,7 @@
-//! How far a run of a station is, as it is told while it works.
+//! The progress of a run of a station, which is reported during the run.
 
-use crate::support::memory_files;
+use crate::failing::Failing;
+use crate::support::TextFiles;
 use a429_cli::{CountedWriter, Progress, ProgressLine, command_live};
 use a429_hints::HintLines;
 use std::alloc::Global;
@@ -16,7 +17,7 @@ fn has(count: &AtomicU64, value: u64) -> bool {
     count.load(Ordering::SeqCst) == value
 }
 
-/// Adds up what it is told.
+/// Adds up what is reported to it.
 #[derive(Drop)]
 struct Sums {
     all: AtomicU64,
@@ -35,7 +36,7 @@ impl Sums {
         }
     }
 
-    /// Whether these cells were announced and sent, these words accepted, and the end was told once.
+    /// Whether these cells were announced and sent, these words accepted, and the end was reported once.
     fn are(&self, all: u64, cells: u64, words: u64) -> bool {
         has(&self.all, all)
             && has(&self.cells, cells)
@@ -62,11 +63,11 @@ impl Progress for Sums {
     }
 }
 
-/// The status of a run of 20000 frames over a file of words.
-fn run_live<R: Threads + Wait + Abort>(rt: &R, alloc: Global, text: &str, sums: &Sums) -> u8 {
-    let mut files = memory_files(rt, alloc, text);
-    let mut out = CountedWriter::new(Vec::new(alloc));
-    let mut err = CountedWriter::new(Vec::new(alloc));
+/// The status of a run of 20000 frames over 9000 times these words.
+fn run_live<R: Threads + Wait>(rt: &R, alloc: Global, words: &str, sums: &Sums) -> u8 {
+    let mut files = TextFiles::new(alloc, words, 9000);
+    let mut out = CountedWriter::new(Failing::new(b"", true));
+    let mut err = CountedWriter::new(Failing::new(b"", false));
     let words = ["live", "t", "s", "20000"];
     command_live(
         rt, alloc, &words, &HintLines, &mut files, &mut out, &mut err, sums,
@@ -75,14 +76,12 @@ fn run_live<R: Threads + Wait + Abort>(rt: &R, alloc: Global, text: &str, sums: 
 
 #[test]
 fn a_run_tells_cells_and_accepted_words_by_4096(rt: HostRuntime) {
-    // each word twice, the second time with a false parity
-    let words = "r 600000c1\nr e00000c1\n"
-        .repeat(rt.alloc(), 9000)
-        .expect(&rt, "memory");
     let sums = Sums::new();
-    assert!(rt; run_live(&rt, rt.alloc(), &words, &sums) == 0);
-    assert!(rt; sums.are(20000, 16384, 8192));
+    // each word twice, the second time with a false parity
+    let status = run_live(&rt, rt.alloc(), "r 600000c1\nr e00000c1\n", &sums);
+    let are_told = sums.are(20000, 16384, 8192);
     drop(sums);
+    assert!(rt; status == 0 && are_told);
 }
 
 /// Counts the pieces that are written to it, and their bytes.
@@ -93,7 +92,7 @@ struct Screen<'a> {
 }
 
 impl Screen<'_> {
-    /// Whether so many pieces were written, of so many bytes together.
+    /// Whether this number of pieces was written, of this number of bytes together.
     fn shows(&self, pieces: u64, bytes: u64) -> bool {
         has(self.pieces, pieces) && has(self.bytes, bytes)
     }
@@ -111,7 +110,7 @@ impl Write for Screen<'_> {
     }
 }
 
-/// The line is written where the run begins, and again where half of the cells are sent.
+/// The line is written when the run begins, and again when half of the cells are sent.
 fn is_written_now_and_then(rt: &impl Abort, line: &impl Progress, screen: &Screen<'_>) {
     line.begin(8388608);
     // "\rcells sent 0 of 8388608, words accepted 0"
@@ -134,6 +133,6 @@ fn a_line_is_written_at_the_beginning_now_and_then_and_wiped(rt: HostRuntime) {
     let line = ProgressLine::new(rt.alloc(), screen);
     is_written_now_and_then(&rt, &line, &screen);
     line.end();
-    assert!(rt; screen.shows(3, 97));
     drop(line);
+    assert!(rt; screen.shows(3, 97));
 }

@@ -12,8 +12,8 @@ use std::alloc::Global;
 use std::sync::Wait;
 use std::thread::Threads;
 
-/// The status of a replay over files in memory, and what it writes, where all of it was taken. With status 0 that is what
-/// the events of the script come to, all of them, from the opening of the table's own plan.
+/// The status of a replay over files in memory, and what it writes, if all of it was taken. With status 0 that is the
+/// answers to all events of the script, from the opening of the table's own plan.
 pub fn replay_in_memory(
     alloc: Global,
     files: &mut MemoryFiles,
@@ -85,25 +85,29 @@ mod tests {
     const ANSWERS: &[u8] =
         b"sent 0 0 none\nchanged 0\naccepted s\nrefused parity\nrefused no-source\nsent 0 1 600000c1\nrefused frame-end\nchanged 0\nrefused mid-frame\n";
 
-    fn file(rt: &impl Abort, alloc: Global, name: &str, text: &str) -> (String, Vec<u8>) {
+    /// Keeps a file of this name and text.
+    fn keep(rt: &impl Abort, alloc: Global, files: &mut MemoryFiles, name: &str, text: &str) {
         let name = String::from_str(alloc, name).expect(rt, "memory");
         let bytes = Vec::from_slice(alloc, text.as_bytes()).expect(rt, "memory");
-        (name, bytes)
+        files.files.push((name, bytes)).expect(rt, "memory");
     }
 
     /// The table `t` and the script `s`.
     fn first_example(rt: &impl Abort, alloc: Global) -> MemoryFiles {
-        let table = file(rt, alloc, "t", ONE);
-        let script = file(rt, alloc, "s", SCRIPT);
-        MemoryFiles {
-            files: vec![in alloc; table, script].expect(rt, "memory"),
-        }
+        let mut files = MemoryFiles {
+            files: Vec::new(alloc),
+        };
+        keep(rt, alloc, &mut files, "t", ONE);
+        keep(rt, alloc, &mut files, "s", SCRIPT);
+        files
     }
 
     #[test]
     fn the_program_answers_the_first_example(rt: HostRuntime) {
         let mut files = first_example(&rt, rt.alloc());
         let told = replay_by_words(&rt, &mut files, b"\xff", "t", "s");
+        // `drop` keeps the proof short: a drop in place goes through all parts.
+        drop(files);
         let (status, bytes) = told.expect(&rt, "an output in memory");
         assert!(rt; status == 0 && bytes.as_slice() == ANSWERS);
     }

@@ -1,6 +1,6 @@
--- The words of a request in their plain form ask for it.
+-- The plain form of a request asks for it.
 use Rattle.std.proofs.Common.{◌≡◌, ◌∙◌, ap, refl, inl, inr, subst, sym, true, false, codes, Bool, List, [], ◌∷◌, ◌++◌, map, append-nil, append_assoc, arith}
-use Rattle.std.specs.Prelude.{◌^◌, ◌<◌, ◌≤◌, ◌+◌, ◌||◌, ℕ, Option, min, Some, None, IfSome, MatchOption, ⊤, if◌then◌else◌, not, option_map}
+use Rattle.std.specs.Prelude.{◌^◌, ◌<◌, ◌≤◌, ◌+◌, ◌&&◌, ◌||◌, ℕ, Option, min, Some, None, IfSome, MatchOption, ⊤, if◌then◌else◌, not, option_map}
 use Rattle.std.specs.Fmt.{decimal, digits}
 use Rattle.std.specs.List.{AllByRecursion, list_all}
 use Rattle.std.specs.Str.{bytes_eq}
@@ -14,9 +14,11 @@ use Rattle.clap.specs.Words.{Row, Rule, Shape, Text, first_of, one_of}
 use Rattle.clap.specs.Takes.{value_passes}
 use Rattle.clap.specs.Walk.{Held, finished, has_row, idle, nothing_held, settled, walk_from}
 use Rattle.a429_equipment.specs.Limits.{most_frames}
-use Rattle.a429_console.specs.CommandLine.{CommandRow, Csv, Group, Html, OptionName, Slots, Summary, Until, Width, last_time, most_slots, options_of, row_of}
-use Rattle.a429_console.specs.Requests.{AskedBytes, CanBeGiven, HasWords, IsName, IsWidth, OptionBytes, flag_word, has_option, is_flag, word_given, words_if, words_of, words_of_options, words_with}
-use Rattle.a429_console.specs.RequestRows.{AreOptions, AsksFor, IsAskedBy, flag_given, number_of, values_of, width_given}
+use Rattle.a429_console.specs.CommandLine.{All, CommandRow, Csv, Group, Html, Json, OptionName, Slots, Summary, Until, Width, last_time, most_slots, options_of, row_of}
+use Rattle.a429_console.specs.Requests.{AskedBytes, CanBeGiven, HasWords, IsName, IsWidth, OptionBytes, flag_word, has_option, is_csv, is_flag, is_json, word_given, words_if, words_of, words_of_options, words_with}
+use Rattle.a429_console.specs.RequestRows.{AreOptions, AsksFor, IsAskedBy, form_given, form_of, is_set, number_of, values_of, width_given}
+use Rattle.a429_text.specs.declared.sheets.SheetForm.{SheetForm}
+use Rattle.a429_text.specs.declared.sheets.SheetForm.TheVariants as form
 use Rattle.a429_console.specs.declared.arguments.forms.Verb.{Verb}
 use Rattle.a429_console.specs.declared.arguments.forms.Verb.TheVariants as verb
 use Rattle.a429_console.proofs.CommandFacts.{AreAt, Facts, IsAtIf, all_options, new, others, plain_leaf, required, facts, ids_after, ids_if, many_at, many_is_many, name_at, name_is_single, next_if, number_at, number_is_single, position_after, shape, use_if, uses}
@@ -131,7 +133,9 @@ from_zero None few = tt
 from_zero (Some n) few = (omega arith, few)
 
 pub words_pass : (o : OptionBytes) → ((name : OptionName) → CanBeGiven o name) → (name : OptionName) → WordPasses name (word_given o name)
-words_pass o can Csv = flag_passes o.csv
+words_pass o can Csv = flag_passes (is_csv o.form)
+words_pass o can Json = flag_passes (is_json o.form)
+words_pass o can All = flag_passes o.all
 words_pass o can Group = word_passes o.group (can Group)
 words_pass o can Slots = number_passes 1 most_slots o.slots (omega arith) (can Slots)
 words_pass o can Width = width_passes o.width (can Width)
@@ -150,13 +154,15 @@ width_of_decimal (Some w) (inr (inr is)) = rw is refl
 -- ---- what is found at the end
 
 at_option : (Q : OptionName → Type 0) → AllByRecursion Q all_options → (name : OptionName) → Q name
-at_option Q (a, (b, (c, (d, (e, (f, (g, _))))))) Csv = a
-at_option Q (a, (b, (c, (d, (e, (f, (g, _))))))) Group = b
-at_option Q (a, (b, (c, (d, (e, (f, (g, _))))))) Slots = c
-at_option Q (a, (b, (c, (d, (e, (f, (g, _))))))) Width = d
-at_option Q (a, (b, (c, (d, (e, (f, (g, _))))))) Html = e
-at_option Q (a, (b, (c, (d, (e, (f, (g, _))))))) Until = f
-at_option Q (a, (b, (c, (d, (e, (f, (g, _))))))) Summary = g
+at_option Q (a, (b, (c, (d, (e, (f, (g, (h, (i, _))))))))) Csv = a
+at_option Q (a, (b, (c, (d, (e, (f, (g, (h, (i, _))))))))) Json = b
+at_option Q (a, (b, (c, (d, (e, (f, (g, (h, (i, _))))))))) All = c
+at_option Q (a, (b, (c, (d, (e, (f, (g, (h, (i, _))))))))) Group = d
+at_option Q (a, (b, (c, (d, (e, (f, (g, (h, (i, _))))))))) Slots = e
+at_option Q (a, (b, (c, (d, (e, (f, (g, (h, (i, _))))))))) Width = f
+at_option Q (a, (b, (c, (d, (e, (f, (g, (h, (i, _))))))))) Html = g
+at_option Q (a, (b, (c, (d, (e, (f, (g, (h, (i, _))))))))) Until = h
+at_option Q (a, (b, (c, (d, (e, (f, (g, (h, (i, _))))))))) Summary = i
 
 each_of : (P : OptionName → Bool) (names : List OptionName) → list_all P names ≡ true → AllByRecursion (λ (name : OptionName). P name ≡ true) names
 each_of P [] all = tt
@@ -178,6 +184,17 @@ all_append (u ∷ us) vs first second = (first.0, all_append us vs first.1 secon
 all_parts : (P : Rule × Text → Type 0) (us vs : List (Rule × Text)) → AllByRecursion P (us ++ vs) → AllByRecursion P us × AllByRecursion P vs
 all_parts P [] vs all = (tt, all)
 all_parts P (u ∷ us) vs all = let parts = all_parts P us vs all.1 in ((all.0, parts.0), parts.1)
+
+-- a form is the one that its two options ask for, if they do not ask for lines as JSON
+form_is : (f : SheetForm) (lines : Bool) → (is_json f ≡ true → lines ≡ false) → (if is_json f && lines then None else form_of (is_csv f) (is_json f)) ≡ Some f
+form_is form.Columns lines none = refl
+form_is form.Csv lines none = refl
+form_is form.Json lines none = rw (none refl) refl
+
+-- no command but `simulate` prints lines, nor does that if its summary is asked for
+lines_of : (v : Verb) (summary : Bool) → (v ≡ verb.Simulate → summary ≡ true) → (bytes_eq (row_of v).name (codes "simulate") && not summary) ≡ false
+lines_of verb.Simulate summary all = rw (all refl) refl
+lines_of _ summary all = refl
 
 -- the values of a command, and the rows of them
 module _ (r : AskedBytes) (us : List (Rule × Text)) (f : Facts r.verb us) (has : HasWords r) where
@@ -229,7 +246,7 @@ module _ (r : AskedBytes) (us : List (Rule × Text)) (f : Facts r.verb us) (has 
       still_found (id_of name) (row (id_of name) word) (shape v).rules all_rows
       (found_behind (id_of name) before (rows_of_options r.options names) (not_before name) ∙ option_found r.options name word names is (option_is_had name word is))
 
-  flag_field : (name : OptionName) (b : Bool) → word_given r.options name ≡ flag_word b → flag_given (one_of (id_of name) end_rows) ≡ Some b
+  flag_field : (name : OptionName) (b : Bool) → word_given r.options name ≡ flag_word b → is_set (one_of (id_of name) end_rows) ≡ b
   flag_field name true is = rw (option_there name (codes "true") is) refl
   flag_field name false is = flag_unset (id_of name) (shape v).rules all_rows f.plain (option_not_there name is)
 
@@ -254,9 +271,13 @@ module _ (r : AskedBytes) (us : List (Rule × Text)) (f : Facts r.verb us) (has 
   one_field name None value is = rw (value_row name None value is) refl
   one_field name (Some word) value is = rw (value_row name (Some word) value is) refl
 
-  pub options_are_read : AreOptions end_rows r.options
+  pub options_are_read : AreOptions (row_of v).name end_rows r.options
   options_are_read = record {
-    csv = flag_field Csv r.options.csv refl;
+    form =
+        rw (flag_field Csv (is_csv r.options.form) refl, flag_field Json (is_json r.options.form) refl)
+        (form_is r.options.form (bytes_eq (row_of v).name (codes "simulate") && not (is_set (one_of (codes "summary") end_rows)))
+        (λ json. lines_of v (is_set (one_of (codes "summary") end_rows)) (λ simulates. flag_field Summary r.options.summary refl ∙ has.summarized simulates json)));
+    all = flag_field All r.options.all refl;
     group = first_field Group r.options.group refl refl;
     slots = ap (number_of 1 most_slots) (one_field Slots (option_map decimal r.options.slots) refl refl) ∙ number_of_decimal 1 most_slots r.options.slots (omega arith) (has.options Slots);
     width = ap width_given (first_field Width (option_map decimal r.options.width) refl refl) ∙ width_of_decimal r.options.width (has.options Width);

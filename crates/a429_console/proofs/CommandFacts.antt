@@ -9,7 +9,7 @@ use Rattle.clap.specs.Simple.{filled, with_index}
 use Rattle.clap.specs.Takes.{default_passes}
 use Rattle.clap.specs.Walk.{arg_by_id, arg_by_index}
 use Rattle.clap.proofs.OnLiterals.{clap_on_literals}
-use Rattle.a429_console.specs.CommandLine.{Csv, Group, Html, OptionName, Slots, Summary, Until, Width, command_line, many_rule, number_rule, options_of, required_rule, row_app, row_of}
+use Rattle.a429_console.specs.CommandLine.{All, Csv, Group, Html, Json, OptionName, Slots, Summary, Until, Width, command_line, many_rule, number_rule, options_of, required_rule, row_app, row_of}
 use Rattle.a429_console.specs.declared.arguments.forms.Verb.{Verb}
 use Rattle.a429_console.specs.declared.arguments.forms.Verb.TheVariants as verb
 use Rattle.a429_console.proofs.CommandWords.{IsNamed, leaf}
@@ -54,7 +54,7 @@ number_is_single i number = record { range = refl; action = refl; reading = refl
 pub many_is_many : (i : ℕ) (id : Text) → IsMany (many_at i id)
 many_is_many i id = record { range = refl; action = refl; reading = refl; trailing = refl; passes = λ word. refl }
 
--- where the walk stands after them
+-- the position of the walk after them
 abbrev pub position_after : ℕ → List (Rule × Text) → ℕ
 position_after i [] = i
 position_after i (u ∷ us) = position_after (min (i + 1) usize_max) us
@@ -106,7 +106,7 @@ plain_parts s all =
     }
 
 abbrev pub all_options : List OptionName
-all_options = Csv ∷ Group ∷ Slots ∷ Width ∷ Html ∷ Until ∷ Summary ∷ []
+all_options = Csv ∷ Json ∷ All ∷ Group ∷ Slots ∷ Width ∷ Html ∷ Until ∷ Summary ∷ []
 
 -- no two arguments have one id
 abbrev pub ids_are_new : Verb → List (Rule × Text) → Bool
@@ -164,11 +164,11 @@ module _ (first second number : Text) where
   facts verb.Import = known (record { met = refl; leads = refl; label = refl; no_help = refl }) (refl, refl, tt) tt tt (inl refl, (inl refl, tt)) refl
   facts verb.Plan = known (record { met = refl; leads = refl; label = refl; no_help = refl }) (refl, refl, tt) tt tt (inl refl, (inl refl, tt)) refl
   facts verb.Check = known (record { met = refl; leads = refl; label = refl; no_help = refl }) (refl, refl, (refl, refl, tt)) tt tt (inl refl, (inl refl, (inl refl, tt))) refl
-  facts verb.Icd = known (record { met = refl; leads = refl; label = refl; no_help = refl }) (refl, refl, tt) tt (refl, refl, tt) (inl refl, (inr (Csv, refl, refl, refl, refl), (inl refl, tt))) refl
-  facts verb.Margin = known (record { met = refl; leads = refl; label = refl; no_help = refl }) (refl, refl, tt) tt tt (inl refl, (inl refl, tt)) refl
-  facts verb.Lint = known (record { met = refl; leads = refl; label = refl; no_help = refl }) (refl, refl, tt) tt tt (inl refl, (inl refl, tt)) refl
-  facts verb.Diff = known (record { met = refl; leads = refl; label = refl; no_help = refl }) (refl, refl, (refl, refl, tt)) tt tt (inl refl, (inl refl, (inl refl, tt))) refl
+  facts verb.Icd = known (record { met = refl; leads = refl; label = refl; no_help = refl }) (refl, refl, tt) tt (refl, refl, (refl, refl, tt)) (inl refl, (inr (Csv, refl, refl, refl, refl), (inr (Json, refl, refl, refl, refl), (inl refl, tt)))) refl
+  facts verb.Margin = known (record { met = refl; leads = refl; label = refl; no_help = refl }) (refl, refl, tt) tt (refl, refl, (refl, refl, tt)) (inl refl, (inr (Csv, refl, refl, refl, refl), (inr (Json, refl, refl, refl, refl), (inl refl, tt)))) refl
+  facts verb.Lint = known (record { met = refl; leads = refl; label = refl; no_help = refl }) (refl, refl, tt) tt (refl, refl, (refl, refl, tt)) (inl refl, (inr (Csv, refl, refl, refl, refl), (inr (Json, refl, refl, refl, refl), (inl refl, tt)))) refl
+  facts verb.Diff = known (record { met = refl; leads = refl; label = refl; no_help = refl }) (refl, refl, (refl, refl, tt)) tt (refl, refl, (refl, refl, (refl, refl, tt))) (inl refl, (inl refl, (inr (All, refl, refl, refl, refl), (inr (Csv, refl, refl, refl, refl), (inr (Json, refl, refl, refl, refl), (inl refl, tt)))))) refl
   facts verb.Draw = known (record { met = refl; leads = refl; label = refl; no_help = refl }) (refl, refl, tt) tt (refl, refl, (refl, refl, (refl, refl, (refl, refl, tt)))) (inl refl, (inl refl, (inl refl, (inl refl, (inr (Html, refl, refl, refl, refl), (inl refl, tt)))))) refl
   facts verb.Replay = known (record { met = refl; leads = refl; label = refl; no_help = refl }) (refl, refl, (refl, refl, tt)) (refl, refl) tt (inl refl, (inl refl, (inl refl, (inl refl, tt)))) refl
-  facts verb.Simulate = known (record { met = refl; leads = refl; label = refl; no_help = refl }) (refl, refl, (refl, refl, tt)) tt (refl, refl, (refl, refl, (refl, refl, tt))) (inl refl, (inl refl, (inl refl, (inr (Summary, refl, refl, refl, refl), (inr (Csv, refl, refl, refl, refl), (inl refl, tt)))))) refl
+  facts verb.Simulate = known (record { met = refl; leads = refl; label = refl; no_help = refl }) (refl, refl, (refl, refl, tt)) tt (refl, refl, (refl, refl, (refl, refl, (refl, refl, tt)))) (inl refl, (inl refl, (inl refl, (inr (Summary, refl, refl, refl, refl), (inr (Csv, refl, refl, refl, refl), (inr (Json, refl, refl, refl, refl), (inl refl, tt))))))) refl
   facts verb.Live = known (record { met = refl; leads = refl; label = refl; no_help = refl }) (refl, refl, (refl, refl, (refl, refl, tt))) (refl, refl) tt (inl refl, (inl refl, (inl refl, (inl refl, (inl refl, tt))))) refl

@@ -1,4 +1,4 @@
--- What words that name a command come to, by what the words after the name come to.
+-- The outcome of words that name a command, by that of the words after the name.
 use Rattle.std.proofs.Common.{◌≡◌, ◌∙◌, ap, ap₂, refl, codes, subst, sym, true, false, List, [], ◌∷◌, fold}
 use Rattle.std.specs.Prelude.{Option, Some, None, Bool, ◌&&◌, ◌||◌, find, is_some, not, option_map}
 use Rattle.std.specs.List.{list_all}
@@ -130,7 +130,7 @@ row_of_words id words = record { id = id; values = words; count = None; source =
 abbrev pub row : Text → Text → Row
 row id word = row_of_words id (word ∷ [])
 
--- what stands at the end of the words passes
+-- what is held at the end of the words passes
 unfoldable pub ends_well : Shape → Walk → Bool
 ends_well s w = settle_passes s.rules s.args_override_self w.held && (list_all default_passes s.rules && is_valid s (finished s.rules w.held) false)
 

@@ -1,4 +1,4 @@
--- A number in decimal digits, as a word of the command line.
+-- A number in decimal digits, as an argument.
 use Rattle.std.proofs.Common.{◌≡◌, ◌∙◌, ◌≤◌, ◌<◌, ◌^◌, ℕ, List, [], ◌∷◌, true, ap, refl, sym, subst, arith}
 use Rattle.std.specs.Prelude.{Option, Some, None, IfSome, option_map}
 use Rattle.std.specs.Char.{digit_value}
@@ -31,7 +31,7 @@ no_plus n small = digits_have_no_plus (decimal n) (decimal_is_IsNumeral n small)
 pub decimal_value : (n : ℕ) → n < 2 ^ 64 → digits_value 10 (without_leading_plus (decimal n)) ≡ n
 decimal_value n small = ap (digits_value 10) (no_plus n small) ∙ (decimal_is_IsNumeral n small).1
 
--- and passes where that lies in the range
+-- and passes if that lies in the range
 pub decimal_passes : (low high n : ℕ) → low ≤ n → n ≤ high → n < 2 ^ 64 → is_unsigned_in low high (decimal n) ≡ true
 decimal_passes low high n above below small =
     let value = decimal_value n small in

@@ -38,7 +38,7 @@ none_counted_once old new same =
     let count : new.count ≡ old.count = ap (λ (calls : FailedCalls). calls.count) same in
     omega (arith, count)
 
--- no call failed where none is counted
+-- no call failed if the count is the same
 pub none_has_failed : (closed : Bool) (old new : FailedCalls) → new ≡ old → HasFailedBy closed old new → ⊥
 none_has_failed closed old new same failed =
     let count : new.count ≡ old.count = ap (λ (calls : FailedCalls). calls.count) same in

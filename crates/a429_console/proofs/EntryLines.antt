@@ -5,7 +5,7 @@ use Rattle.a429_console.specs.CutText.{cut}
 use Rattle.a429_console.specs.Lines.{entries_after, entries_before, entries_from, entry_then, first_entry}
 use Rattle.a429_console.proofs.CutLines.{lines_by, lines-cut}
 
--- what the first entry of a text tells of all
+-- what the first entry of a text says of all
 abbrev pub after_first : {A : Type 0} → (List ℕ → Option A) → ℕ → Option (A × List ℕ) → Result (List A) ℕ
 after_first states n None = Err (n + 1)
 after_first states n (Some p) = entries_before (p.0 ∷ []) (entries_after states (n + 1) p.1)

@@ -5,7 +5,7 @@ use Rattle.std.proofs.lemmas.Bool.{and_parts}
 use Rattle.std.proofs.lemmas.Option.{same_Some}
 use Rattle.std.proofs.lemmas.Slice.Eq.{bytes_eq-Decides}
 use Rattle.std.specs.Str.{bytes_eq}
-use Rattle.std.specs.Str.Parse.{ParsesUnsigned, digits_value, without_leading_plus}
+use Rattle.std.specs.Str.Parse.{ParsesBool, ParsesUnsigned, digits_value, without_leading_plus}
 use Rattle.clap.specs.ValueTests.{is_unsigned_in}
 use Rattle.clap.specs.Words.{App, ReadsOne, Rule, Text, app_of, new_app, with_rule}
 use Rattle.clap.specs.declared.builder.value_parser.ValueParser.TheVariants as reads
@@ -13,9 +13,10 @@ use Rattle.clap.specs.declared.builder.command.Command.{Command}
 use Rattle.clap.specs.declared.builder.command.Command.TheViews.{out-Command}
 use Rattle.clap.proofs.ValueTestLemmas.{accepts-Accepts}
 use Rattle.a429_console.specs.CommandLine.{CommandRow, many_rule, number_rule, required_rule, row_app, with_any}
-use Rattle.a429_console.specs.RequestRows.{flag_given, number_of}
+use Rattle.a429_console.specs.RequestRows.{is_set, number_of}
 use Rattle.a429_console.specs.Requests.{AskedBytes, OptionBytes}
 use Rattle.a429_console.specs.declared.arguments.forms.Verb.{Verb}
+use Rattle.a429_text.specs.declared.sheets.SheetForm.{SheetForm}
 use Rattle.std.specs.Borrow.{Bor}
 
 was_not : (b : Bool) → not b ≡ true → b ≡ false
@@ -43,24 +44,22 @@ row_is_plain row =
     rules_keep_plain row.options (with_any many_rule three row.more)
     ∙ (any_keeps_plain many_rule three row.more ∙ (any_keeps_plain number_rule two row.number ∙ any_keeps_plain required_rule one row.second))
 
--- what `get_flag` says of the value of an option
-pub record IsFlag (text : Option Text) (flag : Bool) : Type 0 where
-  pub at_none : text ≡ None → flag ≡ false
-  pub at_true : text ≡ Some (codes "true") → flag ≡ true
-  pub at_false : text ≡ Some (codes "false") → flag ≡ false
+-- a text that is read as true or false sets an option if and only if it is that of true
+set_by : (E : Type 0) (t : Text) (read : Option Bool) → ReadsOne {E = E} ParsesBool t read → unwrap_or read false ≡ bytes_eq t (codes "true")
+set_by E t (Some true) gives = rw gives refl
+set_by E t (Some false) gives = rw gives refl
+set_by E t None (e, (other, _)) = go (bytes_eq t (codes "true")) refl
+  where
+    go : (b : Bool) → bytes_eq t (codes "true") ≡ b → false ≡ b
+    go true same = absurd (other ((bytes_eq-Decides t (codes "true")).0 same))
+    go false same = refl
 
-flag_by : (flag set unset b : Bool) → (set ≡ true → flag ≡ true) → (unset ≡ true → flag ≡ false) → (if set then Some true else (if unset then Some false else None)) ≡ Some b → flag ≡ b
-flag_by flag true unset b is_true is_false given = is_true refl ∙ same_Some true b given
-flag_by flag false true b is_true is_false given = is_false refl ∙ same_Some false b given
-flag_by flag false false b is_true is_false given = absurd (cc given)
+-- what is read of the text of an option without a value says whether it is set
+pub set_is : (E : Type 0) (text : Option Text) (read : Option Bool) → (text ≡ None → read ≡ None) → ((t : Text) → text ≡ Some t → ReadsOne {E = E} ParsesBool t read) → unwrap_or read false ≡ is_set text
+set_is E None read none value = ap (λ (r : Option Bool). unwrap_or r false) (none refl)
+set_is E (Some t) read none value = set_by E t read (value t refl)
 
-pub flag_is : (text : Option Text) (flag b : Bool) → IsFlag text flag → flag_given text ≡ Some b → flag ≡ b
-flag_is None flag b said given = said.at_none refl ∙ same_Some false b given
-flag_is (Some text) flag b said given =
-    flag_by flag (bytes_eq text (codes "true")) (bytes_eq text (codes "false")) b (λ e. said.at_true (ap Some ((bytes_eq-Decides text (codes "true")).0 e)))
-    (λ e. said.at_false (ap Some ((bytes_eq-Decides text (codes "false")).0 e))) given
-
--- a text is read as a number of so many bits
+-- a text is read as a number of this width in bits
 module _ {E : Type 0} (bits : ℕ) (gives : Text → Result ℕ E → Type 0) (parses : (t : Text) (r : Result ℕ E) → gives t r → ParsesUnsigned bits 10 t r) (least most : ℕ) (small : most < 2 ^ bits) where
   one_read : (t : Text) (b : Bool) (read number : Option ℕ) → is_unsigned_in least most t ≡ b → ReadsOne gives t read
       → (if b then Some (Some (digits_value 10 (without_leading_plus t))) else None) ≡ Some number → read ≡ number
@@ -84,9 +83,10 @@ name_is None default text is = absurd (cc is)
 name_is (Some t) default text is = same_Some t.now text is
 
 -- what is given of the options is read as it
-pub options_are : (o : OptionBytes) (csv html summary : Bool) (group : Option Text) (slots width until : Option ℕ) → csv ≡ o.csv → group ≡ o.group → slots ≡ o.slots → width ≡ o.width → html ≡ o.html
-    → until ≡ o.until → summary ≡ o.summary → record { csv = csv; group = group; slots = slots; width = width; html = html; until = until; summary = summary } ≡ o
-options_are o csv html summary group slots width until a b c d e f g = rw (a, b, c, d, e, f, g) refl
+pub options_are : (o : OptionBytes) (f : SheetForm) (all html summary : Bool) (group : Option Text) (slots width until : Option ℕ) → f ≡ o.form → all ≡ o.all → group ≡ o.group → slots ≡ o.slots
+    → width ≡ o.width → html ≡ o.html → until ≡ o.until → summary ≡ o.summary
+    → record { form = f; all = all; group = group; slots = slots; width = width; html = html; until = until; summary = summary } ≡ o
+options_are o f all html summary group slots width until a b c d e g h i = rw (a, b, c, d, e, g, h, i) refl
 
 -- and so is all that is asked for
 pub asked_is : (r : AskedBytes) (v : Verb) (first second : Text) (number : ℕ) (more : List Text) (options : OptionBytes) → v ≡ r.verb → first ≡ r.first → second ≡ r.second → number ≡ r.number → more ≡ r.more

@@ -12,14 +12,14 @@ use Rattle.clap.specs.declared.builder.value_parser.Reading.TheVariants.{AsWritt
 use Rattle.clap.specs.declared.parser.matches.ValueSource.TheVariants.{DefaultValue}
 use Rattle.a429_console.specs.CommandLine.{OptionName}
 use Rattle.a429_console.specs.Requests.{OptionBytes, has_option, is_flag, word_given}
-use Rattle.a429_console.specs.RequestRows.{flag_given}
+use Rattle.a429_console.specs.RequestRows.{is_set}
 use Rattle.a429_console.proofs.CommandWords.{row}
 use Rattle.a429_console.proofs.OptionWords.{id_of, rows_of_options, rows_of_word, same_option}
 use Rattle.a429_console.proofs.UsedRows.{Within, all_new, at_missing, found_before, found_behind, found_behind_none, has_id, is_new, missing_in_both, none_found, rest_is_new, row_at, same_text, within_more}
 
 -- ---- default values
 
--- a flag has the value `false` where it is not given, and nothing else has a value then
+-- a flag has the value `false` if it is not given, and nothing else has a value then
 abbrev pub HasPlainDefault : Rule → Type 0
 HasPlainDefault a = (a.defaults ≡ []) ⊎ ((name : OptionName) × (is_flag name ≡ true) × (a.id ≡ id_of name) × (a.defaults ≡ codes "false" ∷ []) × (reading_by a ≡ AsWritten))
 
@@ -62,10 +62,10 @@ still_missing id (a ∷ rules) rows other (is, all) none = still_missing id rule
 
 -- and a flag that is not given is read as that
 abbrev read_unset : Option Row → Type 0
-read_unset found = flag_given (option_and_then row_text found) ≡ Some false
+read_unset found = is_set (option_and_then row_text found) ≡ false
 
 abbrev unset : Text → List Row → Type 0
-unset id rows = flag_given (one_of id rows) ≡ Some false
+unset id rows = is_set (one_of id rows) ≡ false
 
 still_unset : (id : Text) (rules : List Rule) (rows : List Row) → AllByRecursion HasPlainDefault rules → unset id rows → unset id (with_defaults rows rules)
 still_unset id [] rows all not_set = not_set
@@ -87,7 +87,7 @@ still_unset id (a ∷ rules) rows (is, all) not_set = still_unset id rules (with
     next (inl same) = rw same not_set
     next (inr more) = rw more (behind (row_at id rows) refl)
 
-pub flag_unset : (id : Text) (rules : List Rule) (rows : List Row) → AllByRecursion HasPlainDefault rules → has_row id rows ≡ false → flag_given (one_of id (with_defaults rows rules)) ≡ Some false
+pub flag_unset : (id : Text) (rules : List Rule) (rows : List Row) → AllByRecursion HasPlainDefault rules → has_row id rows ≡ false → is_set (one_of id (with_defaults rows rules)) ≡ false
 flag_unset id rules rows all none = still_unset id rules rows all (rw (none_found id rows none) refl)
 
 -- ---- options

@@ -13,7 +13,7 @@ pub none-left : (n : ℕ) → nibbles 0 n ≡ []
 unfolding nibbles
 none-left n = refl
 
--- the digits that are left, and behind them the two of the lowest byte
+-- the digits that are left, and after them the two of the lowest byte
 pub two-more : (k n : ℕ) (written : List ℕ) → nibbles k (n / 256) ++ nibble (n % 256 / 16) ∷ nibble (n % 256 % 16) ∷ written ≡ nibbles (suc (suc k)) n ++ written
 two-more k n written =
     let left : n / 256 ≡ n / 16 / 16 = omega arith in
@@ -27,7 +27,7 @@ two-more k n written =
 
 -- ---- the table
 
--- the first so many bytes have their digits in the table
+-- each byte below this number has its digits in the table
 are_digits : ℕ → Bool
 are_digits zero = true
 are_digits (suc b) = (eqb (get_or DIGITS (b * 2) 0) (nibble (b / 16)) && eqb (get_or DIGITS (b * 2 + 1) 0) (nibble (b % 16))) && are_digits b

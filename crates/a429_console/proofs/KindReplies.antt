@@ -30,7 +30,7 @@ usage_of_kind old new DisplayVersion status bytes none reply = cc
 usage_of_kind old new OutOfMemory status bytes none reply = inr reply
 usage_of_kind old new _ status bytes none reply = reply
 
--- of words that ask for help
+-- of a call for help
 pub help_replied : (ks : Kinds) (e : Error) (old new : FailedCalls) → HasKind ks e → list_all is_help ks ≡ true → (status : ℕ) (bytes : List ℕ) → IsReplyOfKind old new (kind_of e) status bytes → OrNoMemory IsHelpReply status bytes
 help_replied ks e old new (inl memory) all status bytes reply = inr (subst (λ (k : ErrorKind). IsReplyOfKind old new k status bytes) memory reply)
 help_replied ks e old new (inr among) all status bytes reply = help_of_kind old new (kind_of e) status bytes (among_all (kind_of e) ks among all) reply
@@ -47,7 +47,7 @@ mistake_is_told old new status bytes (inl (empty, inl told)) = let two : status 
 mistake_is_told old new status bytes (inl (empty, inr untold)) = let one : status ≡ 1 = untold.0 in λ none. absurd (omega arith)
 mistake_is_told old new status bytes (inr memory) = let one : status ≡ 1 = memory.0 in λ none. absurd (omega arith)
 
--- what holds of a mistake, unless another holds
+-- a fact about a mistake, unless another fact holds
 pub no_request_or : {A B : Type 0} (ks : Kinds) (e : Error) → HasKind ks e → A ⊎ ((kind_of e ≢ OutOfMemory) × B) → A ⊎ ((ks ≢ []) × B)
 no_request_or ks e kind (inl a) = inl a
 no_request_or ks e (inl memory) (inr (other, b)) = absurd (other memory)

@@ -1,4 +1,4 @@
--- The words of a command's options, by the rules of the options.
+-- The arguments that are options of a command, by the rules of the options.
 use Rattle.std.proofs.Common.{◌≡◌, refl, codes, subst, sym, true, false, List, [], ◌∷◌, ◌++◌, append-nil, append_assoc, map}
 use Rattle.std.specs.Prelude.{ℕ, Option, Some, None, Bool, IfSome, ⊤}
 use Rattle.std.specs.Str.{bytes_eq}
@@ -8,8 +8,8 @@ use Rattle.clap.specs.Simple.{filled}
 use Rattle.clap.specs.Takes.{value_passes}
 use Rattle.clap.specs.Walk.{Held, Waiting, arg_by_id, arg_by_long, has_row, idle}
 use Rattle.clap.proofs.OnLiterals.{clap_on_literals}
-use Rattle.a429_console.specs.CommandLine.{Csv, Group, Html, OptionName, Slots, Summary, Until, Width, option_rule}
-use Rattle.a429_console.specs.Requests.{OptionBytes, flag_word, is_flag, option_words, word_given, words_of_options}
+use Rattle.a429_console.specs.CommandLine.{All, Csv, Group, Html, Json, OptionName, Slots, Summary, Until, Width, option_rule}
+use Rattle.a429_console.specs.Requests.{OptionBytes, flag_word, is_csv, is_flag, is_json, option_words, word_given, words_of_options}
 use Rattle.a429_console.proofs.CommandWords.{row}
 use Rattle.a429_console.proofs.PlainWords.{IsPlainWord, TakesValues, at_word, for_none}
 use Rattle.a429_console.proofs.SettledWords.{IsOption, IsSingle, IsSwitch, Reads, Settles, all_settles, held_all, held_with, option_read, reads_none, switch_read, value_settles}
@@ -27,6 +27,8 @@ built_option name = filled (option_rule name)
 is_option : (name : OptionName) → IsOption (built_option name)
 unfolding clap_on_literals
 is_option Csv = record { no_end = refl; long = refl }
+is_option Json = record { no_end = refl; long = refl }
+is_option All = record { no_end = refl; long = refl }
 is_option Group = record { no_end = refl; long = refl }
 is_option Slots = record { no_end = refl; long = refl }
 is_option Width = record { no_end = refl; long = refl }
@@ -42,6 +44,8 @@ KindOf a false = IsSingle a
 kind_of_option : (name : OptionName) → KindOf (built_option name) (is_flag name)
 unfolding clap_on_literals
 kind_of_option Csv = record { range = refl; action = refl; reading = refl; missing = refl; passes = refl }
+kind_of_option Json = record { range = refl; action = refl; reading = refl; missing = refl; passes = refl }
+kind_of_option All = record { range = refl; action = refl; reading = refl; missing = refl; passes = refl }
 kind_of_option Html = record { range = refl; action = refl; reading = refl; missing = refl; passes = refl }
 kind_of_option Summary = record { range = refl; action = refl; reading = refl; missing = refl; passes = refl }
 kind_of_option _ = record { range = refl; action = refl; reading = refl; trailing = refl }
@@ -49,6 +53,8 @@ kind_of_option _ = record { range = refl; action = refl; reading = refl; trailin
 -- no two have one name
 pub same_option : (a b : OptionName) → bytes_eq (id_of a) (id_of b) ≡ true → a ≡ b
 same_option Csv Csv is = refl
+same_option Json Json is = refl
+same_option All All is = refl
 same_option Group Group is = refl
 same_option Slots Slots is = refl
 same_option Width Width is = refl
@@ -62,7 +68,9 @@ flag_text true word given = sym (same_Some (codes "true") word given)
 flag_text false word given = absurd (cc given)
 
 flag_is_true : (name : OptionName) (o : OptionBytes) (word : Text) → is_flag name ≡ true → word_given o name ≡ Some word → word ≡ codes "true"
-flag_is_true Csv o word flag given = flag_text o.csv word given
+flag_is_true Csv o word flag given = flag_text (is_csv o.form) word given
+flag_is_true Json o word flag given = flag_text (is_json o.form) word given
+flag_is_true All o word flag given = flag_text o.all word given
 flag_is_true Html o word flag given = flag_text o.html word given
 flag_is_true Summary o word flag given = flag_text o.summary word given
 flag_is_true _ o word flag given = absurd (cc flag)

@@ -20,7 +20,7 @@ name_is_plain (x ∷ xs) a =
     let e : nat_eq x 45 ≡ false = ne_eqb x 45 a in
     record { no_end = rw e refl; no_long = rw e refl; no_short = rw e refl }
 
--- before the next word of a command, which has no subcommands
+-- before the next argument of a command, which has no subcommands
 abbrev pub at_word : Held → Waiting → ℕ → Walk
 at_word h waiting position = record { held = h; waiting = waiting; position = position; is_trailing = false; stopped = None }
 

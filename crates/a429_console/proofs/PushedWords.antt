@@ -1,4 +1,4 @@
--- A word that is read behind others.
+-- A word that is read after others.
 use Rattle.std.proofs.Common.{◌++◌, ◌∷◌, ◌+◌, [], ℕ, List, length, arith, subst}
 use Rattle.a429_console.specs.GivenWords.{AreFrom}
 

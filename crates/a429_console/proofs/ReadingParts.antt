@@ -28,7 +28,7 @@ pub read_weaker : {S : Type 0} {A : S → List ℕ → Result (List ℕ) FileFau
     → HasRead A P s t → ((file : List ℕ → Option (List ℕ)) → P file → Q file) → HasRead A Q s t
 read_weaker h more = record { readings = h.readings; answered = h.answered; says = λ file by. more file (h.says file by) }
 
--- calls behind others
+-- calls after others
 pub read_then : {S : Type 0} {A : S → List ℕ → Result (List ℕ) FileFault → S → Type 0} {P Q R : (List ℕ → Option (List ℕ)) → Type 0} {s t u : S}
     → HasRead A P s t → HasRead A Q t u → ((file : List ℕ → Option (List ℕ)) → P file → Q file → R file) → HasRead A R s u
 read_then {A = A} {s = s} {t = t} {u = u} h k both = record {
@@ -42,7 +42,7 @@ by_same files file name (Ok bytes) same is = sym same ∙ is
 by_same files file name (Err fault.Refused) same is = sym same ∙ is
 by_same files file name (Err fault.NoMemory) same is = tt
 
--- what a reader that tells its files answers to calls is of these files
+-- what a reader whose files are known answers to calls is of these files
 known-answers : {S : Type 0} (A : S → List ℕ → Result (List ℕ) FileFault → S → Type 0) (tells : S → Bool) (file : S → List ℕ → Option (List ℕ))
     → ((s t : S) (name : List ℕ) (answer : Result (List ℕ) FileFault) → IsTrue (tells s) → A s name answer t
     → IsAnswerOf (file s) name answer × ((other : List ℕ) → file t other ≡ file s other) × IsTrue (tells t))

@@ -1,4 +1,4 @@
--- How a command ends where it is refused.
+-- How a command ends if it is refused.
 use Rattle.std.proofs.Common.{◌≡◌, ◌++◌, ◌∷◌, [], ℕ, List, sym, subst}
 use Rattle.std.specs.Prelude.{Option, Result, Ok, Err, IfOk, OnOk}
 use Rattle.a429_console.specs.Outputs.{IsPut}

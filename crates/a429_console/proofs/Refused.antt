@@ -26,7 +26,7 @@ or_memory_weaker P Q refused.Sink more p = more p
 or_memory_weaker P Q refused.TooMuch more p = more p
 or_memory_weaker P Q refused.Memory more p = tt
 
--- what is told stands where the refusal does, or for want of memory
+-- what is printed of a refusal is allowed if the refusal is, even if it is that an allocation failed
 pub told_or_memory : (P : CommandRefusal → Type 0) (r told : CommandRefusal) → IsToldOf r told → OrMemory P r → OrMemory P told
 told_or_memory P r told (inl is) why = subst (OrMemory P) (sym is) why
 told_or_memory P r told (inr is) why = subst (OrMemory P) (sym is) tt

@@ -15,7 +15,7 @@ use Rattle.a429_console.proofs.CommandWords.{Walks, goes_on, row, row_of_words, 
 use Rattle.a429_console.proofs.PlainWords.{IsPlainWord, TakesValues, at_word, for_more, for_none, name_is_plain, turn_of_value, turn_of_word, walked_value, walked_word}
 use Rattle.a429_console.proofs.UsedRows.{and_false, at_last, at_missing, same_text}
 
--- what is held passes, and comes to these rows
+-- all that is held passes, and gives these rows
 pub record Settles (s : Shape) (h : Held) (rows : List Row) : Type 0 where
   pub passes : settle_passes s.rules s.args_override_self h ≡ true
   pub comes : settled s.rules h ≡ record { rows = rows; pending = None; skip = 0 }
@@ -82,7 +82,7 @@ rows_of_many id (word ∷ words) = row_of_words id (word ∷ words) ∷ []
 module _ (s : Shape) where
   -- ---- an argument with one value
 
-  -- the values of a first use stand at the end
+  -- the values of a first use are at the end
   first_use : (id : Text) (rows : List Row) (words : List Text) → has_row id rows ≡ false → with_values id AsWritten CommandLine words (without id rows) ≡ rows ++ row_of_words id words ∷ []
   first_use id rows words none =
       ap (with_values id AsWritten CommandLine words) (at_missing id (λ _. []) [] rows none ∙ append-nil rows)
@@ -98,13 +98,13 @@ module _ (s : Shape) where
   several_false : (a : Rule) (b : Bool) → a.range ≡ Some (record { start_inclusive = 1; end_inclusive = 1 }) → (b && takes_several a) ≡ false
   several_false a b range = rw range (and_false b)
 
-  -- the word of a positional waits, and all before it stands
+  -- the word of a positional waits, and all before it is settled
   placed : (a : Rule) (word : Text) (h : Held) (rows : List Row) → a.range ≡ Some (record { start_inclusive = 1; end_inclusive = 1 }) → Settles s h rows
       → positional_held s.rules a word h ≡ held_with rows a.id (word ∷ [])
   placed a word h rows range settles =
       ap (λ (b : Bool). pushed a.id word (if b then h else settled s.rules h)) (several_false a (is_pending a h.pending) range) ∙ ap (pushed a.id word) settles.comes
 
-  -- where the walk stands after the word of a positional
+  -- the walk after the word of a positional
   abbrev stands : Held → Bool → Bool → ℕ → Walk
   stands h many trailing position = record {
     held = h;

@@ -25,14 +25,14 @@ has_id ids id = list_any (λ x. bytes_eq x id) ids
 
 -- ---- an id that no row has
 
--- a row that is missing stands at the end
+-- a row that is missing is added at the end
 pub at_missing : (id : Text) (change : Row → List Row) (missing rows : List Row) → has_row id rows ≡ false → at_row id change missing rows ≡ rows ++ missing
 at_missing id change missing [] none = refl
 at_missing id change missing (r ∷ rows) none =
     let parts = or_parts (bytes_eq r.id id) (has_row id rows) none in
     rw parts.0 (ap (λ (rs : List Row). r ∷ rs) (at_missing id change missing rows parts.1))
 
--- the last row is changed where no row before it has its id
+-- the last row is changed if no row before it has its id
 pub at_last : (id : Text) (change : Row → List Row) (missing rows : List Row) (r : Row) → has_row id rows ≡ false → bytes_eq r.id id ≡ true
     → at_row id change missing (rows ++ r ∷ []) ≡ rows ++ change r
 at_last id change missing [] r none is = rw is (append-nil (change r))

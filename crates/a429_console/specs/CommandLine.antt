@@ -49,6 +49,8 @@ last_time = 99999999999999
 
 pub data OptionName : Type 0 where
   Csv : OptionName
+  Json : OptionName
+  All : OptionName
   Group : OptionName
   Slots : OptionName
   Width : OptionName
@@ -58,6 +60,8 @@ pub data OptionName : Type 0 where
 
 abbrev pub option_rule : OptionName → Rule
 option_rule Csv = flag_rule (codes "csv")
+option_rule Json = flag_rule (codes "json")
+option_rule All = flag_rule (codes "all")
 option_rule Group = value_rule (codes "group")
 option_rule Slots = number_value_rule (codes "slots") 1 most_slots
 option_rule Width = value_rule (codes "width")
@@ -69,9 +73,12 @@ option_rule Summary = flag_rule (codes "summary")
 
 -- the options of a command, in the order in which help lists them
 abbrev pub options_of : Verb → List OptionName
-options_of verb.Icd = Csv ∷ []
+options_of verb.Icd = Csv ∷ Json ∷ []
+options_of verb.Margin = Csv ∷ Json ∷ []
+options_of verb.Lint = Csv ∷ Json ∷ []
+options_of verb.Diff = All ∷ Csv ∷ Json ∷ []
 options_of verb.Draw = Group ∷ Slots ∷ Width ∷ Html ∷ []
-options_of verb.Simulate = Until ∷ Summary ∷ Csv ∷ []
+options_of verb.Simulate = Until ∷ Summary ∷ Csv ∷ Json ∷ []
 options_of _ = []
 
 -- what a command is given: a name or two, perhaps a number up to the most, perhaps as many names as one likes, and options
@@ -83,7 +90,7 @@ pub record CommandRow : Type 0 where
   pub more : Option Text
   pub options : List Rule
 
--- a command of this name that is given one name beside its options
+-- a command of this name that is given one name and its options
 abbrev pub with_one : Verb → Text → Text → CommandRow
 with_one v name first = record { name = name; first = first; second = None; number = None; more = None; options = map option_rule (options_of v) }
 
@@ -120,7 +127,7 @@ abbrev pub with_any : {A : Type 0} → (A → Rule) → App → Option A → App
 with_any rule app None = app
 with_any rule app (Some x) = with_rule app (rule x)
 
--- what is given beside options
+-- what is given apart from options
 abbrev pub with_names : App → CommandRow → App
 with_names app row = with_any many_rule (with_any number_rule (with_any required_rule (with_rule app (required_rule row.first)) row.second) row.number) row.more
 

@@ -1,5 +1,5 @@
--- How a call ends: what became of the output and of the one beside it, and the status (profile: output).
-use Rattle.std.specs.Prelude.{◌≡◌, ◌≢◌, ◌≤◌, ◌+◌, [], ◌⊎◌, ℕ, List, Bool, true, false, Option, IsTrue, Result, IfOk, OnErr}
+-- How a call ends: what became of the output and of the other one, and the status (profile: output).
+use Rattle.std.specs.Prelude.{◌≡◌, ◌≢◌, ◌≤◌, ◌+◌, [], ◌⊎◌, ℕ, List, Bool, true, false, Option, IsTrue, Result, IfOk, OnErr, OnOk}
 use Rattle.std.specs.Io.KnownBytes.{Appends}
 use Rattle.clap.specs.Words.{Kinds}
 use Rattle.a429_console.specs.Outputs.{CountsFault, FailedCalls, HasFailed, HasFailedBy, IsMemoryReply, IsPut, NoneFailed, OrNoMemory, failed_line}
@@ -38,22 +38,22 @@ IsPassedOn w = IsTrue (w.is_flushed w.new)
 abbrev pub FailsOnce : {X : Type 0} → Writing X → Type 0
 FailsOnce w = (w.failures w.new).count ≤ (w.failures w.old).count + 1
 
--- bytes were put to it that Says tells of the status
+-- bytes were put to it, which Says allows with the status
 abbrev pub IsPutTo : {X : Type 0} → (ℕ → List ℕ → Type 0) → Writing X → ℕ → Type 0
 IsPutTo Says w status = IsPut Says (w.contents w.old) (w.contents w.new) status
 
--- a mistake was told, and nothing was put
+-- a mistake was reported, and nothing was put
 abbrev pub IsMistakeTold : {X Y : Type 0} → Writing X → Writing Y → ℕ → Type 0
 IsMistakeTold out err status = IsPutTo (IsUsageReply (err.failures err.old) (err.failures err.new)) out status
 
--- how a failure of the output is told on the other one
+-- how a failure of the output is reported on the other one
 pub record TellsFailure {X Y : Type 0} (out : Writing X) (err : Writing Y) : Type 0 where
   -- one line says it
   pub announced : HasFailedBy false (out.failures out.old) (out.failures out.new) → IsWhole err → Appends (err.contents err.old) (err.contents err.new) failed_line
   -- nothing is written if the reader of the output has closed it
   pub hushed : HasFailedBy true (out.failures out.old) (out.failures out.new) → IsLeft err
 
--- memory was refused before anything was put
+-- an allocation failed before anything was put
 pub record IsMemoryRefused {X Y : Type 0} (out : Writing X) (err : Writing Y) (status : ℕ) : Type 0 where
   -- the status is 1
   pub status_is : status ≡ 1
@@ -61,21 +61,19 @@ pub record IsMemoryRefused {X Y : Type 0} (out : Writing X) (err : Writing Y) (s
   pub put : IsWhole out → IsPutTo IsMemoryReply out status
   -- the line was passed on
   pub told : IsWhole out → IsPassedOn out
-  -- a failure of the output is told on the other one
+  -- a failure of the output is reported on the other one
   pub failure : TellsFailure out err
 
--- how a command ends on words that come to one of these kinds, or ask for something where there is none
+-- how a command ends on words of one of these kinds. Without a kind the words ask for something.
 pub record EndsBy {X Y : Type 0} (kinds : Kinds) (out : Writing X) (err : Writing Y) (status : ℕ) : Type 0 where
   -- the status is 0, 1 or 2
   pub few : status ≤ 2
-  -- words that ask for help get a text, with status 0, unless memory is refused
+  -- a call for help gets a text, with status 0, unless an allocation fails
   pub helped : AreHelp kinds → IsWhole out → IsPutTo (OrNoMemory IsHelpReply) out status
-  -- of a mistake nothing is put, with status 2, or 1 if a call of the other output failed, unless memory is refused
+  -- of a mistake nothing is put, with status 2, or 1 if a call of the other output failed, unless an allocation fails
   pub mistaken : AreMistakes kinds → IsWhole out → IsPutTo (OrNoMemory (IsUsageReply (err.failures err.old) (err.failures err.new))) out status
   -- after a mistake the status is not 0
   pub usage : AreMistakes kinds → status ≢ 0
-  -- with status 2 the words ask for no command of this call
-  pub unasked : status ≡ 2 → kinds ≢ []
   -- if a call of the output failed, the status is 1
   pub failed : (status ≡ 1) ⊎ (out.failures out.new ≡ out.failures out.old)
   -- so it is of the other output, unless the words ask for a command: a hint that cannot be written changes no status
@@ -84,32 +82,34 @@ pub record EndsBy {X Y : Type 0} (kinds : Kinds) (out : Writing X) (err : Writin
   pub once : FailsOnce out
   -- at most one call of the other output failed
   pub once_told : FailsOnce err
-  -- a failure of the output is told on the other one
+  -- a failure of the output is reported on the other one
   pub failure : TellsFailure out err
   -- with status 0 nothing is written to the other output, unless the words ask for a command: see its clause `quiet`
   pub quiet : kinds ≢ [] → status ≡ 0 → IsLeft err
-  -- with status 2 nothing is put
-  pub silent : status ≡ 2 → IsLeft out
-  -- with status 2 the text of the mistake was passed on
-  pub warned : status ≡ 2 → IsPassedOn err
+  -- with status 2 nothing is put, unless the words ask for a command
+  pub silent : kinds ≢ [] → status ≡ 2 → IsLeft out
+  -- and the text of the mistake was passed on
+  pub warned : kinds ≢ [] → status ≡ 2 → IsPassedOn err
+  -- if the words ask for a command, all that was put was passed on, unless a call of the output failed
+  pub passed : kinds ≡ [] → IsWhole out → IsPassedOn out
   -- with status 0 all that was put was passed on
   pub flushed : status ≡ 0 → IsPassedOn out
   -- with status 1 a refusal was passed on, unless a call failed: of the output, or of the other one, which was to get the text of a mistake
   pub told : status ≡ 1 → IsWhole out → IsPassedOn out ⊎ ((kinds ≢ []) × IsFailed err)
 
--- the same of a call that stops at a failure of the output, which is yet to be told
+-- the same of a call that stops at a failure of the output, which is reported later
 pub record EndsOrFails {X Y : Type 0} (kinds : Kinds) (out : Writing X) (err : Writing Y) (result : Result ℕ OutputFault) : Type 0 where
   pub few : IfOk result (λ status. status ≤ 2)
   pub helped : AreHelp kinds → IfOk result (IsPutTo (OrNoMemory IsHelpReply) out)
   pub mistaken : AreMistakes kinds → IfOk result (IsPutTo (OrNoMemory (IsUsageReply (err.failures err.old) (err.failures err.new))) out)
   pub usage : AreMistakes kinds → IfOk result (λ status. status ≢ 0)
-  pub unasked : IfOk result (λ status. status ≡ 2 → kinds ≢ [])
   pub failed_told : kinds ≢ [] → IfOk result (λ status. (status ≡ 1) ⊎ (err.failures err.new ≡ err.failures err.old))
   pub faults : CountsFault result (out.failures out.old) (out.failures out.new)
   pub once_told : FailsOnce err
   pub quiet : kinds ≢ [] → IfOk result (λ status. status ≡ 0 → IsLeft err)
   pub left : OnErr result (IsLeft err)
-  pub silent : IfOk result (λ status. status ≡ 2 → IsLeft out)
-  pub warned : IfOk result (λ status. status ≡ 2 → IsPassedOn err)
+  pub silent : kinds ≢ [] → IfOk result (λ status. status ≡ 2 → IsLeft out)
+  pub warned : kinds ≢ [] → IfOk result (λ status. status ≡ 2 → IsPassedOn err)
+  pub passed : kinds ≡ [] → OnOk result (IsPassedOn out)
   pub flushed : IfOk result (λ status. status ≡ 0 → IsPassedOn out)
   pub told : IfOk result (λ status. status ≡ 1 → IsPassedOn out ⊎ ((kinds ≢ []) × IsFailed err))

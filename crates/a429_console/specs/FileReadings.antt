@@ -18,11 +18,11 @@ readable (Some bytes) = if nat_le (length bytes) 16777216 then Some bytes else N
 abbrev pub AreRead : (List ℕ → Option (List ℕ)) → List (List ℕ) → List (List ℕ) → Type 0
 AreRead file names contents = AllZip (λ name bytes. readable (file name) ≡ Some bytes) names contents
 
--- a character as a refusal tells it: a control character, such as a line feed, as `?`
+-- a character as a refusal prints it; a control character, such as a line feed, is `?`
 abbrev pub printable_char : ℕ → ℕ
 printable_char c = if is_control c then 63 else c
 
--- a name as a refusal tells it, in one line
+-- a name as a refusal prints it, in one line
 unfoldable pub printable_name : List ℕ → List ℕ
 printable_name name = encode_utf8_all (map printable_char (chars name))
 

@@ -7,7 +7,7 @@ abbrev pub AreFrom : (ℕ → List ℕ → Type 0) → ℕ → List (List ℕ) �
 AreFrom gives k [] = ⊤
 AreFrom gives k (word ∷ words) = gives k word × AreFrom gives (k + 1) words
 
--- these are all words that follow the path of the program, which is at place 0: each was answered at its place, and behind the last that there is none
+-- these are all words that follow the path of the program, which is at place 0: each was answered at its place, and after the last that there is none
 abbrev pub AreAllWords : (ℕ → List ℕ → Type 0) → (ℕ → Type 0) → List (List ℕ) → Type 0
 AreAllWords gives ends words = AreFrom gives 1 words × ends (length words + 1)
 

@@ -19,7 +19,7 @@ abbrev pub entry_then : {A : Type 0} → Option A → ℕ → Result (List A) �
 entry_then None n later = Err n
 entry_then (Some e) n later = entries_before (e ∷ []) later
 
--- of lines from number n on, and what stands after the last: the entries, or the number of the first faulty line
+-- of lines from number n on, and the rest after the last: the entries, or the number of the first faulty line
 abbrev pub entries_from : {A : Type 0} → (List ℕ → Option A) → ℕ → List (List ℕ) → List ℕ → Result (List A) ℕ
 entries_from states n [] [] = Ok []
 entries_from states n [] (x ∷ xs) = Err n

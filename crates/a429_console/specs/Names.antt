@@ -18,7 +18,7 @@ naming_of t = record { receivers = map (λ r. r.name) t.receivers; sources = map
 unfoldable pub number_named : List (List ℕ) → List ℕ → Option ℕ
 number_named names name = position (λ own. bytes_eq own name) names
 
--- the name of a number; nothing where there is none
+-- the name of a number; empty if there is no such name
 abbrev pub name_at : List (List ℕ) → ℕ → List ℕ
 name_at names number = unwrap_or (slice_get names number) []
 

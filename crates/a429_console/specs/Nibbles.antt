@@ -5,7 +5,7 @@ use Rattle.std.specs.Prelude.{ℕ, zero, suc, List, [], ◌∷◌, ◌++◌, ◌
 unfoldable pub nibble : ℕ → ℕ
 nibble n = if nat_lt n 10 then 48 + n else 87 + n
 
--- so many digits of a number, the lowest last
+-- this number of digits of a number, the lowest last
 unfoldable pub nibbles : ℕ → ℕ → List ℕ
 nibbles zero n = []
 nibbles (suc k) n = nibbles k (n / 16) ++ nibble (n % 16) ∷ []

@@ -25,7 +25,7 @@ FailureIsCounted fault old new = (new.count ≡ min (old.count + 1) (2 ^ 64 - 1)
 abbrev pub CountsFault : {X : Type 0} → Result X OutputFault → FailedCalls → FailedCalls → Type 0
 CountsFault result old new = MatchResult result (λ _. new ≡ old) (λ fault. FailureIsCounted fault old new)
 
--- no call failed, where the count could still tell it
+-- no call failed: the count is the same, and could still grow
 abbrev pub NoneFailed : FailedCalls → FailedCalls → Type 0
 NoneFailed old new = (old.count < 2 ^ 64 - 1) × (new.count ≡ old.count)
 
@@ -37,11 +37,11 @@ HasFailed old new = (fault : OutputFault) × FailureIsCounted fault old new
 abbrev pub HasFailedBy : Bool → FailedCalls → FailedCalls → Type 0
 HasFailedBy closed old new = (old.count < new.count) × (new.is_closed ≡ closed)
 
--- what the other output is told where an output failed
+-- the line on the other output after an output failed
 abbrev pub failed_line : List ℕ
 failed_line = codes "a429: standard output failed" ++ 10 ∷ []
 
--- bytes were put that Says tells of an x, from what an output had to what it has
+-- bytes were put that Says allows with an x, from what an output had to what it has
 abbrev pub IsPut : {X : Type 0} → (X → List ℕ → Type 0) → Option (List ℕ) → Option (List ℕ) → X → Type 0
 IsPut Says old new x = (bytes : List ℕ) × Says x bytes × Appends old new bytes
 
@@ -49,19 +49,19 @@ IsPut Says old new x = (bytes : List ℕ) × Says x bytes × Appends old new byt
 abbrev pub AppendsPending : Option (List ℕ) → List ℕ → Option (List ℕ) → List ℕ → List ℕ → Type 0
 AppendsPending old kept new left bytes = Appends (append_known old kept) (append_known new left) bytes
 
--- the line that says that memory was refused, without its line feed
+-- the line of a failed allocation, without its line feed
 abbrev pub memory_refused : List ℕ
 memory_refused = codes "refused memory"
 
--- memory was refused before anything was put
+-- an allocation failed before anything was put
 abbrev pub IsMemoryReply : ℕ → List ℕ → Type 0
 IsMemoryReply status bytes = (status ≡ 1) × (bytes ≡ memory_refused ++ 10 ∷ [])
 
--- what Says tells, or that memory was refused before anything was put
+-- what Says allows, or that an allocation failed before anything was put
 abbrev pub OrNoMemory : (ℕ → List ℕ → Type 0) → ℕ → List ℕ → Type 0
 OrNoMemory Says status bytes = Says status bytes ⊎ IsMemoryReply status bytes
 
--- what ends the lines of a command: nothing, or where memory did not suffice for all of them the line that says so
+-- what ends the lines of a command: nothing, or the line `refused memory` if memory did not suffice for all of them
 abbrev pub ending : Bool → List ℕ
 ending true = []
 ending false = memory_refused ++ 10 ∷ []

@@ -18,12 +18,12 @@ abbrev pub answer_of : Result (Vec ℕ Global) FileFault → Result (List ℕ) F
 answer_of (Ok bytes) = Ok bytes.items
 answer_of (Err e) = Err e
 
--- these calls were answered so, one after another, from what the reader was to what it is, where each call is as Answers tells
+-- these calls were answered so, one after another, from what the reader was to what it is; each call is as Answers says
 abbrev pub AreAnswered : {S : Type 0} → (S → List ℕ → Result (List ℕ) FileFault → S → Type 0) → S → List Reading → S → Type 0
 AreAnswered Answers old [] new = new ≡ old
 AreAnswered {S} Answers old (r ∷ rs) new = (next : S) × Answers old r.name r.answer next × AreAnswered Answers next rs new
 
--- it is the answer of these files; where memory was refused it tells nothing of them
+-- it is the answer of these files; if an allocation failed it says nothing of them
 abbrev pub IsAnswerOf : (List ℕ → Option (List ℕ)) → List ℕ → Result (List ℕ) FileFault → Type 0
 IsAnswerOf file name (Ok bytes) = file name ≡ Some bytes
 IsAnswerOf file name (Err fault.Refused) = file name ≡ None
@@ -33,18 +33,18 @@ IsAnswerOf file name (Err fault.NoMemory) = ⊤
 abbrev pub AreAnswersOf : (List ℕ → Option (List ℕ)) → List Reading → Type 0
 AreAnswersOf file readings = AllByRecursion (λ (r : Reading). IsAnswerOf file r.name r.answer) readings
 
--- Files were read by calls of a reader, from what it was to what it is, and Says holds of all files of which these are the answers. Where one name was
--- answered in two ways there are no such files.
+-- Files were read by calls of a reader, from what it was to what it is, and Says is true of all files of which these are the answers. If one name was
+-- answered in two ways, there are no such files.
 pub record HasRead {S : Type 0} (Answers : S → List ℕ → Result (List ℕ) FileFault → S → Type 0) (Says : (List ℕ → Option (List ℕ)) → Type 0) (old new : S) : Type 0 where
   pub readings : List Reading
   pub answered : AreAnswered Answers old readings new
   pub says : (file : List ℕ → Option (List ℕ)) → AreAnswersOf file readings → Says file
 
--- the same, where the reader was used once more after these calls
+-- the same, if the reader was used again after these calls
 abbrev pub HasReadFrom : {S : Type 0} → (S → List ℕ → Result (List ℕ) FileFault → S → Type 0) → ((List ℕ → Option (List ℕ)) → Type 0) → S → Type 0
 HasReadFrom {S} Answers Says old = (new : S) × HasRead Answers Says old new
 
--- what follows for a reader that does not tell its files: anything of one that does
+-- the files of a reader are not known
 abbrev pub IsUntold : Bool → Type 0
 IsUntold true = ⊥
 IsUntold false = ⊤

@@ -35,15 +35,15 @@ refusal_line refused.Sink = codes "refused sink"
 refusal_line refused.TooMuch = codes "refused too-much"
 refusal_line refused.Memory = memory_refused
 
--- a refusal for the cause that Stands, or for want of memory
+-- a refusal that `Stands` allows, or that an allocation failed
 abbrev pub OrMemory : (CommandRefusal → Type 0) → CommandRefusal → Type 0
 OrMemory Stands refused.Memory = ⊤
 OrMemory Stands refusal = Stands refusal
 
--- what is told of a refusal: it, or in its place that memory was refused
+-- what is printed of a refusal: it, or instead that an allocation failed
 abbrev pub IsToldOf : CommandRefusal → CommandRefusal → Type 0
 IsToldOf refusal told = (told ≡ refusal) ⊎ (told ≡ refused.Memory)
 
--- the line of this refusal was put, or in its place the one that says that memory was refused
+-- the line of this refusal was put, or instead the line `refused memory`
 abbrev pub IsRefusalPut : CommandRefusal → Option (List ℕ) → Option (List ℕ) → Type 0
 IsRefusalPut refusal old new = (told : CommandRefusal) × IsToldOf refusal told × Appends old new (refusal_line told ++ 10 ∷ [])

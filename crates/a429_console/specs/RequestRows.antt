@@ -1,5 +1,5 @@
 -- What is asked for by the values that were read of a command's words.
-use Rattle.std.specs.Prelude.{◌≡◌, [], ◌∷◌, ℕ, Bool, List, Option, Some, None, true, false, MatchOption, codes, if◌then◌else◌, unwrap_or}
+use Rattle.std.specs.Prelude.{◌≡◌, [], ◌∷◌, ℕ, Bool, List, Option, Some, None, true, false, MatchOption, ◌&&◌, not, codes, if◌then◌else◌, option_and_then, option_map, unwrap_or}
 use Rattle.std.specs.Str.{bytes_eq}
 use Rattle.std.specs.Str.Parse.{digits_value, without_leading_plus}
 use Rattle.clap.specs.ValueTests.{is_unsigned_in}
@@ -7,36 +7,66 @@ use Rattle.clap.specs.Words.{Row, Text, first_of, one_of, all_of, subcommand_of,
 use Rattle.a429_equipment.specs.Limits.{most_frames}
 use Rattle.a429_console.specs.CommandLine.{command_line, last_time, most_slots, row_of}
 use Rattle.a429_console.specs.Requests.{AskedBytes, HasWords, IsName, OptionBytes, words_of, words_with}
+use Rattle.a429_console.specs.declared.arguments.choices.Choices.{Choices}
 use Rattle.a429_console.specs.declared.arguments.forms.Verb.TheVariants as verb
+use Rattle.a429_text.specs.declared.sheets.SheetForm.{SheetForm}
+use Rattle.a429_text.specs.declared.sheets.SheetForm.TheVariants as form
 
 -- ---- the values of options
 
--- whether an option without a value was given, by the value that the parser gives it
-abbrev pub flag_given : Option Text → Option Bool
-flag_given None = Some false
-flag_given (Some text) = if bytes_eq text (codes "true") then Some true else (if bytes_eq text (codes "false") then Some false else None)
+-- an option without a value is given, by the value that the parser gives it
+abbrev pub is_set : Option Text → Bool
+is_set None = false
+is_set (Some text) = bytes_eq text (codes "true")
 
--- the number of an argument, by its text: none where it is not given, and nothing where the text is no whole number of this range
+-- the number of an argument, by its text: Some None if it is not given, and None if the text is no whole number of this range
 unfoldable pub number_of : ℕ → ℕ → Option Text → Option (Option ℕ)
 number_of least most None = Some None
 number_of least most (Some text) = if is_unsigned_in least most text then Some (Some (digits_value 10 (without_leading_plus text))) else None
 
--- how many slots wide folds are, by the text of that: none where it is not given, and nothing where the text is none of the three that there are
+-- how many slots wide folds are, by the text of that: Some None if it is not given, and None if the text is another than the three that there are
 abbrev pub width_given : Option Text → Option (Option ℕ)
 width_given None = Some None
 width_given (Some text) =
     if bytes_eq text (codes "64") then Some (Some 64)
     else (if bytes_eq text (codes "128") then Some (Some 128) else (if bytes_eq text (codes "256") then Some (Some 256) else None))
 
--- these are the options, by what was found of the words; one that the command has not is found nowhere
-pub record AreOptions (rows : List Row) (o : OptionBytes) : Type 0 where
-  pub csv : flag_given (one_of (codes "csv") rows) ≡ Some o.csv
+-- the form of what is printed, by whether `--csv` and `--json` are given; nothing if both are
+abbrev pub form_of : Bool → Bool → Option SheetForm
+form_of false false = Some form.Columns
+form_of true false = Some form.Csv
+form_of false true = Some form.Json
+form_of true true = None
+
+-- the command prints lines one by one, which have no form as JSON
+abbrev pub prints_lines : Text → List Row → Bool
+prints_lines name rows = bytes_eq name (codes "simulate") && not (is_set (one_of (codes "summary") rows))
+
+-- the form for which a command of this name is asked; nothing if it has no such form
+abbrev pub form_given : Text → List Row → Option SheetForm
+form_given name rows =
+    if is_set (one_of (codes "json") rows) && prints_lines name rows then None
+    else form_of (is_set (one_of (codes "csv") rows)) (is_set (one_of (codes "json") rows))
+
+-- all choices that the rules of the command line do not state; nothing if one of them is none
+abbrev pub choices_given : Text → List Row → Option Choices
+choices_given name rows =
+    option_and_then (λ width. option_map (λ form. record { width = width; form = form }) (form_given name rows)) (width_given (first_of (codes "width") rows))
+
+-- an options' record has these choices
+abbrev pub IsChosen : Choices → OptionBytes → Type 0
+IsChosen choices o = (o.width ≡ choices.width) × (o.form ≡ choices.form)
+
+-- these are the options of a command of this name, by what was found of the words; one that the command has not is found nowhere
+pub record AreOptions (name : Text) (rows : List Row) (o : OptionBytes) : Type 0 where
+  pub form : form_given name rows ≡ Some o.form
+  pub all : is_set (one_of (codes "all") rows) ≡ o.all
   pub group : first_of (codes "group") rows ≡ o.group
   pub slots : number_of 1 most_slots (one_of (codes "slots") rows) ≡ Some o.slots
   pub width : width_given (first_of (codes "width") rows) ≡ Some o.width
-  pub html : flag_given (one_of (codes "html") rows) ≡ Some o.html
+  pub html : is_set (one_of (codes "html") rows) ≡ o.html
   pub until : number_of 0 last_time (one_of (codes "until") rows) ≡ Some o.until
-  pub summary : flag_given (one_of (codes "summary") rows) ≡ Some o.summary
+  pub summary : is_set (one_of (codes "summary") rows) ≡ o.summary
 
 -- ---- all that is asked for
 
@@ -50,7 +80,7 @@ pub record IsAskedBy (rows : List Row) (r : AskedBytes) : Type 0 where
   pub second : MatchOption (row_of r.verb).second (r.second ≡ []) (λ id. first_of id rows ≡ Some r.second)
   pub number : MatchOption (row_of r.verb).number (r.number ≡ 0) (λ number. number_of 0 number.1 (one_of number.0 rows) ≡ Some (Some r.number))
   pub more : MatchOption (row_of r.verb).more (r.more ≡ []) (λ id. values_of id rows ≡ r.more)
-  pub options : AreOptions rows r.options
+  pub options : AreOptions (row_of r.verb).name rows r.options
 
 -- by what was found of the words: the command's name and its values
 abbrev pub IsFound : Option (Text × List Row) → AskedBytes → Type 0

@@ -1,4 +1,4 @@
--- What the words of a command line ask for.
+-- What arguments ask for.
 use Rattle.std.specs.Prelude.{◌≡◌, ◌≤◌, ◌≢◌, ◌∷◌, ◌++◌, ◌⊎◌, [], ℕ, Bool, true, false, List, Option, Some, None, IfSome, MatchOption, Result, MatchResult, codes, if◌then◌else◌, option_map, ⊤}
 use Rattle.std.specs.Fmt.{decimal}
 use Rattle.std.specs.List.{AllByRecursion, list_any}
@@ -8,8 +8,10 @@ use Rattle.clap.specs.declared.builder.action.ArgAction.{ArgAction}
 use Rattle.clap.specs.declared.builder.action.ArgAction.TheVariants.{SetTrue}
 use Rattle.clap.specs.declared.error.Error.{Error}
 use Rattle.clap.specs.declared.error.kind.ErrorKind.TheVariants.{OutOfMemory}
-use Rattle.a429_console.specs.CommandLine.{Csv, Group, Html, OptionName, Slots, Summary, Until, Width, last_time, most_slots, option_rule, options_of, row_of}
+use Rattle.a429_console.specs.CommandLine.{All, Csv, Group, Html, Json, OptionName, Slots, Summary, Until, Width, last_time, most_slots, option_rule, options_of, row_of}
 use Rattle.a429_console.specs.Files.{texts_of}
+use Rattle.a429_text.specs.declared.sheets.SheetForm.{SheetForm}
+use Rattle.a429_text.specs.declared.sheets.SheetForm.TheVariants as form
 use Rattle.a429_console.specs.declared.arguments.forms.Verb.{Verb}
 use Rattle.a429_console.specs.declared.arguments.forms.Verb.TheVariants as verb
 use Rattle.a429_console.specs.declared.arguments.requests.Asked.{Asked}
@@ -17,8 +19,10 @@ use Rattle.a429_console.specs.declared.arguments.requests.Options.{Options}
 
 -- what is given of the options of all commands, by the bytes of their texts; a command has some of them
 pub record OptionBytes : Type 0 where
-  -- as comma-separated values
-  pub csv : Bool
+  -- the form of what is printed
+  pub form : SheetForm
+  -- rows of all that changes
+  pub all : Bool
   -- the group that is drawn, where one alone is
   pub group : Option Text
   -- how many slots of each bus are drawn, and how many of them side by side
@@ -43,13 +47,21 @@ pub record AskedBytes : Type 0 where
 
 -- no option is given
 abbrev pub no_options : OptionBytes
-no_options = record { csv = false; group = None; slots = None; width = None; html = false; until = None; summary = false }
+no_options = record { form = form.Columns; all = false; group = None; slots = None; width = None; html = false; until = None; summary = false }
 
 -- a command with these names, and without a number or options
 abbrev pub asked_by_names : Verb → Text → Text → List Text → AskedBytes
 asked_by_names v first second more = record { verb = v; first = first; second = second; number = 0; more = more; options = no_options }
 
 -- ---- its words
+
+abbrev pub is_csv : SheetForm → Bool
+is_csv form.Csv = true
+is_csv _ = false
+
+abbrev pub is_json : SheetForm → Bool
+is_json form.Json = true
+is_json _ = false
 
 -- the word of an option that is a flag
 abbrev pub flag_word : Bool → Option Text
@@ -58,7 +70,9 @@ flag_word true = Some (codes "true")
 
 -- what is given of an option, as a word: a number in decimal digits, and of a flag that it is given
 abbrev pub word_given : OptionBytes → OptionName → Option Text
-word_given o Csv = flag_word o.csv
+word_given o Csv = flag_word (is_csv o.form)
+word_given o Json = flag_word (is_json o.form)
+word_given o All = flag_word o.all
 word_given o Group = o.group
 word_given o Slots = option_map decimal o.slots
 word_given o Width = option_map decimal o.width
@@ -124,20 +138,23 @@ CanBeGiven o _ = ⊤
 abbrev pub has_option : List OptionName → OptionName → Bool
 has_option names name = list_any (λ x. bytes_eq (option_rule x).id (option_rule name).id) names
 
--- a request has words: each text of it is a name, its numbers can be asked for, and it has nothing that its command is not given
+-- a request has words: each text of it is a name, its numbers can be asked for, and its command takes all that it has
 pub record HasWords (r : AskedBytes) : Type 0 where
   pub first : IsName r.first
   pub second : MatchOption (row_of r.verb).second (r.second ≡ []) (λ _. IsName r.second)
   pub number : MatchOption (row_of r.verb).number (r.number ≡ 0) (λ number. r.number ≤ number.1)
   pub more : MatchOption (row_of r.verb).more (r.more ≡ []) (λ _. AllByRecursion IsName r.more)
   pub options : (name : OptionName) → CanBeGiven r.options name
+  -- the lines of `simulate` have no form as JSON
+  pub summarized : r.verb ≡ verb.Simulate → is_json r.options.form ≡ true → r.options.summary ≡ true
   pub others : (name : OptionName) → has_option (options_of r.verb) name ≡ false → word_given r.options name ≡ None
 
 -- ---- the bytes of what was read of the words
 
 abbrev pub given_of : Options → OptionBytes
 given_of o = record {
-  csv = o.csv;
+  form = o.form;
+  all = o.all;
   group = option_map (λ g. g.now) o.group;
   slots = o.slots;
   width = o.width;
@@ -149,6 +166,6 @@ given_of o = record {
 abbrev pub asked_of : Asked → AskedBytes
 asked_of q = record { verb = q.verb; first = q.first.now; second = q.second.now; number = q.number; more = texts_of q.more.items; options = given_of q.options }
 
--- this was asked for and was read, or memory was refused
+-- this was asked for and was read, or an allocation failed
 abbrev pub IsRead : AskedBytes → Result Asked Error → Type 0
 IsRead r result = MatchResult result (λ q. asked_of q ≡ r) (λ e. kind_of e ≡ OutOfMemory)

@@ -43,7 +43,7 @@ IsPlanRefusal t (refused.Unfit group source) =
 IsPlanRefusal t (refused.TooManyBuses group needed) = (g : ℕ) × IsFaultOf t (plan.TooManyBuses g needed) × (string_bytes group ≡ group_name t g)
 IsPlanRefusal t _ = ⊥
 
--- the first fault of a table, or else of its station's plan
+-- the first fault of a table, otherwise of its station's plan
 abbrev pub IsTableRefusal : List ℕ → CommandRefusal → Type 0
 IsTableRefusal table (refused.Table kind place) = reading table ≡ Err (kind, place)
 IsTableRefusal table refusal = (t : TableRecord) × (reading table ≡ Ok t) × IsPlanRefusal t refusal
@@ -52,7 +52,7 @@ IsTableRefusal table refusal = (t : TableRecord) × (reading table ≡ Ok t) × 
 abbrev pub IsProposing : List ℕ → Result Proposed CommandRefusal → Type 0
 IsProposing table result = MatchResult result (IsProposedBy table) (OrMemory (IsTableRefusal table))
 
--- the refusal of a group that is not there tells its name, in one line
+-- the refusal of a group that is not there has its name, in one line
 abbrev pub IsGroupRefusal : List ℕ → CommandRefusal → Type 0
 IsGroupRefusal name (refused.Group told) = string_bytes told ≡ printable_name name
 IsGroupRefusal name _ = ⊥

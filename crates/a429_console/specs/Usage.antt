@@ -1,14 +1,14 @@
--- Words that ask for no command: calls for help or for the version, and mistakes (profile: status 0, 1 and 2).
+-- Arguments other than a request: calls for help or for the version, and mistakes (profile: status 0, 1 and 2).
 use Rattle.std.specs.Prelude.{◌≡◌, ◌≢◌, ◌∷◌, [], ◌⊎◌, ℕ, Bool, true, false, not, List, Option, Some, None, Result, IfOk, IsTrue, MatchResult, codes, if◌then◌else◌, is_some}
 use Rattle.std.specs.List.{list_all, list_any}
 use Rattle.std.specs.Str.{bytes_eq}
 use Rattle.clap.specs.Kinds.{or_else}
-use Rattle.clap.specs.Words.{HasKind, Kinds, Row, Text, fault_of, first_of, subcommand_of}
+use Rattle.clap.specs.Words.{HasKind, Kinds, Row, Text, fault_of, subcommand_of}
 use Rattle.clap.specs.declared.error.Error.{Error}
 use Rattle.clap.specs.declared.error.kind.ErrorKind.{ErrorKind}
 use Rattle.clap.specs.declared.error.kind.ErrorKind.TheVariants.{DisplayHelp, DisplayVersion, InvalidSubcommand, InvalidValue, OutOfMemory}
 use Rattle.a429_console.specs.CommandLine.{command_line}
-use Rattle.a429_console.specs.RequestRows.{width_given}
+use Rattle.a429_console.specs.RequestRows.{choices_given}
 use Rattle.a429_console.specs.Outputs.{FailedCalls, HasFailed, IsMemoryReply, IsPut, OrNoMemory}
 use Rattle.a429_console.specs.declared.output.OutputFault.{OutputFault}
 use Rattle.a429_console.specs.declared.arguments.forms.Verb.{Verb}
@@ -25,18 +25,18 @@ abbrev pub elsewhere : Bool → Kinds
 elsewhere true = InvalidSubcommand ∷ []
 elsewhere false = []
 
--- a drawing was asked for with a width that there is not
-abbrev pub has_wrong_width : Option (Text × List Row) → Bool
-has_wrong_width None = false
-has_wrong_width (Some p) = not (is_some (width_given (first_of (codes "width") p.1)))
+-- a drawing was asked for with a width that there is not, or a form that the command has not
+abbrev pub has_wrong_choice : Option (Text × List Row) → Bool
+has_wrong_choice None = false
+has_wrong_choice (Some p) = not (is_some (choices_given p.0 p.1))
 
--- what may be answered in place of a request to words that the rules of the command line take, by what was found of them and by whether another
--- call does the command
+-- what may be answered to words that the rules of the command line take, instead of a request: by what was found of them and by whether another call
+-- does the command
 abbrev pub found_kinds : Option (Text × List Row) → Bool → Kinds
-found_kinds found is_elsewhere = if has_wrong_width found then InvalidValue ∷ [] else elsewhere is_elsewhere
+found_kinds found is_elsewhere = if has_wrong_choice found then InvalidValue ∷ [] else elsewhere is_elsewhere
 
--- what `command` may answer to words in place of a request, by the rules of the command line and in that `live` is none of its commands; nothing
--- where they ask for something
+-- what `command` may answer to words instead of a request, by the rules of the command line, and since `live` is not one of its commands; empty if
+-- they ask for something
 abbrev pub kinds_of_words : List (List ℕ) → Kinds
 kinds_of_words words = or_else (fault_of command_line words) (found_kinds (subcommand_of command_line words) (is_live (subcommand_of command_line words)))
 
@@ -100,7 +100,7 @@ IsHelpReply status bytes = status ≡ 0
 abbrev pub IsWarned : FailedCalls → FailedCalls → ℕ → Type 0
 IsWarned old new status = ((status ≡ 2) × (new ≡ old)) ⊎ ((status ≡ 1) × HasFailed old new)
 
--- nothing was put, and the other output was told of the mistake, or a call of it failed
+-- nothing was put, and the mistake was written to the other output, or a call of that failed
 abbrev pub IsUsageReply : FailedCalls → FailedCalls → ℕ → List ℕ → Type 0
 IsUsageReply old new status bytes = (bytes ≡ []) × IsWarned old new status
 
@@ -123,6 +123,6 @@ TellsMistake contents failures out out' err err' result = IfOk result (IsPut (Or
 abbrev pub IsPassedOnUnless : Type 0 → Bool → Result ℕ OutputFault → Type 0
 IsPassedOnUnless Failed flushed result = IfOk result (λ status. status ≡ 1 → IsTrue flushed ⊎ Failed)
 
--- a mistake was to be told on the other output, and a call of that failed
+-- a mistake could not be reported: a call of the other output failed
 abbrev pub IsMistakeUntold : {Y : Type 0} → (Y → FailedCalls) → ErrorKind → Y → Y → Type 0
 IsMistakeUntold failures kind old new = (kind ≢ OutOfMemory) × HasFailed (failures old) (failures new)

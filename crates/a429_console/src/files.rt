@@ -19,7 +19,7 @@ pub enum FileFault {
     /// There is no such file, or it cannot be read.
     #[error("refused")]
     Refused,
-    /// Memory was refused.
+    /// An allocation failed.
     #[error("out of memory")]
     NoMemory,
 }
@@ -35,13 +35,13 @@ pub enum FileTrouble {
     Forbidden,
     /// It has more bytes than a file may have.
     TooLarge,
-    /// Another cause, or one that the reader does not tell.
+    /// Another cause, or one that the reader does not report.
     Unknown,
 }
 
 /// What gives the bytes of files by their names.
 pub trait FileReader {
-    /// Whether it tells what it has.
+    /// Whether its files are known.
     ghost tells: { Self → Bool };
 
     /// The bytes that it has under a name.
@@ -50,7 +50,7 @@ pub trait FileReader {
     /// One call of `read`: what it was, the name, the answer, and what it is.
     ghost answers: { Self → List ℕ → Result (List ℕ) FileFault → Self → Type 0 };
 
-    /// All bytes of a file. Where it tells what it has, `Refused` stands just where there are none.
+    /// All bytes of a file. Error: `Refused` if there are none, or `NoMemory`.
     fn read(&mut self, name: &str) -> Result<Vec<u8>, FileFault>
         ensures answered { answers self.old name.now (answer_of result) self.new }
         ensures bytes { IsTrue (tells self.old) → IfOk result (λ bytes. file self.old name.now ≡ Some bytes.items) }
@@ -63,7 +63,7 @@ pub trait FileReader {
         FileTrouble::Unknown
     }
 
-    /// Where it tells what it has, each answer is of that, and it has the same after it.
+    /// If its files are known, each answer is of these files, and it has the same files after it.
     ghost known: { (old new : Self) (name : List ℕ) (answer : Result (List ℕ) FileFault) → IsTrue (tells old) → answers old name answer new
         → IsAnswerOf (file old) name answer × ((other : List ℕ) → file new other ≡ file old other) × IsTrue (tells new) };
 }

@@ -55,7 +55,7 @@ fn last_stated(text: &[u8]) -> &[u8] {
 }
 
 impl SeenLine {
-    /// The line of this number. The error is that memory was refused.
+    /// The line of this number. Error: an allocation fails.
     pub fn of(alloc: Global, text: &[u8], number: usize) -> Result<SeenLine, AllocError> {
         let mut rest = text;
         for _ in 1..number {
@@ -150,7 +150,7 @@ pub enum FurtherCause {
     Fault(FaultKind),
     /// The table has outputs without a period.
     Unfit,
-    /// The group needs so many buses, which are more than 16.
+    /// The group needs this number of buses, which is more than 16.
     TooManyBuses {
         group: String,
         needed: usize,
@@ -163,7 +163,7 @@ pub enum FurtherCause {
 }
 
 impl FurtherCause {
-    /// The cause by the refusal of the table. `None` if memory was refused.
+    /// The cause by the refusal of the table. `None` if an allocation fails.
     pub fn of(alloc: Global, refusal: &CommandRefusal) -> Option<FurtherCause>
         ensures { refusal.now ≡ Memory → IsNone result }
     {
@@ -181,7 +181,7 @@ impl FurtherCause {
         }
     }
 
-    /// The cause of a table of another station than the one that runs. `None` if memory was refused.
+    /// The cause of a table of another station than the one that runs. `None` if an allocation fails.
     pub fn of_stations(
         alloc: Global,
         running: &Equipment,
@@ -274,7 +274,7 @@ impl Seen {
 /// Gives a person a hint on what to do about a refusal. No contract rests on its text. It is written to a text in memory
 /// first, and then to the error output.
 pub trait Hints {
-    /// Writes the hint about a request that was refused, if there is one. The error is the writer's, or a want of memory.
+    /// Writes the hint about a request that was refused, if there is one. Error: the writer's, or an allocation fails.
     fn tell<V: Write>(
         &self,
         alloc: Global,
@@ -283,11 +283,11 @@ pub trait Hints {
         err: &mut V,
     ) -> io::Result<()>;
 
-    /// Writes what may have been meant by words that are a mistake, if anything. The error is the writer's, or a want of
-    /// memory.
+    /// Writes what may have been meant by words that are a mistake, if anything. Error: the writer's, or an allocation
+    /// fails.
     fn tell_mistake<V: Write>(&self, alloc: Global, words: &[&str], err: &mut V) -> io::Result<()>;
 
-    /// Writes why further tables of a request cannot be published. The error is the writer's, or a want of memory.
+    /// Writes why further tables of a request cannot be published. Error: the writer's, or an allocation fails.
     fn tell_further<V: Write>(
         &self,
         alloc: Global,
@@ -330,9 +330,9 @@ fn tell_further<H: Hints, V: Output>(
     }
 }
 
-/// Writes to `err` what can be done about a request that was answered with this status: if it was refused, the hint about
-/// that; else why further tables cannot be published, if there are such. If memory does not suffice for the hint, nothing
-/// is written; if `err` fails, that changes nothing else.
+/// Writes to `err` what can be done about a request that was answered with this status: if it was refused, the hint
+/// about that; otherwise why further tables cannot be published, if there are such. If memory does not suffice for the
+/// hint, nothing is written. If `err` fails, that changes nothing else.
 pub fn tell_hints<H: Hints, V: Output>(
     alloc: Global,
     asked: &Asked,

@@ -1,9 +1,9 @@
-//! What commands of the program `a429` share: the words of a command line, files, the output, and refusals.
+//! What commands of the program `a429` share: arguments, files, the output, and refusals.
 //!
-//! `arguments` has what the words of a command line ask for (`Request`), or what is answered in their place. `files`
-//! gives the bytes of files, from the disk or from memory (`FileReader`). `output` takes bytes and counts what failed.
-//! `refusals` has the line of each refusal. `hints` keeps what a command read, for lines on standard error. It is for
-//! commands: a program that embeds the libraries does not need it.
+//! `arguments` has what the arguments ask for (`Asked`), or the answer instead of a request. `files` gives the bytes of
+//! files, from the disk or from memory (`FileReader`). `output` takes bytes and counts what failed. `refusals` has the
+//! line of each refusal. `hints` keeps what a command read, for lines on standard error. It is for commands: a program
+//! that embeds the libraries does not need it.
 //!
 //! ```text
 //! let proposal = propose(alloc, &bytes, &mut seen)?;

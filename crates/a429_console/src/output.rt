@@ -21,9 +21,9 @@ pub enum OutputFault {
     Failed,
 }
 
-/// What takes the lines of a command. Where a call failed, it takes nothing more: each later call fails too.
+/// What takes the lines of a command. After a call failed, it takes nothing more: each later call fails too.
 pub trait Output {
-    /// The bytes that it took, where they are known.
+    /// The bytes that it took, if they are known.
     ghost contents: { Self → Option (List ℕ) };
 
     /// What is known of its calls that failed.
@@ -46,7 +46,7 @@ pub trait Output {
         ensures ended { 0 < (failures self.old).count → IsErr result };
 }
 
-/// A writer that passes on what it took where it is asked to.
+/// A writer that passes on what it took when it is asked to.
 pub trait Flushing: Write {
     /// Whether it answered that all that it took was passed on, and took nothing since.
     ghost has_passed_on: { Self → Bool };
@@ -115,7 +115,7 @@ impl<W: Flushing> CountedWriter<W> {
         }
     }
 
-    /// Counts what a call of the writer answered, where it failed.
+    /// Counts a call of the writer, if it failed.
     fn answer(&mut self, answer: io::Result<()>) -> Result<(), OutputFault>
         ensures writer { self.new.writer ≡ self.old.writer }
         ensures failed { IsErr answer → IsErr result }

@@ -7,7 +7,7 @@ pub mod names;
 pub mod tables;
 
 use crate::hints::Seen;
-use crate::output::endings::{REFUSED_MEMORY, put_refused, refuse_memory};
+use crate::output::endings::{REFUSED_MEMORY, put_answer, refuse_memory_as};
 use crate::output::{Output, OutputFault};
 use a429_table::{FaultKind, TablePlace};
 use std::alloc::{AllocError, AllocFailed, Global};
@@ -57,14 +57,14 @@ pub enum CommandRefusal {
     Filter(usize),
     /// The table has this fault at this place.
     Table(FaultKind, TablePlace),
-    /// The interval of the group's output of this source admits no period of the grid.
+    /// No period of the grid fits the interval of the group's output of this source.
     Unfit { group: String, source: String },
-    /// The group needs so many buses, which are more than 16.
+    /// The group needs this number of buses, which is more than 16.
     TooManyBuses { group: String, needed: usize },
     /// The table has no group of this name, which was asked for.
     Group(String),
-    /// The line of this number, from 1, is the first of the script that is no event of the station, or of the
-    /// file of words that is no word for it.
+    /// The line of this number, from 1, is the first faulty one of the script or of the file of words. It is no event
+    /// of the station, or no word for it.
     Script(usize),
     /// The line of this number, from 1, is the first of the log that is no word for the station, or whose time is below the
     /// one before.
@@ -83,7 +83,7 @@ pub enum CommandRefusal {
     /// A receiver was given a word after a million, or more than a million frames were asked for, or a group would send more
     /// than a million in a simulation.
     TooMuch,
-    /// Memory was refused.
+    /// An allocation failed.
     Memory,
 }
 
@@ -145,8 +145,30 @@ impl<T: Drop> From<AllocFailed<T>> for CommandRefusal {
     }
 }
 
-/// Puts the line of a refusal, which is kept in `seen`, or the line `refused memory` if memory for it is refused. The
-/// status is 1.
+/// Puts the line of a refusal, which is kept in `seen`, or the line `refused memory` if an allocation for it fails. The
+/// status is this one.
+pub fn refuse_as<O: Output>(
+    alloc: Global,
+    refusal: CommandRefusal,
+    status: u8,
+    seen: &mut Seen,
+    out: &mut O,
+) -> Result<u8, OutputFault>
+    ensures status { IfOk result (λ answered. answered ≡ status) }
+    ensures line { OnOk result (IsRefusalPut refusal (O.contents out.old) (O.contents out.new)) }
+    ensures flushed { OnOk result (IsTrue (O.is_flushed out.new)) }
+    ensures faults { CountsFault result (O.failures out.old) (O.failures out.new) }
+{
+    let mut line = Vec::new(alloc);
+    let written = writeln!(line, "{refusal}");
+    seen.refusal = Some(refusal);
+    match written {
+        Ok(()) => put_answer(&line, status, out),
+        Err(_) => refuse_memory_as(status, out),
+    }
+}
+
+/// The same with status 1.
 pub fn refuse<O: Output>(
     alloc: Global,
     refusal: CommandRefusal,
@@ -158,11 +180,5 @@ pub fn refuse<O: Output>(
     ensures flushed { OnOk result (IsTrue (O.is_flushed out.new)) }
     ensures faults { CountsFault result (O.failures out.old) (O.failures out.new) }
 {
-    let mut line = Vec::new(alloc);
-    let written = writeln!(line, "{refusal}");
-    seen.refusal = Some(refusal);
-    match written {
-        Ok(()) => put_refused(&line, out),
-        Err(_) => refuse_memory(out),
-    }
+    refuse_as(alloc, refusal, 1, seen, out)
 }

@@ -87,7 +87,7 @@ pub record Stayed (C : ℕ) (o : Opening) (E : List Event) (i : ℕ) (e : Event)
 unfoldable pub Does : ℕ → Opening → List Event → ℕ → Event → Answer → Type 0
 Does C o E i e a = Grew C o E i e a ⊎ Stayed C o E i e a
 
--- where a source is given by its row
+-- a source that is given by its row
 by_row : (C : ℕ) (o : Opening) (E : List Event) (i : ℕ) (s : SourceRow) → slice_get o.proposal.station.sources i ≡ Some s → accepted_by C o i E ≡ accepted_in C o s E
 by_row C o E i s h = ap (λ (x : Option SourceRow). option_map_or (λ t. accepted_in C o t E) x []) h
 

@@ -1,4 +1,4 @@
--- Words and cells of a source go on where its group goes on to other plans.
+-- Words and cells of a source go on when its group goes on to other plans.
 use Rattle.std.proofs.Common.{◌≡◌, ℕ, suc, ◌+◌, ◌-◌, ◌*◌, ◌/◌, ◌%◌, ◌<◌, ◌≤◌, true, false, true≢false, List, length, take, max, ◌∙◌, sym, ap, subst, refl, inl, inr, arith}
 use Rattle.std.specs.Prelude.{Option, Some, slice_get, if◌then◌else◌, nat_lt}
 use Rattle.std.specs.Option.{option_map_or}
@@ -25,9 +25,9 @@ use Rattle.a429_core.proofs.Rounds.{AreSpacedTables, cell_here, comes_round, few
 use Rattle.a429_core.proofs.Latest.{latest_after}
 use Rattle.a429_core.proofs.GoingOut.{comes_from, far_after, far_on, fits_cell, in_time, last_sent, out_by, sends_latest, settled_time, unheld}
 
--- ---- where a frame begins
+-- ---- the beginning of a frame
 
--- the group sends no cell where it takes a Frame
+-- the group sends no cell at the place at which it takes a Frame
 no_cell : (o : Opening) (g : ℕ) (p : SlotTable) (E : List Event) (c : ℕ) → is_taken_at o g p E c ≡ true → slice_get E c ≡ Some (Cell g) → ⊥
 no_cell o g p E c taken asked = clash (sym (ap (λ (x : Option Event). option_map_or (is_taken_after o g p (take c E)) x false) asked) ∙ taken)
 
@@ -90,7 +90,7 @@ module _ (o : Opening) (g : ℕ) (p : SlotTable) (E : List Event) (spaced : AreS
       let inside = (set_of (current o g p (take c E)).table source old (spaced c) here).on_a_bus in
       ap (λ (z : ℕ). next_slot_on (history_of o g p E) z bus) step ∙ turns o g p E c old.bus bus below taken inside
 
-  -- a cell is not where the change is
+  -- a cell is not at the place of the change
   before_change : (j c : ℕ) (x : Placed) (s : ℕ) → j ≤ c → is_taken_at o g p E c ≡ true → IsOutputCell o g p E j x s → j < c
   before_change j c x s from taken J = elim (cases_eq j c) [
     | inr differs ↦ omega (arith, from, differs)
@@ -118,7 +118,7 @@ module _ (o : Opening) (g : ℕ) (p : SlotTable) (E : List Event) (spaced : AreS
       ]
 
 module _ (law : AreSpaced) (C : ℕ) (o : Opening) (g : ℕ) (p : SlotTable) (E : List Event) (H : IsPlannedHistory (history_of o g p E)) (spaced : AreSpacedTables o g p E) where
-  -- the last word of the source where one was sent
+  -- the last word of the source, if one was sent
   last_at : (j source slot w : ℕ) (x : Placed) → CellIsAnswered C (history_of o g p E) j x slot (Some w) → x.source ≡ source → last_of (accepted_by C o source (take j E)) ≡ Some w
   last_at j source slot w x A same =
       ap (λ (z : ℕ). last_of (accepted_by C o z (take j E))) (sym same) ∙ last_sent _ (last_of (accepted_by C o x.source (take j E))) w (word_of C o g p E j x slot (Some w) H.opens A)
@@ -154,7 +154,7 @@ module _ (law : AreSpaced) (C : ℕ) (o : Opening) (g : ℕ) (p : SlotTable) (E 
             }
       ]
 
-  -- a cell that is so many slots after the one in which a word was sent is close to none before
+  -- a cell is this number of slots after the one in which a word was sent: it is not too close to an earlier one
   pub far_from : (j l q slot s w : ℕ) (x y : Placed) → CellIsAnswered C (history_of o g p E) j x slot (Some w) → IsUnheld q y → slot + q ≤ s → (W : IsSentWithin C o g p E l y s) → W.place < j + 1 → ⊥
   far_from j l q slot s w x y A free far W past =
       let close : s < W.at + y.limits.spacing = W.close in

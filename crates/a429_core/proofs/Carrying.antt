@@ -30,7 +30,7 @@ last_where_sent : (b : Bool) (x : Option ℕ) (word : ℕ) → (if b then None e
 last_where_sent true x word h = absurd (none-some word h)
 last_where_sent false x word h = h
 
--- the source of the output that stands there
+-- the source of the cell's output
 source_there : (t : SlotTable) (bus slot : ℕ) (out : Placed) → output_in t bus slot ≡ Some out → source_at t bus slot ≡ Some out.source
 source_there t bus slot out h = go (cell_at t bus slot) h
   where
@@ -38,7 +38,7 @@ source_there t bus slot out h = go (cell_at t bus slot) h
     go None is = absurd (none-some out is)
     go (Some n) is = ap (option_map (λ (q : Placed). q.source)) is
 
--- a word comes from the source of the output that stands there
+-- a word comes from the source of the cell's output
 record ComesFrom (C : ℕ) (o : Opening) (E : List Event) (x : Option Placed) (word : ℕ) : Type 0 where
   pub output : Placed
   pub stands : x ≡ Some output

@@ -29,7 +29,7 @@ use Rattle.a429_slots.proofs.Histories.{current_next}
 use Rattle.a429_slots.proofs.Remembering.{AreRecalled}
 use Rattle.a429_slots.proofs.Answered.{next_of}
 
--- what a group does in a cell, where v already counts the cell as asked for
+-- what a group does in a cell, if v already counts the cell as asked for
 pub record CellDone (C : ℕ) (o : Opening) (E : List Event) (k : ℕ) (p : SlotTable) (v : MachineState) (x : Answer × MachineState) : Type 0 where
   pub sends : List (List Recent)
   pub answer : x.0 ≡ cell_answer C o E k (answered_cells C o k p E) (current o k p E)
@@ -80,7 +80,7 @@ put ss g i r new G =
       others = λ h j other. ap (λ (x : Option (List Recent)). option_and_then (λ zs. slice_get zs j) x) (get_set_other ss g h rs (λ q. other (sym q)));
     }
 
--- ---- an output stands in the cell
+-- ---- the cell has an output
 
 -- the answered cell of the output
 abbrev cell_of : ℕ → Opening → List Event → ℕ → SlotTable → ℕ → Placed → AnsweredCell

@@ -24,7 +24,7 @@ period_fits rate sources rows t n x P h =
     let is : get_or (map exponent_of asked) n 0 ≡ x.place.period = get_or-map exponent_of asked n unasked 0 (omega (arith, inside, long)) ∙ ap exponent_of here in
     omega (arith, is, up_to_greatest (map exponent_of asked) n (omega (arith, inside, long, more)), P.layout.frame)
 
--- whole frames later an output stands in the same cells
+-- whole frames later an output has the same cells
 pub comes_round : (rate : ℕ) (sources : List SourceRow) (rows : List OutputRow) (t : SlotTable) (times bus on : ℕ) (x : Placed) → IsPlannedFor rate sources rows t → output_in t bus on ≡ Some x
     → source_at t bus (times * frame_of t + on) ≡ Some x.source
 comes_round rate sources rows t times bus on x P there =

@@ -27,7 +27,7 @@ use Rattle.a429_core.proofs.Latest.{HasLatest, count_above, count_at, count_grow
 
 -- ---- cells
 
--- what is said of each output of the source holds of the one that stands in a cell
+-- what is said of each output of the source is true of the one in a cell
 pub fits_cell : (o : Opening) (g : ℕ) (p : SlotTable) (E : List Event) (i k source l : ℕ) (Is : Placed → Type 0) (x : Placed) (s : ℕ) → EachOutput (history_of o g p E) i k source Is → i ≤ l → l < k → IsOutputCell o g p E l x s → x.source ≡ source → Is x
 fits_cell o g p E i k source l Is x s each from before I same =
     let A = is_at (current o g p (take l E)).table I.cell.0 I.cell.1 x I.stands in
@@ -165,7 +165,7 @@ module _ (law : AreSpaced) (C : ℕ) (o : Opening) (g : ℕ) (p : SlotTable) (E 
 
   -- ---- cells far from those before
 
-  -- where a cell of an output that stays comes between, those before it are a period before the next
+  -- if a cell of an output that stays comes between, those before it are a period before the next
   pub far_after : (h k source : ℕ) (at : SlotPlace) → k ≤ length E → KeepsOutput (history_of o g p E) h k source at → (j l : ℕ) (x y : Placed) (u s : ℕ) → h ≤ j → j < l → l < k → IsOutputCell o g p E j x u → x.source ≡ source
       → IsOutputCell o g p E l y s → y.source ≡ source → (W : IsSentWithin C o g p E l y s) → W.place < j + 1 → ⊥
   far_after h k source at few keeps j l x y u s from after before J own L same W past =
@@ -297,7 +297,7 @@ module _ (law : AreSpaced) (C : ℕ) (o : Opening) (g : ℕ) (p : SlotTable) (E 
         record { place = suc A.place; from = omega (arith, from); before = omega (arith, before); next = omega (arith, next_after o g p E A.place at.bus A.in_frame A.asked inside A.due, counted, more) }
   ]
 
-  -- from the place where that slot is next, a cell comes within a period
+  -- from the place at which that slot is next, a cell comes within a period
   pub comes_from : (i k source slot : ℕ) (at : SlotPlace) → i ≤ k → k ≤ length E → KeepsOutput (history_of o g p E) i k source at → next_slot_on (history_of o g p E) i at.bus ≤ slot → slot + period_of at ≤ next_slot_on (history_of o g p E) k at.bus
       → HasCellFrom o g p E i k source slot (slot + period_of at)
   comes_from i k source slot at after few keeps low passes =
@@ -332,7 +332,7 @@ module _ (law : AreSpaced) (C : ℕ) (o : Opening) (g : ℕ) (p : SlotTable) (E 
 
   -- ---- time
 
-  -- a slot so many slots on ends so much later, where the slot before was answered
+  -- a slot that is n slots further ends n slot times later, if the slot before was answered
   pub ends_in_time : (a i bus slot first n last : ℕ) (clock : Clock) → AnswersOn (history_of o g p E) a i bus slot → first ≤ slot + 1 → last < first + n → KeepsTime (history_of o g p E) clock
       → (last + 1) * clock.slot_time ≤ clock.time i + (n + 1) * clock.slot_time
   ends_in_time a i bus slot first n last clock A near high T =
@@ -343,7 +343,7 @@ module _ (law : AreSpaced) (C : ℕ) (o : Opening) (g : ℕ) (p : SlotTable) (E 
       let split : (slot + (n + 1)) * clock.slot_time ≡ slot * clock.slot_time + (n + 1) * clock.slot_time = add-mul slot (n + 1) clock.slot_time in
       omega (arith, fits, split, begun, onward)
 
-  -- where the output had stayed for a period, it was
+  -- if the output had stayed for a period, that slot was answered
   pub settled_time : (h i source first n last : ℕ) (at : SlotPlace) (clock : Clock) → h ≤ i → i ≤ length E → KeepsOutput (history_of o g p E) h i source at → Passes (history_of o g p E) h i at (period_of at)
       → first ≡ next_slot_on (history_of o g p E) i at.bus → last < first + n → KeepsTime (history_of o g p E) clock → (last + 1) * clock.slot_time ≤ clock.time i + (n + 1) * clock.slot_time
   settled_time h i source first n last at clock before few keeps passes is high T =

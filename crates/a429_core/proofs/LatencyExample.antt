@@ -125,7 +125,7 @@ own = record {
   published = λ before after q split. absurd (true≢false (sym (has_publish before after q) ∙ sym (ap (list_any is_publish) split)));
 }
 
--- ---- what it comes to
+-- ---- the result
 
 accepted : IsAcceptedBefore 41 opening history 3 6 0
 unfolding ones_from number_from reversed_from

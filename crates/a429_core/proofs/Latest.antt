@@ -92,7 +92,7 @@ lasts C o E source n i k apart low after few H =
     let rest : (k - i) + i ≡ k = omega (arith, after) in
     subst (λ (m : ℕ). HasLatest C o (take m E) source n) rest (lasts_by C o E source n i (k - i) apart low (omega (arith, few, rest)) H)
 
--- from where a word is accepted
+-- from the place at which a word is accepted
 pub latest_since : (C : ℕ) (o : Opening) (E : List Event) (source i k : ℕ) → SourcesAreApart o.proposal.station.sources → IsAcceptedAt C o E i source → i < k → k ≤ length E → HasLatest C o (take k E) source i
 latest_since C o E source i k apart A after few =
     let long : length (take i E) ≡ i = length-take-le i E (omega (arith, after, few)) in
@@ -101,7 +101,7 @@ latest_since C o E source i k apart A after few =
     let here : HasLatest C o (take (suc i) E) source i = subst (λ (F : List Event). HasLatest C o F source i) (sym (take_following E i e A.came)) (subst (λ (n : ℕ). HasLatest C o (take i E ++ e ∷ []) source n) long new) in
     lasts C o E source i (suc i) k apart (omega arith) (omega (arith, after)) few here
 
--- from where there is one
+-- from a place at which there is one
 pub latest_after : (C : ℕ) (o : Opening) (E : List Event) (source i k w : ℕ) → SourcesAreApart o.proposal.station.sources → last_of (accepted_by C o source (take i E)) ≡ Some w → i ≤ k → k ≤ length E → HasLatest C o (take k E) source 0
 latest_after C o E source i k w apart last after few =
     lasts C o E source 0 i k apart (omega arith) after few

@@ -1,4 +1,4 @@
--- Words and cells of a source go on whatever plans follow one another, as long as each has an output of it.
+-- Words and cells of a source go on under any plans that follow one another, as long as each has an output of it.
 use Rattle.std.proofs.Common.{◌≡◌, ℕ, zero, suc, ◌+◌, ◌-◌, ◌*◌, ◌<◌, ◌≤◌, ◌⊎◌, true, false, List, ◌∷◌, [], ◌++◌, length, take, max, ◌∙◌, sym, ap, subst, refl, inl, inr, arith}
 use Rattle.std.specs.Prelude.{Option, Some}
 use Rattle.std.specs.Option.{option_map_or}
@@ -91,7 +91,7 @@ module _ (o : Opening) (g : ℕ) (p : SlotTable) (E : List Event) (spaced : AreS
       let F = lasts o g p E a j from (omega (arith, below, few)) (λ i low high. none i low (omega (arith, high, below))) in
       subst (λ (t : SlotTable). HasOutput t source at) (sym F.table) here
 
-  -- where a Frame is taken, the slots of the frame before it are past
+  -- if a Frame is taken, the slots of the frame before it are past
   past_frame : (d bus : ℕ) → d < length E → is_taken_at o g p E d ≡ true → (source : ℕ) (at : SlotPlace) → HasOutput (table_at o g p E d) source at
       → next_slot_on (history_of o g p E) d at.bus ≡ (frame_at_place o g p E d).first + frame_of (table_at o g p E d)
   past_frame d bus below taken source at here =
@@ -170,7 +170,7 @@ module _ (o : Opening) (g : ℕ) (p : SlotTable) (E : List Event) (spaced : AreS
           let at_least : least ≤ F.cell.slot = F.low in
           record { cell = sooner o g p E i j l k source end most before after more F.cell; low = omega (arith, at_least, less) }
 
-  -- ---- the place where a slot is next
+  -- ---- the place at which a slot is next
 
   record IsNextSomewhere (i k source most slot : ℕ) : Type 0 where
     pub place : ℕ

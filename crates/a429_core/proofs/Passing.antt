@@ -207,7 +207,7 @@ goes o g p E k bus below inside =
       ]
     ]
 
--- where a cell on this bus is due
+-- if a cell on this bus is due
 record IsDueOn (o : Opening) (g : ℕ) (p : SlotTable) (E : List Event) (k bus in_frame : ℕ) : Type 0 where
   pub sent : (stands_after o g p (take k E)).sent ≡ cells_since g (current o g p (take k E))
   pub due : cells_since g (current o g p (take k E)) < cells_of (current o g p (take k E)).table

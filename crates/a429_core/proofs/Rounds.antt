@@ -1,4 +1,4 @@
--- The cells of an output that stays, in whatever frames and by whatever plans they come.
+-- The cells of an output that stays, in any frames and under any plans.
 use Rattle.std.proofs.Common.{◌≡◌, ℕ, zero, suc, ◌+◌, ◌-◌, ◌*◌, ◌/◌, ◌%◌, ◌^◌, ◌<◌, ◌≤◌, List, [], ◌∷◌, ◌++◌, length, take, ◌∙◌, sym, ap, subst, refl, inl, inr, arith}
 use Rattle.std.specs.Prelude.{Some, slice_get, option_and_then}
 use Rattle.std.proofs.Math.Nat.{mod-add-div', mod-lt, mul-add-mod_self_right}
@@ -96,7 +96,7 @@ aligned_by o g p E i (suc d) e few fits =
 
 -- ---- an output of a table
 
--- what holds of an output of a spaced table
+-- what is true of an output of a spaced table
 pub record IsSet (t : SlotTable) (at : SlotPlace) (number : ℕ) : Type 0 where
   pub on_a_bus : at.bus < buses_of t
   pub fits : at.period ≤ t.frame
@@ -109,7 +109,7 @@ set_of t source at S O = subst (λ (q : SlotPlace). IsSet t q O.number) O.at_pla
   periodic = S.periodic O.number O.output O.there;
 })
 
--- it stands just where its place says
+-- it has exactly the cells that its place says
 stands_just : (t : SlotTable) (source : ℕ) (at : SlotPlace) (slot : ℕ) → IsSpacedTable t → (O : HasOutput t source at) → slot % period_of at ≡ at.offset → output_in t at.bus slot ≡ Some O.output
 stands_just t source at slot S O rest =
     let there : cell_at t at.bus slot ≡ Some O.number = ((set_of t source at S O).periodic.cells at.bus slot).1 (refl, rest) in

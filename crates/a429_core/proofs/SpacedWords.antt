@@ -46,7 +46,7 @@ apart law C o g p E j k earlier now u t w x there after A B same =
     law.apart C o g p E j k earlier now u t w x after (record { cell = A.cell; sent = word_of C o g p E j earlier u (Some w) there A })
     (record { cell = B.cell; sent = word_of C o g p E k now t (Some x) there B }) same
 
--- a word that is there and not held is missing for the sake of spacing alone
+-- a word that is there and not held is missing only because of spacing
 close_where_none : (held close : Bool) (x : Option ℕ) (word : ℕ) → held ≡ false → x ≡ Some word → (if held || close then None else x) ≡ None → close ≡ true
 close_where_none true close x word free some none = absurd (cc)
 close_where_none false true x word free some none = refl

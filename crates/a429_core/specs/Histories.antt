@@ -35,6 +35,6 @@ HasOwnPlans E = HaveOwnPlans E.opening E.events
 abbrev pub IsSpacedAt : GroupHistory → ℕ → Type 0
 IsSpacedAt E k = HasSpacedTable E.opening E.group E.table E.events k
 
--- at place k the group is asked for a cell, and this output stands there, in this slot
+-- at place k the group is asked for a cell, which has this output, in this slot
 abbrev pub IsCellAt : GroupHistory → ℕ → Placed → ℕ → Type 0
 IsCellAt E k output slot = IsOutputCell E.opening E.group E.table E.events k output slot

@@ -16,7 +16,8 @@ use Rattle.a429_core.specs.Spaced.{CellIsAnswered, IsFirstCell, is_held_at, last
 
 -- ---- slots that pass
 
--- the slot of a group's next cell on a bus: the slot that the group is in, or the one after it where that slot's cell on this bus was sent
+-- the slot of a group's next cell on a bus: the slot that the group is in, or the one after it if that slot's cell on
+-- this bus was sent
 abbrev pub next_on : FrameState → ℕ → ℕ
 next_on s bus = s.first + (s.sent / buses_of s.table + (if nat_lt bus (s.sent % buses_of s.table) then 1 else 0))
 
@@ -76,7 +77,7 @@ pub record MaySend (q : ℕ) (x : Placed) : Type 0 where
   pub hold : (hold : ℕ) → x.limits.hold ≡ Some hold → 0 < hold
   pub spacing : x.limits.spacing ≤ q
 
--- the output has no hold, and its least spacing has no more than q slots
+-- the output has no hold, and its least spacing is at most q slots
 pub record IsUnheld (q : ℕ) (x : Placed) : Type 0 where
   pub hold : x.limits.hold ≡ None
   pub spacing : x.limits.spacing ≤ q
@@ -141,7 +142,7 @@ pub record IsEmptiedFirst (C : ℕ) (E : GroupHistory) (i k source end : ℕ) : 
   pub empty : CellIsAnswered C E cell.place cell.output cell.slot None
   pub only : IsFirstCell C E cell.place cell.output cell.slot
 
--- times of the places of a history, where each slot lasts as long as any other and slot n begins n slots after time 0
+-- times of the places of a history, if each slot lasts as long as any other and slot n begins n slots after time 0
 pub record Clock : Type 0 where
   pub time : ℕ → ℕ
   pub slot_time : ℕ
@@ -198,8 +199,8 @@ pub record Changes (E : GroupHistory) (j k source : ℕ) (move : Move) : Type 0 
   pub taken : IsTrue (is_taken_at E.opening E.group E.table E.events move.place)
   pub goes_on : KeepsOutput E (move.place + 1) k source move.new
 
--- from place i up to place k each plan in force has an output of the source, whose period is no more than `most` slots, and n slots pass from
--- where that of the first plan is next to where that of the last one is
+-- From place i up to place k each plan in force has an output of the source, whose period is at most `most` slots.
+-- Between them n slots pass, from the next slot of the first plan's output to the next slot of the last plan's output.
 pub record ChangesOften (E : GroupHistory) (i k source most n : ℕ) : Type 0 where
   pub after : i ≤ k
   pub few : k ≤ length E.events
@@ -222,14 +223,14 @@ OnePlanKeepsOutputs =
     (E : GroupHistory) (i k source : ℕ) (at : SlotPlace) → HasOpeningTable E → i ≤ k → k ≤ length E.events
     → number_of_plan E i ≡ number_of_plan E k → HasOutput (current_at E i).table source at → KeepsOutput E i k source at
 
--- an output that stays has a cell in each period of slots, in whatever frames and by whatever plans they pass
+-- an output that stays has a cell in each period of slots, in any frames and under any plans
 abbrev pub OutputsComeRound : Type 0
 OutputsComeRound =
     (E : GroupHistory) (i k source : ℕ) (at : SlotPlace) → HasOpeningTable E → HasOwnPlans E → i ≤ k → k ≤ length E.events
     → KeepsOutput E i k source at → Passes E i k at (period_of at)
     → HasCell E i k source (next_slot_on E i at.bus + period_of at)
 
--- as long as it stays, its next cell is just a period on, also where the plan changes
+-- as long as it stays, its next cell is exactly a period later, even if the plan changes
 abbrev pub OutputsRecurExactly : Type 0
 OutputsRecurExactly =
     (E : GroupHistory) (j k source : ℕ) (at : SlotPlace) (x : Placed) (slot : ℕ)
@@ -245,7 +246,8 @@ StayingCellsAreFull =
     → IsCellAt E j x s → x.source ≡ source → IsCellAt E k now t → now.source ≡ source
     → is_held_at C E k now ≡ false → CellIsAnswered C E k now t (last_word_at C E k now)
 
--- where one plan follows another, and both have an output of one source, its cells go on within fewer slots than both periods together
+-- if one plan follows another, and both have an output of one source, its cells go on within fewer slots than both
+-- periods together
 abbrev pub CellsRecurAcrossAChange : Type 0
 CellsRecurAcrossAChange =
     (E : GroupHistory) (j c k source : ℕ) (old new : SlotPlace) (x : Placed) (slot : ℕ)
@@ -253,7 +255,8 @@ CellsRecurAcrossAChange =
     → slot + (period_of old + period_of new) ≤ next_slot_on E k new.bus
     → HasCell E (j + 1) k source (slot + (period_of old + period_of new))
 
--- whatever plans follow one another, each with an output of the source: within fewer slots than twice the longest period
+-- any plans follow one another, each with an output of the source: a cell comes within fewer slots than twice the
+-- longest period
 abbrev pub CellsRecurAcrossChanges : Type 0
 CellsRecurAcrossChanges =
     (E : GroupHistory) (i k source most n : ℕ)
@@ -272,8 +275,8 @@ WordsGoOutOrAreFirst =
     → GoesOut C E i k source (next_slot_on E i at.bus + period_of at)
     ⊎ IsEmptiedFirst C E i k source (next_slot_on E i at.bus + period_of at)
 
--- where the output had stayed for a period before place i, a word that was accepted by then goes out, or a later one of its source, before one
--- period of slots has passed from there on
+-- The output had stayed for a period before place i. Then a word that was accepted by then goes out, or a later one of
+-- its source, before one period of slots has passed from place i on.
 abbrev pub AcceptedWordsGoOutInTime : Type 0
 AcceptedWordsGoOutInTime =
     (C : ℕ) (E : GroupHistory) (h a i k source : ℕ) (at : SlotPlace) (q : ℕ)
@@ -290,7 +293,7 @@ LatencyIsBounded =
     → KeepsTime E clock
     → GoesOutWithin C E (wait_of source i k (next_slot_on E i at.bus + period_of at)) clock ((period_of at + 1) * clock.slot_time)
 
--- where the output has been there from the opening on, the word always goes out in one period of slots
+-- if the output has been there from the opening on, the word always goes out in one period of slots
 abbrev pub OpeningWordsGoOutInTime : Type 0
 OpeningWordsGoOutInTime =
     (C : ℕ) (E : GroupHistory) (i k source : ℕ) (at : SlotPlace) (q : ℕ)
@@ -298,7 +301,8 @@ OpeningWordsGoOutInTime =
     → EachOutput E i k source (MaySend q) → Passes E i k at (period_of at)
     → GoesOut C E i k source (next_slot_on E i at.bus + period_of at)
 
--- Whatever was sent before, an accepted word goes out, or a later one of its source, in one period and the least spacing of slots, less one.
+-- P is the period and q the least spacing. After any earlier sends, an accepted word goes out, or a later one of its
+-- source, in P + q - 1 slots.
 abbrev pub AcceptedWordsGoOutAnyway : Type 0
 AcceptedWordsGoOutAnyway =
     (C : ℕ) (E : GroupHistory) (i k source : ℕ) (at : SlotPlace) (q n : ℕ)
@@ -306,8 +310,9 @@ AcceptedWordsGoOutAnyway =
     → EachOutput E i k source (MaySend q) → period_of at ≤ n → period_of at + q ≤ n + 1 → Passes E i k at n
     → GoesOut C E i k source (next_slot_on E i at.bus + n)
 
--- Where one plan follows another, and both have an output of one source that holds no words: a word of it that was sent by the first is
--- followed by another within fewer slots than the second period and the first, or the second and the least spacing, whichever is more.
+-- One plan follows another, and both have an output of one source that holds no words. P and P' are the periods of the
+-- first and the second output, and no least spacing is above q. A word of the source that was sent by the first plan is
+-- followed by another one within fewer than P' + max(P, q) slots.
 abbrev pub SendsRecurAcrossAChange : Type 0
 SendsRecurAcrossAChange =
     (C : ℕ) (E : GroupHistory) (j c k source : ℕ) (old new : SlotPlace) (x : Placed) (slot w q span : ℕ)
@@ -316,8 +321,8 @@ SendsRecurAcrossAChange =
     → period_of old + period_of new ≤ span → q + period_of new ≤ span → slot + span ≤ next_slot_on E k new.bus
     → SendsOne C E (j + 1) k source (slot + span)
 
--- Where one plan follows another, and the first one's output had stayed for a period before: a word that is accepted before goes out, or a
--- later one of the source, by the one or by the other, within fewer slots than that.
+-- One plan follows another, and the first one's output had stayed for a period before. A word that is accepted before
+-- goes out, or a later one of the source, by either plan, within fewer than P' + max(P, q) slots.
 abbrev pub WordsGoOutAcrossAChange : Type 0
 WordsGoOutAcrossAChange =
     (C : ℕ) (E : GroupHistory) (h i c k source : ℕ) (old new : SlotPlace) (q n : ℕ)
@@ -327,7 +332,7 @@ WordsGoOutAcrossAChange =
     → next_slot_on E i old.bus + n ≤ next_slot_on E k new.bus
     → GoesOut C E i k source (next_slot_on E i old.bus + n)
 
--- then the latency is so many slots and one at most
+-- then the latency is at most n + 1 slots
 abbrev pub LatencyIsBoundedAcrossAChange : Type 0
 LatencyIsBoundedAcrossAChange =
     (C : ℕ) (E : GroupHistory) (h i c k source : ℕ) (old new : SlotPlace) (q n : ℕ) (clock : Clock)
@@ -337,8 +342,9 @@ LatencyIsBoundedAcrossAChange =
     → next_slot_on E i old.bus + n ≤ next_slot_on E k new.bus → KeepsTime E clock
     → GoesOutWithin C E (wait_of source i k (next_slot_on E i old.bus + n)) clock ((n + 1) * clock.slot_time)
 
--- Whatever plans follow one another, each with an output of the source that holds no words: a word of it that was sent is followed by another
--- within fewer slots than twice the longest period and the greatest of the least spacings.
+-- Any plans follow one another, each with an output of the source that holds no words. The periods are at most P slots
+-- and the least spacings at most q. A word of the source that was sent is followed by another one within fewer than q +
+-- 2 P slots.
 abbrev pub SendsRecurAcrossChanges : Type 0
 SendsRecurAcrossChanges =
     (C : ℕ) (E : GroupHistory) (j k source most : ℕ) (x : Placed) (slot w q span : ℕ)
@@ -354,7 +360,7 @@ WordsGoOutAcrossChanges =
     → EachOutput E i k source (MaySend q) → 2 * most ≤ n + 1 → q + 2 * most ≤ n + 2
     → GoesOut C E i k source (next_slot_on E i P.first.at.bus + n)
 
--- then, where the slot before the next one was answered before the word was accepted, the latency is so many slots and one at most
+-- then, if the slot before the next one was answered before the word was accepted, the latency is at most n + 1 slots
 abbrev pub LatencyIsBoundedAcrossChanges : Type 0
 LatencyIsBoundedAcrossChanges =
     (C : ℕ) (E : GroupHistory) (i k source most q n bus slot : ℕ) (clock : Clock)

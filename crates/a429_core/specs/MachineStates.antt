@@ -13,8 +13,8 @@ use Rattle.a429_slots.specs.declared.answers.Answer.{Answer}
 use Rattle.a429_slots.specs.Answers.{answer, answers}
 use Rattle.a429_slots.specs.FrameStates.{FrameState, frame_state_of}
 
--- what a state keeps: of each source how many words it accepted and the last of them, of each group where it stands and what it sent last
--- of each source, and the newest plan
+-- What a state keeps: of each source how many words it accepted and the last of them; of each group its place in its
+-- frame and what it sent last of each source; the newest plan.
 pub record MachineState : Type 0 where
   pub station : TableRecord
   pub sources : List Kept
@@ -42,8 +42,8 @@ kept_of words = record { count = length words; last = last_of words }
 abbrev pub recent_at : List (List Recent) → ℕ → ℕ → Option Recent
 recent_at sends g i = option_and_then (λ rs. slice_get rs i) (slice_get sends g)
 
--- this is kept of the cells that group g has answered, for source i: it is of no later word than the newest, and of no later slot than
--- the group's next one
+-- This is kept of the cells that group g has answered, for source i. Its word is at most the newest one, and its slot
+-- is at most that of the group's next cell.
 pub record Remembers (C : ℕ) (o : Opening) (E : List Event) (g : ℕ) (p : SlotTable) (i : ℕ) (x : Option Recent) : Type 0 where
   pub recent : Recent
   pub there : x ≡ Some recent
@@ -78,7 +78,8 @@ AnswerEvents C v events given = (o : Opening) (E : List Event) → StandsForHist
 abbrev pub GoesOnByEvents : ℕ → MachineState → List Event → MachineState → Type 0
 GoesOnByEvents C before events after = (o : Opening) (E : List Event) → StandsForHistory C o E before → StandsForHistory C o (E ++ events) after
 
--- the limit is the greatest count of C bits; words are kept of each source, and each group stands in a frame and has a newest table
+-- the limit is the greatest count of C bits; words are kept of each source, and each group is in a frame and has a
+-- newest table
 abbrev pub KeepsAll : ℕ → ℕ → TableRecord → List Kept → List FrameState → PlanTable → Type 0
 KeepsAll C limit station sources groups newest =
     (limit ≡ 2 ^ C - 1) × (length sources ≡ length station.sources)

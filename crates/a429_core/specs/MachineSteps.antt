@@ -90,7 +90,7 @@ sent_of v g (Some c) = sent_for v g c.0 c.1 c.2
 abbrev pub cell_sent : MachineState → ℕ → Option SentCell
 cell_sent v g = if nat_lt g (length v.groups) then sent_of (record v { groups = after_asked v.groups g }) g (asked_cell v.groups g) else None
 
--- a group goes on to its next frame by this table, where the frame before is over
+-- a group goes on to its next frame by this table, if the frame before is over
 abbrev pub framed : FrameState → ℕ → SlotTable → Answer × FrameState
 framed s number newest =
     if nat_lt s.sent (cells_of s.table) then (Refused MidFrame, s)
@@ -134,7 +134,7 @@ SentCellsAreAnswered =
     (C : ℕ) (o : Opening) (E : List Event) (v : MachineState) (g : ℕ) (s : SentCell) → StandsForHistory C o E v → cell_sent v g ≡ Some s
     → answer C o E (Cell g) ≡ Sent s.bus s.slot (Some s.word)
 
--- and a cell that sends none is answered without a word
+-- and the answer to any other cell has no word
 abbrev pub OtherCellsHaveNoWord : Type 0
 OtherCellsHaveNoWord =
     (C : ℕ) (o : Opening) (E : List Event) (v : MachineState) (g bus slot word : ℕ) → StandsForHistory C o E v → cell_sent v g ≡ None

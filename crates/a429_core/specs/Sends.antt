@@ -1,4 +1,4 @@
--- What the answers of a history come to: which cells of a frame are answered, and where the words in them come from.
+-- What the answers of a history mean: which cells of a frame are answered, and which words are in them.
 use Rattle.std.specs.Prelude.{◌≡◌, ◌↔◌, ◌⊎◌, ◌+◌, ◌<◌, ◌++◌, ◌∷◌, [], ℕ, List, Some, None, IsTrue, map, filter, take, replicate, count_by, flat_map}
 use Rattle.std.specs.List.{AllByRecursion, range_with_len, zip}
 use Rattle.a429_equipment.specs.Arrivals.{SourcesAreApart}
@@ -26,7 +26,7 @@ pub record IsLatest (C : ℕ) (o : Opening) (E : List Event) (source word : ℕ)
   pub accepted : answer C o before (Arrive receiver word) ≡ Accepted source
   pub none_later : AcceptsNone C o (before ++ Arrive receiver word ∷ []) after source
 
--- in the group's frame an output stands on this bus in this slot, and the word is the latest of its source
+-- in the group's frame an output is on this bus in this slot, and the word is the latest of its source
 pub record CarriesLatest (C : ℕ) (o : Opening) (E : List Event) (f : Current) (bus slot word : ℕ) : Type 0 where
   pub slot_in_frame : ℕ
   pub source : ℕ
@@ -61,7 +61,7 @@ without_word (Refused refusal) = Refused refusal
 abbrev pub in_turn : Current → ℕ → List Answer
 in_turn f n = take n (map cell_sent (cells_in_order f) ++ replicate n (Refused FrameEnd))
 
--- the event is an arrival that is answered Accepted, and its word comes behind those that the source had accepted
+-- the event is an arrival that is answered Accepted, and its word comes after those that the source had accepted
 pub record AddsWord (C : ℕ) (o : Opening) (E : List Event) (source : ℕ) (e : Event) : Type 0 where
   pub receiver : ℕ
   pub word : ℕ
@@ -76,33 +76,33 @@ pub record AddsNone (C : ℕ) (o : Opening) (E : List Event) (source : ℕ) (e :
 
 -- ---- laws
 
--- a source accepts just the words of the arrivals that are answered so, one by one
+-- a source accepts exactly the words of the arrivals that are answered so, one by one
 abbrev pub WordsAreAcceptedOneByOne : Type 0
 WordsAreAcceptedOneByOne =
     (C : ℕ) (o : Opening) (E : List Event) (source : ℕ) (e : Event) → SourcesAreApart o.proposal.station.sources → AddsWord C o E source e ⊎ AddsNone C o E source e
 
--- a word that is sent is the latest that was accepted for the source of the output that stands in its slot
+-- a word that is sent is the latest that was accepted for the source of the output in its slot
 abbrev pub SentWordsWereAccepted : Type 0
 SentWordsWereAccepted =
     (C : ℕ) (o : Opening) (E : List Event) (g : ℕ) (p : SlotTable) (bus slot word : ℕ)
     → SourcesAreApart o.proposal.station.sources → OpensWith o g p
     → answer C o E (Cell g) ≡ Sent bus slot (Some word) → CarriesLatest C o E (current o g p E) bus slot word
 
--- from where a frame begins, and as long as none is taken, its cells are answered in turn, the words set aside
+-- from the beginning of a frame, and as long as none is taken, its cells are answered in order, apart from their words
 abbrev pub CellsAreAnsweredInTurn : Type 0
 CellsAreAnsweredInTurn =
     (C : ℕ) (o : Opening) (g : ℕ) (p : SlotTable) (E stretch : List Event)
     → OpensWith o g p → BeginsFrame o g p E → NoneTaken o g p E stretch
     → map without_word (cell_answers C o g E stretch) ≡ in_turn (current o g p E) (count_by (is_cell g) stretch)
 
--- where a Frame is taken, all cells of the frame before it were answered
+-- if a Frame is taken, all cells of the frame before it were answered
 abbrev pub TakenFramesFollowAllCells : Type 0
 TakenFramesFollowAllCells =
     (C : ℕ) (o : Opening) (g : ℕ) (p : SlotTable) (E stretch : List Event) (e : Event)
     → OpensWith o g p → BeginsFrame o g p E → NoneTaken o g p E stretch → IsTrue (is_taken_after o g p (E ++ stretch) e)
     → take (cells_of (current o g p E).table) (map without_word (cell_answers C o g E stretch)) ≡ map cell_sent (cells_in_order (current o g p E))
 
--- a Frame is answered by the number of the newest plan just where it is taken
+-- a Frame is answered with the number of the newest plan if and only if it is taken
 abbrev pub TakenFramesAreAnswered : Type 0
 TakenFramesAreAnswered =
     (C : ℕ) (o : Opening) (E : List Event) (g : ℕ) (p : SlotTable) → OpensWith o g p

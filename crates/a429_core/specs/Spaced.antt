@@ -8,7 +8,7 @@ use Rattle.a429_slots.specs.declared.answers.Answer.TheVariants.{Sent}
 use Rattle.a429_slots.specs.Answers.{answer}
 use Rattle.a429_core.specs.Histories.{GroupHistory, HasOpeningTable, IsCellAt, IsSpacedAt, number_of_plan}
 
--- at place k of the history the group is asked for a cell, this output stands there, and the answer has this word, or none
+-- at place k of the history the group is asked for a cell, which has this output, and the answer has this word, or none
 pub record CellIsAnswered (C : ℕ) (E : GroupHistory) (k : ℕ) (output : Placed) (slot : ℕ) (word : Option ℕ) : Type 0 where
   pub cell : IsCellAt E k output slot
   pub answered : answer C E.opening (take k E.events) (Cell E.group) ≡ Sent cell.cell.0 slot word
@@ -36,7 +36,7 @@ pub record IsFirstCell (C : ℕ) (E : GroupHistory) (k : ℕ) (output : Placed) 
   pub close : slot < at + output.limits.spacing
   pub first : (i : ℕ) (x : Placed) (s : ℕ) → i < k → IsCellAt E i x s → x.source ≡ output.source → ¬ (number_of_plan E i ≡ number_of_plan E k)
 
--- what holds of the spacing of words and of the cells that are empty for it (`a429_slots::laws`)
+-- what is true of the spacing of words and of the cells that are empty for it (`a429_slots::laws`)
 pub record AreSpaced : Type 0 where
   pub apart : WordsAreApart
   pub only : EmptyCellsFollowWords

@@ -15,8 +15,8 @@ use a429_slots::laws::{
     words_are_spaced,
 };
 
-/// What `arrive`, `cell`, `frame` and `publish` answer, and what they make of what a state keeps, is what the
-/// definition of answers says of their events, for every history that the state stands for.
+/// `arrive`, `cell`, `frame` and `publish` answer what the definition of answers says of their events, for every
+/// history that the state stands for. What they make of what a state keeps agrees with that definition too.
 pub fn calls_are_answered()
     ensures answer { CallsAreAnswered }
     ensures stands { (C : ℕ) (e : Event) (v : MachineState) → IsWholeEvent e → GoesOnByEvents C v (e ∷ []) (stepped C v e).1 }
@@ -33,26 +33,25 @@ pub fn sent_cells_are_answered()
     calls_are_answered();
 }
 
-/// A word that is sent is the latest that was accepted before for the source of the output that stands in
-/// its slot.
+/// A word that is sent is the latest that was accepted before for the source of the output in its slot.
 pub fn word_was_accepted()
     ensures { SentWordsWereAccepted }
 {}
 
-/// A source accepts just the words of the arrivals that are answered so, one by one.
+/// A source accepts exactly the words of the arrivals that are answered so, one by one.
 pub fn words_are_accepted_one_by_one()
     ensures { WordsAreAcceptedOneByOne }
 {}
 
-/// From where a frame of a group begins, and up to the next taken Frame, its cells are answered in order,
-/// slot by slot and in a slot bus by bus, each once, and after the last one `FrameEnd`. Where a Frame is
-/// taken, all of them were.
+/// From the beginning of a frame of a group up to the next taken Frame, its cells are answered in order: slot by slot,
+/// in a slot bus by bus, each once. After the last one the answer is `FrameEnd`. If a Frame is taken, all of them were
+/// answered.
 pub fn cells_are_answered_in_turn()
     ensures each { CellsAreAnsweredInTurn }
     ensures all { TakenFramesFollowAllCells }
 {}
 
-/// A Frame is answered by the number of the newest plan just where it is taken.
+/// A Frame is answered with the number of the newest plan if and only if it is taken.
 pub fn taken_frames_are_answered()
     ensures { TakenFramesAreAnswered }
 {}
@@ -62,7 +61,7 @@ pub fn cut_histories_answer_alike()
     ensures { (C : ℕ) (o : Opening) (E xs ys : List Event) → answers C o E (xs ++ ys) ≡ answers C o E xs ++ answers C o (E ++ xs) ys }
 {}
 
-/// What holds of the spacing of words, in one.
+/// What is true of the spacing of words, in one.
 fn spacing_is_kept()
     ensures { AreSpaced }
 {
@@ -70,10 +69,10 @@ fn spacing_is_kept()
     spacing_empties_first_cells_only();
 }
 
-/// A group never sends two words of one source in cells that are fewer slots apart than the plan in force at the
-/// second asks, whatever plans changed between. A word that is accepted and not held is missing in its cell only
-/// where one of its source was sent within that many slots, and the cell is the first of its output since the plan
-/// came into force.
+/// Let q be the least spacing, in slots, of an output in the plan in force at its cell. If the cell sends a word, each
+/// earlier word of the source was sent at least q slots before, even if plans changed between. A word that is accepted
+/// and not held is missing in its cell only in one case: a word of its source was sent fewer than q slots before, and
+/// the cell is the first of its output since the plan came into force.
 pub fn sent_words_are_spaced()
     ensures apart { SentWordsAreApart }
     ensures only { OnlyFirstCellsAreEmpty }
@@ -81,8 +80,8 @@ pub fn sent_words_are_spaced()
     spacing_is_kept();
 }
 
-/// Within one plan no cell is empty for the sake of spacing: from an output's second cell on, and from its first
-/// under the opening plan, each cell has the last accepted word, unless that is held.
+/// Within one plan no cell is empty because of spacing: from an output's second cell on, and from its first under the
+/// opening plan, each cell has the last accepted word, unless that is held.
 pub fn outputs_recur_within_a_plan()
     ensures again { LaterCellsAreFull }
     ensures opening { OpeningCellsAreFull }
@@ -95,9 +94,9 @@ pub fn slots_pass_one_by_one()
     ensures { SlotsPassOneByOne }
 {}
 
-/// An output that stays at its place has a cell in each period of slots, whatever frames and plans come meanwhile: each
-/// just a period after the one before, and from the second on with the last accepted word, unless that is held. By one
-/// plan each of its outputs stays.
+/// An output that stays at its place has a cell in each period of slots, in any frames and under any plans. Each cell
+/// is exactly a period after the one before. From the second on it has the last accepted word, unless that is held. As
+/// long as one plan is in force, each of its outputs stays.
 pub fn outputs_come_round()
     ensures round { OutputsComeRound }
     ensures exact { OutputsRecurExactly }
@@ -108,12 +107,12 @@ pub fn outputs_come_round()
     spacing_is_kept();
 }
 
-/// A word that a source accepts goes out, it or a later one of the source, before one period of slots has passed on
-/// the bus of the source's output, where the output had stayed for a period before or was there from the opening on;
-/// else in fewer slots than the period and the least spacing, and if not in one period, then its cell was emptied for
-/// the sake of that spacing. So the latency, from when the word is accepted until the slot of its cell ends, is a
-/// period and a slot at most, where no cell is asked for before its slot begins. A hold does not keep an accepted word
-/// from going out once.
+/// P is the period of the source's output and q its least spacing, in slots. An output has settled if it was there from
+/// the opening on or had stayed for a period before. An accepted word goes out, it or a later one of its source, within
+/// a bound on the output's bus: P slots if the output has settled, otherwise P + q - 1 slots. If it does not go out
+/// within P slots, its cell was emptied because of that spacing. The latency is from when the word is accepted until
+/// the slot of its cell ends. If the output had stayed for a period before, and no cell is asked for before its slot
+/// begins, the latency is at most P + 1 slots. Each accepted word may go out once, for any hold.
 pub fn accepted_words_go_out_in_time()
     ensures settled { AcceptedWordsGoOutInTime }
     ensures latency { LatencyIsBounded }
@@ -125,11 +124,12 @@ pub fn accepted_words_go_out_in_time()
     spacing_is_kept();
 }
 
-/// Where a group goes on from one plan to another, and both have an output of one source, the cells and words of that
-/// source go on. After a cell by the first plan there is one within fewer slots than both periods together. After a
-/// word that was sent, where the source's words are not held, another is sent within fewer slots than that, or, where
-/// the least spacing is more than the first period, within fewer than that spacing and the second period. So a word
-/// that is accepted before the change goes out, it or a later one, and its latency is no more than that many slots.
+/// A group goes on from one plan to another, and both have an output of one source: then the cells and words of that
+/// source go on. P and P' are the periods of the first and the second output, and no least spacing is above q, in
+/// slots. After a cell by the first plan the next one comes within fewer than P + P' slots. If the source's words are
+/// not held, the next word after a word that was sent is sent within fewer than P' + max(P, q) slots. Let the first
+/// output have stayed for a period. Then a word that is accepted before the change goes out, it or a later one, with a
+/// latency of at most P' + max(P, q) slots.
 pub fn words_go_on_across_a_change()
     ensures cells { CellsRecurAcrossAChange }
     ensures words { SendsRecurAcrossAChange }
@@ -140,10 +140,10 @@ pub fn words_go_on_across_a_change()
     spacing_is_kept();
 }
 
-/// Whatever plans follow one another, as long as each has an output of the source, its cells and words go on: with
-/// periods of P slots at most and least spacings of q slots at most, a cell comes within fewer than 2 P slots, after a
-/// word that was sent, where no plan holds the source's words, another is sent within fewer than q + 2 P slots, and an
-/// accepted word goes out, it or a later one, with a latency of q + 2 P - 1 slots at most.
+/// Any plans may follow one another: as long as each has an output of the source, its cells and words go on. The
+/// periods are at most P slots and the least spacings at most q slots. The next cell comes within fewer than 2 P slots.
+/// If no plan holds the source's words, the next word after a word that was sent is sent within fewer than q + 2 P
+/// slots. An accepted word goes out, it or a later one, with a latency of at most q + 2 P - 1 slots.
 pub fn words_go_on_across_changes()
     ensures cells { CellsRecurAcrossChanges }
     ensures words { SendsRecurAcrossChanges }
@@ -154,7 +154,7 @@ pub fn words_go_on_across_changes()
     spacing_is_kept();
 }
 
-/// What the law of latency supposes can be met.
+/// The premises of the law of latency can be met.
 pub fn latency_applies()
     ensures { MeetsPremises }
 {}

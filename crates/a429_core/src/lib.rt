@@ -1,8 +1,9 @@
-//! The machine: what each event of a station is answered.
+//! The machine: the answer to each event of a station.
 //!
 //! `State::open` begins a station by a proposal, at a slot. `step` takes one event: a word arrives, a cell or a frame
-//! is due, a plan is published. `run` takes a list of them. `step` takes no memory. There is no thread and no clock:
-//! the caller says what happens when. `laws` has what is proved of whole histories, such as bounds of latency.
+//! is due, a plan is published. `run` takes a list of them. `step` allocates no memory. The machine has neither threads
+//! nor a clock: the caller says what happens when. `laws` has what is proved of whole histories, such as bounds of
+//! latency.
 //!
 //! ```text
 //! let mut state = StationState::open(alloc, proposal, 0)?;

@@ -7,8 +7,8 @@ use a429_slots::{Due, GroupSends};
 use a429_word::Word;
 use std::alloc::{AllocError, Global};
 
-/// A word that a group sent: the bus and the slot of its cell, the source of the output that stands there, and the word.
-/// The slot is counted from the station's first.
+/// A word that a group sent: the bus and the slot of its cell, the source of the cell's output, and the word. The slot
+/// is counted from the station's first.
 #[derive(Clone, Copy, Debug, PartialEq, Eq)]
 pub struct SentCell {
     pub bus: u32,
@@ -17,7 +17,7 @@ pub struct SentCell {
     pub word: Word,
 }
 
-/// The sends of so many groups before their first cells.
+/// The sends of this number of groups before their first cells. Error: an allocation failed.
 pub fn sends_of(alloc: Global, groups: usize, sources: usize) -> Result<Vec<GroupSends>, AllocError>
     ensures { IfOk result (λ sends. sends.items ≡ replicate groups (replicate sources never)) }
 {

@@ -11,7 +11,7 @@ pub struct Kept {
     pub last: Option<Word>,
 }
 
-/// Keeps one more word of a source, unless as many as the limit were counted.
+/// Keeps one more word of a source. The answer is `false`, and nothing changes, if `limit` words were counted before.
 pub fn keep(sources: &mut Vec<Kept>, limit: u64, source: usize, word: Word) -> bool
     requires { source < length sources.old.items }
     ensures room { result ≡ nat_lt (count_at sources.old.items source) limit }

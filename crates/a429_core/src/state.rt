@@ -22,8 +22,8 @@ use std::marker::Model;
 /// The state of a station as the program keeps it.
 pub type StationState = State<COUNT_BITS>;
 
-/// A station in operation: the last accepted word of each source, where each group stands in its frame and what it
-/// sent last, and the newest plan. It counts the words of a source in `C` bits, 1 to 41.
+/// A station in operation: the last accepted word of each source, the place of each group in its frame and what it sent
+/// last, and the newest plan. It counts the words of a source in `C` bits, 1 to 41.
 #[derive(Drop)]
 pub struct State<const C: u32> {
     equipment: Equipment,
@@ -74,7 +74,7 @@ fn senders_of(alloc: Global, plan: &Plan<OUTPUTS>, first: u64) -> Result<Vec<Sen
     Ok(senders)
 }
 
-/// The next cell of a group: its bus, its slot, and the output that stands there.
+/// The next cell of a group: its bus, its slot, and its output; no output if the cell is empty.
 fn next_cell(groups: &mut Vec<Sender>, group: usize) -> Option<(u32, u64, Option<Due>)>
     requires { group < length groups.old.items }
     ensures due { result ≡ asked_cell groups.old.items group }
@@ -88,7 +88,7 @@ fn next_cell(groups: &mut Vec<Sender>, group: usize) -> Option<(u32, u64, Option
     Some((bus, first + slot, sender.output_in(bus, slot)))
 }
 
-/// Takes the next frame of a group by the newest plan, where the one before is over.
+/// Takes the next frame of a group by the newest plan, if the frame before is over.
 fn next_frame(groups: &mut Vec<Sender>, newest: &Plan<OUTPUTS>, group: usize) -> Answer
     requires group { group < length groups.old.items }
     requires planned { group < length (groups_of newest.now) }
@@ -110,8 +110,8 @@ fn next_frame(groups: &mut Vec<Sender>, newest: &Plan<OUTPUTS>, group: usize) ->
 }
 
 impl<const C: u32> State<C> {
-    /// A station to which nothing has happened, whose first frames begin at this slot. Refused with
-    /// `SlotsSpent` where the first frame of some group has slots that cannot be counted in 64 bits.
+    /// A station to which nothing has happened, whose first frames begin at this slot. Errors: `SlotsSpent` if the
+    /// first frame of some group has slots that cannot be counted in 64 bits; `NoMemory` if an allocation failed.
     pub fn open(
         alloc: Global,
         proposal: Proposal<OUTPUTS>,
@@ -143,9 +143,10 @@ impl<const C: u32> State<C> {
         })
     }
 
-    /// A raw word comes in at a receiver: the answer, and the word is kept, where it is accepted. As each of these four
-    /// calls it takes no memory and never fails, and its contract says exactly what it does to what the state keeps;
-    /// what that means for each history, `laws::calls_are_answered` says.
+    /// A raw word comes in at a receiver. An accepted word is kept. It is refused for the first of these that is the
+    /// case: `NoSuch` for the receiver, `Parity`, `Filtered`, `NoSource`, `CountSpent`. Each of these four calls
+    /// allocates no memory and never fails. Its contract says exactly what it does to what the state keeps.
+    /// `laws::calls_are_answered` says what that means for each history.
     pub fn arrive(&mut self, receiver: usize, raw: u32) -> Answer
         ensures answer { result ≡ (arrived C self.old receiver raw).0 }
         ensures after { self.new ≡ (arrived C self.old receiver raw).1 }
@@ -165,7 +166,8 @@ impl<const C: u32> State<C> {
         }
     }
 
-    /// A group sends its next cell, with the word of the output that stands there, as it is kept in this moment.
+    /// A group sends its next cell, with the word of its output as it is kept at this moment. Refusals: `NoSuch` for
+    /// the group; `FrameEnd` if all cells of the frame were sent.
     pub fn cell(&mut self, group: usize) -> Answer
         ensures answer { result ≡ (cell_asked self.old group).0 }
         ensures after { self.new ≡ (cell_asked self.old group).1 }
@@ -188,7 +190,8 @@ impl<const C: u32> State<C> {
         }
     }
 
-    /// A group sends its next cell, as `cell` does. The word in it, with its source; `None` if there is no word or no cell.
+    /// A group sends its next cell, in the way of `cell`. The answer is the word in it, with its source; `None` if no
+    /// word was sent.
     pub fn send_cell(&mut self, group: usize) -> Option<SentCell>
         ensures sent { result ≡ cell_sent self.old group }
         ensures after { self.new ≡ (cell_asked self.old group).1 }
@@ -227,7 +230,8 @@ impl<const C: u32> State<C> {
         }
     }
 
-    /// A group goes on to its next frame, by the newest plan.
+    /// A group goes on to its next frame, by the newest plan. Refusals: `NoSuch` for the group; `MidFrame` if a cell of
+    /// the frame was not sent; `SlotsSpent` if 64 bits cannot count the slots of the next frame.
     pub fn frame(&mut self, group: usize) -> Answer
         ensures answer { result ≡ (frame_asked self.old group).0 }
         ensures after { self.new ≡ (frame_asked self.old group).1 }
@@ -238,7 +242,8 @@ impl<const C: u32> State<C> {
         next_frame(&mut self.groups, &self.newest, group)
     }
 
-    /// A newer plan is proposed, for all groups: where it is of the same station it is the newest from now on.
+    /// A newer plan is proposed, for all groups. If it is of the same station it is the newest from now on. Refusals:
+    /// `StationDiffers`; `CountSpent` if the newest plan has the last number of 64 bits.
     pub fn publish(&mut self, proposal: Proposal<OUTPUTS>) -> Answer
         ensures answer { result ≡ (publish_asked self.old proposal).0 }
         ensures after { self.new ≡ (publish_asked self.old proposal).1 }
@@ -271,7 +276,7 @@ impl<const C: u32> State<C> {
         }
     }
 
-    /// Takes one event. It takes no memory and never fails.
+    /// Takes one event. It allocates no memory and never fails.
     // For every history that the state stands for, the answer is the one of the definition.
     pub fn step(&mut self, event: Event) -> Result<Answer, AllocError>
         ensures ok { IsOk result }
@@ -283,7 +288,7 @@ impl<const C: u32> State<C> {
         Ok(self.take(event))
     }
 
-    /// Takes events one after another. Memory for all answers is taken first; where it is refused,
+    /// Takes events one after another. Memory for all answers is allocated first. Error: that allocation failed; then
     /// nothing happened.
     pub fn run(&mut self, alloc: Global, events: Vec<Event>) -> Result<Vec<Answer>, AllocError>
         ensures answers { IfOk result (λ all. AnswerEvents C self.old (map event_of events.items) all.items) }

@@ -119,7 +119,7 @@ module _ {X : Type 0} (change : List ℕ) (name : X → List ℕ) (subject : X �
       ]
     ]
 
-    -- nothing is said of one that both have
+    -- there is no row of a thing that both have
     pub said_of : (i : ℕ) (x y : X) → slice_get first i ≡ Some x → slice_get second i ≡ Some y → rows x y ≡ []
     said_of i x y here there =
         let z = same_place i x here in
@@ -128,7 +128,7 @@ module _ {X : Type 0} (change : List ℕ) (name : X → List ℕ) (subject : X �
         ap (λ (o : Option ℕ). option_and_then (λ (i : ℕ). slice_get second i) o) (named_at name second other i y there (name x) (ap name (sym one) ∙ z.2)) ∙ there in
         sym (ap (λ (o : Option X). option_map_or (rows x) o []) item) ∙ none_of (of_both name rows second) first rest.1 i x here
 
-  -- of a list and itself nothing is said
+  -- a list compared with itself has no row
   pub none_itself : (xs : List X) → HaveOwn name xs → ((i : ℕ) (x : X) → slice_get xs i ≡ Some x → rows x x ≡ []) → list_rows change name subject rows xs xs ≡ []
   none_itself xs own each =
       let placed : (x : X) → place_rows change name subject xs xs x ≡ [] = λ x. number_none change (subject x) (number_named name xs (name x)) (number_named name xs (name x)) refl in

@@ -31,7 +31,7 @@ pub taken_more : {X Y : Type 0} (f : X → List Y) (text new old : List Y) (xs :
 taken_more {X} {Y} f text new old xs k x there so now =
     now ∙ ap (λ (t : List Y). t ++ f x) so ∙ flat_map_more f old (take k xs) x ∙ ap (λ l. old ++ flat_map f l) (sym (take_next xs k x there))
 
--- one more number that a test is asked of
+-- one more number that is tested
 pub any_more : (p : ℕ → Bool) (k : ℕ) → list_any p (range_with_len 0 (k + 1)) ≡ (list_any p (range_with_len 0 k) || p k)
 any_more p k =
     let more : suc k ≡ k + 1 = omega arith in
@@ -43,7 +43,7 @@ any_more p k =
     one_more true = refl
     one_more false = refl
 
--- ---- what a group asks
+-- ---- the demands of a group
 
 pub paired : {A B : Type 0} (R : A → B → Type 0) (xs : List A) (ys : List B) (i : ℕ) (x : A) → AllZip R xs ys → slice_get xs i ≡ Some x → (y : B) × (slice_get ys i ≡ Some y) × R x y
 paired R [] ys i x all there = absurd (none-some x there)
@@ -51,7 +51,7 @@ paired R (a ∷ xs) [] i x all there = absurd all
 paired {A} {B} R (a ∷ xs) (b ∷ ys) zero x all there = (b, refl, subst (λ (z : A). R z b) (same_Some a x there) all.0)
 paired R (a ∷ xs) (b ∷ ys) (suc i) x all there = paired R xs ys i x all.1 there
 
--- a group of an equipment by its number, and what its outputs ask
+-- a group of an equipment by its number, and the demands of its outputs
 pub record GroupAt (e : TableRecord) (asked : List (List Demand)) (g : ℕ) (row : GroupRow) (rows : List OutputRow) : Type 0 where
   pub all : AreAsked e asked
   pub here : slice_get e.groups g ≡ Some row

@@ -12,7 +12,7 @@ use Rattle.a429_documents.specs.declared.import.rows.ImportRow.{ImportRow}
 use Rattle.a429_documents.specs.FirstRows.{AreFirstRows, NotesRow, first_named}
 use Rattle.a429_documents.specs.ImportTables.{name_in}
 
--- the first place in a list with one element more
+-- the first place in a list with one added element
 position_from-push : {X : Type 0} (p : X → Bool) (i n : ℕ) (xs : List X) (y : X) → i + length xs ≡ n
     → position_from p i (xs ++ y ∷ []) ≡ option_or (position_from p i xs) (cond (p y) (Some n) None)
 position_from-push p i n [] y e = let same : i ≡ n = omega arith in ap (λ m. cond (p y) (Some m) None) same
@@ -23,13 +23,13 @@ position_from-push p i n (x ∷ xs) y e = by (p x) (position_from-push p (i + 1)
     by true rest = refl
     by false rest = rest
 
--- a row more, which is noted
+-- an added row, which is recorded
 pub first_rows_push : (before after : FirstRows) (rows : List ImportRow) (row : ImportRow) → AreFirstRows before rows → NotesRow before after row (length rows) → AreFirstRows after (rows ++ row ∷ [])
 first_rows_push before after rows row are notes = λ part name.
     let more : Option ℕ = cond (bytes_eq name (name_in part row)) (Some (length rows)) None in
     notes part name ∙ ap (λ o. option_or o more) (are part name) ∙ sym (position_from-push (λ r. bytes_eq name (name_in part r)) 0 (length rows) rows row (omega arith))
 
--- each map has one name more
+-- each map has one added name
 pub notes_row : (before after : FirstRows) (row : ImportRow) (number : ℕ)
     → NumbersOneMore before.receivers after.receivers row.texts.receiver number
     → NumbersOneMore before.sources after.sources row.texts.source number

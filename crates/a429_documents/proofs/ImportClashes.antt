@@ -1,4 +1,4 @@
--- A row that is compared with three earlier rows alone: the first of its source, of its receiver and of its group.
+-- A row that is compared with only three earlier rows: the first of its source, of its receiver and of its group.
 use Rattle.std.proofs.Common.{◌≡◌, ◌∙◌, ℕ, suc, ◌+◌, ◌≤◌, ◌<◌, ◌&&◌, Bool, true, false, not, cond, List, [], ◌∷◌, ◌++◌, Option, None, Some, option_map, Result, Ok, Err, ap, ap₂, arith, refl, subst, sym, true≢false}
 use Rattle.std.specs.Prelude.{IfSome, nat_lt, slice_get}
 use Rattle.std.specs.List.{AllByRecursion}
@@ -45,7 +45,7 @@ each_part a b h Sources = (none_of_two (part_clash Sources a b) _ (sym (clash_pa
 each_part a b h Receivers = (none_of_two (part_clash Receivers a b) (part_clash Groups a b) (none_of_two (part_clash Sources a b) _ (sym (clash_parts a b) ∙ h)).1).0
 each_part a b h Groups = (none_of_two (part_clash Receivers a b) (part_clash Groups a b) (none_of_two (part_clash Sources a b) _ (sym (clash_parts a b) ∙ h)).1).1
 
--- what two rows of one name have to state alike
+-- the values in which two rows of one name must agree
 abbrev StateAlike : Part → ImportRow → ImportRow → Type 0
 StateAlike Receivers a b = a.texts.filters ≡ b.texts.filters
 StateAlike Sources a b = (a.texts.receiver ≡ b.texts.receiver) × (a.numbers.label ≡ b.numbers.label) × (a.numbers.sdi ≡ b.numbers.sdi)
@@ -178,7 +178,7 @@ compared part number (r ∷ rows) row n agree h = by (bytes_eq (name_in part row
           is = ap (λ o. option_or (numbered number o) (first_part_clash part (number + 1) rows row)) (other_name part r row e) ∙ later.is;
         }
 
--- the row is compared with that one alone
+-- the row is compared with only that one
 pub first_named_decides : (part : Part) (rows : List ImportRow) (row : ImportRow) (n : ℕ) → Agree rows → first_from part (name_in part row) 0 rows ≡ Some n → first_part_clash part 0 rows row ≡ clash_at part rows n row
 first_named_decides part rows row n agree h =
     let c = compared part 0 rows row n agree h in
@@ -249,7 +249,7 @@ pub first_of_three : (rows : List ImportRow) (row : ImportRow) (s r g first : Op
 first_of_three rows row s r g first of_source of_receiver of_group is =
     ap column_of (is ∙ ap₂ earlier_clash of_source (ap₂ earlier_clash of_receiver of_group)) ∙ three_decide 0 rows row
 
--- ---- a row more
+-- ---- an added row
 
 all_push : {X : Type 0} (P : X → Type 0) (xs : List X) (y : X) → AllByRecursion P xs → P y → AllByRecursion P (xs ++ y ∷ [])
 all_push P [] y all here = (here, tt)
@@ -265,14 +265,14 @@ taken : (line : ℕ) (row : ImportRow) (o : Option ImportColumn) (next : ImportR
 taken line row None next h = (same_ok row next h, refl)
 taken line row (Some c) next h = cc
 
--- a row that is taken contradicts no earlier one
+-- a row that is accepted contradicts no earlier one
 pub next_agrees : (heading : List (List ℕ)) (earlier : List ImportRow) (line : CsvLine) (row : ImportRow) → next_row heading earlier line ≡ Ok row → first_clash earlier row ≡ None
 next_agrees heading earlier line row h =
     let by_itself = bound (row_of heading line) (λ r. agreed line.number r (first_clash earlier r)) row h in
     let (same, none) = taken line.number by_itself.value (first_clash earlier by_itself.value) row by_itself.gives in
     subst (λ (r : ImportRow). first_clash earlier r ≡ None) same none
 
--- ---- a line more
+-- ---- an added line
 
 pub row_taken : (heading : List (List ℕ)) (earlier : List ImportRow) (line : CsvLine) (lines : List CsvLine) (row : ImportRow) → next_row heading earlier line ≡ Ok row
     → rows_after heading earlier (line ∷ lines) ≡ rows_after heading (earlier ++ row ∷ []) lines
@@ -284,7 +284,7 @@ row_refused view heading earlier line lines NoMemory h = tt
 row_refused view heading earlier line lines (Csv number kind column) h = ap (λ (r : Result ImportRow CsvFault). r >>= λ next. rows_after heading (earlier ++ next ∷ []) lines) h
 row_refused view heading earlier line lines (Table f) h = absurd h
 
--- a refusal is one whatever would have been read
+-- a refusal is the same for results of any kind
 pub same_refusal : {X Y : Type 0} (view : X → List ImportRow) (other : Y → List ImportRow) (e : ImportFault) (stated : Result (List ImportRow) CsvFault) → States view (Err e) stated → States other (Err e) stated
 same_refusal view other NoMemory stated h = tt
 same_refusal view other (Csv line kind column) stated h = h

@@ -1,4 +1,4 @@
--- A table that is read from the tree of rows has the record that the rows state.
+-- The tree of rows, read as a table, has the record of the rows.
 use Rattle.std.proofs.Common.{◌≡◌, ℕ, ◌+◌, ◌^◌, ◌<◌, pos, cond, Bool, true, false, List, [], ◌∷◌, ◌++◌, map, Option, None, Some, option_map, codes, unwrap_or, ap, ap₂, refl, ◌∙◌}
 use Rattle.std.specs.Prelude.{IfSome, filter}
 use Rattle.std.specs.List.{AllByRecursion, position_from}
@@ -86,7 +86,7 @@ receiver_is row =
 
 -- ---- the root
 
--- what stands at the keys of the root
+-- the values at the keys of the root
 record IsRoot (root : Data) (rows : List ImportRow) : Type 0 where
   version : version_of root ≡ Two
   receivers : rows_at (codes "receiver") root ≡ part_trees Receivers rows
@@ -151,7 +151,7 @@ module _ (root : Data) (rows : List ImportRow) (is : IsRoot root rows) where
   hold_number None small = refl
   hold_number (Some k) small = ap (λ n. Some n) (natural-pos (2 ^ 32) k small)
 
-  -- what stands in the table of an output
+  -- the values in the table of an output
   record IsOutput (d : Data) (source : List ℕ) (least most : ℕ) (hold : Option ℕ) : Type 0 where
     source_is : text_at (codes "source") d ≡ source
     least_is : integer_at (codes "min_us") d ≡ pos least

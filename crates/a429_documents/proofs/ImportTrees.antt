@@ -107,7 +107,7 @@ words_more {X} xs text k x old new whole there so now =
     ap (λ (ys : List X). map (λ w. string w) (filter is_word (map text ys))) (drop_at xs k x there) ∙ if_word (is_word (text x)) (text x) others in
     ap (λ (ds : List Data). ds ++ map (λ w. string w) others) now ∙ append_assoc old first (map (λ w. string w) others) ∙ ap (λ (ds : List Data). old ++ ds) (sym left) ∙ so
 
--- the filters of a receiver that has some
+-- the filters of a receiver that has at least one
 pub filters_put : (ws : List (List ℕ)) (values : List Value) (old new : Members) → map view values ≡ map (λ w. string w) ws → (length values == 0) ≡ false
     → new ≡ member (codes "filters") (listed (map view values)) old → new ≡ with_filters ws old
 filters_put [] [] old new same some put = absurd (clash (sym some))

@@ -60,7 +60,7 @@ module _ (lines : List CsvLine) (rows : List ImportRow) (are : rows_stated lines
   pub table_refused : (f : TableFault) (e : ImportFault) → GivesUnlessMemory (λ (t : TableRecord). t) bytes (Err f) (reading bytes) → e ≡ of_table f → IsImportOf lines (Err e)
   table_refused f e h is = subst (λ (x : ImportFault). IsImportOf lines (Err x)) (sym is) (refused f h)
 
--- rows that are refused
+-- rows with a fault
 pub rows_refused : {X : Type 0} (view : X → List ImportRow) (lines : List CsvLine) (e : ImportFault) → States view (Err e) (rows_stated lines) → IsImportOf lines (Err e)
 rows_refused view lines NoMemory h = tt
 rows_refused view lines (Csv line kind column) h = h

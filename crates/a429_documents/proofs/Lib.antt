@@ -4,7 +4,6 @@ pub mod Drawings
 pub mod MarkedCells
 pub mod MarginGroups
 pub mod RowFields
-pub mod AlignedRows
 pub mod DocumentRows
 pub mod Findings
 pub mod Changes

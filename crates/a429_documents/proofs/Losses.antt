@@ -1,4 +1,4 @@
--- When `lint` has no row of an output without a period, or of a source that is never accepted or sent.
+-- When `lint` has no row `unfit`, `unheard` or `unsent`.
 use Rattle.std.proofs.Common.{◌≡◌, ℕ, zero, suc, ◌+◌, ◌^◌, ◌<◌, ◌≤◌, Bool, true, false, List, [], ◌∷◌, ◌++◌, length, get_or, Option, Some, None, ap, ap₂, sym, subst, refl, arith, inl, inr, ◌⊎◌, ◌∙◌, eq-eqb}
 use Rattle.std.specs.Prelude.{◌==◌, ◌&&◌, ◌||◌, ◌↔◌, IfSome, MatchOption, codes, if◌then◌else◌, is_some, option_map, position, slice_get, slice_index_or, unwrap_or}
 use Rattle.std.specs.List.{AllByRecursion, AllZip, flat_map, list_any, range_with_len}

@@ -1,4 +1,4 @@
--- What holds of a planned group when its margin is said.
+-- What is true of a planned group when its margin is computed.
 use Rattle.std.proofs.Common.{◌≡◌, ℕ, zero, suc, ◌+◌, ◌-◌, ◌*◌, ◌/◌, ◌^◌, ◌<◌, ◌≤◌, List, [], ◌∷◌, ◌++◌, length, map, ap, sym, subst, refl, arith, ◌∙◌, append_assoc, drop}
 use Rattle.std.specs.Prelude.{Some, None, slice_get, sum}
 use Rattle.std.specs.List.{AllByRecursion, AllZip, zip}
@@ -20,7 +20,7 @@ use Rattle.a429_cert.specs.PlanText.{HasSources}
 use Rattle.a429_documents.proofs.DocumentRows.{served_length}
 use Rattle.a429_cert.proofs.OwnGroups.{FewestCarry, carried, frame_greatest, total_is}
 
--- a table that has these sources, and of which nothing else is asked
+-- a table with these sources and nothing else
 abbrev of_sources : List SourceRow → TableRecord
 of_sources sources = record { version = 0; rate = None; receivers = []; sources = sources; groups = []; outputs = [] }
 

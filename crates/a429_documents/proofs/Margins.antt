@@ -15,12 +15,12 @@ use Rattle.a429_documents.specs.Margins.{is_chosen, output_margin, wider_row}
 use Rattle.a429_cert.specs.PlanText.{source_name}
 use Rattle.a429_slots.proofs.Cells.{output_is}
 
--- where an output stands
+-- the place of an output
 pub stands_at : (t : SlotTable) (o : ℕ) (place : SlotPlace) → o < length (outputs_of t) → place_of t o ≡ Some place → (placed_at t o).place ≡ place
 stands_at t o place below at =
     same_Some _ _ (sym (ap (option_map (λ (p : Placed). p.place)) (output_is t o below)) ∙ at)
 
--- one more of what is answered of each element
+-- one more answer for an element
 pub mapped_more : {X Y : Type 0} (f : X → Y) (xs : List X) (k : ℕ) (x : X) (old new : List Y) → slice_get xs k ≡ Some x → old ≡ map f (take k xs) → new ≡ old ++ f x ∷ [] → new ≡ map f (take (k + 1) xs)
 mapped_more {X} {Y} f xs k x old new there so now =
     now ∙ ap (λ (ys : List Y). ys ++ f x ∷ []) so ∙ sym (ap (map f) (take_next xs k x there) ∙ map-append f (take k xs) (x ∷ []))

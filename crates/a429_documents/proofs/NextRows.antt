@@ -48,7 +48,7 @@ any_agree : {X : Type 0} (p q : X → Bool) → ((x : X) → p x ≡ q x) → (x
 any_agree p q same [] = refl
 any_agree p q same (x ∷ xs) = ap₂ (λ a b. a || b) (same x) (any_agree p q same xs)
 
--- a row is the first of its name just if the first of its name has its number
+-- a row is the first of its name if and only if the first row of its name has its number
 pub first_if_new : (part : Part) (rows : List ImportRow) (n : ℕ) (row : ImportRow) → slice_get rows n ≡ Some row → is_number n (first_from part (name_in part row) 0 rows) ≡ not (is_known part (take n rows) row)
 first_if_new part rows n row there =
     let name = name_in part row in
@@ -80,7 +80,7 @@ nowhere_kept p i (x ∷ xs) h = by (p x) h (nowhere_kept p (i + 1) xs)
     by true k rest = cc
     by false k rest = rest k
 
--- what passes begins at the first place where something passes
+-- the elements that pass begin at the first place with an element that passes
 record BeginsAt {X : Type 0} (p : X → Bool) (i m : ℕ) (xs : List X) : Type 0 where
   place : ℕ
   counted : m ≡ i + place
@@ -141,7 +141,7 @@ group_begins rows n group first =
 pub first_of_group : (rows : List ImportRow) (n : ℕ) (group : ImportRow) → IsFirst Groups rows n group → IsOfGroup group rows n
 first_of_group rows n group first = record { row = group; there = first.there; same = (bytes_eq-Decides group.texts.group group.texts.group).1 refl }
 
--- the row after one of its group, where the group has one more
+-- the row after a row of its group, if the group has one more
 pub record IsNext (group : ImportRow) (rows : List ImportRow) (n : ℕ) (next : Option ℕ) : Type 0 where
   pub kept : filter (same_name Groups group) (drop (suc n) rows) ≡ rows_from group rows next
   pub known : IfSome next (λ m. IsOfGroup group rows m)
@@ -167,7 +167,7 @@ next_is group rows n next of h =
     let at = next_at rows 0 n (n + 1) of.row of.there (omega arith) ∙ ap (λ (k : List ℕ). first_from Groups k (n + 1) (drop (suc n) rows)) named in
     next_from group rows n next (slice_get_within rows n of.row of.there) (sym at ∙ sym h)
 
--- an output more
+-- an added output
 pub one_output : (group : ImportRow) (rows : List ImportRow) (n : ℕ) (next : Option ℕ) (before after : List Data) → (of : IsOfGroup group rows n) → IsNext group rows n next → after ≡ before ++ outputs_at rows n
     → after ++ map output_tree (rows_from group rows next) ≡ before ++ map output_tree (rows_from group rows (Some n))
 one_output group rows n next before after of is gained =

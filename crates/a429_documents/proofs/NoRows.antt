@@ -84,7 +84,7 @@ and_left false b holds h = absurd (clash holds)
 same_if : (x y : Option ℕ) → x ≡ y → same_number x y ≡ true
 same_if x y same = ap (same_number x) (sym same) ∙ same_itself x
 
--- where there is no row, and it has not moved either
+-- if there is no row, and it has not moved either
 pub compared_is : (all : Bool) (subject : Subject) (x y : Compared) → compared_rows all subject x y ≡ [] → (all ≡ true) ⊎ (has_moved x y ≡ false) → x ≡ y
 compared_is all subject x y h still =
     let p1 = none_parts (number_rows (codes "min_us") subject x.min_us y.min_us) _ h in

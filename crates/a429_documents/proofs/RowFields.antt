@@ -2,7 +2,7 @@
 use Rattle.std.proofs.Common.{◌≡◌, ℕ, zero, suc, List, [], ◌∷◌, refl}
 use Rattle.std.specs.Prelude.{unwrap_or}
 use Rattle.csv.specs.Records.{field_at}
-use Rattle.a429_documents.specs.Aligned.{field_in}
+use Rattle.a429_documents.specs.ImportFields.{field_in}
 
 pub field_is : (row : List (List ℕ)) (column : ℕ) → unwrap_or (field_at row column) [] ≡ field_in column row
 unfolding field_at

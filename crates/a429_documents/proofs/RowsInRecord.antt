@@ -1,4 +1,4 @@
--- What an imported row states stands in the record.
+-- The record has what an imported row says.
 use Rattle.std.proofs.Common.{◌≡◌, ◌∙◌, ℕ, zero, suc, ◌+◌, cond, Bool, true, false, List, [], ◌∷◌, ◌++◌, map, Option, None, Some, Ok, inl, inr, ◌⊎◌, ap, ap₂, refl, sym, subst, arith, unwrap_or}
 use Rattle.std.specs.Prelude.{◌||◌, ◌&&◌, ◌==◌, not, if◌then◌else◌, filter, slice_get}
 use Rattle.std.specs.List.{AllByRecursion, list_any, position_from}

@@ -1,4 +1,4 @@
--- Outputs that are laid out one behind the other have one order, which their places tell.
+-- Outputs that are laid out one after the other have one order, which follows from their places.
 use Rattle.std.proofs.Common.{◌≡◌, ℕ, zero, suc, ◌+◌, ◌*◌, ◌/◌, ◌%◌, ◌^◌, ◌<◌, ◌≤◌, List, [], ◌∷◌, length, map, take, Some, ap, ap₂, sym, subst, refl, arith, ◌∙◌}
 use Rattle.std.specs.Prelude.{slice_get, slice_index, sum}
 use Rattle.std.specs.List.{AllZip}
@@ -22,7 +22,7 @@ pub record Begins (h s : ℕ) (x : Placed) : Type 0 where
   pub bus : x.place.bus ≡ s / 2 ^ h
   pub offset : x.place.offset ≡ reversed h (s % 2 ^ h)
 
--- these begin one behind the other, from a start on
+-- these begin one after the other, from a start on
 abbrev pub Laid : ℕ → ℕ → List Placed → Type 0
 Laid h s [] = Unit {0}
 Laid h s (x ∷ xs) = Begins h s x × (1 ≤ share h x) × Laid h (s + share h x) xs

@@ -1,4 +1,4 @@
--- Intervals that admit the next period of the grid.
+-- Intervals that contain the next longer grid period.
 use Rattle.std.proofs.Common.{ℕ, ◌*◌, ◌≤◌, arith}
 use Rattle.std.proofs.lemmas.Grind.{div_ceil_times}
 use Rattle.a429_grid.specs.Grid.{IsGridPeriod, IsPeriod}

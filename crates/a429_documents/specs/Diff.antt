@@ -1,4 +1,4 @@
--- What changes from one proposal to another: the rows of `diff` (profile: diff rows).
+-- What changes between two proposals: the rows of `diff` (profile: diff rows).
 use Rattle.std.specs.Prelude.{ℕ, ◌+◌, ◌-◌, ◌^◌, ◌==◌, ◌&&◌, not, Bool, true, false, List, [], ◌∷◌, ◌++◌, Option, None, Some, codes, if◌then◌else◌, is_some, length, nat_lt, option_and_then, option_map, position, slice_get, slice_index_or}
 use Rattle.std.specs.List.{count_by, flat_map, range_with_len, sum_by}
 use Rattle.std.specs.Option.{option_map_or}
@@ -24,7 +24,7 @@ diff_columns = codes "change" ∷ codes "group" ∷ codes "name" ∷ codes "firs
 
 -- ---- a row
 
--- of what a row speaks: a group, a receiver, source or output, and the slots between its two sends
+-- the subject of a row: a group, a receiver, source or output, and the number of slots between its last send by the first plan and its next by the second
 pub record Subject : Type 0 where
   pub group : Field
   pub name : Field
@@ -42,11 +42,11 @@ of_group group = record { group = Text group; name = Absent; gap = Absent }
 abbrev pub of_output : List ℕ → List ℕ → Field → Subject
 of_output group name gap = record { group = Text group; name = Text name; gap = gap }
 
--- what changes, of what, and what it is in the first table and in the second
+-- the change, its subject, and the values of the first and the second table
 abbrev pub change_row : List ℕ → Subject → Field → Field → List Field
 change_row change subject first second = Text change ∷ subject.group ∷ subject.name ∷ first ∷ second ∷ subject.gap ∷ []
 
--- a row, unless both have the same
+-- a row, unless both values are the same
 abbrev pub unless : Bool → List Field → List (List Field)
 unless same row = if same then [] else row ∷ []
 
@@ -65,36 +65,36 @@ number_rows change subject first second = unless (same_number first second) (cha
 
 -- ---- the tables
 
--- Just if neither table has a group: of others the rates of the groups are compared, but a plan text of version 1 has the rate without them too.
+-- Only if neither table has a group. If there are groups, their rates are compared; but a plan text of version 1 has the rate even without groups.
 abbrev pub table_rates : TableRecord → TableRecord → List (List Field)
 table_rates a b = if length a.groups == 0 && length b.groups == 0 then number_rows (codes "rate") the_table a.rate b.rate else []
 
 abbrev pub version_rows : ℕ → ℕ → List (List Field)
 version_rows from to = number_rows (codes "version") the_table (Some from) (Some to)
 
--- ---- lists of what has a name
+-- ---- lists of things with a name
 
--- the number of the one of this name, and that one
+-- the number of the thing with this name, and that thing
 unfoldable pub number_named : {X : Type 0} → (X → List ℕ) → List X → List ℕ → Option ℕ
 number_named name xs n = position (λ x. bytes_eq (name x) n) xs
 
 abbrev pub item_named : {X : Type 0} → (X → List ℕ) → List X → List ℕ → Option X
 item_named name xs n = option_and_then (λ i. slice_get xs i) (number_named name xs n)
 
--- one whose number in the second list is another than in the first, or that only one of them has
+-- a thing whose number in the second list is another one than in the first, or that only one list has
 abbrev pub place_rows : {X : Type 0} → List ℕ → (X → List ℕ) → (X → Subject) → List X → List X → X → List (List Field)
 place_rows change name subject first second x = number_rows change (subject x) (number_named name first (name x)) (number_named name second (name x))
 
--- one that the first list does not have
+-- a thing that the first list does not have
 abbrev pub new_rows : {X : Type 0} → List ℕ → (X → List ℕ) → (X → Subject) → List X → List X → X → List (List Field)
 new_rows change name subject first second x =
     if is_some (number_named name first (name x)) then [] else place_rows change name subject first second x
 
--- what is said of one that both lists have
+-- the rows about a thing that both lists have
 abbrev pub of_both : {X : Type 0} → (X → List ℕ) → (X → X → List (List Field)) → List X → X → List (List Field)
 of_both name rows second x = option_map_or (rows x) (item_named name second (name x)) []
 
--- the numbers of those of the first list, and of those that only the second has; and then what differs of those that both have
+-- the places of the things of the first list, and of those that only the second list has; then the differences of those that both lists have
 abbrev pub list_rows : {X : Type 0} → List ℕ → (X → List ℕ) → (X → Subject) → (X → X → List (List Field)) → List X → List X → List (List Field)
 list_rows change name subject rows first second =
     flat_map (place_rows change name subject first second) first
@@ -102,7 +102,7 @@ list_rows change name subject rows first second =
 
 -- ---- the station
 
--- how many filters there are, if there is a list
+-- the number of filters, if there is a list
 abbrev pub filter_count : Option (List Filter) → Field
 filter_count filters = number_field (option_map (λ fs. length fs) filters)
 
@@ -140,13 +140,13 @@ sources_rows a b = list_rows (codes "source") (λ s. s.name) (λ s. of_name s.na
 abbrev pub group_rows : List GroupRow → List GroupRow → List (List Field)
 group_rows own others = list_rows (codes "group") (λ g. g.name) (λ g. of_group g.name) rate_rows own others
 
--- no row just if the two tables are of one station (law `no_station_row_is_one_station`): then the second can be published while the first one runs
+-- no row if and only if the tables are of one station (law `no_station_row_is_one_station`): then the second can be published while the first one runs
 abbrev pub station_rows : TableRecord → TableRecord → List (List Field)
 station_rows a b = receiver_rows a.receivers b.receivers ++ (sources_rows a b ++ group_rows a.groups b.groups)
 
 -- ---- an output
 
--- a group as a proposal has it: the sources that its outputs name, the rows of its outputs, and its slot table
+-- a group of one proposal: the sources that its outputs name, the rows of its outputs, and its slot table
 pub record Sent : Type 0 where
   pub sources : List SourceRow
   pub rows : List OutputRow
@@ -160,7 +160,7 @@ name_at s o = source_name s.sources (placed_at s.table o).source
 abbrev pub output_named : Sent → List ℕ → Option ℕ
 output_named s name = number_named (λ (x : Placed). source_name s.sources x.source) (outputs_of s.table) name
 
--- what is compared of an output: its interval, its period in slots, its hold, its bus and its slot
+-- the values of an output that are compared: its interval, its period in slots, its hold, its bus and its slot
 abbrev pub compared_of : Option ℕ → Option ℕ → SlotPlace → Option ℕ → Compared
 compared_of min_us max_us place hold =
     record { min_us = min_us; max_us = max_us; period = Some (2 ^ place.period); hold = hold; bus = Some place.bus; slot = Some place.offset }
@@ -170,26 +170,26 @@ compared_at s o =
     compared_of (option_map (λ r. r.min_us) (slice_get s.rows o)) (option_map (λ r. r.max_us) (slice_get s.rows o)) (placed_at s.table o).place
     (placed_at s.table o).limits.hold
 
--- how many slots after its last cell by the first plan an output has its first by the second (`gap` of `a429_slots`)
+-- the number of slots from an output's last cell by the first plan to its first cell by the second (`gap` of `a429_slots`)
 abbrev pub cell_gap : Placed → Placed → ℕ
 cell_gap x y = 2 ^ x.place.period - x.place.offset + y.place.offset
 
--- how many slots after its last send it is sent next (law `next_send_is_a_gap_later` of `a429_callers`): in that cell, unless spacing empties it
+-- the number of slots from its last send to its next (law `next_send_is_a_gap_later` of `a429_callers`): the send is in that cell, unless spacing empties it
 abbrev pub gap_of : Placed → Placed → ℕ
 gap_of x y = if nat_lt (cell_gap x y) y.limits.spacing then cell_gap x y + 2 ^ y.place.period else cell_gap x y
 
--- that, if the second plan can follow the first
+-- the same number, if the second plan can follow the first
 abbrev pub gap_field : Bool → Placed → Placed → Field
 gap_field has_gap x y = if has_gap then Number (gap_of x y) else Absent
 
--- a row for each number that differs; the slot's if all are asked for
+-- a row for each number that differs; the slot has one only if all are requested
 abbrev pub compared_rows : Bool → Subject → Compared → Compared → List (List Field)
 compared_rows all subject x y =
     number_rows (codes "min_us") subject x.min_us y.min_us ++ (number_rows (codes "max_us") subject x.max_us y.max_us
     ++ (number_rows (codes "period") subject x.period y.period ++ (number_rows (codes "hold") subject x.hold y.hold
     ++ (number_rows (codes "bus") subject x.bus y.bus ++ (if all then number_rows (codes "slot") subject x.slot y.slot else [])))))
 
--- nothing but the slot differs
+-- only the slot differs
 abbrev pub has_moved : Compared → Compared → Bool
 has_moved x y =
     same_number x.min_us y.min_us && (same_number x.max_us y.max_us && (same_number x.period y.period
@@ -197,13 +197,13 @@ has_moved x y =
 
 -- ---- a group
 
--- a group that both proposals have: its name, and as each of them has it
+-- a group that both proposals have: its name, and what each of them has for it
 pub record Both : Type 0 where
   pub name : List ℕ
   pub first : Sent
   pub second : Sent
 
--- the output of the second plan that has the source of this one of the first
+-- the output of the second plan with the same source as this output of the first
 abbrev pub other_of : Both → ℕ → Option ℕ
 other_of g o = output_named g.second (name_at g.first o)
 
@@ -228,7 +228,7 @@ abbrev pub only_rows : List ℕ → Bool → Sent → Sent → ℕ → List (Lis
 only_rows group is_second s u o =
     if is_some (output_named u (name_at s o)) then [] else lone_rows is_second (of_output group (name_at s o) Absent) (compared_at s o).period
 
--- what is said of each of so many, by their numbers
+-- the rows of the numbers below a count, in order
 abbrev pub each_of : ℕ → (ℕ → List (List Field)) → List (List Field)
 each_of count rows = flat_map rows (range_with_len 0 count)
 
@@ -237,7 +237,7 @@ size_rows g =
     number_rows (codes "buses") (of_group g.name) (Some (buses_of g.first.table)) (Some (buses_of g.second.table))
     ++ number_rows (codes "frame") (of_group g.name) (Some (frame_of g.first.table)) (Some (frame_of g.second.table))
 
--- those that both have, and then those that only the first has and that only the second has
+-- the outputs that both have, then those that only the first has, then those that only the second has
 abbrev pub outputs_rows : Bool → Bool → Both → List (List Field)
 outputs_rows all has_gap g =
     each_of (length (outputs_of g.first.table)) (kept_rows all has_gap g)
@@ -247,7 +247,7 @@ outputs_rows all has_gap g =
 abbrev pub both_rows : Bool → Bool → Both → List (List Field)
 both_rows all has_gap g = size_rows g ++ outputs_rows all has_gap g
 
--- of an output, whether both plans have it and it differs in nothing but its slot
+-- whether both plans have an output, and only its slot differs
 abbrev pub is_moved : Both → ℕ → Bool
 is_moved g o = option_map_or (λ p. has_moved (compared_at g.first o) (compared_at g.second p)) (other_of g o) false
 
@@ -269,14 +269,14 @@ both_of a b g =
 abbrev pub group_both_rows : Bool → Bool → Proposed → Proposed → ℕ → List (List Field)
 group_both_rows all has_gap a b g = option_map_or (both_rows all has_gap) (both_of a b g) []
 
--- of each group
+-- the rows of each group
 abbrev pub groups_rows : Bool → Bool → Proposed → Proposed → List (List Field)
 groups_rows all has_gap a b = each_of (length a.station.groups) (group_both_rows all has_gap a b)
 
 abbrev pub group_moved : Proposed → Proposed → ℕ → ℕ
 group_moved a b g = option_map_or moved_in (both_of a b g) 0
 
--- how many outputs of all groups have moved
+-- the number of moved outputs of all groups
 abbrev pub moved_count : Proposed → Proposed → ℕ
 moved_count a b = sum_by (group_moved a b) (range_with_len 0 (length a.station.groups))
 
@@ -288,10 +288,10 @@ count_rows count = unless (count == 0) (change_row (codes "moved") the_table (Nu
 abbrev pub equipment_rows : TableRecord → TableRecord → List (List Field)
 equipment_rows a b = version_rows a.version b.version ++ (table_rates a b ++ station_rows a b)
 
--- all that differs, or of outputs that have moved their number alone; a gap is told if the second plan can follow the first
+-- all differences; for moved outputs only their number, unless all are requested. There is a gap if the second plan can follow the first.
 abbrev pub plan_rows : Proposed → Proposed → Bool → List (List Field)
 plan_rows a b all = groups_rows all (same_station a.station b.station) a b ++ (if all then [] else count_rows (moved_count a b))
 
--- what differs, from the first proposal to the second
+-- all differences, from the first proposal to the second
 abbrev pub diff_rows : Proposed → Proposed → Bool → List (List Field)
 diff_rows a b all = equipment_rows a.station b.station ++ plan_rows a b all

@@ -16,19 +16,19 @@ use Rattle.a429_slots.specs.Tables.{Placed, SlotTable, PlanTable, groups_of, out
 
 -- ---- the columns
 
--- what is sent: the group, its rate in bit/s, and the source with its receiver, label and SDI
+-- what is sent: the group, its bit rate in bit/s, and the source with its receiver, label and SDI
 abbrev pub sent_columns : List (List ℕ)
 sent_columns = codes "group" ∷ codes "rate" ∷ codes "source" ∷ codes "receiver" ∷ codes "label" ∷ codes "sdi" ∷ []
 
--- where it stands: the bus, the first slot from the frame's start, and the period in slots and in microseconds
+-- its place: the bus, the first slot from the start of the frame, and the period in slots and in microseconds
 abbrev pub place_columns : List (List ℕ)
 place_columns = codes "bus" ∷ codes "slot" ∷ codes "period" ∷ codes "period_us" ∷ []
 
--- what limits it: the interval in microseconds, how often one accepted word is sent at most, and how many slots two sends are apart at least
+-- its limits: the interval in microseconds, the most times that one accepted word is sent, and the minimum number of slots between two sends
 abbrev pub limit_columns : List (List ℕ)
 limit_columns = codes "min_us" ∷ codes "max_us" ∷ codes "hold" ∷ codes "spacing" ∷ []
 
--- how old a word is at most when it has gone out, in microseconds
+-- the maximum age of a word when it was sent completely, in microseconds
 abbrev pub latency_columns : List (List ℕ)
 latency_columns = codes "latency_us" ∷ []
 
@@ -38,11 +38,11 @@ icd_columns = sent_columns ++ (place_columns ++ (limit_columns ++ latency_column
 
 -- ---- the row of an output
 
--- the name of a receiver; behind the last receiver, nothing
+-- the name of a receiver; empty if there is no such receiver
 abbrev pub receiver_name : List ReceiverRow → ℕ → List ℕ
 receiver_name receivers n = option_map_or (λ r. r.name) (slice_get receivers n) []
 
--- a number, or that any is meant
+-- a number, or `any`
 abbrev pub sdi_field : Option ℕ → Field
 sdi_field None = Text (codes "any")
 sdi_field (Some sdi) = Number sdi
@@ -52,30 +52,30 @@ abbrev pub limit_field : Option ℕ → Field
 limit_field None = Absent
 limit_field (Some limit) = Number limit
 
--- of an output what is sent
+-- the source of an output, with its group
 abbrev pub sent_fields : List ReceiverRow → GroupRow → SourceRow → List Field
 sent_fields receivers group source =
     Text group.name ∷ Number group.rate ∷ Text source.name ∷ Text (receiver_name receivers source.receiver) ∷ Text (octal source.label) ∷ sdi_field source.sdi ∷ []
 
--- how many microseconds so many slots last at a rate in bit/s, rounded up: a slot is 36 bit times
--- (ARINC 429 Part 1: a word has 32 bits, and 4 bit times at least lie between two words)
+-- how long a number of slots is at a bit rate in bit/s: in microseconds, rounded up. A slot is 36 bit times
+-- (ARINC 429 Part 1: a word has 32 bits, and the inter-word gap is at least 4 bit times).
 abbrev pub slots_us : ℕ → ℕ → ℕ
 slots_us rate slots = div_ceil (slot_time * slots) rate
 
--- The longest time in microseconds, within one plan, from the acceptance of a word until it, or a later word of its source, has gone out whole,
--- where its output has a period of so many slots: a cell of the output begins within one period, and lasts one slot.
+-- The longest time in microseconds, within one plan, from the acceptance of a word until it, or a later word of its source, was sent completely.
+-- The output has a period of this number of slots: one of its cells begins within one period, and lasts one slot.
 abbrev pub latency_us : ℕ → ℕ → ℕ
 latency_us rate period = slots_us rate (period + 1)
 
--- where it stands, at the rate of its group in bit/s
+-- its place, at the bit rate of its group in bit/s
 abbrev pub place_fields : ℕ → SlotPlace → List Field
 place_fields rate place = Number place.bus ∷ Number place.offset ∷ Number (2 ^ place.period) ∷ Number (slots_us rate (2 ^ place.period)) ∷ []
 
--- what limits it: the interval of its row, and what the slot table keeps
+-- its limits: the interval of its row, and the limits in the slot table
 abbrev pub limit_fields : OutputRow → SendLimits → List Field
 limit_fields row limits = Number row.min_us ∷ Number row.max_us ∷ limit_field limits.hold ∷ Number limits.spacing ∷ []
 
--- how old a word is at most when it has gone out, at the rate of its group in bit/s
+-- the maximum age of a word when it was sent completely, at the bit rate of its group in bit/s
 abbrev pub latency_fields : ℕ → ℕ → List Field
 latency_fields rate period = Number (latency_us rate period) ∷ []
 
@@ -84,26 +84,26 @@ abbrev pub icd_row : List ReceiverRow → GroupRow → SourceRow → OutputRow �
 icd_row receivers group source row place limits =
     sent_fields receivers group source ++ (place_fields group.rate place ++ (limit_fields row limits ++ latency_fields group.rate (2 ^ place.period)))
 
--- the same, of the source that the output's row names; behind the last source, nothing
+-- the same, of the source that the output's row names; empty if there is no such source
 unfoldable pub output_row : TableRecord → GroupRow → OutputRow → Placed → List Field
 output_row e group row placed =
     option_map_or (λ source. icd_row e.receivers group source row placed.place placed.limits) (slice_get e.sources row.source) []
 
 -- ---- the document
 
--- a row for each output of a group, in table order: its row of the equipment table beside what the slot table keeps of it
+-- a row for each output of a group, in table order: from its row of the equipment table, and from its place and limits in the slot table
 unfoldable pub output_rows : TableRecord → GroupRow → List OutputRow → List Placed → List (List Field)
 output_rows e group [] placed = []
 output_rows e group (row ∷ rows) [] = []
 output_rows e group (row ∷ rows) (placed ∷ others) = output_row e group row placed ∷ output_rows e group rows others
 
--- those of each group, in table order
+-- the rows of each group, in table order
 unfoldable pub groups_rows : TableRecord → List GroupRow → List (List OutputRow) → List SlotTable → List (List Field)
 groups_rows e [] outputs ts = []
 groups_rows e (group ∷ groups) [] ts = []
 groups_rows e (group ∷ groups) (rows ∷ outputs) [] = []
 groups_rows e (group ∷ groups) (rows ∷ outputs) (t ∷ ts) = output_rows e group rows (outputs_of t) ++ groups_rows e groups outputs ts
 
--- those of a plan
+-- the rows of a plan
 abbrev pub icd_rows : TableRecord → PlanTable → List (List Field)
 icd_rows e p = groups_rows e e.groups e.outputs (groups_of p)

@@ -10,21 +10,21 @@ use Rattle.a429_documents.specs.declared.import.firsts.Part.TheVariants.{Receive
 use Rattle.a429_documents.specs.declared.import.rows.ImportRow.{ImportRow}
 use Rattle.a429_documents.specs.ImportTables.{name_in}
 
--- the number that a name of a receiver, a source or a group has
+-- the number of the first row with this receiver, source or group
 abbrev pub first_named : FirstRows → Part → List ℕ → Option ℕ
 first_named firsts Receivers name = get_by_text firsts.receivers name
 first_named firsts Sources name = get_by_text firsts.sources name
 first_named firsts Groups name = get_by_text firsts.groups name
 
--- that of the first of these rows with the name, where they are counted from a number on
+-- the number of the first of these rows with the name; rows are counted from a given number
 abbrev pub first_from : Part → List ℕ → ℕ → List ImportRow → Option ℕ
 first_from part name number rows = position_from (λ row. bytes_eq name (name_in part row)) number rows
 
--- each name has the number of the first row with it, and no other name has one
+-- each name has the number of the first row with it, and other names have no number
 abbrev pub AreFirstRows : FirstRows → List ImportRow → Type 0
 AreFirstRows firsts rows = (part : Part) (name : List ℕ) → first_named firsts part name ≡ first_from part name 0 rows
 
--- a row's names have this number, unless they had one, and every other name is as it was
+-- a row's names have this number, unless they had one before, and every other name is unchanged
 abbrev pub NotesRow : FirstRows → FirstRows → ImportRow → ℕ → Type 0
 NotesRow before after row number =
     (part : Part) (name : List ℕ) → first_named after part name ≡ option_or (first_named before part name) (if bytes_eq name (name_in part row) then Some number else None)

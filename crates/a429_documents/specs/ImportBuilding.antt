@@ -6,18 +6,18 @@ use Rattle.toml.specs.View.{view}
 use Rattle.toml.specs.declared.value.Value.{Value}
 use Rattle.a429_documents.specs.ImportTables.{with_filters, with_hold}
 
--- where the call succeeds, the table has this key more, at its front, if the key comes before the others
+-- if the call succeeds and the key comes before the others, the table has this key added at its front
 abbrev pub Puts : {T E : Type 0} → Result T E → Members → Members → List ℕ → Data → Type 0
 Puts result old new key value = OnOk result (is_before key old ≡ true → new ≡ member key value old)
 
--- the same of the filters of a receiver, if there are any
+-- the same for the filters of a receiver, if there are any
 abbrev pub PutsFilters : {T E : Type 0} → Result T E → Members → Members → List (List ℕ) → Type 0
 PutsFilters result old new words = OnOk result (is_before (codes "filters") old ≡ true → new ≡ with_filters words old)
 
--- of a hold, if there is one
+-- the same for a hold, if there is one
 abbrev pub PutsHold : {T E : Type 0} → Result T E → Members → Members → Option ℕ → Type 0
 PutsHold result old new hold = OnOk result (is_before (codes "hold") old ≡ true → new ≡ with_hold hold old)
 
--- where the call succeeds, the values have these more, at their end
+-- if the call succeeds, the values have these added at their end
 abbrev pub GainsTables : {T E : Type 0} → Result T E → Vec Value Global → Vec Value Global → List Data → Type 0
 GainsTables result old new ds = OnOk result (map view new.items ≡ map view old.items ++ ds)

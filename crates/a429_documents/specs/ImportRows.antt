@@ -1,4 +1,4 @@
--- What rows of comma-separated values state, or the first of them that is at fault (profile: import).
+-- What rows of comma-separated values say, or the first row with a fault (profile: import).
 use Rattle.std.specs.Prelude.{ℕ, ◌==◌, ◌&&◌, ◌||◌, Bool, true, false, not, List, [], ◌∷◌, ◌++◌, Option, None, Some, Result, Ok, Err, codes, if◌then◌else◌, length, nat_lt, position}
 use Rattle.std.specs.List.{count_by, find}
 use Rattle.std.specs.Option.{ok_or, option_map_or, option_or}
@@ -13,8 +13,7 @@ use Rattle.a429_documents.specs.declared.import.lines.CsvLine.{CsvLine}
 use Rattle.a429_documents.specs.declared.import.rows.ImportRow.{ImportRow}
 use Rattle.a429_documents.specs.declared.import.rows.RowNumbers.{RowNumbers}
 use Rattle.a429_documents.specs.declared.import.rows.RowTexts.{RowTexts}
-use Rattle.a429_documents.specs.Aligned.{field_in}
-use Rattle.a429_documents.specs.ImportFields.{number_in, label_in, sdi_in, hold_in, text_in, filters_in}
+use Rattle.a429_documents.specs.ImportFields.{field_in, number_in, label_in, sdi_in, hold_in, text_in, filters_in}
 
 -- ---- columns
 
@@ -31,24 +30,24 @@ column_name MaxUs = codes "max_us"
 column_name Hold = codes "hold"
 column_name Filters = codes "filters"
 
--- each but two
+-- all except `hold` and `filters`
 abbrev pub is_needed : ImportColumn → Bool
 is_needed Hold = false
 is_needed Filters = false
 is_needed _ = true
 
--- in the order in which they are sought
+-- in the order in which they are looked for
 abbrev pub import_columns : List ImportColumn
 import_columns = Group ∷ Rate ∷ Source ∷ Receiver ∷ Label ∷ Sdi ∷ MinUs ∷ MaxUs ∷ Hold ∷ Filters ∷ []
 
 abbrev pub is_named : ImportColumn → List ℕ → Bool
 is_named column field = bytes_eq field (column_name column)
 
--- how many fields of the heading are the name of a column
+-- the number of fields of the heading that are the name of a column
 abbrev pub times : List (List ℕ) → ImportColumn → ℕ
 times heading column = count_by (is_named column) heading
 
--- the heading has it twice, or lacks it though it is needed
+-- the heading has it twice, or lacks it although it is needed
 unfoldable pub is_wrong : List (List ℕ) → ImportColumn → Bool
 is_wrong heading column = nat_lt 1 (times heading column) || (is_needed column && (times heading column == 0))
 
@@ -67,11 +66,11 @@ abbrev pub ◌>>=◌ : {A B E : Type 0} → Result A E → (A → Result B E) �
 (Ok x) >>= f = f x
 (Err e) >>= f = Err e
 
--- what a column states, or that it is not of its form
+-- the value in a column, or the column if its form is wrong
 abbrev pub stated_at : {A : Type 0} → (List ℕ → Option A) → List (List ℕ) → List (List ℕ) → ImportColumn → Result A ImportColumn
 stated_at read heading fields column = ok_or (read (column_field heading fields column)) column
 
--- the numbers of a row, or the first column that is not of its form
+-- the numbers of a row, or the first column with a wrong form
 unfoldable pub numbers_of : List (List ℕ) → List (List ℕ) → Result RowNumbers ImportColumn
 numbers_of heading fields = do
   rate ← stated_at number_in heading fields Rate
@@ -82,7 +81,7 @@ numbers_of heading fields = do
   hold ← stated_at hold_in heading fields Hold
   Ok (record { rate = rate; label = label; sdi = sdi; min_us = least; max_us = most; hold = hold })
 
--- the texts of a row, likewise
+-- the texts of a row, or the first column with a wrong form
 unfoldable pub texts_of : List (List ℕ) → List (List ℕ) → Result RowTexts ImportColumn
 texts_of heading fields = do
   group ← stated_at text_in heading fields Group
@@ -91,7 +90,7 @@ texts_of heading fields = do
   filters ← stated_at filters_in heading fields Filters
   Ok (record { group = group; source = source; receiver = receiver; filters = filters })
 
--- a line at fault, what is wrong with it, and in which column
+-- the line with a fault, what is wrong with it, and in which column
 abbrev pub CsvFault : Type 0
 CsvFault = ℕ × CsvFaultKind × Option ImportColumn
 
@@ -100,7 +99,7 @@ joined line (Err column) texts = Err (line, Form, Some column)
 joined line (Ok numbers) (Err column) = Err (line, Form, Some column)
 joined line (Ok numbers) (Ok texts) = Ok (record { texts = texts; numbers = numbers })
 
--- a row has as many fields as the heading, and each column that is read is of its form
+-- a row has as many fields as the heading, and each column that is read has its form
 unfoldable pub row_of : List (List ℕ) → CsvLine → Result ImportRow CsvFault
 row_of heading line =
     if length (fields_of line.fields) == length heading
@@ -109,7 +108,7 @@ row_of heading line =
 
 -- ---- a row after others
 
--- what it states otherwise of the same source
+-- the first column in which it contradicts an earlier row about the same source
 abbrev pub source_clash : ImportRow → ImportRow → Option ImportColumn
 source_clash earlier row =
     if not (bytes_eq earlier.texts.source row.texts.source) then None
@@ -118,18 +117,18 @@ source_clash earlier row =
     else if not (same_sdi earlier.numbers.sdi row.numbers.sdi) then Some Sdi
     else None
 
--- of the same receiver or group
+-- the same about a receiver or a group
 abbrev pub other_clash : ImportRow → ImportRow → Option ImportColumn
 other_clash earlier row =
     if bytes_eq earlier.texts.receiver row.texts.receiver && not (bytes_eq earlier.texts.filters row.texts.filters) then Some Filters
     else if bytes_eq earlier.texts.group row.texts.group && not (earlier.numbers.rate == row.numbers.rate) then Some Rate
     else None
 
--- the first column in which it states otherwise than an earlier row
+-- the first column in which it contradicts an earlier row
 unfoldable pub clash : ImportRow → ImportRow → Option ImportColumn
 clash earlier row = option_or (source_clash earlier row) (other_clash earlier row)
 
--- the same for the first of the earlier rows that it contradicts
+-- the same, for the first of the earlier rows that it contradicts
 abbrev pub first_clash : List ImportRow → ImportRow → Option ImportColumn
 first_clash [] row = None
 first_clash (earlier ∷ others) row = option_or (clash earlier row) (first_clash others row)
@@ -138,7 +137,7 @@ abbrev pub agreed : ℕ → ImportRow → Option ImportColumn → Result ImportR
 agreed line row None = Ok row
 agreed line row (Some column) = Err (line, Differs, Some column)
 
--- a row by itself that contradicts no earlier row
+-- a row by itself, which agrees with all earlier rows
 abbrev pub next_row : List (List ℕ) → List ImportRow → CsvLine → Result ImportRow CsvFault
 next_row heading earlier line = row_of heading line >>= λ row. agreed line.number row (first_clash earlier row)
 

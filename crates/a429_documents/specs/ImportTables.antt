@@ -1,4 +1,4 @@
--- The equipment table that rows state: its tree, which is printed, and its record (profile: import).
+-- The equipment table that rows describe: its tree, which is printed, and its record (profile: import).
 use Rattle.std.specs.Prelude.{ℕ, pos, ◌==◌, Bool, not, List, [], ◌∷◌, ◌++◌, Option, None, Some, codes, if◌then◌else◌, length, map, filter, unwrap_or}
 use Rattle.std.specs.List.{list_any, position_from, slice_split}
 use Rattle.std.specs.Str.{bytes_eq}
@@ -21,7 +21,7 @@ use Rattle.a429_documents.specs.declared.import.firsts.Part.TheVariants.{Receive
 abbrev pub is_word : List ℕ → Bool
 is_word part = not (length part == 0)
 
--- what stands between spaces
+-- the parts between spaces, without the empty ones
 unfoldable pub words : List ℕ → List (List ℕ)
 words text = filter is_word (slice_split (λ b. b == 32) text)
 
@@ -43,7 +43,7 @@ is_known part earlier row = list_any (λ other. same_name part other row) earlie
 abbrev pub unless_known : Part → List ImportRow → ImportRow → List ImportRow
 unless_known part earlier row = if is_known part earlier row then [] else row ∷ []
 
--- of these rows, after others, the first of each receiver, source or group
+-- the rows that are the first of their receiver, source or group, after earlier rows
 abbrev pub firsts_after : Part → List ImportRow → List ImportRow → List ImportRow
 firsts_after part earlier [] = []
 firsts_after part earlier (row ∷ rows) = unless_known part earlier row ++ firsts_after part (earlier ++ row ∷ []) rows
@@ -106,7 +106,7 @@ part_tree Receivers rows row = receiver_tree row
 part_tree Sources rows row = source_tree row
 part_tree Groups rows row = group_tree rows row
 
--- those of all, in the order of their first rows
+-- the tables of all, in the order of their first rows
 abbrev pub part_trees : Part → List ImportRow → List Data
 part_trees part rows = map (part_tree part rows) (firsts part rows)
 
@@ -127,7 +127,7 @@ filters_stated (word ∷ words) = Some (map filter_of (word ∷ words))
 abbrev pub receiver_stated : ImportRow → ReceiverRow
 receiver_stated row = record { name = row.texts.receiver; filters = filters_stated (words row.texts.filters) }
 
--- the number of the receiver, source or group of this name, which has one
+-- the number of the receiver, source or group with this name; some row has the name
 abbrev pub number_of : Part → List ImportRow → List ℕ → ℕ
 number_of part rows name = unwrap_or (position_from (λ row. bytes_eq name (name_in part row)) 0 (firsts part rows)) 0
 

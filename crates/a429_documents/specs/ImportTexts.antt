@@ -14,6 +14,6 @@ texts_view fields = record {
   filters = fields.filters.now;
 }
 
--- a text, or the column that states none
+-- a text, or the column without one
 abbrev pub text_view : Result (Bor (List ℕ)) ImportColumn → Result (List ℕ) ImportColumn
 text_view result = result_map_both (λ text. text.now) (λ column. column) result

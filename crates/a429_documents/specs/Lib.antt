@@ -1,8 +1,6 @@
 pub mod Margins
 pub mod Drawing
-pub mod Aligned
 pub mod Document
-pub mod CsvLines
 pub mod Lint
 pub mod Diff
 pub mod Losses

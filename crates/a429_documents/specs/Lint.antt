@@ -1,4 +1,4 @@
--- What a table does in silence: the rows of `lint` (profile: lint).
+-- Likely mistakes in a table: the rows of `lint` (profile: lint).
 use Rattle.std.specs.Prelude.{ℕ, ◌+◌, ◌*◌, ◌^◌, ◌≡◌, ◌==◌, ◌&&◌, Bool, true, false, List, [], ◌∷◌, Option, None, Some, codes, if◌then◌else◌, is_some, nat_le, nat_lt, length, slice_get, slice_index_or}
 use Rattle.std.specs.Int.{div_ceil}
 use Rattle.std.specs.List.{AllZip, flat_map, list_all, list_any, range_with_len}
@@ -43,22 +43,21 @@ source_row finding source = Text finding ∷ Absent ∷ Absent ∷ Text source �
 abbrev pub receiver_row : List ℕ → List ℕ → Field → List Field
 receiver_row finding receiver number = Text finding ∷ Absent ∷ Text receiver ∷ Absent ∷ Absent ∷ number ∷ []
 
--- what is said of each of so many, by their numbers
+-- the rows of the numbers below a count, in order
 abbrev pub of_each : {X : Type 0} → ℕ → (ℕ → List X) → List X
 of_each count said = flat_map said (range_with_len 0 count)
 
 -- ---- groups
 
--- What the outputs of each group ask of its layout: the grid period of the interval, none if it admits none, and the label and SDI of the
--- source.
+-- The demands of each group: of each output the grid period of its interval, if there is one, and the label and SDI of its source.
 abbrev pub AreAsked : TableRecord → List (List Demand) → Type 0
 AreAsked e asked = AllZip (λ rated demands. AllZip (IsAsked rated.0 e.sources) rated.1 demands) (rated_outputs e) asked
 
--- what those of one group ask, or none if there is no such group
+-- the demands of one group; empty if there is no such group
 abbrev pub asked_in : List (List Demand) → ℕ → List Demand
 asked_in asked group = slice_index_or asked group []
 
--- the name of the source of an output; after the last output, nothing
+-- the name of the source of an output; empty if there is no such output
 abbrev pub output_name : List SourceRow → List OutputRow → ℕ → List ℕ
 output_name sources rows o = option_map_or (λ row. source_name sources row.source) (slice_get rows o) []
 
@@ -66,7 +65,7 @@ output_name sources rows o = option_map_or (λ row. source_name sources row.sour
 abbrev pub are_fit : List Demand → Bool
 are_fit demands = list_all (λ d. is_some d.period) demands
 
--- the fewest buses for outputs of these periods' exponents: those that carry the demand of a frame
+-- the fewest buses for outputs with these exponents of periods: as many as the demand of a frame fills, rounded up
 abbrev pub bus_count : List ℕ → ℕ
 bus_count exponents = div_ceil (demand_of exponents) (2 ^ greatest exponents)
 
@@ -87,13 +86,13 @@ abbrev pub too_many_rows : List ℕ → List Demand → List (List Field)
 too_many_rows group demands =
     if needs_too_many demands then needed_row group (bus_count (exponents_of demands)) ∷ [] else []
 
--- one of the two is any, and the other a certain one
+-- one of the two is any, and the other is a number
 abbrev pub one_is_any : Option ℕ → Option ℕ → Bool
 one_is_any None (Some sdi) = true
 one_is_any (Some sdi) None = true
 one_is_any _ _ = false
 
--- an output and a later one that have one label, of which just one takes any SDI
+-- an output and a later one have one label, and only one of them has SDI any
 abbrev pub are_alike : List Demand → ℕ → ℕ → Bool
 are_alike demands o p =
     nat_lt o p && ((demand_at demands o).label == (demand_at demands p).label && one_is_any (demand_at demands o).sdi (demand_at demands p).sdi)
@@ -102,7 +101,7 @@ abbrev pub alike_row : List SourceRow → List ℕ → List OutputRow → List D
 alike_row sources group rows demands o p =
     if are_alike demands o p then group_row (codes "alike") group (Text (output_name sources rows o)) (Text (output_name sources rows p)) Absent ∷ [] else []
 
--- those of one output with each later one
+-- the rows of one output with each later one
 abbrev pub alike_rows : List SourceRow → List ℕ → List OutputRow → List Demand → ℕ → List (List Field)
 alike_rows sources group rows demands o = of_each (length rows) (alike_row sources group rows demands o)
 
@@ -126,7 +125,7 @@ abbrev pub group_rows : TableRecord → List (List Demand) → GroupFinding → 
 group_rows e asked kind n =
     option_map_or (λ g. group_finding e.sources kind g.name (outputs_in e n) (asked_in asked n)) (slice_get e.groups n) []
 
--- of each group
+-- the findings of one kind in each group
 abbrev pub group_findings : TableRecord → List (List Demand) → GroupFinding → List (List Field)
 group_findings e asked kind = of_each (length e.groups) (group_rows e asked kind)
 
@@ -140,11 +139,11 @@ is_heard receivers s = option_map_or (λ r. set_passes r.filters s.label) (slice
 abbrev pub has_output_of : List OutputRow → ℕ → Bool
 has_output_of rows source = list_any (λ row. row.source == source) rows
 
--- some group has one
+-- some group has an output of it
 abbrev pub is_sent : TableRecord → ℕ → Bool
 is_sent e source = list_any (λ group. has_output_of (outputs_in e group) source) (range_with_len 0 (length e.groups))
 
--- the finding of one kind of a source
+-- the finding of one kind about a source
 abbrev pub source_finding : TableRecord → SourceFinding → ℕ → SourceRow → List (List Field)
 source_finding e Unheard n s = if is_heard e.receivers s then [] else source_row (codes "unheard") s.name ∷ []
 source_finding e Unsent n s = if is_sent e n then [] else source_row (codes "unsent") s.name ∷ []
@@ -154,7 +153,7 @@ source_rows e kind n = option_map_or (source_finding e kind n) (slice_get e.sour
 
 -- ---- receivers
 
--- some source is one of the receiver
+-- some source is on the receiver
 abbrev pub has_source : List SourceRow → ℕ → Bool
 has_source sources r = list_any (λ s. s.receiver == r) sources
 
@@ -167,7 +166,7 @@ abbrev pub blind_rows : List SourceRow → ℕ → List ℕ → List Filter → 
 blind_rows sources r name filters n =
     option_map_or (λ f. if sees_source sources r f then [] else receiver_row (codes "blind") name (Number (n + 1)) ∷ []) (slice_get filters n) []
 
--- the findings of one kind of a receiver, filters in order
+-- the findings of one kind about a receiver, filters in order
 abbrev pub receiver_finding : List SourceRow → ReceiverFinding → ℕ → ReceiverRow → List (List Field)
 receiver_finding sources Idle n r = if has_source sources n then [] else receiver_row (codes "idle") r.name Absent ∷ []
 receiver_finding sources Blind n r = of_each (length (filters_of r.filters)) (blind_rows sources n r.name (filters_of r.filters))
@@ -188,7 +187,7 @@ abbrev pub findings : List Finding
 findings =
     OfGroup Unfit ∷ OfGroup TooManyBuses ∷ OfSource Unheard ∷ OfSource Unsent ∷ OfReceiver Idle ∷ OfReceiver Blind ∷ OfGroup Alike ∷ OfGroup Full ∷ []
 
--- a row for each finding, kind by kind, by what the outputs of the groups ask
+-- a row for each finding, kind by kind, from the demands of the groups
 abbrev pub lint_rows : TableRecord → List (List Demand) → List (List Field)
 lint_rows e asked = flat_map (finding_rows e asked) findings
 

@@ -1,4 +1,4 @@
--- When nothing of a table is lost: what it means that `lint` has no line of an output without a period, or of a source that is never accepted or sent.
+-- A table that loses nothing: what it means that `lint` has no row `unfit`, `unheard` or `unsent`.
 use Rattle.std.specs.Prelude.{ℕ, ◌≡◌, ◌^◌, ◌<◌, ◌≤◌, ◌↔◌, List, [], Ok, Some, length, slice_get}
 use Rattle.std.specs.List.{AllByRecursion}
 use Rattle.a429_equipment.specs.Arrivals.{sorted}
@@ -17,11 +17,11 @@ use Rattle.a429_documents.specs.Lint.{AreAsked, bus_count, finding_rows}
 abbrev pub CanBeAccepted : TableRecord → ℕ → Type 0
 CanBeAccepted e source = (r : ℕ) × (raw : ℕ) × (raw < 2 ^ 32) × (sorted e r raw ≡ Ok source)
 
--- some group has an output of it
+-- some group has an output of the source
 abbrev pub IsSent : TableRecord → ℕ → Type 0
 IsSent e source = (group : ℕ) × (o : ℕ) × (row : OutputRow) × (slice_get (outputs_in e group) o ≡ Some row) × (row.source ≡ source)
 
--- each source can be accepted, and some group sends it, and each output has a grid period
+-- each source can be accepted and is sent by some group, and each output has a grid period
 pub record IsAllServed (e : TableRecord) : Type 0 where
   pub accepted : (source : ℕ) → source < length e.sources → CanBeAccepted e source
   pub sent : (source : ℕ) → source < length e.sources → IsSent e source
@@ -33,10 +33,10 @@ pub record HasNoLoss (e : TableRecord) (asked : List (List Demand)) : Type 0 whe
   pub unheard : finding_rows e asked (OfSource Unheard) ≡ []
   pub unsent : finding_rows e asked (OfSource Unsent) ≡ []
 
--- it has none of these rows just if all is served
+-- it has none of these rows if and only if all is served
 abbrev pub NoLossIsAllServed : Type 0
 NoLossIsAllServed = (e : TableRecord) (asked : List (List Demand)) → IsSound e → AreAsked e asked → HasNoLoss e asked ↔ IsAllServed e
 
--- the number of buses by the demand is the fewest of all schedules
+-- the number of buses computed from the demand is the fewest of all schedules
 abbrev pub BusCountsAreFewest : Type 0
 BusCountsAreFewest = (exponents : List ℕ) → 1 ≤ length exponents → AreFewestBuses exponents (bus_count exponents)

@@ -1,4 +1,4 @@
--- How far a group is from one bus fewer: the rows of `margin` (profile: margin).
+-- What would save a bus in each group: the rows of `margin` (profile: margin).
 use Rattle.std.specs.Prelude.{ℕ, ◌-◌, ◌*◌, ◌/◌, ◌^◌, ◌≤◌, ◌≡◌, ◌⊎◌, List, [], ◌∷◌, ◌++◌, Bool, true, false, Option, None, OnOk, Result, Some, codes, if◌then◌else◌, length, map, nat_lt, replicate, slice_index_or, sum}
 use Rattle.std.specs.List.{flat_map, range_with_len}
 use Rattle.a429_text.specs.Fields.{Field, Text, Number, Absent}
@@ -13,7 +13,7 @@ use Rattle.a429_slots.specs.Tables.{SlotTable, PlanTable, placed_at, outputs_of,
 use Rattle.a429_cert.specs.PlanText.{source_name}
 use Rattle.a429_documents.specs.Document.{slots_us}
 
--- as many whole slots as there are in the output's greatest interval at this rate (profile: raw bound)
+-- the number of whole slots in the output's maximum interval at this bit rate (profile: raw bound)
 abbrev pub window_of : ℕ → OutputRow → ℕ
 window_of rate row = row.max_us * rate / slot_time
 
@@ -23,8 +23,8 @@ periods_of t = map (λ o. o.place.period) (outputs_of t)
 
 -- ---- the choice
 
--- The outputs that one bus fewer asks for at the next period of the grid: those marked, where that saves a bus, and none of
--- the choices that do so frees fewer cells. None where no choice does, or the group has but one bus.
+-- The outputs that get the next longer period to save a bus, as marks. No choice that saves a bus frees fewer cells.
+-- `None` if no choice saves a bus, or the group has only one.
 abbrev pub IsChoice : List ℕ → ℕ → Option (List Bool) → Type 0
 IsChoice periods buses None = (buses ≤ 1) ⊎ NoneSaves periods buses
 IsChoice periods buses (Some marks) = IsLeastSaving periods buses marks
@@ -40,12 +40,12 @@ margin_columns =
     codes "group" ∷ codes "frame" ∷ codes "buses" ∷ codes "cells" ∷ codes "free" ∷ codes "excess" ∷ codes "bound" ∷ codes "source" ∷ codes "period" ∷ codes "next" ∷ codes "less"
     ∷ codes "max_us" ∷ codes "choose" ∷ []
 
--- so many columns of which nothing is said
+-- a number of empty columns
 abbrev pub nothing : ℕ → List Field
 nothing count = replicate count Absent
 
--- A group: its frame in slots and its buses, how many cells of a frame are filled and how many are free, how many would have to go for one bus
--- fewer, which are those that the other buses have no room for, and how many buses any schedule needs at least for the intervals themselves.
+-- The row of a group: its frame in slots, its buses, the cells of a frame that are filled, and the free ones. Then the cells that are too many for one bus
+-- less: those for which the other buses have no room. Last the number of buses that any schedule needs at least for the intervals themselves.
 abbrev pub group_row_of : GroupRow → SlotTable → ℕ → List Field
 group_row_of g t bound =
     Text g.name ∷ Number (frame_of t) ∷ Number (buses_of t) ∷ Number (sum (demands_of t)) ∷ Number (cells_of t - sum (demands_of t))
@@ -58,36 +58,36 @@ abbrev pub yes_or_no : Bool → Field
 yes_or_no true = Text (codes "yes")
 yes_or_no false = Text (codes "no")
 
--- An output at the next period of the grid: from how many slots to how many, how many of its cells in a frame of so many slots become free, which
--- is half of them, what its greatest interval has to become, and whether it is chosen.
+-- The row of an output with the next longer period: both periods in slots, the number of its cells in this frame that become free (half of them), the
+-- maximum interval that it needs, and whether it is chosen.
 abbrev pub wider_row : GroupRow → ℕ → Bool → List ℕ → ℕ → List Field
 wider_row g frame chosen name period =
     Text g.name ∷ nothing 6
     ++ (Text name ∷ Number (2 ^ period) ∷ Number (2 * 2 ^ period) ∷ Number (frame / (2 * 2 ^ period)) ∷ Number (slots_us g.rate (2 * 2 ^ period)) ∷ yes_or_no chosen ∷ [])
 
--- the row of an output whose period is shorter than the frame; the others have none
+-- the row of an output whose period is shorter than the frame; other outputs have no row
 abbrev pub output_margin : List SourceRow → GroupRow → SlotTable → Option (List Bool) → ℕ → List (List Field)
 output_margin sources g t chosen o =
     let placed = placed_at t o in
     if nat_lt (2 ^ placed.place.period) (frame_of t) then wider_row g (frame_of t) (is_chosen chosen o) (source_name sources placed.source) placed.place.period ∷ [] else []
 
--- those of a group's outputs, in table order
+-- the rows of a group's outputs, in table order
 abbrev pub outputs_margin : List SourceRow → GroupRow → SlotTable → Option (List Bool) → List (List Field)
 outputs_margin sources g t chosen = flat_map (output_margin sources g t chosen) (range_with_len 0 (length (outputs_of t)))
 
--- which are there if the group has a bus to save
+-- these rows, if the group has more than one bus
 abbrev pub choice_rows : List SourceRow → GroupRow → SlotTable → Option (List Bool) → List (List Field)
 choice_rows sources g t chosen = if nat_lt (buses_of t) 2 then [] else outputs_margin sources g t chosen
 
--- those rows with a right choice
+-- these rows with a right choice
 abbrev pub AreChoiceRows : List SourceRow → GroupRow → SlotTable → List (List Field) → Type 0
 AreChoiceRows sources g t rows = (chosen : Option (List Bool)) × IsChoice (periods_of t) (buses_of t) chosen × (rows ≡ choice_rows sources g t chosen)
 
--- a group and who could make room for one bus fewer
+-- a group, and the outputs that could free cells
 abbrev pub IsGroupMargin : List SourceRow → GroupRow → List OutputRow → SlotTable → List (List Field) → Type 0
 IsGroupMargin sources g rows t all = (choice : List (List Field)) × AreChoiceRows sources g t choice × (all ≡ group_row g rows t ∷ choice)
 
--- that of each group, in table order
+-- the rows of each group, in table order
 abbrev pub AreMargins : List SourceRow → List GroupRow → List (List OutputRow) → List SlotTable → List (List Field) → Type 0
 AreMargins sources [] rowss ts all = all ≡ []
 AreMargins sources (g ∷ gs) [] ts all = all ≡ []
@@ -98,11 +98,11 @@ AreMargins sources (g ∷ gs) (rows ∷ rowss) (t ∷ ts) all =
 abbrev pub IsMargin : TableRecord → PlanTable → List (List Field) → Type 0
 IsMargin e p rows = AreMargins e.sources e.groups e.outputs (groups_of p) rows
 
--- if the call succeeds, the list has more rows, at its end, of which this is known
+-- if the call succeeds, the list has added rows at its end, of which this is known
 abbrev pub AddsSuch : {A E : Type 0} → Result A E → List (List Field) → List (List Field) → (List (List Field) → Type 0) → Type 0
 AddsSuch result old new AreSuch = OnOk result ((rows : List (List Field)) × AreSuch rows × (new ≡ old ++ rows))
 
--- an interval whose greatest time becomes what twice its grid period lasts has that as its grid period, where the grid has such a period
+-- if the maximum interval becomes the duration of twice the grid period, twice the period is the grid period, if the grid has it
 abbrev pub WiderIntervalsAreNext : Type 0
 WiderIntervalsAreNext =
     (min_us max_us rate p : ℕ) → 1 ≤ rate → rate ≤ 100000 → IsPeriod (2 * p) → IsGridPeriod min_us max_us rate p

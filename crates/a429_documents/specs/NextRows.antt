@@ -8,7 +8,7 @@ use Rattle.a429_documents.specs.declared.import.rows.ImportRow.{ImportRow}
 use Rattle.a429_documents.specs.FirstRows.{first_from}
 use Rattle.a429_documents.specs.ImportTables.{is_known, output_tree}
 
--- for each row the next of its group, where they are counted from a number on
+-- for each row the next row of its group; rows are counted from a given number
 abbrev pub next_rows : ℕ → List ImportRow → List (Option ℕ)
 next_rows number [] = []
 next_rows number (row ∷ rows) = first_from Groups row.texts.group (number + 1) rows ∷ next_rows (number + 1) rows

@@ -9,7 +9,7 @@ use Rattle.a429_slots.specs.Proposed.{Proposed}
 use Rattle.a429_cert.specs.PlanText.{plan_text_of}
 use Rattle.a429_documents.specs.Diff.{diff_rows, station_rows}
 
--- no row is of the station just if the two tables are of one station
+-- no row is of the station if and only if the two tables are of one station
 abbrev pub NoStationRowIsOneStation : Type 0
 NoStationRowIsOneStation = (a b : TableRecord) → IsSound a → IsSound b → (station_rows a b ≡ []) ↔ (same_station a b ≡ true)
 
@@ -32,6 +32,6 @@ pub record AreOnePlan (a b : Proposed) : Type 0 where
   pub station : same_station a.station b.station ≡ true
   pub intervals : HaveSameIntervals a.station b.station
 
--- There is no row just if these have one plan text, one station and the same intervals, whether all slots are asked for or not.
+-- There is no row if and only if the plan texts, the stations and the intervals are the same; the request for all slots makes no difference.
 abbrev pub NoRowIsOnePlan : Type 0
 NoRowIsOnePlan = (a b : Proposed) (all : Bool) → AreProposals a b → (diff_rows a b all ≡ []) ↔ AreOnePlan a b

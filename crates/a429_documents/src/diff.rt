@@ -1,4 +1,4 @@
-//! What changes from one proposal to another.
+//! What changes between two proposals.
 ghost use Rattle.std.specs.Prelude.{◌≡◌, ◌==◌, ◌++◌, length, map};
 ghost use Rattle.a429_documents.specs.Diff.{diff_columns, diff_rows, equipment_rows, plan_rows, table_rates, version_rows};
 
@@ -26,7 +26,7 @@ fn is_bare(equipment: &Equipment) -> bool
     equipment.groups().is_empty()
 }
 
-/// Adds the row of the rates of two tables without groups, if they differ.
+/// Adds the row of the bit rates of two tables without groups, if they differ.
 fn add_rates(rows: &mut Rows, a: &Equipment, b: &Equipment)
     ensures { rows.new ≡ rows.old ++ table_rates a.now b.now }
 {
@@ -49,7 +49,7 @@ fn add_version(rows: &mut Rows, from: u32, to: u32)
     add_number(rows, "version", &Subject::table(), first, second);
 }
 
-/// Adds what differs of two tables but for their outputs.
+/// Adds a row for each difference between two tables, except for those of outputs.
 fn add_equipments(rows: &mut Rows, a: &Equipment, b: &Equipment)
     ensures { rows.new ≡ rows.old ++ equipment_rows a.now b.now }
 {
@@ -58,7 +58,7 @@ fn add_equipments(rows: &mut Rows, a: &Equipment, b: &Equipment)
     add_station(rows, a, b);
 }
 
-/// Adds what differs of the groups that both proposals have.
+/// Adds a row for each difference between the groups that both proposals have.
 fn add_plans(rows: &mut Rows, a: &Proposal<OUTPUTS>, b: &Proposal<OUTPUTS>, all: bool)
     ensures { rows.new ≡ rows.old ++ plan_rows a.now b.now all }
 {
@@ -69,10 +69,10 @@ fn add_plans(rows: &mut Rows, a: &Proposal<OUTPUTS>, b: &Proposal<OUTPUTS>, all:
     }
 }
 
-/// What changes from one proposal to another (profile: diff rows), a row for each thing that differs: the version, what
-/// the stations have, and of each group that both have its buses and frame and what differs of its outputs. The slots of
-/// outputs have rows of their own if all are asked for; else the last row says how many outputs differ in nothing else.
-/// Where nothing changes there is no row.
+/// What changes from one proposal to another (profile: diff rows): a row for each difference. The rows are those of the
+/// version, of the stations, and of each group that both have: its buses, its frame and its outputs. If `all` is set, the
+/// slots of outputs have rows too. Otherwise a last row has the number of outputs that differ only in their slot, unless it
+/// is 0. If nothing changes, there is no row.
 pub fn diff_sheet(
     alloc: Global,
     first: &Proposal<OUTPUTS>,

@@ -39,7 +39,7 @@ pub fn number(value: u32) -> Cell<'static>
     Cell::Number(u64::from(value))
 }
 
-/// An SDI, or that any is meant.
+/// An SDI, or `any`.
 pub fn sdi_cell(sdi: Option<Sdi>) -> Cell<'static>
     ensures { field_of result ≡ sdi_field sdi }
 {
@@ -59,7 +59,7 @@ pub fn limit_cell(limit: Option<u32>) -> Cell<'static>
     }
 }
 
-/// How many microseconds so many slots last at a rate in bit/s, rounded up.
+/// How long a number of slots is at a bit rate in bit/s: in microseconds, rounded up.
 pub fn slots_us(rate: u32, slots: u32) -> u64
     requires { 1 ≤ rate }
     ensures { result ≡ slots_us rate slots }
@@ -67,8 +67,8 @@ pub fn slots_us(rate: u32, slots: u32) -> u64
     (SLOT_TIME * u64::from(slots)).div_ceil(u64::from(rate))
 }
 
-/// The longest time in microseconds, within one plan, from the acceptance of a word until it, or a later word of its
-/// source, has gone out whole: the period of its output and one slot, at the group's rate in bit/s, rounded up.
+/// The latency in microseconds, rounded up: the longest time, within one plan, from the acceptance of a word until it, or a
+/// later word of its source, was sent completely. It is one period of the output and one slot, at the group's bit rate.
 pub fn latency_us(rate: u32, period: Period) -> u64
     requires { 1 ≤ rate }
     ensures { result ≡ latency_us rate (2 ^ period) }
@@ -180,10 +180,10 @@ fn add_groups(rows: &mut Rows, proposal: &Proposal<OUTPUTS>)
     }
 }
 
-/// The interface control document of a proposal's plan: a row for each output, groups and outputs in table order. The
-/// rate is in bit/s; a slot is counted from 0 at the frame's start, and lasts 36 bit times; a period is in slots, and in
-/// whole microseconds, rounded up. The latency is the longest time, within one plan, from the acceptance of a word until
-/// it, or a later word of its source, has gone out whole: a period and one slot, in whole microseconds, rounded up.
+/// The interface control document of a proposal's plan: a row for each output, groups and outputs in table order. The bit
+/// rate is in bit/s. A slot is counted from 0 at the start of the frame, and lasts 36 bit times. A period is in slots, and
+/// in whole microseconds, rounded up. The latency is the longest time, within one plan, from the acceptance of a word until
+/// it, or a later word of its source, was sent completely: a period and one slot, in whole microseconds, rounded up.
 pub fn icd_sheet(alloc: Global, proposal: &Proposal<OUTPUTS>) -> Sheet
     ensures columns { map (λ name. name.now) result.columns.now ≡ icd_columns }
     ensures rows { result.rows ≡ icd_rows proposal.now.station proposal.now.plan }

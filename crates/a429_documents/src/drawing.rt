@@ -21,11 +21,11 @@ use a429_text::Text;
 use std::alloc::{AllocError, Global};
 use thiserror::Error;
 
-/// How high an image may be, in pixels: programs that show images take no more (profile: drawing).
+/// The maximum height of an image, in pixels: many viewers show no more (profile: drawing).
 const HIGHEST: u64 = 32_767;
 
-/// How much an image shows of each bus: so many slots (1 to 8192; `None` is those of a frame, 256 at most), in rows of so
-/// many (64 to 256; `None` is 64).
+/// How much an image shows of each bus. `slots` is the number of slots, 1 to 8192; `None` is a frame, at most 256 slots.
+/// `width` is the number of slots in a row, 64 to 256; `None` is 64.
 #[derive(Clone, Copy, PartialEq, Eq)]
 pub struct DrawingForm {
     pub slots: Option<u32>,
@@ -35,15 +35,15 @@ pub struct DrawingForm {
 /// Why there is no image.
 #[derive(Clone, Copy, Debug, PartialEq, Eq, Error)]
 pub enum DrawingFault {
-    /// It would have more than 32,767 pixels from top to bottom.
+    /// It would be more than 32,767 pixels high.
     #[error("the image is too high")]
     TooHigh,
-    /// Memory was refused.
+    /// An allocation failed.
     #[error("memory refused")]
     NoMemory,
 }
 
-/// What is drawn of the plan of a proposal: the marks of the group of this number, or of all groups.
+/// What is drawn of the plan of a proposal: the marks of one group, or of all groups.
 #[derive(Drop)]
 pub struct Drawing<'a> {
     pub proposal: &'a Proposal<OUTPUTS>,
@@ -55,7 +55,7 @@ pub struct Drawing<'a> {
     ghost height: { image_height proposal.now.plan form group ≤ 32767 },
 }
 
-/// The first group that is drawn, and how many are: the one of this number, or all.
+/// The number of the first group that is drawn, and the number of groups: one group, or all.
 fn group_range(plan: &Plan<OUTPUTS>, group: Option<usize>) -> (usize, usize)
     requires { IfSome group (λ group. group < length (groups_of plan.now)) }
     ensures first { result.0 ≡ first_drawn group }
@@ -71,9 +71,9 @@ fn group_range(plan: &Plan<OUTPUTS>, group: Option<usize>) -> (usize, usize)
 }
 
 impl<'a> Drawing<'a> {
-    /// What is drawn of a proposal's plan, of the group of this number or of all (profile: drawing): a mark for each cell
-    /// that has an output, in the slots that the form asks for. Slots past the frame are those of the frames that follow.
-    /// The fault is that the image would be higher than 32,767 pixels, or that memory was refused.
+    /// The drawing of a proposal's plan, of one group or of all (profile: drawing). It has a mark for each cell with an
+    /// output, in the slots that the form asks for. Slots after the frame are those of the next frames. Errors: `TooHigh`
+    /// if the image would be higher than 32,767 pixels; `NoMemory` if an allocation failed.
     pub fn of(
         alloc: Global,
         proposal: &'a Proposal<OUTPUTS>,
@@ -102,7 +102,7 @@ impl<'a> Drawing<'a> {
     }
 }
 
-/// Begins an image of this width and height, with a white sheet.
+/// Begins an image of this width and height, with a white background.
 fn put_sheet(text: &mut Text, width: u64, height: u64) {
     text.fill(
         &[
@@ -133,9 +133,9 @@ pub(crate) fn put_image(text: &mut Text, drawing: &Drawing<'_>) {
     text.put("</svg>\n");
 }
 
-/// An image (SVG; profile: drawing): a row for each bus with its load in per cent, a column for each slot, at each mark the
-/// shape of its output, and a legend in the order of labels. Times are in milliseconds. The error is that memory was
-/// refused.
+/// An image (SVG; profile: drawing). It has a row for each bus with its load in per cent, and a column for each slot. Each
+/// mark has the shape of its output, and a legend is in the order of labels. Times are in milliseconds. Error: an
+/// allocation failed.
 pub fn draw_text(alloc: Global, drawing: &Drawing<'_>) -> Result<Vec<u8>, AllocError> {
     let mut text = Text::new(alloc);
     put_image(&mut text, drawing);

@@ -22,7 +22,7 @@ pub use fault::{CsvFaultKind, ImportColumn, ImportFault};
 pub use lines::{CsvLine, LineCount, csv_lines};
 use std::alloc::Global;
 
-/// The table that lines state, of which the first is the heading.
+/// The table that lines describe. The first line is the heading.
 fn import_lines(alloc: Global, lines: &[CsvLine]) -> Result<Vec<u8>, ImportFault>
     ensures { IsImportOf lines.now result }
 {
@@ -34,10 +34,10 @@ fn import_lines(alloc: Global, lines: &[CsvLine]) -> Result<Vec<u8>, ImportFault
     }
 }
 
-/// The equipment table, as TOML of version 2, that rows of comma-separated values state (profile: import): a row of
-/// columns' names, and a row for each output. Columns may come in any order, and others than those of `ImportColumn` are
-/// passed over. Receivers, sources and groups come in the order of their first rows, outputs in the order of the rows of
-/// their group. `read_equipment` reads what is answered. The fault is the first of the rows, else that of the table.
+/// The equipment table, as TOML of version 2, that rows of comma-separated values describe (profile: import): a row of
+/// column names, and a row for each output. Columns may come in any order; columns that `ImportColumn` does not have are
+/// skipped. Receivers, sources and groups are in the order of their first rows, outputs in the order of the rows of their
+/// group. `read_equipment` reads the answer. Error: the first fault of the rows, otherwise the first of the table.
 pub fn import_table(alloc: Global, bytes: &[u8]) -> Result<Vec<u8>, ImportFault>
     ensures { IsImport bytes.now result }
 {

@@ -1,4 +1,4 @@
-//! What a table does in silence: what is never received, never sent or cannot be planned.
+//! Likely mistakes in a table: what is never received, never sent or cannot be planned.
 ghost use Rattle.std.specs.Prelude.{◌≡◌, ◌++◌, IfOk, map};
 ghost use Rattle.std.specs.List.{flat_map};
 ghost use Rattle.a429_documents.specs.Lint.{AreAsked, AreFindings, finding_rows, lint_columns};
@@ -17,29 +17,29 @@ use a429_pack::Demand;
 use a429_text::{Rows, Sheet};
 use std::alloc::{AllocError, Global};
 
-/// What is found in a group.
+/// A finding of a group.
 #[derive(Clone, Copy)]
 pub enum GroupFinding {
     /// An output has no grid period.
     Unfit,
     /// The outputs need more than 16 buses.
     TooManyBuses,
-    /// Two outputs have one label, and just one of them takes any SDI.
+    /// Two outputs have one label, and only one of them has SDI any.
     Alike,
     /// No cell of a frame is empty.
     Full,
 }
 
-/// What is found of a source.
+/// A finding of a source.
 #[derive(Clone, Copy)]
 pub enum SourceFinding {
     /// No filter of its receiver passes its label.
     Unheard,
-    /// No group has an output of it.
+    /// No group sends it.
     Unsent,
 }
 
-/// What is found of a receiver.
+/// A finding of a receiver.
 #[derive(Clone, Copy)]
 pub enum ReceiverFinding {
     /// It has no source.
@@ -93,10 +93,10 @@ fn add_findings(found: &mut Rows, equipment: &Equipment, asked: &[Vec<Demand>], 
     }
 }
 
-/// What an equipment does in silence (profile: lint): a row for each finding, first each output without a grid period,
-/// then the groups that need more than 16 buses, the sources that no filter passes, those that no group sends, the
-/// receivers without a source, the filters that pass no source, the outputs that a receiver cannot tell apart, and the
-/// groups without an empty cell. No row means that nothing was found. The error is that memory was refused.
+/// The findings of an equipment (profile: lint), one row each. First come the outputs without a grid period and the
+/// groups that need more than 16 buses. Then come the sources that no filter passes, the sources that no group sends, the
+/// receivers without a source, and the filters that pass no source. Last come the outputs that a display cannot
+/// distinguish, and the groups without an empty cell. If nothing is found, there is no row. Error: an allocation failed.
 pub fn lint_sheet(alloc: Global, equipment: &Equipment) -> Result<Sheet, AllocError>
     ensures columns { IfOk result (λ sheet. map (λ name. name.now) sheet.columns.now ≡ lint_columns) }
     ensures rows { IfOk result (λ sheet. AreFindings equipment.now sheet.rows) }

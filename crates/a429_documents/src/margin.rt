@@ -1,4 +1,4 @@
-//! How far the groups of a plan are from one bus fewer.
+//! What would save a bus in each group of a plan.
 ghost use Rattle.std.specs.Prelude.{◌≡◌, ◌≤◌, ◌<◌, ◌-◌, ◌*◌, ◌^◌, ◌++◌, ◌∷◌, [], Option, length, map, sum, IfOk, IfSome};
 ghost use Rattle.std.specs.List.{AllByRecursion};
 ghost use Rattle.std.specs.Option.{option_copied};
@@ -26,7 +26,7 @@ const COLUMNS: &[&str] = &[
     "less", "max_us", "choose",
 ];
 
-/// How many whole slots the greatest interval of an output has, at a rate in bit/s.
+/// The number of whole slots in the maximum interval of an output, at a bit rate in bit/s.
 fn window(rate: u32, row: &OutputRow) -> u32
     requires rate { rate ≤ 100000 }
     requires interval { IsInterval row.now }
@@ -35,7 +35,7 @@ fn window(rate: u32, row: &OutputRow) -> u32
     (u64::from(row.max_us) * u64::from(rate) / SLOT_TIME) as u32
 }
 
-/// The windows of outputs, in table order.
+/// The windows of outputs, in slots, in table order.
 fn windows(alloc: Global, rate: u32, rows: &[OutputRow]) -> Result<Vec<u32>, AllocError>
     requires rate { rate ≤ 100000 }
     requires intervals { AllByRecursion IsInterval rows.now }
@@ -59,7 +59,7 @@ fn periods(alloc: Global, table: &GroupPlan<OUTPUTS>) -> Result<Vec<Period>, All
     periods.into_vec()
 }
 
-/// The outputs that one bus fewer asks for at the next period of the grid, each by a mark; none where no choice saves a bus.
+/// The choice that saves a bus: a mark for each output that gets the next longer period. `None` if none saves a bus.
 fn choice<'a>(periods: &[Period], buses: u32, marks: &'a mut [bool]) -> Option<&'a [bool]>
     requires many { length periods.now < 2 ^ 32 }
     requires each { length marks.old ≡ length periods.now }
@@ -91,7 +91,7 @@ fn yes_or_no(yes: bool) -> Cell<'static>
     Cell::Text(if yes { "yes" } else { "no" })
 }
 
-/// Adds the row of an output of this period at the next one, if a frame has so many slots.
+/// Adds the row of an output that has this period and could have the next longer one.
 fn add_wider<'a>(
     rows: &mut Rows,
     group: &'a GroupRow,
@@ -163,7 +163,7 @@ fn add_outputs(
     }
 }
 
-/// Adds who could make room for one bus fewer, if the group has a bus to save.
+/// Adds the rows of the outputs that could free cells, if the group has more than one bus.
 fn add_choice(
     alloc: Global,
     rows: &mut Rows,
@@ -187,7 +187,7 @@ fn add_choice(
     Ok(())
 }
 
-/// How many buses any schedule needs at least for the intervals of outputs.
+/// The number of buses that any schedule within the intervals of these outputs needs at least.
 fn bound_of(alloc: Global, rate: u32, outputs: &[OutputRow]) -> Result<usize, AllocError>
     requires rate { rate ≤ 100000 }
     requires intervals { AllByRecursion IsInterval outputs.now }
@@ -198,7 +198,7 @@ fn bound_of(alloc: Global, rate: u32, outputs: &[OutputRow]) -> Result<usize, Al
     Ok(raw_bound(&windows))
 }
 
-/// Adds the row of a group, with this bound.
+/// Adds the row of a group, with this raw bound.
 fn add_group_row(rows: &mut Rows, group: &GroupRow, table: &GroupPlan<OUTPUTS>, bound: usize)
     requires within { sum (demands_of table.now) ≤ cells_of table.now }
     requires above { (buses_of table.now - 1) * frame_of table.now ≤ sum (demands_of table.now) }
@@ -265,10 +265,10 @@ fn add_groups(
     Ok(())
 }
 
-/// How far each group of a proposal's plan is from one bus fewer, in table order (profile: margin): a row for the group
-/// with its frame in slots, its buses, its cells, how many would have to go, and the raw bound of its intervals. If it
-/// has more than one bus, a row follows for each output whose greatest interval could become longer for that. Those that
-/// suffice, with the fewest cells among them, are chosen. The error is that memory was refused.
+/// What would save a bus in each group of a proposal's plan, in table order (profile: margin). The row of a group has its
+/// frame in slots, its buses, its cells, its free cells, its excess cells for one bus less, and the raw bound. If the group
+/// has more than one bus, a row follows for each output whose maximum interval could be longer. The chosen outputs save a
+/// bus and free the fewest cells. Error: an allocation failed.
 pub fn margin_sheet(alloc: Global, proposal: &Proposal<OUTPUTS>) -> Result<Sheet, AllocError>
     ensures columns { IfOk result (λ sheet. map (λ name. name.now) sheet.columns.now ≡ margin_columns) }
     ensures rows { IfOk result (λ sheet. IsMargin proposal.now.station proposal.now.plan sheet.rows) }

@@ -1,4 +1,4 @@
-//! A page that shows a plan and all that the documents say of it.
+//! A page that shows a plan and its documents.
 use crate::document::icd_sheet;
 use crate::drawing::places::width_of;
 use crate::drawing::{Drawing, put_image};
@@ -43,7 +43,7 @@ fn put_part(
     Ok(())
 }
 
-/// Writes how far each group is from one bus fewer.
+/// Writes what would save a bus in each group.
 fn put_margin(
     alloc: Global,
     page: &mut Text,
@@ -72,8 +72,8 @@ fn put_documents(
     Ok(())
 }
 
-/// A page (HTML 5) that needs nothing beside itself and prints on A3 paper: the image that `draw_text` gives, and below it
-/// the sheets of `icd`, `margin` and `lint` in columns. The error is that memory was refused.
+/// A page (HTML 5) that needs no other file and prints on A3 paper: the image that `draw_text` gives, and below it the
+/// sheets of `icd`, `margin` and `lint` in columns. Error: an allocation failed.
 pub fn page_text(alloc: Global, drawing: &Drawing<'_>) -> Result<Vec<u8>, AllocError> {
     let mut page = Text::new(alloc);
     put_head(&mut page, width_of(drawing.form));

@@ -45,7 +45,7 @@ same_words s a b A le few =
 pub count_up : (s a b : ℕ) (A : List (ℕ × ℕ)) → a ≤ b → length (words_of s (take a A)) ≤ length (words_of s (take b A))
 count_up s a b A le = omega (arith, ap (λ (l : List ℕ). length l) (two_parts s a b A le) ∙ length-append (words_of s (take a A)) (words_of s (drop a (take b A))))
 
--- ---- the shortest prefix with so many words
+-- ---- the shortest prefix with this number of words
 
 reach_within : (s n : ℕ) (A : List (ℕ × ℕ)) → reach s n A ≤ length A
 reach_within s zero A = zero-le
@@ -56,7 +56,7 @@ reach_within s (suc n) (e ∷ A) = go (eqb e.0 s) (reach_within s n A) (reach_wi
     go true h k = omega arith
     go false h k = omega arith
 
--- the words of a list that begins with e, where the test of e gave b
+-- the words of a list that begins with e, if the test of e gave b
 abbrev pub words_from : ℕ → ℕ × ℕ → Bool → List (ℕ × ℕ) → List ℕ
 words_from s e b A = map (λ (x : ℕ × ℕ). x.1) (cond b (e ∷ filter (λ (x : ℕ × ℕ). eqb x.0 s) A) (filter (λ (x : ℕ × ℕ). eqb x.0 s) A))
 

@@ -23,7 +23,7 @@ not_given None m true false h = refl
 not_given (Some y) m true false h = refl
 not_given x m false c h = refl
 
--- what a place is given where one SDI of a source is noted
+-- what a place gets when one SDI of a source is noted
 abbrev IsNoted : List (Option ℕ) → List (Option ℕ) → ℕ → SourceRow → ℕ → ℕ → ℕ → ℕ → Type 0
 IsNoted new old m s j r label k = entry_at new r label k ≡ cond (eqb k j) (given_at old m s r label k) (entry_at old r label k)
 

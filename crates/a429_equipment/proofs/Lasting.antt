@@ -1,4 +1,4 @@
--- Agreement of part of the loads, with more accepted words, and beside loads of other receivers' sources.
+-- Agreement of part of the loads, with more accepted words, and with loads of other receivers' sources.
 use Rattle.std.proofs.Common.{◌≡◌, ℕ, ◌≤◌, Bool, true, false, List, [], ◌∷◌, ◌++◌, take, refl, sym, ap, ◌∙◌, subst, arith, length-append}
 use Rattle.std.specs.List.{AllByRecursion}
 use Rattle.std.proofs.lemmas.List.{take-append-le}

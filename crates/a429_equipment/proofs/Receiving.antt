@@ -29,7 +29,7 @@ first_passes p xs i e = elim (slice_get_cases xs i).1 [
       absurd (omega (arith, found.1, miss.0))
 ]
 
--- a source accepts the word just where it is the one that the word is for
+-- a source accepts the word if and only if it is the one that the word is for
 Sorts : TableRecord → ℕ → ℕ → Result ℕ ArrivalRefusal → Type 0
 Sorts t r raw (Ok j) = (s : SourceRow) × (slice_get t.sources j ≡ Some s) × (accepts t s (r, raw) ≡ true)
 Sorts t r raw (Err refusal) = (i : ℕ) (s : SourceRow) → slice_get t.sources i ≡ Some s → accepts t s (r, raw) ≡ false

@@ -24,11 +24,11 @@ sources_of t r = filter (is_of t r) (range_with_len 0 (length t.sources))
 
 -- ---- loads
 
--- the load of a source where these words were accepted before
+-- the load of a source after these words were accepted
 abbrev pub load_after : ℕ → List (ℕ × ℕ) → Load
 load_after s A = record { source = s; count = length (words_of s A); word = last_of (words_of s A) }
 
--- the loads of each source of receiver r, where it accepted these words
+-- the loads of each source of receiver r, if it accepted these words
 abbrev pub loads_of_all : TableRecord → ℕ → List (ℕ × ℕ) → List Load
 loads_of_all t r A = map (λ s. load_after s A) (sources_of t r)
 
@@ -38,8 +38,8 @@ CountsNoLess loads l = AllByRecursion (λ m. m.source ≡ l.source → m.count �
 
 -- ---- agreement
 
--- The cut of a load is the length of a prefix of what the receiver accepted, after which the load was made; it is not before the cut of the
--- load before. A load of another receiver's source leaves the cut where it was.
+-- The cut of a load is the length of a prefix of what the receiver accepted, after which the load was made. It is at
+-- least the cut of the load before. A load of another receiver's source leaves the cut as it was.
 abbrev pub IsCutOfLoad : Bool → List (ℕ × ℕ) → ℕ → Load → ℕ → Type 0
 IsCutOfLoad true A before l cut = (before ≤ cut) × (cut ≤ length A) × (l ≡ load_after l.source (take cut A))
 IsCutOfLoad false A before l cut = before ≡ cut
@@ -56,7 +56,7 @@ AgreesTo t r A loads last = Cuts (is_of t r) A 0 loads last
 abbrev pub Agrees : TableRecord → ℕ → List (ℕ × ℕ) → List Load → Type 0
 Agrees t r A loads = (last : ℕ) × AgreesTo t r A loads last
 
--- they agree, and where the receiver has a source, the last cut is all that it accepted
+-- they agree, and if the receiver has a source, the last cut is all that it accepted
 abbrev pub AgreesToTheEnd : TableRecord → ℕ → List (ℕ × ℕ) → List Load → Type 0
 AgreesToTheEnd t r A loads = (last : ℕ) × AgreesTo t r A loads last × ((s : ℕ) → is_of t r s ≡ true → last ≡ length A)
 
@@ -85,7 +85,7 @@ next_cut true A before l =
     if is_load l (load_after l.source (take (least_cut A before l) A)) then Some (least_cut A before l) else None
 next_cut false A before l = Some before
 
--- the last cut, or none where some load has no cut
+-- the last cut; none if some load has no cut
 abbrev pub last_cut : (ℕ → Bool) → List (ℕ × ℕ) → Option ℕ → List Load → Option ℕ
 last_cut mine A None ls = None
 last_cut mine A (Some before) [] = Some before
@@ -109,7 +109,7 @@ ComputedCutsAreLeast =
 
 -- ---- agreement lasts
 
--- loads that agree with what a receiver accepted agree with it where it accepts more
+-- loads that agree with what a receiver accepted still agree with it when the receiver accepts more
 abbrev pub AgreesWithMore : Type 0
 AgreesWithMore = (t : TableRecord) (r : ℕ) (A more : List (ℕ × ℕ)) (loads : List Load) → Agrees t r A loads → Agrees t r (A ++ more) loads
 
@@ -118,7 +118,7 @@ abbrev pub StretchesAgree : Type 0
 StretchesAgree =
     (t : TableRecord) (r : ℕ) (A : List (ℕ × ℕ)) (before loads later : List Load) → Agrees t r A (before ++ (loads ++ later)) → Agrees t r A loads
 
--- they agree with it where loads of no source of the receiver follow
+-- they still agree with it if only loads of other receivers' sources follow
 abbrev pub AgreesBesideOthers : Type 0
 AgreesBesideOthers =
     (t : TableRecord) (r : ℕ) (A : List (ℕ × ℕ)) (loads others : List Load)

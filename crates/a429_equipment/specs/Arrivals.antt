@@ -28,8 +28,9 @@ sorted t r raw =
     then (if passes_at t r raw then option_map_or (λ i. Ok i) (position (is_for r raw) t.sources) (Err NoSource) else Err Filtered)
     else Err Parity
 
--- the words that a source accepts from a list of arrivals, which are pairs of a receiver and a raw word: those of odd parity whose label
--- passes the receiver's filters and that are for the source, cut to the first 2^C - 1, which a count of C bits can count
+-- The words that a source accepts from a list of arrivals, which are pairs of a receiver and a raw word. A word is
+-- accepted if its parity is odd, its label passes the receiver's filters, and it is for the source. Only the first 2^C
+-- - 1 of them are taken, which a count of C bits can count.
 abbrev pub accepts : TableRecord → SourceRow → ℕ × ℕ → Bool
 accepts t s a = has_odd_parity a.1 && (passes_at t a.0 a.1 && is_for a.0 a.1 s)
 

@@ -7,12 +7,12 @@ use Rattle.a429_equipment.specs.TableRecord.{TableRecord}
 use Rattle.a429_equipment.specs.Arrivals.{sorted, accepts, accepted}
 use Rattle.a429_equipment.specs.Agreement.{words_of}
 
--- a word that is for a source is accepted, unless so many words of the source were
+-- a word that is for a source is accepted, unless the source has accepted this number of words
 abbrev pub with_word : ℕ → List (ℕ × ℕ) → ℕ → Result ℕ ArrivalRefusal → List (ℕ × ℕ)
 with_word limit A raw (Ok s) = if nat_lt (length (words_of s A)) limit then A ++ (s, raw) ∷ [] else A
 with_word limit A raw (Err refusal) = A
 
--- what receiver r accepted after these raw words came in, where it had accepted A before
+-- what receiver r accepted after these raw words came in, if it had accepted A before
 abbrev pub accepted_after : ℕ → TableRecord → ℕ → List (ℕ × ℕ) → List ℕ → List (ℕ × ℕ)
 accepted_after limit t r A [] = A
 accepted_after limit t r A (raw ∷ raws) = accepted_after limit t r (with_word limit A raw (sorted t r raw)) raws
@@ -21,7 +21,7 @@ accepted_after limit t r A (raw ∷ raws) = accepted_after limit t r (with_word 
 abbrev pub IsReceived : ℕ → TableRecord → ℕ → List (ℕ × ℕ) → Type 0
 IsReceived limit t r A = accepted_after limit t r [] (map (λ e. e.1) A) ≡ A
 
--- the raw word, of 32 bits, is one that this source accepts where it comes in at receiver r
+-- this source accepts the raw word, of 32 bits, if it comes in at receiver r
 pub record IsAccepted (t : TableRecord) (r : ℕ) (e : ℕ × ℕ) : Type 0 where
   pub row : SourceRow
   pub there : slice_get t.sources e.0 ≡ Some row

@@ -39,6 +39,6 @@ unfoldable pub same_station : TableRecord → TableRecord → Bool
 same_station a b =
     all_agree same_receiver a.receivers b.receivers && (all_agree same_source a.sources b.sources && all_agree same_group a.groups b.groups)
 
--- equal receivers, sources and groups, which is what the comparison comes to
+-- equal receivers, sources and groups, which is what the comparison tests
 abbrev pub HaveOneStation : TableRecord → TableRecord → Type 0
 HaveOneStation a b = (a.receivers ≡ b.receivers) × (a.sources ≡ b.sources) × (a.groups ≡ b.groups)

@@ -1,4 +1,6 @@
--- What holds of the record of every equipment: it keeps to the limits, each number and name is in range, its sources are apart, and names and outputs are their own.
+-- What is true of the record of each equipment. It keeps to the limits, each number and name is in range, and its
+-- sources are apart. No two receivers, sources or groups have the same name, and no two outputs of a group the same
+-- source.
 use Rattle.std.specs.Prelude.{◌≡◌, ℕ, ◌<◌, ◌≤◌, ◌⊎◌, List, length, Some, None, IfSome, IsTrue, slice_get}
 use Rattle.std.specs.List.{AllByRecursion}
 use Rattle.a429_filter.specs.declared.filters.Filter.{Filter}

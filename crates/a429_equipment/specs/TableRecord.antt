@@ -10,7 +10,7 @@ use Rattle.a429_equipment.specs.Version.{version_number}
 pub record TableRecord : Type 0 where
   -- 1 or 2
   pub version : ℕ
-  -- in bit/s, of all groups in version 1; none in version 2, where each group has its own
+  -- in bit/s, of all groups in version 1; none in version 2, in which each group has its own
   pub rate : Option ℕ
   pub receivers : List ReceiverRow
   pub sources : List SourceRow
@@ -18,7 +18,7 @@ pub record TableRecord : Type 0 where
   -- of each group, its outputs
   pub outputs : List (List OutputRow)
 
--- those of a group, or none where there is no such group
+-- those of a group; none if there is no such group
 abbrev pub outputs_in : TableRecord → ℕ → List OutputRow
 outputs_in t group = slice_index_or t.outputs group []
 

@@ -1,4 +1,4 @@
-//! The same rows once more.
+//! Copies of rows.
 ghost use Rattle.std.specs.Prelude.{◌≡◌, map, IfOk};
 ghost use Rattle.a429_equipment.specs.TableRecord.{record_of};
 
@@ -42,7 +42,7 @@ impl GroupRow {
 }
 
 impl StationRows {
-    /// The same rows once more.
+    /// A copy of the rows. Error: an allocation failed.
     pub fn copied(&self, alloc: Global) -> Result<StationRows, AllocError>
         ensures { IfOk result (λ rows. record_of rows ≡ record_of self.now) }
     {

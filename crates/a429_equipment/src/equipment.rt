@@ -35,8 +35,8 @@ impl Equipment {
     ghost use Rattle.a429_equipment.specs.Arrivals.{sorted, is_for};
     ghost use Rattle.a429_equipment.specs.SameStation.{same_station};
 
-    /// The equipment of these rows, which keep to the limits of a table: each number and name is in range, no word of
-    /// a receiver is for two sources, and names and outputs are their own. The error is that memory was refused.
+    /// The equipment of these rows, which keep to the limits of a table: each number and name is in range, no two
+    /// sources of a receiver overlap, and names and outputs are unique. Error: an allocation failed.
     pub fn of_rows(alloc: Global, rows: StationRows) -> Result<Equipment, AllocError>
         requires { IsSound (record_of rows) }
         ensures { IfOk result (λ e. e ≡ record_of rows) }
@@ -45,7 +45,7 @@ impl Equipment {
         Ok(Equipment { rows, index })
     }
 
-    /// The same equipment once more. The error is that memory was refused.
+    /// A copy of the equipment. Error: an allocation failed.
     pub fn copied(&self, alloc: Global) -> Result<Equipment, AllocError>
         ensures { IfOk result (λ e. e ≡ self.now) }
     {
@@ -62,8 +62,8 @@ impl Equipment {
         self.rows.version.number()
     }
 
-    /// The rate of every bus, in bit/s: 100000, or 12000 to 14500 (ARINC 429 Part 1, bit rates). None in
-    /// version 2, where each group has its own.
+    /// The bit rate of every bus, in bit/s: 100000, or 12000 to 14500 (ARINC 429 Part 1, bit rates). `None` in version
+    /// 2, in which each group has its own.
     pub fn rate(&self) -> Option<u32>
         ensures rate { result ≡ self.now.rate }
         ensures sound { IsSound self.now }
@@ -113,8 +113,8 @@ impl Equipment {
         self.rows.outputs[group].as_slice()
     }
 
-    /// How often an output of a group sends one accepted word at most, 1 to 1000000; None where there is
-    /// no limit, as always in version 1.
+    /// An output's hold: the group sends one accepted word of its source at most this number of times, 1 to 1000000.
+    /// `None`: no limit (always so in version 1).
     pub fn hold(&self, group: usize, output: usize) -> Option<u32>
         requires group { group < length self.now.groups }
         requires output { output < length (outputs_in self.now group) }
@@ -124,10 +124,10 @@ impl Equipment {
         self.rows.outputs[group][output].hold
     }
 
-    /// The number of the source that a raw word is for, which came in at this receiver, with the word
-    /// (profile: sources). Refused are a word of even parity, then a label that passes no filter of the
-    /// receiver, then a word whose label and SDI no source of the receiver has. The cost does not grow
-    /// with the number of filters or of sources, and no memory is taken.
+    /// The number of the source that a raw word is for, which came in at this receiver, with the word (profile:
+    /// sources). Errors, in this order: the word has even parity; its label passes no filter of the receiver; no source
+    /// of the receiver has its label and SDI. The cost does not grow with the number of filters or of sources, and no
+    /// memory is allocated.
     pub fn source_for(&self, receiver: usize, raw: u32) -> Result<(usize, Word), ArrivalRefusal>
         requires { receiver < length self.now.receivers }
         ensures sorted { sorted self.now receiver raw ≡ result_map_both (λ found. found.0) (λ refusal. refusal) result }

@@ -40,7 +40,7 @@ impl Index {
         Ok(Index { places })
     }
 
-    /// The same index once more.
+    /// A copy of the index. Error: an allocation failed.
     pub fn copied(&self, alloc: Global) -> Result<Index, AllocError>
         ensures { IfOk result (λ index. index.places.items ≡ self.now.places.items) }
     {

@@ -21,8 +21,7 @@ impl Model for Name {
 }
 
 impl Name {
-    /// A copy of the text, whose form is not asked here.
-    /// The error is that memory was refused.
+    /// A copy of the text, whose form is not tested here. Error: an allocation failed.
     pub fn copy_of(alloc: Global, text: &str) -> Result<Name, AllocError>
         ensures { IfOk result (λ n. n ≡ text.now) }
     {
@@ -30,7 +29,7 @@ impl Name {
         Ok(Name { text })
     }
 
-    /// The same name once more. The error is that memory was refused.
+    /// A copy of the name. Error: an allocation failed.
     pub fn copied(&self, alloc: Global) -> Result<Name, AllocError>
         ensures { IfOk result (λ n. n ≡ self.now) }
     {
@@ -49,18 +48,18 @@ impl Name {
 #[derive(Debug, Drop)]
 pub struct ReceiverRow {
     pub name: Name,
-    /// A set without a list where the table has no `filters`, which passes every label.
+    /// If the table has no `filters`, a set without a list, which passes every label.
     pub filters: FilterSet,
 }
 
-/// A source: the number of its receiver, its label, and its SDI, where none is any.
+/// A source: the number of its receiver, its label, and its SDI; `None` is any SDI.
 #[derive(Debug, Drop)]
 pub struct SourceRow {
     pub name: Name,
     /// The number of its receiver.
     pub receiver: usize,
     pub label: Label,
-    /// None where the SDI is any.
+    /// `None`: any SDI.
     pub sdi: Option<Sdi>,
 }
 
@@ -82,8 +81,8 @@ pub struct OutputRow {
     pub min_us: u32,
     /// In microseconds, at least `min_us` and at most 30000000.
     pub max_us: u32,
-    /// How often one accepted word is sent at most, 1 to 1000000; None where there is no limit, as always
-    /// in version 1.
+    /// The output sends one accepted word at most this number of times, 1 to 1000000. `None`: no limit (always so in
+    /// version 1).
     pub hold: Option<u32>,
 }
 
@@ -91,7 +90,7 @@ pub struct OutputRow {
 #[derive(Debug, Drop)]
 pub struct StationRows {
     pub version: TableVersion,
-    /// In bit/s, of all groups in version 1; None in version 2, where each group has its own.
+    /// In bit/s, of all groups in version 1; `None` in version 2, in which each group has its own.
     pub rate: Option<u32>,
     pub receivers: Vec<ReceiverRow>,
     pub sources: Vec<SourceRow>,

@@ -7,12 +7,12 @@ use Rattle.a429_filter.specs.declared.filters.Filter.{Filter}
 abbrev pub passes : Filter → ℕ → Bool
 passes f label = bit_and label f.mask == bit_and f.label f.mask
 
--- with no list each label passes, else one that a filter of the list passes
+-- without a list each label passes; otherwise a label passes if a filter of the list passes it
 abbrev pub set_passes : Option (List Filter) → ℕ → Bool
 set_passes None label = true
 set_passes (Some filters) label = list_any (λ f. passes f label) filters
 
--- the filters of a list, none where there is no list
+-- the filters of a list; without a list, no filter
 abbrev pub filters_of : Option (List Filter) → List Filter
 filters_of None = []
 filters_of (Some filters) = filters

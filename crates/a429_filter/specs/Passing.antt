@@ -4,7 +4,7 @@ use Rattle.a429_filter.specs.declared.filters.Filter.{Filter}
 use Rattle.a429_filter.specs.declared.passing.Passing.{Passing}
 use Rattle.a429_filter.specs.Filters.{passes, set_passes}
 
--- the table tells of each label whether the set passes it
+-- the table says of each label whether the set passes it
 abbrev pub TellsPassing : Passing → Option (List Filter) → Type 0
 TellsPassing p set = (label : ℕ) → label < 256 → slice_index_or p.labels label false ≡ set_passes set label
 

@@ -18,8 +18,8 @@ is_skipped (Ok answer) = false
 is_skipped (Err Failed) = false
 is_skipped (Err Skipped) = true
 
--- the words that were taken are refused ones and then the answer's, which passes;
--- Skipped stands just where 65536 were refused, and no more are looked at
+-- The words that were taken are refused ones and then the answer's, which passes. The answer is Skipped if and only if
+-- 65536 were refused; no more words are looked at.
 pub record Received (filters : Option (List Filter)) (taken : List ℕ) (answer : Result (Option ℕ) SourceFault) : Type 0 where
   pub refused : List ℕ
   pub order : taken ≡ refused ++ word_given answer
@@ -27,26 +27,27 @@ pub record Received (filters : Option (List Filter)) (taken : List ℕ) (answer 
   pub looks : length refused ≤ 65536
   pub skipped : is_skipped answer ≡ (length refused == 65536)
 
--- what the source was asked for behind the words: its end or a failure, where that is the answer, and else nothing
+-- what the source was asked for after the words: its end or a failure, if that is the answer; otherwise nothing
 abbrev pub AsksLast : {L : Type 0} → (L → SourceAnswer → L → Type 0) → L → SourceAnswer → L → Type 0
 AsksLast steps before (Ok None) after = steps before (Ok None) after
 AsksLast steps before (Ok (Some word)) after = before ≡ after
 AsksLast steps before (Err Failed) after = (fault : SourceFault) × steps before (Err fault) after
 AsksLast steps before (Err Skipped) after = before ≡ after
 
--- In the call the source was asked for each word that it gave, and behind them for its end or its failure, where that is the answer.
+-- In the call the source was asked for each word that it gave, and after them for its end or its failure, if that is
+-- the answer.
 abbrev pub HasAskedSource : {L : Type 0} → (L → List ℕ) → (L → SourceAnswer → L → Type 0) → L → SourceAnswer → L → Type 0
 HasAskedSource {L} given steps before answer after =
     (taken : List ℕ) × (behind : L) × (given after ≡ given before ++ taken)
     × FoldsTo steps before (map (λ raw. Ok (Some raw)) taken) behind × AsksLast steps behind answer after
 
--- the answer is by the words that the source gave in the call, and what was behind them the source has still to give
+-- The words that the source gave in the call determine the answer. What followed those words is still to come.
 abbrev pub ReceivesFrom : {L : Type 0} → (L → List ℕ) → (L → Option (List ℕ)) → L → L → Option (List Filter) → SourceAnswer → Type 0
 ReceivesFrom given left before after filters answer =
     (taken : List ℕ) × (given after ≡ given before ++ taken) × (left before ≡ option_map (λ more. taken ++ more) (left after))
     × Received filters taken answer
 
--- the count of the source's failures after the call: it failed once just where the answer says so
+-- the count of the source's failures after the call: it failed, once, if and only if the answer is Failed
 abbrev pub failures_since : ℕ → Result (Option ℕ) SourceFault → ℕ
 failures_since n (Ok answer) = n
 failures_since n (Err Failed) = min (n + 1) (2 ^ 64 - 1)

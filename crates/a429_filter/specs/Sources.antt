@@ -25,7 +25,7 @@ abbrev pub failures_after : ℕ → Result (Option ℕ) SourceFault → ℕ
 failures_after n (Ok answer) = n
 failures_after n (Err fault) = min (n + 1) (2 ^ 64 - 1)
 
--- the list, or the empty one where it is not told
+-- the list, or the empty one if it is not known
 abbrev pub list_or_none : Option (List ℕ) → List ℕ
 list_or_none None = []
 list_or_none (Some words) = words

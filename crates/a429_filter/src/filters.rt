@@ -24,8 +24,8 @@ pub struct Filter {
 pub struct FilterText;
 
 impl Filter {
-    /// Reads a label, a slash and a mask, each of three octal digits from 000 to 377, as in `203/377` (profile: filters).
-    /// Error: the text is not of this form.
+    /// Reads a label, a slash and a mask, each of three octal digits from 000 to 377, for example `203/377` (profile:
+    /// filters). Error: the text is not of this form.
     #[tactic(auto, unfolding(crate::specs::FilterTexts::is_filter, crate::specs::FilterTexts::filter_read, a429_word::specs::Texts::octal_number))]
     pub fn parse(text: &str) -> Result<Filter, FilterText>
         ensures { MatchResult result (λ filter. filter_read text.now ≡ Some filter) (λ _. filter_read text.now ≡ None) }
@@ -108,8 +108,8 @@ impl FilterSet {
         }
     }
 
-    /// Adds a filter at the end of the list; to a set without a list, as the one filter of a list.
-    /// Refused just where the list holds 32, and the set is then as before.
+    /// Adds a filter at the end of the list; a set without a list gets one with this filter. Error: if and only if the
+    /// list holds 32 filters; the set is then as before.
     pub fn add(&mut self, filter: Filter) -> Result<(), Full>
         ensures full { IsErr result ↔ (length (filters_of self.old) ≡ 32) }
         ensures ok { OnOk result (self.new ≡ Some (filters_of self.old ++ filter ∷ [])) }
@@ -129,7 +129,7 @@ impl FilterSet {
         Ok(())
     }
 
-    /// The same set once more.
+    /// The same set, a second time.
     pub fn copied(&self) -> Self
         ensures { result ≡ self.now }
     {
@@ -140,7 +140,7 @@ impl FilterSet {
         }
     }
 
-    /// The filters as they were added, or none where there is no list.
+    /// The filters in the order in which they were added; `None` without a list.
     pub fn list(&self) -> Option<&[Filter]>
         ensures { option_map (λ filters. filters.now) result ≡ self.now }
     {

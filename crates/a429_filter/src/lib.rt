@@ -1,4 +1,4 @@
-//! Which words of a line are received: filters of labels, and where words come from (profile).
+//! Which words of a line are received: filters of labels, and sources of words (profile).
 //!
 //! A `FilterSet` says which labels pass: all, or those of at most 32 filters. `LineSource` is the trait of what gives
 //! the words of a line: write one for your receiver, or take `MemoryLine`. A `Socket` gives the words of a line that

@@ -66,8 +66,8 @@ impl MemoryLine {
         }
     }
 
-    /// A line that gives the raw numbers of the Word and Parity reports of these symbols, in order.
-    /// Refused where memory for them is refused.
+    /// A line that gives the raw numbers of the Word and Parity reports of these symbols, in order. Error: an
+    /// allocation failed.
     pub fn from_symbols(alloc: Global, symbols: &[Symbol]) -> Result<Self, AllocError>
         ensures { IfOk result (λ line. line ≡ at_start (filter_map raw_found (reports symbols.now))) }
     {

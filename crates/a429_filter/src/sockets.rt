@@ -26,7 +26,7 @@ impl<L> Model for Socket<L> {
     ghost view = { λ s. record { source = s.source; filters = s.filters } };
 }
 
-/// The word of a raw number, where it has odd parity and its label passes.
+/// The word of a raw number, if it has odd parity and its label passes.
 fn accepted_word(filters: &FilterSet, raw: u32) -> Option<Word>
     ensures { result ≡ (if accepts filters.now raw then Some raw else None) }
 {
@@ -47,9 +47,9 @@ impl<L: LineSource> Socket<L> {
         Socket { source, filters }
     }
 
-    /// The next word of odd parity whose label passes; other words are skipped. None just where the source was
-    /// asked in this call and answered its end before one came. `Failed` just where the source failed in this call,
-    /// `Skipped` just where 65536 words were refused in it; then the words taken stay taken, and the next call goes on.
+    /// The next word of odd parity whose label passes; other words are skipped. `None` if and only if the source was
+    /// asked in this call and answered its end before such a word came. `Failed` if and only if the source failed in
+    /// this call. `Skipped` if and only if 65536 words were refused in this call; the next call goes on after them.
     pub fn recv(&mut self) -> Result<Option<Word>, SourceFault>
         ensures received { ReceivesFrom L.given L.left self.old.source self.new.source self.old.filters result }
         ensures asked { HasAskedSource L.given L.steps self.old.source result self.new.source }

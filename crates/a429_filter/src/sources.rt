@@ -1,4 +1,4 @@
-//! Where the words of a line come from.
+//! The sources of a line's words.
 ghost use Rattle.std.specs.Prelude.{◌≡◌, ◌++◌, List, ℕ, Bool, Ok, None, Option, option_map, []};
 ghost use Rattle.a429_filter.specs.Sources.{SourceAnswer, failures_after, is_end, list_or_none, word_given};
 
@@ -26,13 +26,13 @@ pub trait LineSource {
     /// How many of its calls answered a fault, as far as 64 bits count.
     ghost failed: { Self → ℕ };
 
-    /// The words that it has still to give, where it tells them.
+    /// The words that it has still to give, if it says so.
     ghost left: { Self → Option (List ℕ) } = { λ _. None };
 
-    /// Whether a call can answer this and take it from one state to another, where it tells that.
+    /// Whether a call can answer this and take it from one state to another, if it says so.
     ghost steps: { Self → SourceAnswer → Self → Type 0 } = { λ _ _ _. Unit {0} };
 
-    /// The next word, whatever its parity, or None at the end. A call that answers a fault gives no word.
+    /// The next word, of either parity, or None at the end. A call that answers a fault gives no word.
     fn next(&mut self) -> Result<Option<u32>, SourceFault>
         ensures given { given self.new ≡ given self.old ++ word_given result }
         ensures ended { ended self.new ≡ is_end result }

@@ -6,7 +6,7 @@ use Rattle.a429_grid.specs.Reversal.{reversed}
 abbrev pub place_in : ℕ → ℕ → ℕ → ℕ
 place_in digits bus slot = bus * 2 ^ digits + reversed digits (slot % 2 ^ digits)
 
--- the place is in block q, where each block has 2^size places
+-- the place is in block q, if each block has 2^size places
 abbrev pub IsInBlock : ℕ → ℕ → ℕ → Type 0
 IsInBlock size q place = (q * 2 ^ size ≤ place) × (place < q * 2 ^ size + 2 ^ size)
 

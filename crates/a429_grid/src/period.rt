@@ -1,4 +1,4 @@
-//! Periods of a power of two of slots, and the greatest one that an interval admits.
+//! Periods of a power of two of slots, and the greatest one that an interval allows.
 ghost use Rattle.std.specs.Prelude.{◌≡◌, ◌≤◌, ◌^◌, ◌*◌, ◌↔◌, IsTrue, MatchOption};
 ghost use Rattle.a429_grid.specs.Grid.{IsWithin, IsGridPeriod, HasNoGridPeriod, IsLeastSpacing, least_spacing};
 
@@ -64,8 +64,8 @@ pub fn fits(period: Period, min_us: u32, max_us: u32, rate: u32) -> bool
     u64::from(min_us) * rate <= lasting && lasting <= u64::from(max_us) * rate
 }
 
-/// The grid period of an interval: the greatest period that keeps to it, at this rate in bit/s; none
-/// where no period does.
+/// The grid period of an interval: the greatest period that keeps to it, at this bit rate in bit/s; `None` if no period
+/// does.
 pub fn grid_period(min_us: u32, max_us: u32, rate: u32) -> Option<Period>
     ensures { MatchOption result (HasNoGridPeriod min_us max_us rate) (λ p. IsGridPeriod min_us max_us rate (2 ^ p)) }
 {
@@ -78,8 +78,9 @@ pub fn grid_period(min_us: u32, max_us: u32, rate: u32) -> Option<Period>
     None
 }
 
-/// The least number of slots that last at least `min_us` microseconds at this rate in bit/s. Two words that are
-/// so far apart keep to their least interval; no grid period of the interval is less.
+/// The least spacing: the smallest number of slots that last at least `min_us` microseconds at this bit rate in bit/s.
+/// Words at least this number of slots apart, start to start, keep to the least interval. No grid period of the
+/// interval is less.
 pub fn spacing(min_us: u32, rate: u32) -> u32
     requires interval { (1 ≤ min_us) × (min_us ≤ 30000000) }
     requires rate { (1 ≤ rate) × (rate ≤ 100000) }

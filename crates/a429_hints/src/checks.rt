@@ -1,4 +1,4 @@
-//! Hints about a line of a plan's text: what was found, and what was due.
+//! Hints about a line of a plan text: what was found, and what was expected.
 
 use crate::hint::HintText;
 use crate::reasons::meaning;
@@ -8,14 +8,14 @@ use a429_console::texts::cut_at;
 use a429_equipment::{Equipment, OutputRow};
 use a429_grid::grid_period;
 
-/// A group of the equipment by its number, and the number of its line in a plan's text.
+/// A group of the equipment by its number, and the number of its line in a plan text.
 #[derive(Clone, Copy)]
 struct NumberedGroup {
     number: usize,
     line: usize,
 }
 
-/// What is due at a line of a plan's text. Outputs of a group may come in any order.
+/// What is expected at a line of a plan text. The outputs of a group may come in any order.
 #[derive(Clone, Copy)]
 enum DueLine {
     Version,
@@ -26,14 +26,14 @@ enum DueLine {
     End,
 }
 
-/// A plan's text with the equipment that it is judged by.
+/// A plan text, and the equipment that it is checked against.
 #[derive(Clone, Copy)]
 pub struct JudgedText<'a> {
     pub equipment: &'a Equipment,
     pub text: &'a [u8],
 }
 
-/// Tells what is wrong with a line of a plan's text.
+/// Says what is wrong with a line of a plan text.
 pub fn tell_objection(judged: JudgedText, objection: Objection, hint: &mut HintText) {
     let Objection { line, reason } = objection;
     hint.turn_to_line(line);
@@ -46,7 +46,7 @@ pub fn tell_objection(judged: JudgedText, objection: Objection, hint: &mut HintT
     }
 }
 
-/// What is due at a line.
+/// What is expected at a line.
 fn due_at(equipment: &Equipment, line: usize) -> DueLine {
     match (line, equipment.version()) {
         (1, _) => return DueLine::Version,
@@ -98,7 +98,7 @@ fn text_of(text: &[u8], number: usize) -> &str {
     str::from_utf8(line).unwrap_or("")
 }
 
-/// The word after a key of a line, whose words are keys and values in turn.
+/// The value after a key of a line. A line is key, value, key, value, ..
 fn value_at<'a>(line: &'a str, key: &str) -> Option<&'a str> {
     let mut words = line.split(' ');
     while let Some(word) = words.next() {
@@ -110,7 +110,7 @@ fn value_at<'a>(line: &'a str, key: &str) -> Option<&'a str> {
     None
 }
 
-/// The form of the line that is due.
+/// The form of the line that is expected.
 fn form_of(due: DueLine, version: u32) -> &'static str {
     match (due, version) {
         (DueLine::Version, 1) => "plan 1",
@@ -128,23 +128,21 @@ fn form_of(due: DueLine, version: u32) -> &'static str {
 fn tell_form(judged: JudgedText, due: DueLine, line: usize, found: &str, hint: &mut HintText) {
     hint.begin(": ");
     if matches!(due, DueLine::End) {
-        return hint.end("nothing may follow the last line that is due");
+        return hint.end("the text must end before this line");
     }
     let rest = lines_from(judged.text, line);
     if rest.is_empty() {
         hint.say("the line is missing; ");
     } else if found.ends_with('\r') {
-        return hint.end(
-            "the line ends with a carriage return: save the file with line feeds alone",
-        );
+        return hint.end("the line ends with a carriage return: save the file with line feeds only");
     } else if !rest.contains(&b'\n') {
         hint.say("the line has no line feed at its end; ");
     }
-    hint.say_text("due is `", form_of(due, judged.equipment.version()));
+    hint.say_text("expected `", form_of(due, judged.equipment.version()));
     hint.end("`");
 }
 
-/// Tells the value that was found, the one that was due, and what that is.
+/// Says which value was found, which was expected, and what that is.
 fn tell_values(judged: JudgedText, due: DueLine, reason: &str, found: &str, hint: &mut HintText) {
     let equipment = judged.equipment;
     match (reason, due) {
@@ -171,7 +169,7 @@ fn tell_values(judged: JudgedText, due: DueLine, reason: &str, found: &str, hint
     }
 }
 
-/// Begins a line with the value that was found in a line. A place is a bus and an offset.
+/// Begins a hint with the value that was found in a line. A place is a bus and an offset.
 fn begin_found(found: &str, reason: &str, hint: &mut HintText) {
     hint.begin(": found ");
     if reason == "place" {
@@ -182,21 +180,21 @@ fn begin_found(found: &str, reason: &str, hint: &mut HintText) {
     }
 }
 
-/// Tells the value that was found in a line, and the number that was due.
+/// Says which value was found in a line, and which number was expected.
 fn tell_number(found: &str, due: u32, reason: &str, hint: &mut HintText) {
     begin_found(found, reason, hint);
-    hint.say_number(", due ", u64::from(due));
+    hint.say_number(", expected ", u64::from(due));
     hint.end_text(": ", meaning(reason));
 }
 
-/// Tells the value that was found in a line, and the text that was due.
+/// Says which value was found in a line, and which text was expected.
 fn tell_text(found: &str, due: &str, reason: &str, hint: &mut HintText) {
     begin_found(found, reason, hint);
-    hint.say_text(", due ", due);
+    hint.say_text(", expected ", due);
     hint.end_text(": ", meaning(reason));
 }
 
-/// The rate of a group; 0 if there is no such group.
+/// The bit rate of a group; 0 if there is no such group.
 fn rate_of(equipment: &Equipment, group: usize) -> u32 {
     if group < equipment.groups().len() {
         equipment.group_rate(group)
@@ -213,7 +211,7 @@ fn period_of(row: &OutputRow, rate: u32) -> u32 {
     }
 }
 
-/// The greatest grid period of a group, in slots.
+/// The longest grid period of a group, in slots.
 fn frame_of(equipment: &Equipment, group: usize) -> u32 {
     let mut frame = 1;
     if group < equipment.groups().len() {
@@ -225,7 +223,7 @@ fn frame_of(equipment: &Equipment, group: usize) -> u32 {
     frame
 }
 
-/// Tells the period or the hold of the output of a line.
+/// Says which period or which hold the output of a line has.
 fn tell_output_value(
     equipment: &Equipment,
     group: usize,
@@ -272,19 +270,19 @@ fn demand_of(equipment: &Equipment, group: usize) -> u64 {
     demand
 }
 
-/// Tells the certificate that is due: its buses are one fewer than the line of the group has.
+/// Says which certificate is expected. Its number of buses is that of the group's line, less 1.
 fn tell_bound(judged: JudgedText, group: NumberedGroup, found: &str, hint: &mut HintText) {
     let NumberedGroup { number, line } = group;
     let buses = number_at(text_of(judged.text, line), "buses");
     hint.begin(": found `");
     hint.say_short("", found);
-    hint.say_number("`, due `bound ", demand_of(judged.equipment, number));
+    hint.say_number("`, expected `bound ", demand_of(judged.equipment, number));
     hint.say_number(" > ", buses.saturating_sub(1));
     hint.say_number(" * ", u64::from(frame_of(judged.equipment, number)));
     hint.end_text("`: ", meaning("bound"));
 }
 
-/// Tells which earlier line is in a cell of this one's.
+/// Says which earlier line uses a cell of this one.
 fn tell_shared(judged: JudgedText, due: DueLine, line: usize, found: &str, hint: &mut HintText) {
     let DueLine::Output(group) = due else {
         return;
@@ -294,7 +292,7 @@ fn tell_shared(judged: JudgedText, due: DueLine, line: usize, found: &str, hint:
             hint.begin(": the output of line ");
             hint.say_count("", earlier);
             return hint.end(
-                " is in a cell of this one: the same bus, and offsets that are equal modulo the smaller period",
+                " uses a cell of this one: same bus, and offsets that are equal modulo the smaller period",
             );
         }
     }

@@ -1,4 +1,4 @@
-//! Hints about a further table of another station.
+//! Hints about a further table that describes another station.
 
 use crate::hint::HintText;
 use a429_console::files::reading::printable_name;
@@ -6,9 +6,12 @@ use a429_equipment::{Equipment, GroupRow, ReceiverRow, SourceRow};
 use a429_filter::FilterSet;
 use a429_word::Sdi;
 
-/// Tells the first thing in which a table differs from the one whose station runs, with both values.
+/// The end of a hint that has a value of each table.
+const IN_FIRST: &str = " in the first table";
+
+/// Says what differs first between a further table and the first table, with both values.
 pub fn tell_difference(table: &str, running: &Equipment, other: &Equipment, hint: &mut HintText) {
-    hint.begin(": its station is not that of ");
+    hint.begin(": its station differs from that of ");
     match printable_name(hint.alloc, table) {
         Ok(shown) => hint.say(shown.as_str()),
         Err(_) => hint.give_up(),
@@ -23,19 +26,19 @@ pub fn tell_difference(table: &str, running: &Equipment, other: &Equipment, hint
     hint.end("its rows differ");
 }
 
-/// Tells a number that differs. Whether it does.
+/// Says both numbers if they differ, and answers whether they do.
 fn tell_count(what: &str, running: usize, other: usize, hint: &mut HintText) -> bool {
     if running == other {
         return false;
     }
-    hint.say_count("it has ", other);
+    hint.say_count("", other);
     hint.say_text(" ", what);
     hint.say_count(" here, and ", running);
-    hint.end(" there");
+    hint.end(IN_FIRST);
     true
 }
 
-/// Tells a name that differs, by the number of its row. Whether it does.
+/// Says both names of a row if they differ, and answers whether they do.
 fn tell_name(kind: &str, place: usize, own: &str, found: &str, hint: &mut HintText) -> bool {
     if own == found {
         return false;
@@ -44,11 +47,11 @@ fn tell_name(kind: &str, place: usize, own: &str, found: &str, hint: &mut HintTe
     hint.say_count(" ", place);
     hint.say_quoted(" is ", found);
     hint.say_quoted(" here, and ", own);
-    hint.end(" there");
+    hint.end(IN_FIRST);
     true
 }
 
-/// Tells the first receiver that differs, in its name or its filters. Whether one does.
+/// Says which receiver differs first, in its name or its filters, and answers whether one does.
 fn tell_receivers(running: &[ReceiverRow], other: &[ReceiverRow], hint: &mut HintText) -> bool {
     for (place, (own, found)) in running.iter().zip(other).enumerate() {
         if tell_name(
@@ -65,7 +68,7 @@ fn tell_receivers(running: &[ReceiverRow], other: &[ReceiverRow], hint: &mut Hin
     tell_count("receivers", running.len(), other.len(), hint)
 }
 
-/// Tells the filters of a receiver if they differ. Whether they do.
+/// Says both lists of filters of a receiver if they differ, and answers whether they do.
 fn tell_filters(own: &ReceiverRow, found: &ReceiverRow, hint: &mut HintText) -> bool {
     let are_same = match (own.filters.list(), found.filters.list()) {
         (None, None) => true,
@@ -78,11 +81,11 @@ fn tell_filters(own: &ReceiverRow, found: &ReceiverRow, hint: &mut HintText) -> 
     hint.say_text("receiver ", own.name.as_str());
     say_filters(" has ", &found.filters, hint);
     say_filters(" here, and ", &own.filters, hint);
-    hint.end(" there");
+    hint.end(IN_FIRST);
     true
 }
 
-/// Says words, and the filters of a receiver as a table has them.
+/// Says words, and the filters of a receiver as a table writes them.
 fn say_filters(words: &str, filters: &FilterSet, hint: &mut HintText) {
     hint.say(words);
     let Some(filters) = filters.list() else {
@@ -99,7 +102,7 @@ fn say_filters(words: &str, filters: &FilterSet, hint: &mut HintText) {
     hint.say("]");
 }
 
-/// Tells the first source that differs. Whether one does.
+/// Says which source differs first, and answers whether one does.
 fn tell_sources(running: &Equipment, other: &Equipment, hint: &mut HintText) -> bool {
     let (own, found) = (running.sources(), other.sources());
     for (place, (a, b)) in own.iter().zip(found).enumerate() {
@@ -110,7 +113,7 @@ fn tell_sources(running: &Equipment, other: &Equipment, hint: &mut HintText) -> 
     tell_count("sources", own.len(), found.len(), hint)
 }
 
-/// Tells in what a source differs. Whether it does.
+/// Says in what a source differs, and answers whether it does.
 fn tell_source(
     receivers: &[ReceiverRow],
     place: usize,
@@ -141,11 +144,11 @@ fn tell_source(
         say_sdi(" has sdi ", found.sdi, hint);
         say_sdi(" here, and ", own.sdi, hint);
     }
-    hint.end(" there");
+    hint.end(IN_FIRST);
     true
 }
 
-/// Says words, and an SDI as a table has it.
+/// Says words, and an SDI as a table writes it.
 fn say_sdi(words: &str, sdi: Option<Sdi>, hint: &mut HintText) {
     match sdi {
         Some(sdi) => hint.say_value(words, sdi),
@@ -161,7 +164,7 @@ fn receiver_name<'a>(receivers: &'a [ReceiverRow], number: usize) -> &'a str {
     }
 }
 
-/// Tells the first group that differs, in its name or its rate. Whether one does.
+/// Says which group differs first, in its name or its bit rate, and answers whether one does.
 fn tell_groups(running: &[GroupRow], other: &[GroupRow], hint: &mut HintText) -> bool {
     for (place, (own, found)) in running.iter().zip(other).enumerate() {
         if tell_name("group", place, own.name.as_str(), found.name.as_str(), hint)
@@ -173,7 +176,7 @@ fn tell_groups(running: &[GroupRow], other: &[GroupRow], hint: &mut HintText) ->
     tell_count("groups", running.len(), other.len(), hint)
 }
 
-/// Tells the rate of a group if it differs. Whether it does.
+/// Says both bit rates of a group if they differ, and answers whether they do.
 fn tell_rate(own: &GroupRow, found: &GroupRow, hint: &mut HintText) -> bool {
     if own.rate == found.rate {
         return false;
@@ -181,6 +184,6 @@ fn tell_rate(own: &GroupRow, found: &GroupRow, hint: &mut HintText) -> bool {
     hint.say_text("group ", own.name.as_str());
     hint.say_number(" has rate ", u64::from(found.rate));
     hint.say_number(" here, and ", u64::from(own.rate));
-    hint.end(" there");
+    hint.end(IN_FIRST);
     true
 }

@@ -12,8 +12,12 @@ use a429_table::{
 };
 use toml::Value;
 
-/// Tells what is at each place of a table with a fault of this kind, and what is to be there. A value has no line: TOML's
-/// reader tells the line and the column only of what it refuses itself.
+/// Why the sources of two rows clash.
+pub const SAME_SOURCE: &str =
+    "have the same receiver and label, and their SDIs overlap (equal, or one is \"any\")";
+
+/// Says what is at each place of a table with a fault of this kind, and what must be there. No line is named: the reader
+/// of TOML reports the line and the column only for what it refuses itself.
 pub fn tell_table_fault(document: &RefusedTable, kind: FaultKind, hint: &mut HintText) {
     match document {
         RefusedTable::Tree(root) => tell_places(root, kind, hint),
@@ -51,33 +55,33 @@ fn tell_row(kind: FaultKind, row: &TableRow, hint: &mut HintText) {
     match kind {
         FaultKind::UnknownKey => tell_unknown_keys(row, hint),
         FaultKind::UnknownName => tell_unknown_name(row, hint),
-        FaultKind::DuplicateName => tell_twin(kind, "name", row, hint),
+        FaultKind::DuplicateName => tell_twin(kind, "have the same name", row, hint),
         FaultKind::DuplicateSource => {
-            tell_twin(kind, "receiver and label, and their SDIs meet", row, hint);
+            tell_twin(kind, SAME_SOURCE, row, hint);
         }
         FaultKind::DuplicateOutput => {
-            tell_twin(kind, "label and SDI, by their sources", row, hint);
+            tell_twin(kind, "send the same label and SDI", row, hint);
         }
         FaultKind::Interval => tell_interval(row, hint),
         _ => tell_values(kind, row, hint),
     }
 }
 
-/// Tells with which earlier row a row clashes.
+/// Says with which earlier row a row clashes, and in what.
 fn tell_twin(kind: FaultKind, what: &str, row: &TableRow, hint: &mut HintText) {
     if let Some(twin) = twin_of(row, kind) {
         begin_row(row, " and ", hint);
         say_row("", &twin, hint);
-        hint.end_text(" have the same ", what);
+        hint.end_text(" ", what);
     }
 }
 
-/// Tells of each value of a row that has a fault of its own.
+/// Says what is wrong with each value of a row that has a fault of its own.
 fn tell_values(kind: FaultKind, row: &TableRow, hint: &mut HintText) {
     if !row.value.is_table() {
         begin_row(row, " is ", hint);
         say_found("", Some(row.value), hint);
-        return hint.end("; it is to be a table");
+        return hint.end("; it must be a table");
     }
     for column in columns_of(version_of(row.root), row.place) {
         let found = row.value.get(column.key);
@@ -91,25 +95,25 @@ fn tell_values(kind: FaultKind, row: &TableRow, hint: &mut HintText) {
     tell_filter(kind, row, hint);
 }
 
-/// Tells what is at a key, and what is to be there.
+/// Says what is at a key, and what must be there.
 fn tell_value(column: &Column, row: &TableRow, found: Option<&Value>, hint: &mut HintText) {
     begin_row(row, ": `", hint);
     hint.say(column.key);
     match (found, column.shape) {
-        // its digits may be written otherwise in the table
+        // the table may write it with other digits
         (Some(Value::Integer(_)), Shape::Text) => hint.say("` is an integer"),
         _ => say_found("` is ", found, hint),
     }
     match kilobits(found) {
         Some(rate) if column.key == "rate" => {
-            hint.say_number("; rate is in bit/s: ", u64::from(rate));
+            hint.say_number("; the unit is bit/s: write ", u64::from(rate));
             hint.end("");
         }
-        _ => hint.end_text("; it is to be ", form(column)),
+        _ => hint.end_text("; it must be ", form(column)),
     }
 }
 
-/// Tells which end of an interval has a fault.
+/// Says which end of an interval has a fault.
 fn tell_interval(row: &TableRow, hint: &mut HintText) {
     let (Some(Value::Integer(min_us)), Some(Value::Integer(max_us))) = (
         row.value.get("min_us"),
@@ -121,22 +125,22 @@ fn tell_interval(row: &TableRow, hint: &mut HintText) {
     if min_us < 1 {
         begin_row(row, ": `min_us` is ", hint);
         hint.say_value("", min_us);
-        hint.end("; it is to be an integer from 1 to max_us (microseconds)");
+        hint.end("; it must be an integer from 1 to max_us (microseconds)");
     }
     if max_us > 30000000 {
         begin_row(row, ": `max_us` is ", hint);
         hint.say_value("", max_us);
-        hint.end("; it is to be an integer from min_us to 30000000 (microseconds)");
+        hint.end("; it must be an integer from min_us to 30000000 (microseconds)");
     }
     if min_us > max_us {
         begin_row(row, ": `min_us` is ", hint);
         hint.say_value("", min_us);
         hint.say_value(" and `max_us` is ", max_us);
-        hint.end("; the first is to be at most the second");
+        hint.end("; `min_us` must not be greater than `max_us`");
     }
 }
 
-/// Tells where the version of a table is, if it has come into one of its rows.
+/// Says which array has the version of a table, if a row has it instead of the top.
 fn tell_late_version(row: &TableRow, hint: &mut HintText) {
     for key in ["receiver", "source", "group"] {
         if has_version_in(row.root, key) {
@@ -157,7 +161,7 @@ fn has_version_in(root: &Value, key: &str) -> bool {
     false
 }
 
-/// Tells of the first filter of a receiver that is no text, or not of its form.
+/// Says what is wrong with the first filter of a receiver that is not a text of the form LLL/MMM.
 fn tell_filter(kind: FaultKind, row: &TableRow, hint: &mut HintText) {
     for (number, filter) in rows_at(row.value, "filters").iter().enumerate() {
         if is_faulty_filter(kind, filter) {
@@ -165,7 +169,7 @@ fn tell_filter(kind: FaultKind, row: &TableRow, hint: &mut HintText) {
             hint.say_count("", number.saturating_add(1));
             say_found(" is ", Some(filter), hint);
             return hint.end(
-                "; it is to be a text LLL/MMM, label and mask, each three octal digits from 000 to 377",
+                "; it must be a text LLL/MMM, label and mask, each three octal digits from 000 to 377",
             );
         }
     }
@@ -180,8 +184,7 @@ fn is_faulty_filter(kind: FaultKind, filter: &Value) -> bool {
     }
 }
 
-/// Tells of each key of a row that its tables do not have, where it belongs or which is the nearest, and of those that
-/// they have.
+/// Names each key that a row must not have, the keys that it can have, and the right place of the key or the nearest key.
 fn tell_unknown_keys(row: &TableRow, hint: &mut HintText) {
     let Value::Table(table) = row.value else {
         return;
@@ -197,8 +200,8 @@ fn tell_unknown_keys(row: &TableRow, hint: &mut HintText) {
 fn tell_unknown_key(version: TableVersion, row: &TableRow, key: &str, hint: &mut HintText) {
     begin_row(row, ": ", hint);
     hint.say_quoted("", key);
-    hint.say_value(" is no key of it; in version ", version.number());
-    hint.say(" those are");
+    hint.say_value(" is not a key here; version ", version.number());
+    hint.say(" has");
     for column in columns_of(version, row.place) {
         hint.say_text(" `", column.key);
         hint.say("`");
@@ -209,7 +212,7 @@ fn tell_unknown_key(version: TableVersion, row: &TableRow, key: &str, hint: &mut
     }
 }
 
-/// Says which key of a table is the nearest to one that it does not have, and ends the line.
+/// Says which key is the nearest to an unknown one, and ends the line.
 fn say_nearest_key(version: TableVersion, place: TablePlace, key: &str, hint: &mut HintText) {
     let shown = short_text(key);
     let mut nearest = Nearest::to(shown.as_str());
@@ -217,13 +220,13 @@ fn say_nearest_key(version: TableVersion, place: TablePlace, key: &str, hint: &m
         nearest = nearest.or(hint.alloc, column.key);
     }
     if let Some(near) = nearest.name() {
-        hint.say_text(", of which `", near);
-        hint.say("` is the nearest");
+        hint.say_text("; the nearest is `", near);
+        hint.say("`");
     }
     hint.end("");
 }
 
-/// Where a key belongs that tables have, but not here.
+/// The right place of a key that this row must not have. `None` if no row has the key.
 fn where_it_belongs(version: TableVersion, place: TablePlace, key: &str) -> Option<&'static str> {
     match (key, place, version) {
         ("output", TablePlace::Root, _) => {
@@ -233,7 +236,7 @@ fn where_it_belongs(version: TableVersion, place: TablePlace, key: &str) -> Opti
             Some("in version 2 each [[group]] has its own `rate`")
         }
         ("rate", TablePlace::Group(_), TableVersion::One) => {
-            Some("a rate of a group needs version = 2")
+            Some("`rate` of a group needs version = 2")
         }
         ("hold", TablePlace::Output(_, _), TableVersion::One) => Some("`hold` needs version = 2"),
         ("version", _, _) => Some(
@@ -252,7 +255,7 @@ fn has_key(version: TableVersion, place: TablePlace, text: &str) -> bool {
     false
 }
 
-/// Tells which name of a row stands for nothing, which one may have been meant, and which there are.
+/// Says which name of a row is unknown, and which name is the nearest.
 fn tell_unknown_name(row: &TableRow, hint: &mut HintText) {
     let key = match row.place {
         TablePlace::Source(_) => "receiver",

@@ -1,40 +1,40 @@
-//! Hints about what `lint` finds.
+//! Hints about the findings of `lint`.
 
 use crate::hint::HintText;
 use a429_text::Rows;
 
-/// The kinds of findings in the order in which `lint` prints them, with spaces between them.
+/// The kinds of findings, in the order in which `lint` prints them, separated by spaces.
 const KINDS: &str = "unfit too-many-buses unheard unsent idle blind alike full";
 
-/// What a finding means, and what to do about it, by the first word of its line.
+/// What a kind of finding means, and what to do about it.
 fn advice(kind: &str) -> &'static str {
     match kind {
         "unfit" => {
-            "no period lies within the interval, so the table has no plan: `a429 plan` prints which intervals would do"
+            "no transmit period lies within the interval, so the table has no plan: `a429 plan` prints intervals that work"
         }
         "too-many-buses" => {
-            "a group has 16 buses at most, so the table has no plan: give some of its outputs longer intervals, or a group of their own"
+            "a group can have at most 16 buses, so the table has no plan: give some of its outputs a longer max_us, or move them to another group"
         }
         "unheard" => {
-            "no filter of the receiver passes the source's label, so none of its words is accepted: add a filter LLL/377, or drop the filters"
+            "no filter of the receiver passes the source's label, so its words are never accepted: add a filter LLL/377, or remove the filters"
         }
-        "unsent" => "no group has an output of the source: add one, or drop the source",
+        "unsent" => "no group sends the source: add an output, or remove the source",
         "idle" => {
-            "the receiver has no source, so no word that comes in there is accepted: give it a source, or drop it"
+            "the receiver has no source, so its words are never accepted: add a source, or remove the receiver"
         }
         "blind" => {
-            "the filter passes no label of the receiver's sources, so it is of no use: mend it, or drop it"
+            "the filter passes no label of the receiver's sources: correct it, or remove it"
         }
         "alike" => {
-            "two outputs send one label, and one of them any SDI, so their receivers cannot tell them apart: give both sources a certain SDI, or send them in two groups"
+            "two outputs send the same label, one of them with sdi = \"any\", so a display cannot distinguish them: give both sources a number as `sdi`, or send them in two groups"
         }
         _ => {
-            "no cell of the group's buses is empty, so one more output takes one more bus: `a429 margin` prints what would make room"
+            "the group's buses have no empty cell, so one more output needs one more bus: `a429 margin` prints what would free cells"
         }
     }
 }
 
-/// Whether a row has this word in its first column.
+/// Whether a row has this kind in its first column.
 fn has_row(rows: &Rows, kind: &str) -> bool {
     for row in 0..usize::MAX {
         match rows.text(row, 0) {
@@ -46,7 +46,7 @@ fn has_row(rows: &Rows, kind: &str) -> bool {
     false
 }
 
-/// Tells what to do about each kind of finding in the rows of `lint`, in the order of the kinds there.
+/// Says what to do about each kind of finding in the rows of `lint`, one line a kind.
 pub fn tell_findings(rows: &Rows, hint: &mut HintText) {
     for kind in KINDS.split(' ') {
         if has_row(rows, kind) {

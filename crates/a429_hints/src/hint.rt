@@ -7,11 +7,11 @@ use std::fmt::Display;
 use std::io;
 use std::io::Write;
 
-/// The most lines of a hint: a terminal shows them at once. What follows is counted.
+/// The most lines of the hints of one run: a terminal shows them at once. One last line counts the others.
 pub const LINES: usize = 20;
 
-/// The lines of a hint, in memory. If memory is refused for a part of them, none is put. A control character is said as
-/// its number, since a text of someone else's file may be among them, and a terminal obeys what it has.
+/// The lines of a hint, in memory. If an allocation fails, none of them is written. A control character is written as its
+/// number: a line may quote a file of someone else, and a terminal obeys control characters.
 #[derive(Drop)]
 pub struct HintText {
     pub alloc: Global,
@@ -24,7 +24,7 @@ pub struct HintText {
 }
 
 impl HintText {
-    /// No lines yet.
+    /// A hint without lines.
     pub fn new(alloc: Global) -> HintText {
         HintText {
             alloc,
@@ -37,7 +37,7 @@ impl HintText {
         }
     }
 
-    /// Writes the lines to `err`. The error is the writer's, or that memory was refused.
+    /// Writes the lines to `err`. Error: the writer's, or that an allocation failed.
     pub fn put<V: Write>(&self, err: &mut V) -> io::Result<()> {
         if self.is_refused {
             return Err(io::Error::from(AllocError));
@@ -49,17 +49,17 @@ impl HintText {
         }
     }
 
-    /// Whether all lines that are shown were said.
+    /// Whether the hint has as many lines as are shown.
     fn is_full(&self) -> bool {
         self.said >= LINES
     }
 
-    /// Memory was refused for something that the hint needs.
+    /// Records that an allocation failed: nothing is written.
     pub fn give_up(&mut self) {
         self.is_refused = true;
     }
 
-    /// What `write!` calls.
+    /// Called by `write!`.
     pub fn write_fmt<D: Display + Drop>(&mut self, value: D) {
         if !self.is_full() && self.lines.write_fmt(value).is_err() {
             self.give_up();
@@ -102,7 +102,7 @@ impl HintText {
         write!(self, "{:?}", shown.as_str());
     }
 
-    /// Says words, and a value as it prints.
+    /// Says words, and a value as it displays.
     pub fn say_value<D: Display + Drop>(&mut self, words: &str, value: D) {
         self.say(words);
         self.write_fmt(value);
@@ -113,12 +113,12 @@ impl HintText {
         self.say_value(words, number);
     }
 
-    /// Says words, and how many there are of something, or its place among others.
+    /// Says words, and a count or an index.
     pub fn say_count(&mut self, words: &str, count: usize) {
         self.say_number(words, count as u64);
     }
 
-    /// What is said next is about a file: a control character of its name is said as `?`.
+    /// The lines that follow are about this file. A control character of its name is written as `?`.
     pub fn turn_to(&mut self, file: &str) {
         match printable_name(self.alloc, file) {
             Ok(shown) => self.file = shown,
@@ -127,12 +127,12 @@ impl HintText {
         self.line = None;
     }
 
-    /// What is said next is about a line of the file, from 1.
+    /// The lines that follow are about this line of the file, counted from 1.
     pub fn turn_to_line(&mut self, line: usize) {
         self.line = Some(line);
     }
 
-    /// Begins a line: says what it is about, and words.
+    /// Begins a line: says the file, the line in it if there is one, and words.
     pub fn begin(&mut self, words: &str) {
         if self.is_full() {
             return;
@@ -159,7 +159,7 @@ impl HintText {
         self.said = self.said.saturating_add(1);
     }
 
-    /// Leaves out lines, which are counted.
+    /// Counts lines that are not shown.
     pub fn leave_out(&mut self, lines: usize) {
         self.left_out = self.left_out.saturating_add(lines as u64);
     }

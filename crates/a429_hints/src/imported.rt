@@ -1,5 +1,6 @@
-//! Hints about the table that rows of comma-separated values state.
+//! Hints about the table that rows of comma-separated values describe.
 
+use crate::faults::SAME_SOURCE;
 use crate::hint::HintText;
 use crate::sheets::{Sheet, begin_column, begin_row, form_in, tell_field};
 use a429_documents::CsvLine;
@@ -7,7 +8,7 @@ use a429_equipment::{GROUPS, OUTPUTS, RECEIVERS, SOURCES};
 use a429_filter::FILTERS;
 use a429_table::{FaultKind, TablePlace};
 
-/// Tells which row states what the table is refused for.
+/// Says which row has the fault for which the table is refused.
 pub fn tell_imported(sheet: Sheet, kind: FaultKind, place: TablePlace, hint: &mut HintText) {
     if kind == FaultKind::TooMany {
         return tell_too_many(sheet, place, hint);
@@ -23,7 +24,7 @@ pub fn tell_imported(sheet: Sheet, kind: FaultKind, place: TablePlace, hint: &mu
     }
 }
 
-/// The row that states what is at a place of the table first. `None` if there is none, or if memory was refused.
+/// The first row about a place of the table. `None` if there is none, or if an allocation failed.
 fn row_of<'a>(sheet: Sheet<'a>, place: TablePlace, hint: &mut HintText) -> Option<&'a CsvLine> {
     match place {
         TablePlace::Root => None,
@@ -37,7 +38,7 @@ fn row_of<'a>(sheet: Sheet<'a>, place: TablePlace, hint: &mut HintText) -> Optio
     }
 }
 
-/// Tells of the field of a row that a fault of this kind is about.
+/// Says what is wrong with the field of a row that a fault of this kind is about.
 fn tell_at_fault(
     sheet: Sheet,
     row: &CsvLine,
@@ -56,7 +57,7 @@ fn tell_at_fault(
     tell_column(sheet, row, column, hint);
 }
 
-/// Tells what is in a column of a row, and what is to be there.
+/// Says what is in a column of a row, and what must be there.
 fn tell_column(sheet: Sheet, row: &CsvLine, column: &str, hint: &mut HintText) {
     tell_field(row, column, sheet.text(row, column), hint);
 }
@@ -69,7 +70,7 @@ fn number_in(sheet: Sheet, row: &CsvLine, column: &str) -> u64 {
     }
 }
 
-/// Tells which end of an interval has a fault.
+/// Says which end of an interval has a fault.
 fn tell_interval(sheet: Sheet, row: &CsvLine, hint: &mut HintText) {
     let min_us = number_in(sheet, row, "min_us");
     let max_us = number_in(sheet, row, "max_us");
@@ -83,16 +84,16 @@ fn tell_interval(sheet: Sheet, row: &CsvLine, hint: &mut HintText) {
         begin_row(row, ": min_us is ", hint);
         hint.say_number("", min_us);
         hint.say_number(" and max_us is ", max_us);
-        hint.end("; the first is to be at most the second");
+        hint.end("; min_us must not be greater than max_us");
     }
 }
 
-/// Whether two rows have the same label. Its leading zeros may be lost.
+/// Whether two rows have the same label. A spreadsheet may have removed its leading zeros.
 fn have_same_label(sheet: Sheet, a: &CsvLine, b: &CsvLine) -> bool {
     number_in(sheet, a, "label") == number_in(sheet, b, "label")
 }
 
-/// Whether two rows state sources that cannot be told apart.
+/// Whether the sources of two rows have the same receiver and label, and overlapping SDIs.
 fn meet(sheet: Sheet, a: &CsvLine, b: &CsvLine) -> bool {
     let (one, other) = (sheet.text(a, "sdi"), sheet.text(b, "sdi"));
     sheet.field(a, "receiver") == sheet.field(b, "receiver")
@@ -100,7 +101,7 @@ fn meet(sheet: Sheet, a: &CsvLine, b: &CsvLine) -> bool {
         && (one == other || one == "any" || other == "any")
 }
 
-/// Tells with which earlier source that of a row meets.
+/// Says with which earlier source the source of a row clashes.
 fn tell_twin_source(sheet: Sheet, row: &CsvLine, hint: &mut HintText) {
     for earlier in sheet.rows {
         if sheet.field(earlier, "source") != sheet.field(row, "source")
@@ -110,12 +111,12 @@ fn tell_twin_source(sheet: Sheet, row: &CsvLine, hint: &mut HintText) {
             hint.say_quoted("", sheet.text(row, "source"));
             hint.say_quoted(" and source ", sheet.text(earlier, "source"));
             hint.say_number(" of line ", earlier.number);
-            return hint.end(" have the same receiver and label, and their SDIs meet");
+            return hint.end_text(" ", SAME_SOURCE);
         }
     }
 }
 
-/// Tells which earlier row of its group has the label and the SDI of a row.
+/// Says which earlier row of the same group has the same label and SDI.
 fn tell_twin_output(sheet: Sheet, row: &CsvLine, hint: &mut HintText) {
     for earlier in sheet.rows {
         if earlier.number != row.number
@@ -123,14 +124,14 @@ fn tell_twin_output(sheet: Sheet, row: &CsvLine, hint: &mut HintText) {
             && have_same_label(sheet, earlier, row)
             && sheet.field(earlier, "sdi") == sheet.field(row, "sdi")
         {
-            begin_row(row, ": this row and that of line ", hint);
+            begin_row(row, ": this row and line ", hint);
             hint.say_number("", earlier.number);
             return hint.end(" have the same group, label and SDI");
         }
     }
 }
 
-/// Tells of a row that states one more than there can be.
+/// Says which row has one receiver, source, group, filter or output too many.
 fn tell_too_many(sheet: Sheet, place: TablePlace, hint: &mut HintText) {
     match place {
         TablePlace::Root => {
@@ -148,26 +149,27 @@ fn tell_too_many(sheet: Sheet, place: TablePlace, hint: &mut HintText) {
     }
 }
 
-/// Tells of the row that states one more output of a group than it can have, if there is one.
+/// Says which row has one output too many for its group, if there is one.
 fn tell_more_outputs(sheet: Sheet, group: usize, hint: &mut HintText) {
     if let Some(row) = row_of(sheet, TablePlace::Output(group, OUTPUTS), hint) {
         begin_row(row, ": this is output number ", hint);
         hint.say_count("", OUTPUTS + 1);
-        hint.say_count(" of its group, and a group has ", OUTPUTS);
-        hint.end(" at most");
+        hint.say_count(" of its group; a group can have at most ", OUTPUTS);
+        hint.end("");
     }
 }
 
-/// Tells of the row that states one more of these than there can be, if there is one.
+/// Says which row has one receiver, source or group too many, if there is one.
 fn tell_more(sheet: Sheet, column: &str, most: usize, hint: &mut HintText) {
     if let Some(row) = sheet.first_row(column, most, hint) {
         begin_column(row, column, hint);
-        hint.say_count("this is one more than the ", most);
-        hint.end(" that a table can have");
+        hint.say_count("this is number ", most.saturating_add(1));
+        hint.say_count("; a table can have at most ", most);
+        hint.end("");
     }
 }
 
-/// Tells how many filters a row has.
+/// Says how many filters a row has, and how many it can have.
 fn tell_filters(sheet: Sheet, row: &CsvLine, hint: &mut HintText) {
     let mut count: usize = 0;
     for filter in sheet.text(row, "filters").split(' ') {
@@ -177,6 +179,6 @@ fn tell_filters(sheet: Sheet, row: &CsvLine, hint: &mut HintText) {
     }
     begin_column(row, "filters", hint);
     hint.say_count("", count);
-    hint.say_count(" filters, and a receiver has ", FILTERS);
-    hint.end_text(" at most; each is ", form_in("filters"));
+    hint.say_count(" filters; a receiver can have at most ", FILTERS);
+    hint.end_text(", each ", form_in("filters"));
 }

@@ -1,4 +1,4 @@
-//! Hints about rows of comma-separated values that are not imported.
+//! Hints about rows of comma-separated values that `import` refuses.
 
 use crate::hint::HintText;
 use crate::imported::tell_imported;
@@ -11,7 +11,7 @@ use a429_documents::{CsvLine, IMPORT_COLUMNS, ImportColumn, LineCount, csv_lines
 use a429_filter::Filter;
 use std::cmp::min;
 
-/// Tells what is wrong with the rows of a file.
+/// Says what is wrong with the rows of a file.
 pub fn tell_rows(refusal: &CommandRefusal, seen: &SeenRows, hint: &mut HintText) {
     let Ok(lines) = csv_lines(hint.alloc, &seen.bytes) else {
         return hint.give_up();
@@ -19,7 +19,7 @@ pub fn tell_rows(refusal: &CommandRefusal, seen: &SeenRows, hint: &mut HintText)
     hint.turn_to_line(1);
     match lines.as_slice() {
         [] => hint.say_line(
-            "there is no heading; it is to name the columns group, rate, source, receiver, label, sdi, min_us and max_us",
+            "there is no heading; it must name the columns group, rate, source, receiver, label, sdi, min_us and max_us",
         ),
         [heading, rows @ ..] => {
             let sheet = Sheet { heading, rows };
@@ -47,14 +47,14 @@ fn tell_sheet(sheet: Sheet, refusal: &CommandRefusal, seen: &SeenRows, hint: &mu
     }
 }
 
-/// Tells of each column that the heading lacks or has twice.
+/// Names each column that the heading lacks or has twice.
 fn tell_heading(sheet: Sheet, hint: &mut HintText) {
     let first = sheet.heading.field(0);
     if sheet.heading.len() == 1 && first.contains(&b';') {
-        return hint.say_line("the fields have semicolons between them; commas are to be there");
+        return hint.say_line("the fields are separated by semicolons; use commas");
     }
     if sheet.heading.len() == 1 && first.contains(&b'\t') {
-        return hint.say_line("the fields have tabs between them; commas are to be there");
+        return hint.say_line("the fields are separated by tabs; use commas");
     }
     for column in IMPORT_COLUMNS.as_slice() {
         tell_column(sheet.heading, *column, hint);
@@ -72,26 +72,26 @@ fn times_in(heading: &CsvLine, name: &str) -> usize {
     times
 }
 
-/// Tells of a column if the heading lacks it or has it twice.
+/// Names a column if the heading lacks it or has it twice.
 fn tell_column(heading: &CsvLine, column: ImportColumn, hint: &mut HintText) {
     let name = column.name();
     let times = times_in(heading, name);
     if times > 1 {
         hint.begin(": the column ");
         hint.say(name);
-        hint.say_count(" is there ", times);
-        hint.end(" times; it is to be there once");
+        hint.say_count(" is in the heading ", times);
+        hint.end(" times; name it once");
     } else if times == 0 && column.is_needed() {
         tell_missing(heading, name, hint);
     }
 }
 
-/// A field of a heading as a text; the empty text if it is none.
+/// A field of a heading as a text; the empty text if it is not UTF-8.
 fn heading_text(heading: &CsvLine, place: usize) -> &str {
     str::from_utf8(heading.field(place)).unwrap_or("")
 }
 
-/// Says which field of a heading is nearest to the name of a column, among those that name no column.
+/// Says which field of a heading is nearest to the name of a column. Fields that name a column are left out.
 fn say_nearest_field(heading: &CsvLine, name: &str, hint: &mut HintText) {
     let mut nearest = Nearest::to(name);
     for place in 0..min(heading.len(), LISTED) {
@@ -101,12 +101,11 @@ fn say_nearest_field(heading: &CsvLine, name: &str, hint: &mut HintText) {
         }
     }
     if let Some(near) = nearest.name() {
-        hint.say_quoted(", of which ", near);
-        hint.say(" is the nearest");
+        hint.say_quoted("; the nearest is ", near);
     }
 }
 
-/// Tells of a column that the heading lacks, and of those that it has.
+/// Says which column the heading lacks, and which it has.
 fn tell_missing(heading: &CsvLine, name: &str, hint: &mut HintText) {
     hint.begin(": the column ");
     hint.say_text(name, " is missing; the heading has");
@@ -128,7 +127,7 @@ fn is_column(text: &str) -> bool {
     false
 }
 
-/// Tells of a row that has more or fewer fields than the heading.
+/// Says how many fields a row has, and how many the heading has.
 fn tell_count(sheet: Sheet, row: &CsvLine, bytes: &[u8], hint: &mut HintText) {
     if has_open_quote(bytes, row.number) {
         begin_row(row, ": ", hint);
@@ -136,11 +135,11 @@ fn tell_count(sheet: Sheet, row: &CsvLine, bytes: &[u8], hint: &mut HintText) {
     }
     begin_row(row, ": the row has ", hint);
     hint.say_count("", row.len());
-    hint.say_count(" fields, and the heading has ", sheet.heading.len());
+    hint.say_count(" fields, but the heading has ", sheet.heading.len());
     hint.end("");
 }
 
-/// Whether quotes from a line to the end of a text are odd in number.
+/// Whether the number of quotes from a line to the end of a text is odd.
 fn has_open_quote(bytes: &[u8], line: u64) -> bool {
     let mut count = LineCount::new();
     let mut is_open = false;
@@ -153,7 +152,7 @@ fn has_open_quote(bytes: &[u8], line: u64) -> bool {
     is_open
 }
 
-/// Tells of a field that is not of its column's form.
+/// Says what is wrong with a field that does not have the form of its column.
 fn tell_form(sheet: Sheet, row: &CsvLine, column: &str, hint: &mut HintText) {
     let Ok(text) = str::from_utf8(sheet.field(row, column)) else {
         begin_column(row, column, hint);
@@ -169,7 +168,7 @@ fn tell_form(sheet: Sheet, row: &CsvLine, column: &str, hint: &mut HintText) {
     }
 }
 
-/// The column that names what a column says something of: a source, a receiver or a group.
+/// The column that names the owner of a column: a source, a receiver or a group.
 fn owner_of(column: &str) -> &'static str {
     match column {
         "filters" => "receiver",
@@ -178,7 +177,7 @@ fn owner_of(column: &str) -> &'static str {
     }
 }
 
-/// Tells what an earlier row states otherwise.
+/// Says in what a row contradicts an earlier one.
 fn tell_difference(sheet: Sheet, row: &CsvLine, column: &str, hint: &mut HintText) {
     let owner = owner_of(column);
     let name = sheet.field(row, owner);

@@ -1,11 +1,11 @@
-//! What is to be at each key of a table, in words.
+//! What must be at each key of a table, in words.
 
 use a429_equipment::{GROUPS, OUTPUTS, RECEIVERS, SOURCES};
 use a429_filter::FILTERS;
 use a429_table::{Column, FaultKind, Shape};
 use toml::Value;
 
-/// What is to be at a key.
+/// What must be at a key.
 pub fn form(column: &Column) -> &'static str {
     match (column.key, column.shape) {
         ("version", _) => "an integer, 1 or 2",
@@ -14,9 +14,9 @@ pub fn form(column: &Column) -> &'static str {
         ("source", Shape::Tables) => "an array of at most 256 tables, [[source]]",
         ("group", _) => "an array of at most 8 tables, [[group]]",
         ("name", _) => "a text of 1 to 16 of `a` to `z`, `0` to `9`, `-` and `_`",
-        ("filters", _) => "an array of at most 32 texts LLL/MMM, as [\"200/370\"]",
+        ("filters", _) => "an array of at most 32 texts LLL/MMM, such as [\"200/370\"]",
         ("receiver", _) => "a text, the name of a receiver",
-        ("label", _) => "a text of three octal digits from 000 to 377, as \"203\"",
+        ("label", _) => "a text of three octal digits from 000 to 377, such as \"203\"",
         ("sdi", _) => "an integer from 0 to 3, or the text \"any\"",
         ("output", _) => "an array of 1 to 128 tables, [[group.output]]",
         ("source", _) => "a text, the name of a source",
@@ -26,7 +26,7 @@ pub fn form(column: &Column) -> &'static str {
     }
 }
 
-/// Whether what is at a key has a fault of this kind, as far as that is a fault of this key alone.
+/// Whether the value at a key has a fault of this kind, seen from this key alone.
 pub fn is_faulty(column: &Column, kind: FaultKind, found: Option<&Value>) -> bool {
     match (kind, found) {
         (FaultKind::MissingKey, None) => column.required,
@@ -52,7 +52,7 @@ fn is_about(kind: FaultKind, key: &str) -> bool {
     )
 }
 
-/// Whether a value is of the kind that is to be at a key.
+/// Whether a value has the kind that must be at a key.
 fn takes(shape: Shape, value: &Value) -> bool {
     match shape {
         Shape::Integer => value.is_integer(),
@@ -62,7 +62,7 @@ fn takes(shape: Shape, value: &Value) -> bool {
     }
 }
 
-/// How many rows can be at a key.
+/// The most rows at a key.
 fn most(key: &str) -> usize {
     match key {
         "receiver" => RECEIVERS,
@@ -73,7 +73,7 @@ fn most(key: &str) -> usize {
     }
 }
 
-/// The rate in bit/s that a number is, if it states one of the two usual rates in kbit/s.
+/// The bit rate in bit/s, if a number is one of the two usual bit rates in kbit/s.
 pub fn kilobits(found: Option<&Value>) -> Option<u32> {
     match found {
         Some(Value::Integer(100)) => Some(100000),

@@ -1,7 +1,7 @@
-//! What a person can do about a refusal: lines on the error output that begin with `a429: `.
+//! Hints after a refusal: lines on standard error that begin with `a429: ` and say what to do.
 //!
-//! A hint is made of what the command read and refused: no file is read and nothing is planned again. No contract rests on it.
-//! `HintLines` gives them to `run_program` of `a429_cli`.
+//! A hint is made from what the command read and refused: no file is read again and nothing is planned again. No contract
+//! is about hints. `run_program` of `a429_cli` takes them as `HintLines`.
 //!
 //! ```text
 //! let status = run_program(&rt, &rt, &HintLines, &mut files, &mut out, &mut err, &NoProgress);

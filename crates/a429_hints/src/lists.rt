@@ -4,7 +4,7 @@ use crate::hint::HintText;
 use crate::nearest::Nearest;
 use crate::rows::short_text;
 
-/// How many names a hint lists at most.
+/// The most names that a hint lists.
 pub const LISTED: usize = 16;
 
 /// Whether a name is one of these.
@@ -17,14 +17,14 @@ pub fn has_name(names: &[String], name: &str) -> bool {
     false
 }
 
-/// Tells that a name is none of these, which is the nearest, and which there are.
+/// Says that a name is unknown, which name is the nearest, and which names there are.
 pub fn tell_names(kind: &str, name: &str, names: &[String], hint: &mut HintText) {
     hint.begin(": no ");
     hint.say_text(kind, " has the name ");
     hint.say_quoted("", name);
     say_nearest(name, names, hint);
     if names.is_empty() {
-        return hint.end("; there is none");
+        return hint.end("; the table has none");
     }
     hint.say_text("; the ", kind);
     hint.say("s are");
@@ -35,7 +35,7 @@ pub fn tell_names(kind: &str, name: &str, names: &[String], hint: &mut HintText)
     hint.end("");
 }
 
-/// Says which of some names is the nearest to one.
+/// Says which of these names is the nearest to a name.
 fn say_nearest(name: &str, names: &[String], hint: &mut HintText) {
     let shown = short_text(name);
     let mut nearest = Nearest::to(shown.as_str());
@@ -43,11 +43,11 @@ fn say_nearest(name: &str, names: &[String], hint: &mut HintText) {
         nearest = nearest.or(hint.alloc, known.as_str());
     }
     if let Some(near) = nearest.name() {
-        hint.say_text(", the nearest is ", near);
+        hint.say_text("; the nearest is ", near);
     }
 }
 
-/// Says how many more there are than a hint lists, if there are more.
+/// Says how many names are not listed, if there are any.
 pub fn say_more(count: usize, hint: &mut HintText) {
     if count > LISTED {
         hint.say_count(" and ", count - LISTED);

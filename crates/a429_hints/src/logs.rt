@@ -8,10 +8,10 @@ use a429_console::hints::SeenLine;
 /// The form of a log's lines.
 const FORM: &str = "TIME RECEIVER HEX";
 
-/// How many digits a time has at most.
+/// The most digits of a time.
 const TIME_DIGITS: usize = 14;
 
-/// Tells what is wrong with a line of a log.
+/// Says what is wrong with a line of a log.
 pub fn tell_log_line(line: &SeenLine, hint: &mut HintText) {
     let Ok(text) = str::from_utf8(&line.bytes) else {
         return hint.say_line(NOT_UTF8);
@@ -29,7 +29,7 @@ pub fn tell_log_line(line: &SeenLine, hint: &mut HintText) {
     tell_arrival(line, rest, hint);
 }
 
-/// Tells of a line of another kind of file, by its first word. Whether it is one.
+/// Says that a line belongs to another kind of file, by its first word, and answers whether it does.
 fn tell_first_word(line: &SeenLine, word: &str, hint: &mut HintText) -> bool {
     if is_script_word(word) {
         hint.begin(": this is a line of a script");
@@ -42,7 +42,7 @@ fn tell_first_word(line: &SeenLine, word: &str, hint: &mut HintText) -> bool {
     true
 }
 
-/// Whether a text is decimal digits alone.
+/// Whether a text is one or more decimal digits.
 fn is_number(text: &str) -> bool {
     for byte in text.bytes() {
         if !byte.is_ascii_digit() {
@@ -52,7 +52,7 @@ fn is_number(text: &str) -> bool {
     !text.is_empty()
 }
 
-/// Tells what is wrong with the form of a time. Whether something is.
+/// Says what is wrong with the form of a time, and answers whether something is.
 fn tell_time(time: &str, hint: &mut HintText) -> bool {
     if is_number(time) && time.len() <= TIME_DIGITS {
         return false;
@@ -60,24 +60,24 @@ fn tell_time(time: &str, hint: &mut HintText) -> bool {
     hint.begin(": ");
     hint.say_quoted("", time);
     if time.starts_with('+') || time.starts_with('-') {
-        hint.end(" has a sign; a time has none");
+        hint.end(" has a sign; write the time without it");
     } else if time.contains('.') || time.contains(',') {
         hint.end(" has a decimal point; a time is in whole microseconds");
     } else if !is_number(time) {
         hint.say_count(
-            " is no time: a time is in whole microseconds, one to ",
+            " is not a time; a time is in whole microseconds, 1 to ",
             TIME_DIGITS,
         );
         hint.end(" digits");
     } else {
         hint.say_count(" has ", time.len());
-        hint.say_count(" digits, and a time has ", TIME_DIGITS);
-        hint.end(" at most");
+        hint.say_count(" digits; a time has at most ", TIME_DIGITS);
+        hint.end("");
     }
     true
 }
 
-/// Tells of a time that is below that of the word before. Whether it is.
+/// Says that a time is less than the time before it, and answers whether it is.
 fn tell_fall(line: &SeenLine, time: &str, hint: &mut HintText) -> bool {
     let before = cut(str::from_utf8(&line.before).unwrap_or("")).0;
     let (Ok(earlier), Ok(later)) = (before.parse::<u64>(), time.parse::<u64>()) else {
@@ -88,23 +88,23 @@ fn tell_fall(line: &SeenLine, time: &str, hint: &mut HintText) -> bool {
     }
     hint.begin(": the time ");
     hint.say_number("", later);
-    hint.say_number(" is below that of the word before, ", earlier);
-    hint.end(": times do not fall");
+    hint.say_number(" is less than the time before it, ", earlier);
+    hint.end("; times must not decrease");
     true
 }
 
-/// Tells of a log, or of a time until which cells are asked for, that asks a group for too many frames.
+/// Says that a log, or the time of `--until`, takes too many frames of a group.
 pub fn tell_too_long(until: Option<u64>, hint: &mut HintText) {
     match until {
         Some(until) => {
             hint.begin(": until ");
             hint.say_number("", until);
             hint.end(
-                " us a group would send more than 1000000 frames, which are the most: choose an earlier --until",
+                " us a group would send more than 1000000 frames, the limit: give an earlier --until",
             );
         }
         None => hint.say_line(
-            "until one frame after the last word a group would send more than 1000000 frames, which are the most: let its times begin near 0, or choose an --until",
+            "until one frame after the last word a group would send more than 1000000 frames, the limit: let the times begin near 0, or give --until",
         ),
     }
 }

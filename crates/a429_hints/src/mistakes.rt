@@ -1,4 +1,4 @@
-//! Hints about words of the command line that are a mistake.
+//! Hints about usage errors.
 
 use crate::hint::HintText;
 use crate::nearest::Nearest;
@@ -6,13 +6,13 @@ use crate::rows::short_text;
 use a429_console::arguments::forms::commands;
 use std::alloc::{AllocError, Global};
 
-/// Tells which command, or which option, may have been meant by a word that is none.
+/// Says which command or which option is nearest to an unknown one.
 pub fn tell_nearest_word(words: &[&str], hint: &mut HintText) {
     let (Ok(commands), Ok(options)) = (command_names(hint.alloc), option_names(hint.alloc)) else {
         return hint.give_up();
     };
     if let Some(first) = words.first() {
-        tell_nearest("command", &commands, first, hint);
+        tell_nearest("a command", &commands, first, hint);
     }
     for word in words {
         if *word == "--" {
@@ -20,13 +20,13 @@ pub fn tell_nearest_word(words: &[&str], hint: &mut HintText) {
         }
         if word.starts_with("--") {
             let (name, _) = word.split_once('=').unwrap_or((word, ""));
-            tell_nearest("option", &options, name, hint);
+            tell_nearest("an option", &options, name, hint);
         }
     }
 }
 
-/// The names of the commands, with spaces between them. Of two that are as near the first is told, so `word` and `lines`,
-/// which are the first two, come last: few mean them.
+/// The names of the commands, separated by spaces. If two are equally near, the hint names the first. So `word` and
+/// `lines`, the first two commands, come last: they are meant least often.
 fn command_names(alloc: Global) -> Result<String, AllocError> {
     let mut names = String::new(alloc);
     for form in commands().iter().skip(2) {
@@ -39,7 +39,7 @@ fn command_names(alloc: Global) -> Result<String, AllocError> {
     Ok(names)
 }
 
-/// The options, with spaces between them.
+/// The options, separated by spaces.
 fn option_names(alloc: Global) -> Result<String, AllocError> {
     let mut names = String::new(alloc);
     for form in commands() {
@@ -57,15 +57,15 @@ fn add_name(hyphens: &str, name: &str, names: &mut String) -> Result<(), AllocEr
     names.push(' ')
 }
 
-/// Tells the name of this kind that is nearest to a word, if the word is none.
+/// Says which name of this kind is nearest to a word, if the word is not such a name.
 fn tell_nearest(kind: &str, names: &str, word: &str, hint: &mut HintText) {
     let shown = short_text(word);
     let shown = shown.as_str();
     match Nearest::among(hint.alloc, shown, names).name() {
         Some(name) if name != shown => {
             hint.say_quoted("a429: ", shown);
-            hint.say_text(" is no ", kind);
-            hint.end_text(", the nearest is ", name);
+            hint.say_text(" is not ", kind);
+            hint.end_text("; the nearest is ", name);
         }
         _ => {}
     }

@@ -11,12 +11,12 @@ pub struct Nearest<'a> {
 }
 
 impl<'a> Nearest<'a> {
-    /// Among no names yet.
+    /// Nothing compared yet.
     pub fn to(text: &'a str) -> Nearest<'a> {
         Nearest { text, best: None }
     }
 
-    /// Among names with spaces between them.
+    /// Among names that are separated by spaces.
     pub fn among(alloc: Global, text: &'a str, names: &'a str) -> Nearest<'a> {
         let mut nearest = Nearest::to(text);
         for name in names.split(' ') {
@@ -25,7 +25,7 @@ impl<'a> Nearest<'a> {
         nearest
     }
 
-    /// Among one name more. If memory is refused, among those before.
+    /// Compares one more name. If an allocation fails, the name is left out.
     pub fn or(self, alloc: Global, name: &'a str) -> Nearest<'a> {
         let Ok(edits) = levenshtein(alloc, self.text, name) else {
             return self;

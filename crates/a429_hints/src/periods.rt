@@ -1,4 +1,4 @@
-//! Hints about intervals that have no period of the grid.
+//! Hints about transmit intervals without a grid period.
 
 use crate::hint::HintText;
 use a429_grid::{SLOT_TIME, grid_period};
@@ -8,7 +8,7 @@ const PERIODS: [u64; 14] = [
     1, 2, 4, 8, 16, 32, 64, 128, 256, 512, 1024, 2048, 4096, 8192,
 ];
 
-/// An interval in microseconds, and the rate of its group in bit/s.
+/// A transmit interval in microseconds, and the bit rate of its group in bit/s.
 #[derive(Clone, Copy)]
 pub struct Interval {
     pub min_us: u32,
@@ -17,20 +17,20 @@ pub struct Interval {
 }
 
 impl Interval {
-    /// A time in microseconds times the rate in bit/s.
+    /// A time in microseconds times the bit rate in bit/s.
     fn slot_time(self, us: u32) -> u64 {
         u64::from(us).saturating_mul(u64::from(self.rate))
     }
 }
 
-/// Says words, and a time in microseconds times bit/s in slots and thousandths of a slot.
+/// Says words, and a time in slots with thousandths. The time is given as microseconds times bit/s.
 fn say_slots(words: &str, time: u64, hint: &mut HintText) {
     let (whole, thousandths) = (time / SLOT_TIME, time % SLOT_TIME / (SLOT_TIME / 1000));
     hint.say(words);
     write!(hint, "{whole}.{thousandths:03}");
 }
 
-/// Tells an interval in slots, and that it has no period.
+/// Says how long an interval is in slots, and that it has no period.
 pub fn tell_unfit_briefly(interval: Interval, hint: &mut HintText) {
     hint.say_number(": ", u64::from(interval.min_us));
     hint.say_number(" to ", u64::from(interval.max_us));
@@ -40,8 +40,8 @@ pub fn tell_unfit_briefly(interval: Interval, hint: &mut HintText) {
     hint.end(" bit/s, and no period (1, 2, 4 .. 8192 slots) lies within");
 }
 
-/// Tells the periods next to an interval, what would admit them, and the period that the interval would have in
-/// milliseconds, if it would have one.
+/// Says which periods are next to an interval and which bound would allow each. If the interval has a period when read as
+/// milliseconds, says that too.
 pub fn tell_unfit(interval: Interval, hint: &mut HintText) {
     tell_period_below(interval, hint);
     tell_period_above(interval, hint);
@@ -63,7 +63,7 @@ pub fn tell_unfit(interval: Interval, hint: &mut HintText) {
     }
 }
 
-/// Tells the greatest period that is shorter than an interval, if there is one.
+/// Says which minimum interval would allow the next shorter period, if there is one.
 fn tell_period_below(interval: Interval, hint: &mut HintText) {
     let shortest = interval.slot_time(interval.min_us);
     for slots in PERIODS.iter().rev() {
@@ -75,7 +75,7 @@ fn tell_period_below(interval: Interval, hint: &mut HintText) {
     }
 }
 
-/// Tells the least period that is longer than an interval, if there is one.
+/// Says which maximum interval would allow the next longer period, if there is one.
 fn tell_period_above(interval: Interval, hint: &mut HintText) {
     let longest = interval.slot_time(interval.max_us);
     for slots in &PERIODS {
@@ -87,10 +87,10 @@ fn tell_period_above(interval: Interval, hint: &mut HintText) {
     }
 }
 
-/// Tells a bound of an interval that would admit a period.
+/// Says which bound of an interval would allow a period.
 fn tell_bound(words: &str, us: u64, slots: u64, hint: &mut HintText) {
     hint.begin(words);
     hint.say_number("", us);
-    hint.say_number(" would admit period ", slots);
+    hint.say_number(" would allow period ", slots);
     hint.end("");
 }

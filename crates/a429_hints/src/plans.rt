@@ -1,4 +1,4 @@
-//! Hints about equipment that has no plan, and about groups.
+//! Hints about tables without a plan, and about groups.
 
 use crate::hint::{HintText, LINES};
 use crate::lists::LISTED;
@@ -7,7 +7,7 @@ use a429_console::refusals::names::{group_name, source_name};
 use a429_equipment::{Equipment, GroupRow};
 use a429_grid::grid_period;
 
-/// Tells which groups a table has.
+/// Says which groups a table has.
 pub fn tell_groups(groups: &[GroupRow], hint: &mut HintText) {
     if groups.is_empty() {
         hint.say_line("the table has no groups");
@@ -20,17 +20,17 @@ pub fn tell_groups(groups: &[GroupRow], hint: &mut HintText) {
     hint.end("");
 }
 
-/// Tells what helps a group that needs too many buses.
+/// Says what to do about a group that needs too many buses.
 pub fn tell_fewer_buses(group: &str, needed: usize, hint: &mut HintText) {
     hint.begin(": the outputs of group ");
     hint.say(group);
     hint.say_count(" fill ", needed);
     hint.end(
-        " buses, and a group has 16 at most: give some of them longer intervals, or a group of their own",
+        " buses, but a group can have at most 16: give some of them a longer max_us, or move them to another group",
     );
 }
 
-/// Tells of all outputs without a period which intervals would do.
+/// Says which outputs have no period, and for the first which intervals would work.
 pub fn tell_all_unfit(equipment: &Equipment, hint: &mut HintText) {
     let mut count: usize = 0;
     for group in 0..equipment.groups().len() {
@@ -39,7 +39,7 @@ pub fn tell_all_unfit(equipment: &Equipment, hint: &mut HintText) {
     hint.leave_out(count.saturating_sub(LINES));
 }
 
-/// Tells of the outputs of a group that have no period, after so many that were found. Answers how many are found then.
+/// Says which outputs of a group have no period. `before` is the number in earlier groups; the answer adds this group's.
 fn tell_unfit_of(equipment: &Equipment, group: usize, before: usize, hint: &mut HintText) -> usize {
     let mut count = before;
     if group >= equipment.groups().len() {

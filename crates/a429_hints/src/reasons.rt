@@ -1,24 +1,25 @@
-//! Hints about lines of a plan's text.
+//! The reasons of `check`, in words.
 
-/// What a line is to be that `check` refuses for this reason, by the word that it prints.
+/// What a line must be that `check` refuses for this reason, by the word that `check` prints.
 pub fn meaning(reason: &str) -> &'static str {
     match reason {
         "form" => {
-            "it is to have the form that is due there, and to end with a line feed; none may be missing or left over"
+            "the line must have the form shown and end with a line feed; no line may be missing or extra"
         }
-        "rate" => "the rate is to be that of the table, or in version 2 of the group",
-        "group" => "the group is to be the next one of the table",
-        "frame" => "the frame is to be the greatest grid period among the group's outputs",
-        "buses" => "the buses are to be 1 to 16",
-        "output" => "the source is to be that of an output of the group, listed once",
+        "rate" => "the rate must be that of the table, or in version 2 that of the group",
+        "group" => "the group must be the next one of the table",
+        "frame" => "the frame must be the longest grid period of the group's outputs",
+        "buses" => "the number of buses must be 1 to 16",
+        "output" => "each output line must name the source of a different output of the group",
         "period" => {
-            "the period is to be the greatest power of two of slots within the output's interval"
+            "the period must be the greatest power of two, in slots, within the output's interval"
         }
-        "place" => "the bus is to be below the group's buses, and the offset below the period",
-        "shared" => "an earlier output of the group stands in a cell of this one",
+        "place" =>
+            "the bus must be less than the number of buses, and the offset less than the period",
+        "shared" => "this output uses a cell of an earlier output of the group",
         "bound" => {
-            "it is to state the group's demand, one bus fewer than it has, and its frame; the demand is to be more than those buses carry, and no more than all carry"
+            "in `bound D > F * H`, D is the cells that the outputs fill in a frame, F is buses - 1, and H is the frame; D must be more than F * H, and at most (F + 1) * H"
         }
-        _ => "the hold is to be that of the output, or `none`",
+        _ => "the hold must be that of the output, or `none`",
     }
 }

@@ -5,7 +5,7 @@ use a429_table::TablePlace;
 use std::fmt::InlineText;
 use toml::Value;
 
-/// A table within the equipment table.
+/// A row of the table: the table itself, or an element of one of its arrays.
 #[derive(Clone, Copy)]
 pub struct TableRow<'a> {
     pub root: &'a Value,
@@ -14,7 +14,7 @@ pub struct TableRow<'a> {
 }
 
 impl<'a> TableRow<'a> {
-    /// The row of a place; none where there is no such row.
+    /// The row of a place. `None` if there is no such row.
     pub fn at(root: &'a Value, place: TablePlace) -> Option<TableRow<'a>> {
         let value = match place {
             TablePlace::Root => Some(root),
@@ -33,8 +33,8 @@ impl<'a> TableRow<'a> {
     }
 }
 
-/// Says words, and the place of a row as the refusal has it, with its name, or of an output that of its source:
-/// `source 3 "alt"`.
+/// Says words, the place of a row as the refusal writes it, and its name: `source 3 "alt"`. The name of an output is that
+/// of its source.
 pub fn say_row(words: &str, row: &TableRow, hint: &mut HintText) {
     hint.say_value(words, row.place);
     let key = match row.place {
@@ -46,7 +46,7 @@ pub fn say_row(words: &str, row: &TableRow, hint: &mut HintText) {
     }
 }
 
-/// Says words, and what stands at a place: a single value as a table has it, or what else it is.
+/// Says words, and what is at a key: a single value as a table writes it, or the kind of value.
 pub fn say_found(words: &str, found: Option<&Value>, hint: &mut HintText) {
     hint.say(words);
     match found {
@@ -61,12 +61,12 @@ pub fn say_found(words: &str, found: Option<&Value>, hint: &mut HintText) {
     }
 }
 
-/// The first 48 bytes of a text, or less where a character would be cut. A longer text ends in dots.
+/// The first 48 bytes of a text, or fewer if a character would be cut. A longer text ends in dots.
 pub fn short_text(text: &str) -> InlineText<48> {
     InlineText::of(text)
 }
 
-/// The elements of the array at a key; none where there is no array.
+/// The elements of the array at a key; none if there is no array.
 pub fn rows_at<'a>(table: &'a Value, key: &str) -> &'a [Value] {
     match table.get(key) {
         Some(Value::Array(rows)) => rows.as_slice(),
@@ -74,7 +74,7 @@ pub fn rows_at<'a>(table: &'a Value, key: &str) -> &'a [Value] {
     }
 }
 
-/// The text at a key; the empty text where there is none.
+/// The text at a key; the empty text if there is none.
 pub fn text_at<'a>(table: &'a Value, key: &str) -> &'a str {
     match table.get(key) {
         Some(Value::String(text)) => text.as_str(),

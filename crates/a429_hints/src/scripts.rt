@@ -6,22 +6,22 @@ use crate::nearest::Nearest;
 use crate::rows::short_text;
 use a429_console::hints::SeenLine;
 
-/// The forms of a script's lines.
+/// The forms of the lines of a script.
 const FORMS: &str = "arrive RECEIVER HEX, cell GROUP, frame GROUP, or publish N";
 
-/// What is wrong with a line that is no text.
+/// What is wrong with a line that is not text.
 pub const NOT_UTF8: &str = "the line is not UTF-8";
 
 /// What is wrong with a line without words.
 const EMPTY: &str = "the line is empty";
 
 /// What is wrong with a line that is a comment.
-const COMMENT: &str = "there are no comments";
+const COMMENT: &str = "comments are not allowed here";
 
-/// The first words of a script's lines, with spaces between them.
+/// The first words of the lines of a script, separated by spaces.
 const VERBS: &str = "arrive cell frame publish";
 
-/// Tells what is wrong with a line of a script.
+/// Says what is wrong with a line of a script.
 pub fn tell_script_line(line: &SeenLine, hint: &mut HintText) {
     let Ok(text) = str::from_utf8(&line.bytes) else {
         return hint.say_line(NOT_UTF8);
@@ -38,7 +38,7 @@ pub fn tell_script_line(line: &SeenLine, hint: &mut HintText) {
     }
 }
 
-/// Tells what is wrong with a line of a file of words.
+/// Says what is wrong with a line of a file of words.
 pub fn tell_words_line(line: &SeenLine, hint: &mut HintText) {
     let Ok(text) = str::from_utf8(&line.bytes) else {
         return hint.say_line(NOT_UTF8);
@@ -62,7 +62,7 @@ pub fn is_script_word(word: &str) -> bool {
     matches!(word, "arrive" | "cell" | "frame" | "publish")
 }
 
-/// Tells what is wrong with the form of a line, whatever it says. Whether something is.
+/// Says what is wrong with the form of a line, before its words are read, and answers whether something is.
 pub fn tell_form(line: &SeenLine, text: &str, form: &str, hint: &mut HintText) -> bool {
     let Some(fault) = fault_of_form(line, text) else {
         return false;
@@ -81,7 +81,7 @@ fn fault_of_form(line: &SeenLine, text: &str) -> Option<&'static str> {
     if text.starts_with('\u{feff}') {
         Some("the file begins with a byte order mark: save it as UTF-8 without one")
     } else if text.ends_with('\r') {
-        Some("the line ends with a carriage return: save the file with line feeds alone")
+        Some("the line ends with a carriage return: save the file with line feeds only")
     } else if text.is_empty() && line.is_ended {
         Some(EMPTY)
     } else if text.starts_with('#') {
@@ -94,11 +94,11 @@ fn fault_of_form(line: &SeenLine, text: &str) -> Option<&'static str> {
 /// What is wrong between the words of a line, or at its ends. `None` if nothing is.
 fn fault_between_words(line: &SeenLine, text: &str) -> Option<&'static str> {
     if text.contains('\t') {
-        Some("the line has a tab; a single space is to stand between its words")
+        Some("the line has a tab; put one space between its words")
     } else if text.starts_with(' ') {
         Some("the line begins with a space")
     } else if text.contains("  ") {
-        Some("the line has two spaces together; a single one is to stand between its words")
+        Some("the line has two spaces together; put one space between its words")
     } else if text.ends_with(' ') {
         Some("the line ends with a space")
     } else if !line.is_ended {
@@ -113,14 +113,14 @@ fn tell_verb(verb: &str, hint: &mut HintText) {
     let shown = shown.as_str();
     hint.begin(": ");
     hint.say_quoted("", shown);
-    hint.say(" is no event");
+    hint.say(" is not an event");
     if let Some(name) = Nearest::among(hint.alloc, shown, VERBS).name() {
-        hint.say_text(", the nearest is ", name);
+        hint.say_text("; the nearest is ", name);
     }
     hint.end_text("; each line is ", FORMS);
 }
 
-/// Tells what is wrong with a receiver and a word.
+/// Says what is wrong with a receiver and a word.
 pub fn tell_arrival(line: &SeenLine, text: &str, hint: &mut HintText) {
     let (receiver, word) = cut(text);
     if has_name(&line.receivers, receiver) {
@@ -130,34 +130,34 @@ pub fn tell_arrival(line: &SeenLine, text: &str, hint: &mut HintText) {
     }
 }
 
-/// Tells what is wrong with a word.
+/// Says what is wrong with a word.
 fn tell_word(word: &str, hint: &mut HintText) {
     hint.begin(": ");
     if word.is_empty() {
-        hint.end("the word is missing: eight hexadecimal digits");
+        hint.end("the word is missing; it must be eight hexadecimal digits");
         return;
     }
     hint.say_quoted("", word);
     if word.starts_with("0x") || word.starts_with("0X") {
-        hint.end(" begins with 0x; a word is eight hexadecimal digits alone");
+        hint.end(" begins with 0x; write only the eight hexadecimal digits");
     } else if word.contains(' ') {
-        hint.end(" is more than one word; each line has one, of eight hexadecimal digits");
+        hint.end(" is more than one word; a line has one word of eight hexadecimal digits");
     } else {
-        hint.say_count(" is no word: it has ", word.len());
+        hint.say_count(" is not a word: it has ", word.len());
         hint.end(" characters, and a word is eight hexadecimal digits");
     }
 }
 
-/// Tells what is wrong with the number of a further table.
+/// Says what is wrong with the number of a further table.
 fn tell_publication(line: &SeenLine, number: &str, hint: &mut HintText) {
     hint.begin(": ");
     if number.starts_with('+') || number.starts_with('-') {
         hint.say_quoted("", number);
-        hint.end(" has a sign; a number has none");
+        hint.end(" has a sign; write the number without it");
         return;
     }
     if line.further == 0 {
-        hint.end("there is no further table to publish: name it after the script");
+        hint.end("no further table is given; name it after the script");
         return;
     }
     hint.say_quoted("", number);

@@ -21,12 +21,12 @@ impl<'a> Sheet<'a> {
         &[]
     }
 
-    /// The same as a text; the empty text if it is none.
+    /// The field as a text; the empty text if it is not UTF-8.
     pub fn text(self, row: &'a CsvLine, column: &str) -> &'a str {
         str::from_utf8(self.field(row, column)).unwrap_or("")
     }
 
-    /// The row on a line; none if several rows are on it.
+    /// The row on a line. `None` if there is none, or more than one.
     pub fn row_on(self, line: u64) -> Option<&'a CsvLine> {
         let mut found = None;
         for row in self.rows {
@@ -40,8 +40,8 @@ impl<'a> Sheet<'a> {
         found
     }
 
-    /// Names in a column have numbers from 0, in the order of their first rows: the first row of the name with this number.
-    /// `None` if there is none, or if memory was refused.
+    /// The first row of the name with this number. The names of a column are numbered from 0, in the order of their first
+    /// rows. `None` if there is no such name, or if an allocation failed.
     pub fn first_row(
         self,
         column: &str,
@@ -64,7 +64,7 @@ impl<'a> Sheet<'a> {
         None
     }
 
-    /// The row of an output by the name of its group and its number there, from 0.
+    /// The row of an output, by the name of its group and its number in the group, from 0.
     pub fn output_row(self, group: &[u8], number: usize) -> Option<&'a CsvLine> {
         let mut left = number;
         for row in self.rows {
@@ -79,20 +79,20 @@ impl<'a> Sheet<'a> {
     }
 }
 
-/// What stands in a column, in one word.
+/// What a column has, in two words.
 fn thing_in(column: &str) -> &'static str {
     match column {
-        "rate" => "rate",
-        "label" => "label",
-        "sdi" => "SDI",
-        "min_us" | "max_us" => "time",
-        "hold" => "hold",
-        "filters" => "filter",
-        _ => "name",
+        "rate" => "a rate",
+        "label" => "a label",
+        "sdi" => "an SDI",
+        "min_us" | "max_us" => "a time",
+        "hold" => "a hold",
+        "filters" => "a filter",
+        _ => "a name",
     }
 }
 
-/// What is to be in a column.
+/// What must be in a column.
 pub fn form_in(column: &str) -> &'static str {
     match column {
         "rate" => "100000 or 12000 to 14500 (bit/s)",
@@ -111,7 +111,7 @@ fn is_numeric(column: &str) -> bool {
     matches!(column, "rate" | "min_us" | "max_us" | "hold")
 }
 
-/// The rate in bit/s that a text states in kbit/s, if it is one of the two usual rates.
+/// The bit rate in bit/s, if a text is one of the two usual bit rates in kbit/s.
 fn kilobits(text: &str) -> Option<&'static str> {
     match text {
         "12.5" => Some("12500"),
@@ -120,7 +120,7 @@ fn kilobits(text: &str) -> Option<&'static str> {
     }
 }
 
-/// Begins a line about a row: says what it is about, and words.
+/// Begins a line about a row, and says words.
 pub fn begin_row(row: &CsvLine, words: &str, hint: &mut HintText) {
     hint.turn_to_line(row.number as usize);
     hint.begin(words);
@@ -132,24 +132,24 @@ pub fn begin_column(row: &CsvLine, column: &str, hint: &mut HintText) {
     hint.say_text(column, ": ");
 }
 
-/// Tells what is in a column, and what is to be there.
+/// Says what is in a column, and what must be there.
 pub fn tell_field(row: &CsvLine, column: &str, text: &str, hint: &mut HintText) {
     let form = form_in(column);
     begin_column(row, column, hint);
     if text.is_empty() {
-        hint.end_text("the field is empty; it is to be ", form);
+        hint.end_text("the field is empty; it must be ", form);
         return;
     }
     hint.say_quoted("", text);
     if is_numeric(column) && text.len() > 1 && text.starts_with('0') {
-        hint.end_text(" begins with a zero; it is to be ", form);
+        hint.end_text(" begins with a zero; it must be ", form);
         return;
     }
     match kilobits(text) {
-        Some(rate) if column == "rate" => hint.end_text(": rate is in bit/s: ", rate),
+        Some(rate) if column == "rate" => hint.end_text("; the unit is bit/s: write ", rate),
         _ => {
-            hint.say_text(" is no ", thing_in(column));
-            hint.end_text(": ", form);
+            hint.say_text(" is not ", thing_in(column));
+            hint.end_text("; it must be ", form);
         }
     }
 }

@@ -1,4 +1,4 @@
-//! The hint about a refused request.
+//! Chooses the hints for what a command read and refused.
 
 use crate::checks::{JudgedText, tell_objection};
 use crate::differences::tell_difference;
@@ -61,7 +61,7 @@ impl Hints for HintLines {
     }
 }
 
-/// Tells of all that a command saw.
+/// Says what is wrong with all that a command read.
 fn tell_seen(asked: &Asked, seen: &Seen, hint: &mut HintText) {
     if let Some(refusal) = &seen.refusal {
         tell_refusal(asked, refusal, seen, hint);
@@ -84,7 +84,7 @@ fn tell_seen(asked: &Asked, seen: &Seen, hint: &mut HintText) {
     }
 }
 
-/// Tells why a further table is not taken: what its own refusal would tell, or in what its station differs.
+/// Says why a further table is refused: the same hint as for a first table, or in what its station differs.
 fn tell_further_fault(asked: &Asked, fault: &FurtherFault, hint: &mut HintText) {
     hint.turn_to(nth(&asked.more, fault.number));
     match &fault.cause {
@@ -116,7 +116,7 @@ fn tell_refusal(asked: &Asked, refusal: &CommandRefusal, seen: &Seen, hint: &mut
     }
 }
 
-/// Tells of words of the command line.
+/// Says what is wrong with an argument.
 fn tell_of_words(asked: &Asked, refusal: &CommandRefusal, hint: &mut HintText) {
     match refusal {
         CommandRefusal::WordText => tell_word_text(asked.first, hint),
@@ -126,7 +126,7 @@ fn tell_of_words(asked: &Asked, refusal: &CommandRefusal, hint: &mut HintText) {
     }
 }
 
-/// Tells of a line of a script, of a file of words, of a log, or of a line file.
+/// Says what is wrong with a line of a script, of a file of words, of a log, or of a line file.
 fn tell_of_line(asked: &Asked, seen: &Seen, hint: &mut HintText) {
     let Some(line) = &seen.line else {
         return;
@@ -141,7 +141,7 @@ fn tell_of_line(asked: &Asked, seen: &Seen, hint: &mut HintText) {
     }
 }
 
-/// Tells of a log that is too long, or of an image that is too high.
+/// Says that a log is too long, or that an image is too high.
 fn tell_of_length(asked: &Asked, hint: &mut HintText) {
     match asked.verb {
         Verb::Simulate => {
@@ -151,14 +151,14 @@ fn tell_of_length(asked: &Asked, hint: &mut HintText) {
         Verb::Draw => {
             hint.turn_to(table_name(asked));
             hint.say_line(
-                "the image would be higher than 32767 pixels, which programs that show images refuse: ask for fewer slots (--slots), for wider rows (--width 256), or for one group (--group)",
+                "the image would be higher than 32767 pixels, the limit of many viewers: draw fewer slots (--slots), wider rows (--width 256), or one group (--group)",
             );
         }
         _ => {}
     }
 }
 
-/// Tells of the table, of its plan, or of the threads that it needs.
+/// Says what is wrong with the table or its plan, or how many threads it needs.
 fn tell_of_table(asked: &Asked, refusal: &CommandRefusal, seen: &Seen, hint: &mut HintText) {
     hint.turn_to(if seen.is_second {
         asked.second
@@ -185,7 +185,7 @@ fn tell_of_table(asked: &Asked, refusal: &CommandRefusal, seen: &Seen, hint: &mu
     }
 }
 
-/// Tells of a table with a fault of this kind.
+/// Says what is wrong with a table that has a fault of this kind.
 fn tell_fault(asked: &Asked, kind: FaultKind, table: &SeenTable, hint: &mut HintText) {
     if kind == FaultKind::NotToml {
         tell_order(asked, table.looks, hint);
@@ -195,14 +195,14 @@ fn tell_fault(asked: &Asked, kind: FaultKind, table: &SeenTable, hint: &mut Hint
     }
 }
 
-/// Tells of a table's outputs without a period.
+/// Says which outputs of a table have no period.
 fn tell_unfit_of_table(table: &SeenTable, hint: &mut HintText) {
     if let Some(equipment) = &table.equipment {
         tell_all_unfit(equipment, hint);
     }
 }
 
-/// Tells the order of the files that is due, if a table looks like another of them.
+/// Says the order of the arguments, if a table looks like another file.
 fn tell_order(asked: &Asked, looks: TableLook, hint: &mut HintText) {
     let looks = match looks {
         TableLook::PlanText => "the text of a plan",
@@ -211,12 +211,12 @@ fn tell_order(asked: &Asked, looks: TableLook, hint: &mut HintText) {
         TableLook::Other => return,
     };
     hint.begin(": this looks like ");
-    hint.say_text(looks, "; the order is ");
+    hint.say_text(looks, "; write a429 ");
     say_order(asked.verb, hint);
     hint.end("");
 }
 
-/// Says the order of the files of a command.
+/// Says the arguments of a command in their order.
 fn say_order(verb: Verb, hint: &mut HintText) {
     match command_of(verb) {
         Some(form) => say_names(form, hint),
@@ -224,14 +224,13 @@ fn say_order(verb: Verb, hint: &mut HintText) {
     }
 }
 
-/// Says a command and what it is given beside options, if that is more than a table.
+/// Says the name of a command, and its arguments without options.
 fn say_names(form: &CommandForm, hint: &mut HintText) {
-    let Some(second) = form.second else {
-        return hint.say("a table alone");
-    };
     hint.say_text(form.name, " ");
-    hint.say_text(form.first.id, " ");
-    hint.say(second.id);
+    hint.say(form.first.id);
+    if let Some(second) = form.second {
+        hint.say_text(" ", second.id);
+    }
     if let Some(number) = form.number {
         hint.say_text(" ", number.id);
     }
@@ -241,7 +240,7 @@ fn say_names(form: &CommandForm, hint: &mut HintText) {
     }
 }
 
-/// Whether the first name that the command is given is that of a table.
+/// Whether the first argument of a command is a table.
 fn is_of_table(verb: Verb) -> bool {
     match command_of(verb) {
         Some(form) => form.first.id == "TABLE",
@@ -258,7 +257,7 @@ fn table_name<'a>(asked: &Asked<'a>) -> &'a str {
     }
 }
 
-/// The name of the text that is read beside a table, of a line file, or of rows to import; empty if the command has none.
+/// The name of the file that a command reads with a table, or instead of one; empty if there is none.
 fn text_name<'a>(asked: &Asked<'a>) -> &'a str {
     if is_of_table(asked.verb) {
         asked.second
@@ -267,7 +266,7 @@ fn text_name<'a>(asked: &Asked<'a>) -> &'a str {
     }
 }
 
-/// The text of this number from 1; empty if there is none.
+/// The text with this number, counted from 1; empty if there is none.
 fn nth<'a>(texts: &[&'a str], number: usize) -> &'a str {
     texts.get(number.saturating_sub(1)).copied().unwrap_or("")
 }

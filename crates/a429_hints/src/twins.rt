@@ -1,10 +1,10 @@
-//! Rows that clash with an earlier one of their array.
+//! Rows that clash with an earlier row of the same array.
 
 use crate::rows::{TableRow, rows_at, text_at};
 use a429_table::{FaultKind, TablePlace};
 use toml::Value;
 
-/// The first earlier row of the same array with which a row clashes, by a fault of this kind.
+/// The first earlier row of the same array with which a row clashes, for a fault of this kind.
 pub fn twin_of<'a>(row: &TableRow<'a>, kind: FaultKind) -> Option<TableRow<'a>> {
     for number in 0..usize::MAX {
         let place = place_of_row(row.place, number);
@@ -19,7 +19,7 @@ pub fn twin_of<'a>(row: &TableRow<'a>, kind: FaultKind) -> Option<TableRow<'a>> 
     None
 }
 
-/// The place of a row of the same array.
+/// The place of another row of the same array.
 fn place_of_row(place: TablePlace, row: usize) -> TablePlace {
     match place {
         TablePlace::Root => TablePlace::Root,
@@ -50,7 +50,7 @@ fn have_same(a: &Value, b: &Value, key: &str) -> bool {
     text_at(a, key) == text_at(b, key)
 }
 
-/// The number of a source's SDI; none is any.
+/// The SDI of a source; `None` is any.
 fn sdi_of(source: &Value) -> Option<i64> {
     match source.get("sdi") {
         Some(Value::Integer(number)) => Some(*number),
@@ -58,7 +58,7 @@ fn sdi_of(source: &Value) -> Option<i64> {
     }
 }
 
-/// The source that an output names; the output where there is none.
+/// The source that an output names; the output itself if there is none.
 fn source_of<'a>(root: &'a Value, output: &'a Value) -> &'a Value {
     for source in rows_at(root, "source") {
         if text_at(source, "name") == text_at(output, "source") {

@@ -1,23 +1,23 @@
-//! Hints about words, and about line files with their filters.
+//! Hints about words, line files and filters.
 
 use crate::hint::HintText;
 use a429_console::hints::SeenLine;
 use a429_filter::FILTERS;
 use a429_word::{Label, Word, raw_word};
 
-/// Tells what is wrong with the text of a word.
+/// Says what is wrong with the text of a word.
 pub fn tell_word_text(text: &str, hint: &mut HintText) {
     hint.say_quoted("a429: ", text);
     match digits_after_0x(text) {
         Some(digits) => hint.end_text(
-            " begins with 0x; write the eight hexadecimal digits alone: a429 word ",
+            " begins with 0x; write only the eight hexadecimal digits: a429 word ",
             digits,
         ),
-        None => hint.end(" is no word: a word is eight hexadecimal digits, as e48d14c1"),
+        None => hint.end(" is not a word: a word is eight hexadecimal digits, such as e48d14c1"),
     }
 }
 
-/// The word that a text has after 0x. `None` if it has none there.
+/// The digits after 0x, if they are those of a word.
 fn digits_after_0x(text: &str) -> Option<&str> {
     let digits = text.strip_prefix("0x").or(text.strip_prefix("0X"))?;
     match raw_word(digits.as_bytes()) {
@@ -26,19 +26,19 @@ fn digits_after_0x(text: &str) -> Option<&str> {
     }
 }
 
-/// Tells how many ones a word of even parity has, and what it says with its parity bit the other way.
+/// Says how many ones a word of even parity has, and which word it is with the other parity bit.
 pub fn tell_even_word(text: &str, hint: &mut HintText) {
     let Some(raw) = raw_word(text.as_bytes()) else {
         return;
     };
     write!(hint, "a429: {raw:08x}");
     hint.say_number(" has ", u64::from(raw.count_ones()));
-    hint.end(" ones, and a word has an odd number of them");
+    hint.end(" ones, but a word must have an odd number of ones (odd parity)");
     let other = raw ^ 0x80000000;
     if let Ok(word) = Word::from_raw(other) {
         write!(
             hint,
-            "a429: with its parity bit (bit 32) the other way it is {other:08x}"
+            "a429: with the other parity bit (bit 32) it is {other:08x}"
         );
         hint.say_value(": label ", word.label());
         hint.say_value(" sdi ", word.sdi());
@@ -48,32 +48,32 @@ pub fn tell_even_word(text: &str, hint: &mut HintText) {
     }
 }
 
-/// Tells what is wrong with a filter, by its number from 1.
+/// Says what is wrong with a filter. Filters are numbered from 1.
 pub fn tell_filter(number: usize, text: &str, hint: &mut HintText) {
     hint.say_count("a429: filter ", number);
     if number > FILTERS {
         hint.say_count(": at most ", FILTERS);
-        hint.end(" are taken");
+        hint.end(" filters can be given");
         return;
     }
     hint.say_quoted(": ", text);
     match Label::parse(text) {
         Ok(label) => {
             hint.say_value(" has no mask; ", label);
-            hint.end("/377 passes this label alone");
+            hint.end("/377 passes only this label");
         }
         Err(_) => hint.end(
-            " is to be LLL/MMM, a label and a mask of three octal digits each, as 203/377",
+            " must be LLL/MMM, a label and a mask of three octal digits each, such as 203/377",
         ),
     }
 }
 
-/// Tells which byte a line file may not have, and where it is.
+/// Says which byte of a line file is not a symbol, and in which column it is.
 pub fn tell_line_byte(line: &SeenLine, byte: u8, hint: &mut HintText) {
     hint.begin(", column ");
     hint.say_count("", line.bytes.len().saturating_add(1));
     if byte == b'\r' {
-        hint.end(": a carriage return: save the file with line feeds alone");
+        hint.end(": a carriage return: save the file with line feeds only");
         return;
     }
     match byte {
@@ -83,5 +83,5 @@ pub fn tell_line_byte(line: &SeenLine, byte: u8, hint: &mut HintText) {
         }
         _ => hint.say_number(": byte ", u64::from(byte)),
     }
-    hint.end(" is no symbol: a line file has `1`, `0`, `.`, spaces and line feeds");
+    hint.end(" is not a symbol; a line file has only `1`, `0`, `.`, spaces and line feeds");
 }

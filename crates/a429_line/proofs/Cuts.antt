@@ -10,7 +10,7 @@ use Rattle.a429_line.specs.declared.found.Symbol.TheVariants.{Hi, Null, Lo}
 use Rattle.a429_line.specs.Reports.{Run, runs_from, runs, gap_after, first_piece, later_pieces}
 use Rattle.a429_line.specs.Cuts.{is_bit, are_bits, stretch, RunsAreApart, AreEnded, goes_on, IsCut}
 
--- each piece behind its Null
+-- each piece after its Null
 abbrev behind : List (List Symbol) → List Symbol
 behind [] = []
 behind (piece ∷ later) = Null ∷ (piece ++ behind later)
@@ -22,7 +22,7 @@ line_is (Null ∷ x) = ap (λ (y : List Symbol). Null ∷ y) (line_is x)
 line_is (Hi ∷ x) = ap (λ (y : List Symbol). Hi ∷ y) (line_is x)
 line_is (Lo ∷ x) = ap (λ (y : List Symbol). Lo ∷ y) (line_is x)
 
--- how many Nulls stand behind the last run
+-- the number of Nulls after the last run
 abbrev nulls_from : ℕ → List Symbol → List (List Symbol) → ℕ
 nulls_from gap [] [] = gap
 nulls_from gap (s ∷ p) [] = 0
@@ -111,7 +111,7 @@ cut x = (
 
 -- ---- there is no other cut
 
--- the runs of a line before which so many Nulls stand
+-- the runs of a line that comes after this number of Nulls
 abbrev runs_after : ℕ → List Symbol → List Run
 runs_after gap x = runs_from gap (first_piece x) (later_pieces x)
 

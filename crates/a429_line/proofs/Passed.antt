@@ -1,4 +1,4 @@
--- one more byte of a stretch: what it adds to the reports, and the stage behind it
+-- one more byte of a stretch: what it adds to the reports, and the stage after it
 use Rattle.std.proofs.Common.{◌≡◌, ℕ, ◌+◌, ◌-◌, ◌*◌, ◌%◌, ◌^◌, ◌<◌, ◌≤◌, List, [], ◌∷◌, ◌++◌, length, zero, suc, cond, inl, inr, map, refl, ap, ap₂, sym, subst, ◌∙◌, arith, append_assoc, add-one, get_or, drop, take, slice_range}
 use Rattle.std.proofs.Math.Nat.{pow-suc}
 use Rattle.std.proofs.lemmas.Bool.{cases_eq, ne_eqb}
@@ -21,7 +21,7 @@ use Rattle.a429_line.specs.declared.found.Found.{Found}
 use Rattle.a429_line.specs.declared.stage.Stage.{Stage}
 use Rattle.a429_line.specs.declared.stage.Stage.TheVariants.{Between, Within}
 
--- ---- symbols behind symbols
+-- ---- symbols after symbols
 
 pub after-append : (stage : Stage) (x y : List Symbol) → after_all stage (x ++ y) ≡ after_all (after_all stage x) y
 unfolding after_all
@@ -60,7 +60,7 @@ takes_none bytes a s h = record {
   after = ap (λ (x : List ℕ). after_all s (symbols_of x)) (between_none bytes a);
 }
 
--- a stretch behind a stretch
+-- a stretch after a stretch
 pub takes_then : (bytes : List ℕ) (a b c : ℕ) (s t u : Stage) (f g : List Found) → Takes bytes a s f b t → Takes bytes b t g c u → Takes bytes a s (f ++ g) c u
 takes_then bytes a b c s t u f g first next =
     let x = symbols_of (slice_range bytes a b) in
@@ -153,7 +153,7 @@ run_more bytes a i len raw b s so_far h few is =
     (takes_symbol bytes i (Within len raw) (Within (len + 1) (bit_or raw (b * 2 ^ len % 2 ^ 32))) (level b) h (bit_level (get_or bytes i 0) b is)
     (level_due len raw b few) (level_after len raw b few (bit_lt (get_or bytes i 0) b is)))
 
--- the first bit, behind a gap
+-- the first bit, after a gap
 pub run_begun : (bytes : List ℕ) (i n b : ℕ) → i < length bytes → 4 ≤ n → bit_of (get_or bytes i 0) ≡ Some b → Takes bytes i (Between n) [] (i + 1) (Within 1 b)
 run_begun bytes i n b h gap is =
     takes_symbol bytes i (Between n) (Within 1 b) (level b) h (bit_level (get_or bytes i 0) b is) (first_due n b gap)
@@ -191,7 +191,7 @@ one_or_zero b xs all =
       ]
     ]
 
--- bits behind so many of a run
+-- bits after this number of bits of a run
 bits_behind : (xs : List ℕ) (len raw : ℕ) → raw < 2 ^ len → len + length xs ≤ 32 → AreWhole xs →
     (due_in (Within len raw) (symbols_of xs) ≡ []) × (after_all (Within len raw) (symbols_of xs) ≡ Within (len + length xs) (raw + 2 ^ len * places 49 xs))
 unfolding due_in after_all
@@ -220,7 +220,7 @@ bits_behind (b ∷ xs) len raw below few all =
           (level_due len raw 0 room) next rest.0 (rest.1 ∙ ap₂ Within long number))
     ]
 
--- 32 bits behind a gap
+-- 32 bits after a gap
 bits_alone : (xs : List ℕ) (n : ℕ) → 4 ≤ n → length xs ≡ 32 → AreWhole xs →
     (due_in (Between n) (symbols_of xs) ≡ []) × (after_all (Between n) (symbols_of xs) ≡ Within 32 (places 49 xs))
 bits_alone [] n gap long all = absurd (omega (arith, long))

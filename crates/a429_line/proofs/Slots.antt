@@ -42,7 +42,7 @@ three_more : (n : ℕ) (x : List Symbol) → 1 ≤ n → (m : ℕ) × (4 ≤ m) 
 unfolding due_in
 three_more n x h = (one_more (one_more (one_more n)), three_above n h, refl)
 
--- Nulls alone bring no report between runs
+-- between runs, Nulls bring no report
 nulls_due : (count n : ℕ) → due_in (Between n) (replicate count Null) ≡ []
 unfolding due_in
 nulls_due zero n = refl

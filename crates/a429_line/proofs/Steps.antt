@@ -230,7 +230,7 @@ pub after_end : (stage begun : Stage) (piece : List Symbol) (i : ℕ) → length
 unfolding after_all
 after_end stage begun piece i h e = ap (after_all stage) (sym (drop_all i piece h)) ∙ e
 
--- what stood in front stays there
+-- what was in front stays there
 pub front_stays : (n : ℕ) (out more old : List Found) → n ≡ length old → take n out ≡ old → take n (out ++ more) ≡ old
 front_stays n out more old len e =
     let enough : n ≤ length out = omega (arith, length-take n out, ap length e) in
@@ -249,7 +249,7 @@ due_some out old stage begun piece i d h more some e none =
     let short : length (due_in begun piece) ≡ 0 = ap length none in
     omega (arith, long, one, short, more, length-append out (option_to_list (due stage s) ++ left), length-append (option_to_list (due stage s)) left, length-append old (due_in begun piece))
 
--- symbols with a report that is due bring one behind every line
+-- symbols with a report that is due bring one after each line
 pub some_of : (x y : List Symbol) (stage : Stage) (due : List Found) → due ≡ due_in stage y → due ≢ [] → StandsForLine x stage → (found : Found) × (later : List Found) × (reports (x ++ y) ≡ reports x ++ found ∷ later)
 some_of x y stage [] is some S = absurd (some refl)
 some_of x y stage (f ∷ fs) is some S = (f, fs, reports_of x y stage S ∙ ap (λ (l : List Found). reports x ++ l) (sym is))

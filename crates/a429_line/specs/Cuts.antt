@@ -20,22 +20,22 @@ are_bits (s ∷ x) = list_all is_bit (s ∷ x)
 abbrev pub stretch : Run → List Symbol
 stretch run = replicate run.gap Null ++ run.symbols
 
--- a Null stands between two runs
+-- a Null is between two runs
 abbrev pub RunsAreApart : List Run → Type 0
 RunsAreApart [] = ⊤
 RunsAreApart (run ∷ more) = AllByRecursion (λ next. 1 ≤ next.gap) more
 
--- something stands behind: a further run, or Nulls
+-- something follows: a further run, or Nulls
 abbrev pub goes_on : List Run → ℕ → Bool
 goes_on [] nulls = nat_lt 0 nulls
 goes_on (run ∷ more) nulls = true
 
--- a run is ended just where the line goes on
+-- a run is ended if and only if the line goes on
 abbrev pub AreEnded : List Run → ℕ → Type 0
 AreEnded [] nulls = ⊤
 AreEnded (run ∷ more) nulls = (run.ended ≡ goes_on more nulls) × AreEnded more nulls
 
--- the line is these runs, each behind its Nulls, and then so many Nulls
+-- the line is these runs, each after its Nulls, and then this number of Nulls
 pub record IsCut (x : List Symbol) (all : List Run) (nulls : ℕ) : Type 0 where
   pub whole : x ≡ flat_map stretch all ++ replicate nulls Null
   pub bits : AllByRecursion (λ run. IsTrue (are_bits run.symbols)) all

@@ -1,4 +1,4 @@
--- The lines that a reader stands for: it keeps of a line what its last run is, or how many Nulls stand behind it.
+-- The lines that a reader stands for. Of a line it keeps what its last run is, or how many Nulls follow that run.
 use Rattle.std.specs.Prelude.{◌≡◌, ◌++◌, ◌∷◌, [], ℕ, List, if◌then◌else◌, nat_lt, min, length}
 use Rattle.a429_line.specs.Reports.{number, gap_after, first_piece, later_pieces, reports}
 use Rattle.a429_line.specs.declared.found.Found.{Found}
@@ -6,7 +6,7 @@ use Rattle.a429_line.specs.declared.found.Symbol.{Symbol}
 use Rattle.a429_line.specs.declared.stage.Stage.{Stage}
 use Rattle.a429_line.specs.declared.stage.Stage.TheVariants.{Between, Within, Reported}
 
--- what is kept of a last piece, before which so many Nulls stand
+-- what is kept of a last piece, which comes after this number of Nulls
 abbrev pub kept : ℕ → List Symbol → Stage
 kept gap [] = Between (min gap 4)
 kept gap (s ∷ piece) =
@@ -33,21 +33,21 @@ left Reported = 0
 unfoldable pub StandsForLine : List Symbol → Stage → Type 0
 StandsForLine x stage = stage ≡ kept_of x
 
--- for every line that the reader stood for, it stands now for that line with these symbols behind it
+-- if the reader stood for a line, it now stands for that line followed by these symbols
 abbrev pub GoesOnBySymbols : Stage → List Symbol → Stage → Type 0
 GoesOnBySymbols before piece after = (x : List Symbol) → StandsForLine x before → StandsForLine (x ++ piece) after
 
--- behind every line that a reader at this stage stands for, these symbols bring just these reports
+-- after each line that a reader at this stage stands for, these symbols bring exactly these reports
 abbrev pub BringReports : Stage → List Symbol → List Found → Type 0
 BringReports stage piece found = (x : List Symbol) → StandsForLine x stage → reports (x ++ piece) ≡ reports x ++ found
 
--- a list of reports is longer by those that these symbols bring behind every line that a reader at this stage stands for
+-- a list of reports gets those that these symbols bring, after each line that a reader at this stage stands for
 abbrev pub AddsReports : Stage → List Symbol → List Found → List Found → Type 0
 AddsReports stage piece before after =
     (x : List Symbol) → StandsForLine x stage
     → (added : List Found) × (after ≡ before ++ added) × (reports (x ++ piece) ≡ reports x ++ added)
 
--- behind every line that a reader at this stage stands for, these symbols bring a report at least
+-- after each line that a reader at this stage stands for, these symbols bring at least one report
 abbrev pub BringSome : Stage → List Symbol → Type 0
 BringSome stage piece =
     (x : List Symbol) → StandsForLine x stage

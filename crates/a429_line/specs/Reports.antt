@@ -24,8 +24,8 @@ later_pieces (Null ∷ x) = first_piece x ∷ later_pieces x
 later_pieces (Hi ∷ x) = later_pieces x
 later_pieces (Lo ∷ x) = later_pieces x
 
--- a run, a stretch of ones and zeros that cannot be made longer: how many Nulls stand before it, since the run before
--- or the line's start, its symbols, and whether a Null ends it (laws: this is the one way to cut a line)
+-- A run is a stretch of ones and zeros that cannot be made longer. It has: the number of Nulls before it, since the run
+-- before or the line's start; its symbols; whether a Null ends it. (laws: this is the one way to cut a line)
 pub record Run : Type 0 where
   pub gap : ℕ
   pub symbols : List Symbol
@@ -36,12 +36,12 @@ abbrev pub run_of : ℕ → List Symbol → Bool → List Run
 run_of gap [] ended = []
 run_of gap (s ∷ piece) ended = record { gap = gap; symbols = s ∷ piece; ended = ended } ∷ []
 
--- how many Nulls stand before the next piece: the one between, and where this piece is empty those before it
+-- the number of Nulls before the next piece: the one between, plus those before this piece if it is empty
 abbrev pub gap_after : ℕ → List Symbol → ℕ
 gap_after gap [] = gap + 1
 gap_after gap (s ∷ piece) = 1
 
--- the runs among a piece and later ones, where so many Nulls stand before the first
+-- the runs among a piece and later ones, if this number of Nulls comes before the first
 unfoldable pub runs_from : ℕ → List Symbol → List (List Symbol) → List Run
 runs_from gap piece [] = run_of gap piece false
 runs_from gap piece (next ∷ later) = run_of gap piece true ++ runs_from (gap_after gap piece) next later
@@ -59,7 +59,7 @@ number (Hi ∷ x) = 1 + 2 * number x
 number (Lo ∷ x) = 2 * number x
 number (Null ∷ x) = 2 * number x
 
--- 32 bits are a word where their parity is odd (ARINC 429 Part 1)
+-- 32 bits are a word if their parity is odd (ARINC 429 Part 1)
 abbrev pub report_of_32 : ℕ → Found
 report_of_32 raw = if has_odd_parity raw then Word raw else Parity raw
 
@@ -82,6 +82,6 @@ reports x = filter_map report (runs x)
 abbrev pub is_waiting : Run → Bool
 is_waiting run = not run.ended && is_none (report run)
 
--- the length of a run that ends at the end of the line and has no report, else 0
+-- the length of a run that ends at the end of the line and has no report; otherwise 0
 unfoldable pub rest : List Symbol → ℕ
 rest x = option_map_or (λ run. length run.symbols) (find is_waiting (runs x)) 0

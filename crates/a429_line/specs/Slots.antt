@@ -10,7 +10,7 @@ use Rattle.a429_line.specs.declared.found.Found.TheVariants as found
 abbrev pub symbol_of : ℕ → Symbol
 symbol_of b = if b == 1 then Hi else Lo
 
--- so many bits from bit n on
+-- this number of bits from bit n on
 unfoldable pub bits_from : ℕ → ℕ → ℕ → List Symbol
 bits_from n zero raw = []
 bits_from n (suc count) raw = symbol_of (bit n raw) ∷ bits_from (n + 1) count raw

@@ -1,4 +1,4 @@
-//! What stands on a line, and what a reader reports of it.
+//! The symbols of a line, and what a reader reports of it.
 
 use a429_word::Word;
 
@@ -13,18 +13,18 @@ pub enum Symbol {
     Lo,
 }
 
-/// The report of a run, a maximal stretch of ones and zeros (profile). A run has one report at most:
-/// the first that fits, in the order Gap, Long, Short, then Word or Parity.
+/// The report of a run, a maximal stretch of ones and zeros (profile). A run has at most one report: the first that
+/// fits, in the order Gap, Long, Short, then Word or Parity.
 #[derive(Clone, Copy, Debug, PartialEq, Eq)]
 pub enum Found {
-    /// 32 bits of odd parity; reported at the Null behind them.
+    /// 32 bits of odd parity; reported at the Null after them.
     Word(Word),
-    /// 32 bits of even parity, as the number that they make; reported at the Null behind them.
+    /// 32 bits of even parity, as the number that they make; reported at the Null after them.
     Parity(u32),
-    /// So many bits, fewer than 32; reported at the Null behind them.
+    /// Fewer than 32 bits, and how many; reported at the Null after them.
     Short(u32),
     /// More than 32 bits; reported at the 33rd.
     Long,
-    /// So many Nulls before the run, fewer than four; reported at its first bit.
+    /// Fewer than four Nulls before the run, and how many; reported at its first bit.
     Gap(u32),
 }

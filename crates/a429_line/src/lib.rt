@@ -2,7 +2,7 @@
 //!
 //! A line is a list of symbols, high, null or low. `LineReader` takes it in pieces of any length and reports words,
 //! words of even parity, runs of another length, and short gaps: `feed` for symbols, `next` for bytes of a line file.
-//! `write_slot` makes the 36 symbols of a slot, and takes no memory.
+//! `write_slot` makes the 36 symbols of a slot, and allocates no memory.
 //!
 //! ```text
 //! let mut reader = LineReader::new();

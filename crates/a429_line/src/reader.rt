@@ -13,7 +13,7 @@ use crate::stretches::next_found;
 use std::alloc::AllocError;
 use std::marker::Model;
 
-/// A reader of one line. It keeps nothing of the symbols before the run that it is in, and takes no memory.
+/// A reader of one line. It keeps nothing of the symbols before the run that it is in, and allocates no memory.
 #[derive(Clone, Debug, Drop)]
 pub struct LineReader {
     stage: Stage,
@@ -68,11 +68,11 @@ impl LineReader {
         }
     }
 
-    /// Takes the next piece of the line, and adds the reports that are due in it at the end of the list.
-    /// Where memory for one of them is refused, the reader and the list are as before; a piece in which none is due
-    /// is never refused.
-    // For every line that the reader stands for, it then stands for that line with the piece behind it,
-    // and the reports added are those that the longer line has beyond the shorter one's.
+    /// Takes the next piece of the line, and adds the reports that are due in it at the end of the list. Error: an
+    /// allocation failed for one of them; the reader and the list are then as before. A piece without a due report has
+    /// no error.
+    // For each line that the reader stood for, it then stands for that line followed by the piece. The added reports
+    // are those that the longer line has and the shorter one lacks.
     pub fn feed(&mut self, piece: &[Symbol], out: &mut Vec<Found>) -> Result<(), AllocError>
         ensures stands { OnOk result (GoesOnBySymbols self.old piece.now self.new) }
         ensures reports { OnOk result (AddsReports self.old piece.now out.old.items out.new.items) }
@@ -83,11 +83,11 @@ impl LineReader {
         Ok(())
     }
 
-    /// Takes the symbols that bytes stand for, from a place on and up to the next report, and gives that report;
-    /// bytes that stand for no symbol are skipped. The place is then behind the bytes that were taken. With no
-    /// report all bytes were taken.
-    // For every line that the reader stands for, it then stands for that line with the symbols of the bytes
-    // taken behind it, and the report is the one that the longer line has beyond the shorter one's.
+    /// Takes the symbols of the bytes from a place on, up to the next report, and gives that report; bytes without a
+    /// symbol are skipped. The place is then the one after the bytes that were taken. Without a report all bytes were
+    /// taken.
+    // The reader then stands for each line that it stood for, followed by the symbols of the bytes taken. The report is
+    // the one that the longer line has and the shorter one lacks.
     pub fn next(&mut self, bytes: &[u8], from: &mut usize) -> Option<Found>
         requires { from.old ≤ length bytes.now }
         ensures stands { GoesOnBySymbols self.old (symbols_of (slice_range bytes.now from.old from.new)) self.new }
@@ -102,7 +102,7 @@ impl LineReader {
         found
     }
 
-    /// The length in bits of a run that has not ended and has no report, 0 where there is none.
+    /// The length in bits of a run that is open and not yet reported; 0 if there is none.
     pub fn rest(&self) -> u32
         ensures { (x : List Symbol) → StandsForLine x self.now → result ≡ rest x }
     {

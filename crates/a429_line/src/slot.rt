@@ -27,9 +27,8 @@ fn write_bits(symbols: &mut [Symbol], raw: u32)
     }
 }
 
-/// The symbols of a slot: four Nulls and then bits 1 to 32 of its word, bit 1 first (ARINC 429 Part 1),
-/// or 36 Nulls where it has none. Behind any line a reader reports just this word, or nothing, at the Null
-/// that follows the slot.
+/// The symbols of a slot: four Nulls and then bits 1 to 32 of its word, bit 1 first (ARINC 429 Part 1), or 36 Nulls if
+/// it has no word. After any line a reader reports exactly this word, or nothing, at the Null that follows the slot.
 pub fn write_slot(word: Option<Word>) -> [Symbol; SLOT]
     ensures slot { result ≡ slot word }
     ensures read { (x : List Symbol) → reports (x ++ result ++ Null ∷ []) ≡ reports (x ++ Null ∷ []) ++ reports_of_slot word }

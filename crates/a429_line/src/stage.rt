@@ -1,4 +1,4 @@
-//! Where a reader stands between two symbols.
+//! What a reader keeps between two symbols.
 ghost use Rattle.std.specs.Prelude.{◌≡◌};
 ghost use Rattle.a429_line.specs.Reports.{report_of_32};
 ghost use Rattle.a429_line.specs.Stages.{after, after_bit, after_null, due, due_at_bit, due_at_null};
@@ -15,7 +15,7 @@ const BITS: u32 = 32;
 /// What a reader keeps of the symbols so far.
 #[derive(Clone, Copy, Debug, PartialEq, Eq)]
 pub enum Stage {
-    /// Between runs, behind so many Nulls, of which no more than four are counted.
+    /// Between runs, after this number of Nulls, of which at most four are counted.
     Between(u32),
     /// In a run without a report: its length, and the number that its bits make.
     Within(u32, u32),

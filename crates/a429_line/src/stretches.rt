@@ -55,7 +55,7 @@ fn take_byte(stage: &mut Stage, byte: u8) -> Option<Found>
     }
 }
 
-/// Takes the Nulls that stand next: the place behind them, and how many are counted.
+/// Takes the Nulls that come next: the place after them, and how many are counted.
 fn take_gap(bytes: &[u8], from: usize, nulls: u32) -> (usize, u32)
     requires { from ≤ length bytes.now }
     ensures { Takes bytes.now from (Between nulls) [] result.0 (Between result.1) }
@@ -69,7 +69,7 @@ fn take_gap(bytes: &[u8], from: usize, nulls: u32) -> (usize, u32)
     (at, nulls)
 }
 
-/// Takes the bits of a run that stand next, up to 32: the place behind them, the run's length and its number.
+/// Takes the bits of a run that come next, up to 32: the place after them, the run's length and its number.
 fn take_run(bytes: &[u8], from: usize, len: u32, raw: u32) -> (usize, u32, u32)
     requires { from ≤ length bytes.now }
     ensures { Takes bytes.now from (Within len raw) [] result.0 (Within result.1 result.2) }
@@ -97,7 +97,7 @@ fn places_of(run: u8x32, byte: u8) -> u64
     run.simd_eq(u8x32::splat(byte)).to_bitmask()
 }
 
-/// The number of the 32 bits that stand next, if they do. Behind a gap they are a run.
+/// The number of the next 32 bytes, if all are bits. After a gap they are a run.
 fn whole_run(bytes: &[u8], from: usize) -> Option<u32>
     requires { from + 32 ≤ length bytes.now }
     ensures { (nulls : ℕ) → 4 ≤ nulls → IfSome result (λ raw. Takes bytes.now from (Between nulls) [] (from + 32) (Within 32 raw)) }
@@ -105,7 +105,7 @@ fn whole_run(bytes: &[u8], from: usize) -> Option<u32>
     let run = u8x32::from_slice(&bytes[from..]);
     let ones = places_of(run, b'1');
     let zeros = places_of(run, b'0');
-    // no place is of both: all are of one or the other where each bit of the sum is set
+    // no byte is both: all are bits if and only if each bit of the sum is set
     if ones + zeros == 0xffff_ffff {
         Some(ones as u32)
     } else {
@@ -113,7 +113,7 @@ fn whole_run(bytes: &[u8], from: usize) -> Option<u32>
     }
 }
 
-/// Takes the line feed that stands next, if one does: the place behind it.
+/// Takes a line feed if it comes next: the place after it.
 fn take_line_feed(bytes: &[u8], from: usize) -> usize
     requires { from ≤ length bytes.now }
     ensures { (stage : Stage) → Takes bytes.now from stage [] result stage }
@@ -125,7 +125,7 @@ fn take_line_feed(bytes: &[u8], from: usize) -> usize
     }
 }
 
-/// Takes bytes without a report: the place behind them, and the stage then.
+/// Takes bytes without a report: the place after them, and the stage then.
 fn pass(bytes: &[u8], from: usize, stage: Stage) -> (usize, Stage)
     requires { from ≤ length bytes.now }
     ensures { Takes bytes.now from stage [] result.0 result.1 }
@@ -148,7 +148,7 @@ fn pass(bytes: &[u8], from: usize, stage: Stage) -> (usize, Stage)
     }
 }
 
-/// Takes bytes up to the next report: the report, the place behind it, and the stage then.
+/// Takes bytes up to the next report: the report, the place after it, and the stage then.
 pub fn next_found(bytes: &[u8], from: usize, stage: Stage) -> (Option<Found>, usize, Stage)
     requires { from ≤ length bytes.now }
     ensures takes { Takes bytes.now from stage (option_to_list result.0) result.1 result.2 }

@@ -5,7 +5,7 @@ use Rattle.std.specs.List.Sorted.{IsPermutation, IsNonDecreasingBy}
 use Rattle.std.proofs.lemmas.Bool.{cases_lt}
 use Rattle.std.proofs.lemmas.List.Sorted.{IsPermutation-refl, IsPermutation-cons, IsPermutation-insert, IsPermutation-trans, IsNonDecreasingBy-short, IsNonDecreasingBy-insert}
 
--- where a number goes: none before it has a greater key, and none behind it a smaller one
+-- the place of a number: none before it has a greater key, and none after it a smaller one
 record IsPlace (key : ℕ → ℕ) (xs : List ℕ) (x i : ℕ) : Type 0 where
   within : i ≤ length xs
   before : (k : ℕ) (d : ℕ) → k < i → key (get_or xs k d) ≤ key x

@@ -80,7 +80,7 @@ ceiling_is_fewest blocks exponents buses is =
     subst (λ (ks : List ℕ). IsFewest (2 ^ h) (map (λ k. 2 ^ k) ks) buses) (exponents_are exponents)
     (fewest h (length ds) ds order demands buses packing (is ∙ ap (λ t. div_ceil t (2 ^ h)) (sym (total_is exponents))))
 
--- so many buses are the quotient rounded up
+-- this number of buses is the quotient, rounded up
 ceiling_is : (x total buses : ℕ) → total ≤ buses * x → (buses - 1) * x < total → (m : ℕ) → total ≤ m * x → m * x < total + x → buses ≡ m
 ceiling_is x total buses within above m fits tight =
     elim (cases_lt buses m) [

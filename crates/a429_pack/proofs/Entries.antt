@@ -35,7 +35,7 @@ entries_more ds i d below =
     ap (entries_from 0) (take_more ds i d below) ∙ entries_from-push 0 (take i ds) (get_or ds i d)
     ∙ ap (λ n. entries_from 0 (take i ds) ++ entry_of n (get_or ds i d) ∷ []) count
 
--- the greater of two numbers, as `max` has it
+-- the greatest of two numbers is their `max`
 pub greater_is : (a b : ℕ) → ord_max nat_cmp a b ≡ max a b
 greater_is a b = elim (cases_lt b a) [
   | inl less ↦ let cmp : Less ≡ nat_cmp b a = nat_cmp_is b a Less less in ap (λ r. cond (is_lt r) a b) (sym cmp) ∙ omega arith

@@ -34,7 +34,7 @@ named_within h periods order k s laid bus slot output is =
     let (inside, low, high) = holder_is s (length periods) j (place_in h bus slot) held in
     omega (arith, laid.orders.inside j inside, same)
 
--- each output stands on one bus at one offset, and nowhere else
+-- each output is on one bus at one offset, and nowhere else
 pub exact_at : (h n : ℕ) (order k s : ℕ → ℕ) → Stretches h n k s → Orders n order → (i : ℕ) → i < n
     → IsExactlyPeriodic (λ row slot. cell_of h n order s row slot ≡ Some (order i)) (s i / 2 ^ h) (reversed h (s i % 2 ^ h)) (2 ^ (h - k i))
 unfolding cell_of
@@ -93,7 +93,7 @@ layout_serves h m periods order k s laid room =
           subst P same there;
     }
 
--- the demands' sum is where the next stretch would begin
+-- the demands' sum is the place at which the next stretch would begin
 starts-total : (h n : ℕ) (k s : ℕ → ℕ) → Stretches h n k s → (j : ℕ) → j ≤ n → s j ≡ total j (λ i. 2 ^ k i)
 starts-total h n k s laid zero few = laid.begins ∙ sym (total-zero (λ i. 2 ^ k i))
 starts-total h n k s laid (suc j) few =

@@ -3,7 +3,7 @@ use Rattle.std.proofs.Common.{◌≡◌, ℕ, suc, ◌+◌, ◌*◌, ◌^◌, �
 use Rattle.std.proofs.lemmas.Bool.{cases_lt}
 use Rattle.std.proofs.Math.Nat.{pow-suc, pow-le-pow_right, mul-le-mul_right}
 
--- one probe more, where at most half is left
+-- one probe more, if at most half is left
 pub halved_again : (m n p k : ℕ) → 2 * m ≤ n → n * 2 ^ p < k → m * 2 ^ (p + 1) < k
 halved_again m n p k half left =
     let more : p + 1 ≡ suc p = omega arith in
@@ -27,7 +27,7 @@ few_probes p k digits most below =
       | inr few ↦ few
     ]
 
--- and at least half: so many demands take so many probes
+-- and at least half
 pub spread_again : (wide half p k : ℕ) → wide ≤ 2 * half + 1 → k < (wide + 1) * 2 ^ p → k < (half + 1) * 2 ^ (p + 1)
 spread_again wide half p k most h =
     let more : p + 1 ≡ suc p = omega arith in

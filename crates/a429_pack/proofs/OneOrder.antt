@@ -16,7 +16,7 @@ total ds =
     (then_total (on_total (λ i. (demand_at ds i).label) nat_cmp_total)
     (then_total (on_total (λ i. (demand_at ds i).sdi) (options_total nat_cmp_total)) nat_cmp_total))
 
--- a later output is behind
+-- a later output comes after
 far : (ds : List Demand) (xs : List ℕ) → IsLayoutOrder ds xs → (i d : ℕ) → i + 1 + d < length xs → layout_cmp ds (get_or xs i 0) (get_or xs (i + 1 + d) 0) ≡ Less
 far ds xs o i zero below =
     let next : i + 1 ≡ i + 1 + 0 = omega arith in
@@ -31,13 +31,13 @@ behind ds xs o i j less below =
     let split : i + 1 + (j - i - 1) ≡ j = omega arith in
     subst (λ (k : ℕ). layout_cmp ds (get_or xs i 0) (get_or xs k 0) ≡ Less) split (far ds xs o i (j - i - 1) (omega (arith, split)))
 
--- not each of two outputs is behind the other
+-- no two outputs come after each other
 not_both : (ds : List Demand) (a b : ℕ) → layout_cmp ds a b ≡ Less → layout_cmp ds b a ≡ Less → a ≡ b
 not_both ds a b one other =
     let turned : Less ≡ ordering_reverse Less = sym one ∙ (total ds).antisymm a b ∙ ap ordering_reverse other in
     absurd cc
 
--- where two orders have been the same, the next output is the same
+-- if two orders have been the same, the next output is the same
 next_same : (ds : List Demand) (xs ys : List ℕ) → IsLayoutOrder ds xs → IsLayoutOrder ds ys → NamesEachOnce (length ds) xs → NamesEachOnce (length ds) ys
     → (k : ℕ) → k < length ds → ((i : ℕ) → i < k → get_or xs i 0 ≡ get_or ys i 0) → get_or xs k 0 ≡ get_or ys k 0
 next_same ds xs ys o p X Y k below before =

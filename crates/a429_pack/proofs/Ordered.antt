@@ -67,7 +67,7 @@ same_input x y is =
     (then_equal (nat_cmp x.label y.label) (ordering_then (option_cmp nat_cmp x.sdi y.sdi) (nat_cmp x.input y.input))
     (then_equal (nat_cmp x.exponent y.exponent) (ordering_then (nat_cmp x.label y.label) (ordering_then (option_cmp nat_cmp x.sdi y.sdi) (nat_cmp x.input y.input))) is)))
 
--- where the first keys decide
+-- if the first keys decide
 pub first_least : (a b : ℕ) (o : Ordering) → ordering_then (nat_cmp a b) o ≡ Less → a ≤ b
 first_least a b o is = elim (cases_lt b a) [
   | inl greater ↦

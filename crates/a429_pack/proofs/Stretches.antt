@@ -1,4 +1,4 @@
--- Stretches of places, one behind the other: which slots stand for them.
+-- Consecutive stretches of places: which slots stand for them.
 use Rattle.std.proofs.Common.{◌≡◌, ℕ, zero, suc, ◌+◌, ◌-◌, ◌*◌, ◌/◌, ◌%◌, ◌^◌, ◌<◌, ◌≤◌, cond, Option, Some, None, leb, ltb, refl, sym, ap, ◌∙◌, subst, arith, inl, inr}
 use Rattle.std.specs.Prelude.{◌↔◌}
 use Rattle.std.proofs.lemmas.Bool.{cases_lt, cases_eq}
@@ -8,7 +8,7 @@ use Rattle.std.proofs.lemmas.Option.{same_Some, none-some}
 use Rattle.a429_grid.specs.Reversal.{reversed}
 use Rattle.a429_grid.specs.Blocks.{HasPeriodicBlocks, place_in}
 
--- n stretches, one behind the other, of powers of two that fall, none above 2 ^ h
+-- n consecutive stretches, of powers of two that fall, none above 2 ^ h
 pub record Stretches (h n : ℕ) (k s : ℕ → ℕ) : Type 0 where
   pub begins : s 0 ≡ 0
   pub follows : (i : ℕ) → i < n → s (i + 1) ≡ s i + 2 ^ k i
@@ -39,7 +39,7 @@ aligned h n k s laid (suc i) below =
 abbrev pub IsIn : ℕ → ℕ → ℕ → ℕ → ℕ → Type 0
 IsIn h start k bus slot = (start ≤ place_in h bus slot) × (place_in h bus slot < start + 2 ^ k)
 
--- a stretch has just the slots of one remainder on one bus
+-- a stretch has exactly the slots of one remainder on one bus
 pub stands : (h n : ℕ) (k s : ℕ → ℕ) → Stretches h n k s → (i : ℕ) → i < n → (bus slot : ℕ)
     → IsIn h (s i) (k i) bus slot ↔ ((bus ≡ s i / 2 ^ h) × (slot % 2 ^ (h - k i) ≡ reversed h (s i % 2 ^ h)))
 stands h n k s laid i below bus slot =

@@ -81,7 +81,7 @@ demand_of_wider : (ks : List ℕ) (cs : List Bool) → MayWiden ks cs → demand
 demand_of_wider ks cs may =
     ap (λ h. cells_in h (widened ks cs) + freed ks cs) (frame_stays ks cs may) ∙ cells_of_wider (greatest ks) ks cs may.shorter
 
--- where as many cells become free as needed, and less than a bus more, one bus is saved
+-- if as many cells become free as needed, and less than a bus more, one bus is saved
 saves : (ks : List ℕ) (buses : ℕ) (cs : List Bool) → MayWiden ks cs → IsBusCount ks buses → 2 ≤ buses
     → excess ks buses ≤ freed ks cs → freed ks cs < excess ks buses + 2 ^ greatest ks → Saves ks buses cs
 saves ks buses cs may count more enough tight =
@@ -273,7 +273,7 @@ freed-set h (k ∷ ks) (true ∷ cs) (suc i) below inside free =
     omega arith
 freed-set h (k ∷ ks) (false ∷ cs) (suc i) below inside free = freed-set h ks cs i (omega arith) (omega arith) free
 
--- where the rest does not suffice, every choice that suffices frees one more piece
+-- if the rest does not suffice, every choice that suffices frees one more piece
 one_more : (h needed d : ℕ) (ks : List ℕ) (cells m : ℕ) → d < h → cells ≡ m * 2 ^ (h - d - 1) → cells + freeable h (d + 1) h ks < needed
     → (others : List Bool) → Narrow h ks others → needed ≤ freed_in h ks others → cells + 2 ^ (h - d - 1) ≤ freed_in h ks others
 one_more h needed d ks cells m inside is few others narrow most =

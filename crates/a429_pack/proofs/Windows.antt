@@ -1,4 +1,4 @@
--- The raw bound of a group's windows holds of every endless schedule.
+-- The raw bound of a group's windows is a lower bound for every endless schedule.
 use Rattle.std.proofs.Common.{◌≡◌, ℕ, suc, ◌+◌, ◌*◌, ◌/◌, ◌%◌, ◌^◌, ◌≤◌, ◌<◌, List, [], ◌∷◌, sym, ap, ◌∙◌, arith, inl, inr, length, map, sum}
 use Rattle.std.specs.Prelude.{slice_index, min}
 use Rattle.std.proofs.lemmas.Grind.{div_ceil_times}

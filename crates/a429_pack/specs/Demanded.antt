@@ -7,12 +7,13 @@ use Rattle.a429_pack.specs.Schedules.{IsFewest}
 abbrev pub demand_of : List ℕ → ℕ
 demand_of exponents = sum (map (λ k. 2 ^ greatest exponents / 2 ^ k) exponents)
 
--- so many buses carry the demand in one frame, and one fewer do not
+-- this number of buses carries the demand in one frame, and one bus less does not
 pub record IsBusCount (exponents : List ℕ) (buses : ℕ) : Type 0 where
   pub within : demand_of exponents ≤ buses * 2 ^ greatest exponents
   pub above : (buses - 1) * 2 ^ greatest exponents < demand_of exponents
 
--- So many buses are the fewest for outputs of these periods' exponents, of all schedules that are at least as long as the greatest of the
--- periods: in one with so many rows each output recurs within its period, and in none with fewer rows.
+-- The number of buses is the fewest for outputs of these periods' exponents, of all schedules that are at least as long
+-- as the greatest of the periods. In some schedule with that number of rows each output recurs within its period, and
+-- in none with fewer rows.
 abbrev pub AreFewestBuses : List ℕ → ℕ → Type 0
 AreFewestBuses exponents buses = IsFewest (2 ^ greatest exponents) (map (λ k. 2 ^ k) exponents) buses

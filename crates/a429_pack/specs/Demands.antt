@@ -8,7 +8,7 @@ use Rattle.std.specs.declared.cmp.Ordering.TheVariants.{Less}
 use Rattle.std.specs.Ordering.{nat_cmp, ordering_then}
 use Rattle.a429_pack.specs.declared.demands.Demand.{Demand}
 
--- what is asked for an input; behind the last one, nothing
+-- what is asked for an input; after the last one, nothing
 abbrev pub demand_at : List Demand → ℕ → Demand
 demand_at demands i = slice_index_or demands i (record { period = None; label = 0; sdi = None })
 

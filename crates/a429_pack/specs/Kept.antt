@@ -5,16 +5,16 @@ use Rattle.std.proofs.Common.{ap, arith, length-append}
 use Rattle.std.proofs.lemmas.List.{length-replicate, length-take-le}
 use Rattle.a429_pack.specs.Layout.{Layout}
 
--- a list in an array of n, with one value in all places behind it
+-- a list in an array of n, followed by one value in all other places
 abbrev pub padded : {A : Type 0} → A → ℕ → List A → List A
 padded d n xs = xs ++ replicate (n - length xs) d
 
--- where each stretch begins, the first one at s
+-- the beginning of each stretch, the first one at s
 abbrev pub starts_from : ℕ → List ℕ → List ℕ
 starts_from s [] = []
 starts_from s (d ∷ demands) = s ∷ starts_from (s + d) demands
 
--- two arrays of n keep the first `count` demands and their starts, and zeros behind them
+-- two arrays of n keep the first `count` demands and their starts, followed by zeros
 pub record AreKept (n : ℕ) (first second : List ℕ) (count end : ℕ) : Type 0 where
   pub room : count ≤ n
   pub demands : first ≡ padded 0 n (take count first)

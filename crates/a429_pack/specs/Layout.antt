@@ -1,4 +1,4 @@
--- The layout of a group: stretches of places one behind the other, and the cells that stand for them (profile: layout).
+-- The layout of a group: consecutive stretches of places, and the cells that they stand for (profile: layout).
 use Rattle.std.specs.Prelude.{◌≡◌, ℕ, ◌+◌, ◌-◌, ◌*◌, ◌/◌, ◌%◌, ◌^◌, ◌<◌, ◌≤◌, List, length, slice_index, sum}
 use Rattle.std.specs.List.{range_with_len}
 use Rattle.std.specs.List.Sorted.{IsPermutation}
@@ -6,8 +6,8 @@ use Rattle.a429_grid.specs.Reversal.{reversed}
 use Rattle.a429_pack.specs.Schedules.{IsExactlyPeriodic}
 use Rattle.a429_pack.specs.Sums.{start_of, Holds}
 
--- A frame has 2^frame slots on each bus. The inputs stand in layout order, and each demand is how many slots of
--- a frame its input has.
+-- A frame has 2^frame slots on each bus. The inputs are in layout order. Each demand is how many slots of a frame its
+-- input has.
 pub record Layout : Type 0 where
   pub frame : ℕ
   pub buses : ℕ
@@ -26,8 +26,8 @@ place_of_cell l bus slot = bus * slots_of l + reversed l.frame (slot % slots_of 
 abbrev pub IsCellOf : Layout → ℕ → ℕ → ℕ → Type 0
 IsCellOf l k bus slot = Holds l.demands (place_of_cell l bus slot) k
 
--- What holds of every layout: each input once, no stretch crosses a bus, every bus but the last is full, and each
--- stretch has the cells of one bus and one offset, once in every period.
+-- What is true of every layout: it has each input once, no stretch crosses a bus, and every bus except the last is
+-- full. Each stretch has the cells of one bus and one offset, once in every period.
 pub record IsLaidOut (l : Layout) : Type 0 where
   pub frame : l.frame ≤ 13
   pub few : l.buses ≤ 16

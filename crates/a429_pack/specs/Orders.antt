@@ -1,7 +1,7 @@
 -- Lists that put the numbers below n in an order.
 use Rattle.std.specs.Prelude.{◌≡◌, ℕ, ◌<◌, List, length, slice_index}
 
--- each number below n stands at one place of the list, and no other number does
+-- each number below n is at exactly one place of the list, and the list has only such numbers
 pub record NamesEachOnce (n : ℕ) (order : List ℕ) : Type 0 where
   pub length : length order ≡ n
   pub below : (k : ℕ) → k < n → slice_index order k < n

@@ -1,7 +1,7 @@
 -- Demands as stretches that follow one another (profile: layout).
 use Rattle.std.specs.Prelude.{◌+◌, ◌<◌, ◌≤◌, ℕ, List, length, slice_index, sum, take}
 
--- where the stretch of demand i begins: behind those before it
+-- the beginning of the stretch of demand i: after the stretches before it
 abbrev pub start_of : List ℕ → ℕ → ℕ
 start_of demands i = sum (take i demands)
 

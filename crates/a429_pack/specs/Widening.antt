@@ -3,7 +3,7 @@ use Rattle.std.specs.Prelude.{◌≡◌, ℕ, ◌+◌, ◌-◌, ◌*◌, ◌^◌
 use Rattle.a429_pack.specs.Demanded.{demand_of, IsBusCount}
 use Rattle.a429_pack.specs.Demands.{greatest}
 
--- the periods' exponents where each chosen output has twice its period: an exponent of one more
+-- the periods' exponents if each chosen output has twice its period: an exponent of one more
 abbrev pub widened : List ℕ → List Bool → List ℕ
 widened [] chosen = []
 widened (k ∷ exponents) [] = k ∷ exponents
@@ -16,7 +16,7 @@ pub record MayWiden (exponents : List ℕ) (chosen : List Bool) : Type 0 where
   pub each : length chosen ≡ length exponents
   pub shorter : (i : ℕ) → IsTrue (slice_index_or chosen i false) → slice_index exponents i < greatest exponents
 
--- how many cells of a frame of 2^frame slots become free where the chosen outputs are wider: half of those that
+-- the number of cells of a frame of 2^frame slots that become free if the chosen outputs are wider: half of those that
 -- each one had
 abbrev pub freed_in : ℕ → List ℕ → List Bool → ℕ
 freed_in frame [] chosen = 0
@@ -32,7 +32,7 @@ freed exponents chosen = freed_in (greatest exponents) exponents chosen
 abbrev pub excess : List ℕ → ℕ → ℕ
 excess exponents buses = demand_of exponents - (buses - 1) * 2 ^ greatest exponents
 
--- the group with the chosen outputs wider needs just one bus less
+-- the group with the chosen outputs wider needs exactly one bus less
 pub record Saves (exponents : List ℕ) (buses : ℕ) (chosen : List Bool) : Type 0 where
   pub may : MayWiden exponents chosen
   pub fewer : IsBusCount (widened exponents chosen) (buses - 1)

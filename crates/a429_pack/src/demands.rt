@@ -9,8 +9,8 @@ use thiserror::Error;
 /// How many buses a group can have (profile).
 pub const BUSES: usize = 16;
 
-/// What an output asks of the layout of its group: its grid period, none where its interval admits none,
-/// and the label and SDI of its source, none where that takes any SDI.
+/// What an output asks of the layout of its group: its grid period, and the label and SDI of its source. The period is
+/// `None` if the output's interval allows no grid period; the SDI is `None` if the source takes any SDI.
 #[derive(Clone, Copy, Debug, PartialEq, Eq)]
 pub struct Demand {
     pub period: Option<Period>,
@@ -27,7 +27,7 @@ pub enum PackFault {
     /// Every output has a grid period, and the fewest buses that serve them are this many, more than 16.
     #[error("the group needs {0} buses")]
     TooManyBuses(usize),
-    /// Memory was refused.
+    /// An allocation failed.
     #[error("out of memory")]
     NoMemory,
 }

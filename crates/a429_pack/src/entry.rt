@@ -13,7 +13,7 @@ pub struct Entry {
 }
 
 impl Entry {
-    /// How many slots of a frame the output has, where no period is longer than the frame.
+    /// The number of slots that the output has in a frame, if no period is longer than the frame.
     pub fn demand(&self, frame: Period) -> u32
         requires { self.now.exponent ≤ frame }
         ensures value { result ≡ 2 ^ (frame - self.now.exponent) }

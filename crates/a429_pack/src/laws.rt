@@ -11,9 +11,9 @@ ghost use Rattle.a429_pack.specs.Windows.{Endless, ServesEndlessly, cells_asked,
 
 use a429_grid::laws::blocks_are_periodic;
 
-/// The fewest buses that any schedule of a group needs are those that carry its demand in one frame, where one
-/// fewer do not. The group is given by its outputs' periods in slots, as exponents of two, and a frame is the
-/// greatest of them (profile: layout). No other number of buses is the fewest.
+/// The fewest buses that any schedule of a group needs are those that carry its demand in one frame, if one bus less
+/// does not. The group is given by its outputs' periods in slots, as exponents of two. A frame is the greatest of the
+/// periods (profile: layout). No other number of buses is the fewest.
 pub fn fewest_by_demand()
     ensures carried { (exponents : List ℕ) (buses : ℕ) → 1 ≤ length exponents → IsBusCount exponents buses
         → AreFewestBuses exponents buses }
@@ -30,13 +30,14 @@ pub fn none_is_above_the_greatest()
     ensures { (numbers : List ℕ) (i : ℕ) → i < length numbers → slice_index numbers i ≤ greatest numbers }
 {}
 
-/// A permutation of the numbers below `n` has each of them at just one place, since their range has each of them once.
+/// A permutation of the numbers below `n` has each of them at exactly one place, since their range has each of them
+/// once.
 pub fn orders_name_each_once()
     ensures { (n : ℕ) (order : List ℕ) → IsPermutation (range_with_len 0 n) order → NamesEachOnce n order }
 {}
 
-/// Each stretch starts where the one before it ends: so two that hold one place are the same, and a place that is
-/// held is below the sum of the demands.
+/// Each stretch starts at the end of the one before it. So two stretches that hold one place are the same, and a place
+/// that is held is below the sum of the demands.
 pub fn stretches_are_apart()
     ensures apart { (demands : List ℕ) (x i j : ℕ) → Holds demands x i → Holds demands x j → i ≡ j }
     ensures within { (demands : List ℕ) (x i : ℕ) → Holds demands x i → x < sum demands }
@@ -48,9 +49,9 @@ pub fn layout_orders_are_unique()
         → inputs ≡ others }
 {}
 
-/// No endless schedule of any form, in which each output recurs within its own window of slots, has fewer buses than
-/// the raw bound of the windows: any stretch of slots has a cell in each whole window of each output. So where a plan
-/// has as many buses, no choice of periods does with fewer (profile: raw bound).
+/// Every endless schedule of any form, in which each output recurs within its own window of slots, has at least as many
+/// buses as the raw bound of the windows: any stretch of slots has a cell in each whole window of each output. So if a
+/// plan has that number of buses, no choice of periods saves a bus (profile: raw bound).
 pub fn raw_bound_holds()
     ensures asked { (windows : List ℕ) (e : Endless) → ServesEndlessly windows e → (slots : ℕ)
         → cells_asked slots windows ≤ slots * e.rows }

@@ -57,7 +57,7 @@ fn sorted_entries(alloc: Global, demands: &[Demand]) -> Result<Vec<Entry>, PackF
     Ok(sorted)
 }
 
-/// The greatest period of some outputs, one slot where there are none.
+/// The greatest period of some outputs; one slot if there are none.
 fn greatest_period(demands: &[Demand]) -> Period
     ensures value { result ≡ frame_of demands.now }
     ensures few { result ≤ 13 }
@@ -108,7 +108,7 @@ fn sums_of<const N: usize>(entries: &[Entry], frame: Period) -> SumTable<N>
     sums
 }
 
-/// The outputs' numbers in the order given, zeros behind them.
+/// The outputs' numbers in the order given, followed by zeros.
 fn inputs_in<const N: usize>(entries: &[Entry]) -> [usize; N]
     requires { length entries.now ≤ N }
     ensures { result ≡ padded 0 N (inputs_of entries.now) }
@@ -148,10 +148,9 @@ fn lay_out<const N: usize>(
     }
 }
 
-/// Packs the outputs of a group onto as few buses as any schedule needs. Outputs are numbered in the order
-/// given; at least one and at most `N` are asked for. Refused is a group that has an output without a grid
-/// period (`Unfit`, with the first such output) or else needs more than 16 buses (`TooManyBuses`, with the
-/// fewest that it needs).
+/// Packs the outputs of a group onto as few buses as any schedule needs. Outputs are numbered in the order given, at
+/// least one and at most `N`. Errors: `Unfit` with the first output without a grid period; otherwise `TooManyBuses`
+/// with the fewest buses that the group needs, if these are more than 16; `NoMemory` if an allocation failed.
 #[tactic(auto, using(crate::proofs::Packings::still_in_order))]
 pub fn pack<const N: usize>(alloc: Global, demands: &[Demand]) -> Result<Packed<N>, PackFault>
     requires some { 1 ≤ length demands.now }

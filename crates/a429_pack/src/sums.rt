@@ -4,8 +4,8 @@ ghost use Rattle.a429_pack.specs.Sums.{start_of, Holds};
 
 use std::marker::Model;
 
-/// Up to `N` demands, and where each one's stretch starts if they follow one another. Contracts see the list
-/// of the demands.
+/// Up to `N` demands, and the start of the stretch of each if they follow one another. Contracts see the list of the
+/// demands.
 #[derive(Clone, Copy)]
 pub struct SumTable<const N: usize> {
     demands: [u32; N],
@@ -85,7 +85,7 @@ impl<const N: usize> SumTable<N> {
         self.demands[i]
     }
 
-    /// Where the stretch of demand `i` starts: the sum of the demands before it.
+    /// The start of the stretch of demand `i`: the sum of the demands before it.
     pub fn start(&self, i: usize) -> u32
         requires { i < length self.now }
         ensures { result ≡ start_of self.now i }
@@ -94,9 +94,9 @@ impl<const N: usize> SumTable<N> {
         self.starts[i]
     }
 
-    /// The demand whose stretch has `x`, none where `x` is not below the total; and how many running sums were
-    /// read to find it. As the search halves the demands, it reads at most as many as their number has binary
-    /// digits, and at most one fewer than that; if `x` is not below the total it reads none.
+    /// The demand whose stretch has `x`, and how many running sums were read to find it. If `x` is not below the total,
+    /// the demand is `None` and no sum is read. The search halves the demands: for n demands with d binary digits it
+    /// reads at most d sums, and if it finds a demand at least d - 1.
     #[tactic(auto, using(crate::proofs::Halving::few_probes, crate::proofs::Halving::some_probes))]
     pub fn find_counted(&self, x: u32) -> (Option<usize>, u32)
         ensures found { IfSome result.0 (Holds self.now x) }
@@ -124,7 +124,7 @@ impl<const N: usize> SumTable<N> {
         (Some(low), probes)
     }
 
-    /// The demand whose stretch has `x`, none where `x` is not below the total.
+    /// The demand whose stretch has `x`; `None` if `x` is not below the total.
     pub fn find(&self, x: u32) -> Option<usize>
         ensures found { IfSome result (Holds self.now x) }
         ensures only { (i : ℕ) → Holds self.now x i → result ≡ Some i }

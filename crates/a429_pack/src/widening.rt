@@ -7,7 +7,7 @@ ghost use Rattle.a429_pack.specs.Widening.{IsLeastSaving, NoneSaves, Saves, exce
 
 use a429_grid::Period;
 
-/// The greatest of some periods, one slot where there are none.
+/// The greatest of some periods; one slot if there are none.
 fn greatest_of(periods: &[Period]) -> Period
     ensures { result ≡ greatest periods.now }
 {
@@ -41,8 +41,8 @@ fn cells_of_all(periods: &[Period], frame: Period) -> u64
     cells
 }
 
-/// How many cells become free where an output of this period is wider, none where its exponent is below `low` or
-/// it has the whole frame as its period.
+/// The number of cells that become free if an output of this period is wider; 0 if its exponent is below `low` or its
+/// period is the whole frame.
 fn cells_freed(period: Period, frame: Period, low: u32) -> u32
     ensures value { result ≡ (if nat_le low period && nat_lt period frame then 2 ^ (frame - period - 1) else 0) }
     ensures few { result ≤ 8192 }
@@ -53,7 +53,8 @@ fn cells_freed(period: Period, frame: Period, low: u32) -> u32
     Period::of_digits(frame.digits() - period.digits() - 1).slots()
 }
 
-/// How many cells become free where all outputs are wider whose exponent is at least `low` and below the frame's.
+/// The number of cells that become free if all outputs whose exponent is at least `low` and below the frame's are
+/// wider.
 fn cells_freed_by_all(periods: &[Period], frame: Period, low: u32) -> u64
     requires { length periods.now < 2 ^ 32 }
     ensures value { result ≡ freeable frame low frame periods.now }
@@ -66,8 +67,8 @@ fn cells_freed_by_all(periods: &[Period], frame: Period, low: u32) -> u64
     cells
 }
 
-/// Whether an output that frees `size` cells is chosen, where `cells` are free already, `needed` are to be, and `rest`
-/// would be free if all outputs of greater periods were wider.
+/// Whether an output that frees `size` cells is chosen. Of `needed` cells that must become free, `cells` are free
+/// already; `rest` would become free if all outputs of greater periods were wider.
 fn is_due(size: u64, cells: u64, needed: u64, rest: u64) -> bool
     requires fits { cells + size < 2 ^ 64 }
     requires both { cells + rest < 2 ^ 64 }
@@ -76,7 +77,7 @@ fn is_due(size: u64, cells: u64, needed: u64, rest: u64) -> bool
     cells + size <= needed || cells + rest < needed
 }
 
-/// Chooses among the outputs whose period has this exponent, in table order, where those of shorter periods are decided.
+/// Chooses among the outputs whose period has this exponent, in table order, once those of shorter periods are decided.
 fn take_some(
     periods: &[Period],
     frame: Period,
@@ -139,10 +140,10 @@ fn excess(periods: &[Period], frame: Period, buses: u32) -> u64
     cells_of_all(periods, frame) - (u64::from(buses) - 1) * u64::from(frame.slots())
 }
 
-/// Whether a group of two buses or more would need just one bus less if some of its outputs got twice their period
-/// each, and which: the choice that frees the fewest slots of the frame. Only outputs whose period is below the
-/// greatest are chosen, so the frame stays. Where it answers yes, `chosen` tells for each output whether it is one;
-/// where it answers no, nothing is chosen and no choice would do (profile: layout).
+/// Whether a group of two buses or more would need one bus less if some of its outputs got twice their period each, and
+/// which: the choice that frees the fewest slots of the frame. Only outputs whose period is below the greatest are
+/// chosen, so the frame stays. If the answer is yes, `chosen` says of each output whether it is one. If the answer is
+/// no, nothing is chosen and no choice saves a bus (profile: layout).
 pub fn widening_saves(periods: &[Period], buses: u32, chosen: &mut [bool]) -> bool
     requires many { length periods.now < 2 ^ 32 }
     requires each { length chosen.old ≡ length periods.now }

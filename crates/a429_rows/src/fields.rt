@@ -86,7 +86,7 @@ fn word_with(rt: &impl Abort, data: u32) -> Word {
     Word::build(Label::new(0), Sdi::new(0), data, Ssm::new(0)).expect(rt, "a word")
 }
 
-/// Whether a word reads as this number, with so many bits below the sign.
+/// Whether a word reads as this number, with this number of bits below the sign.
 fn reads_as(word: Word, bits: u32, number: i32) -> bool {
     1 <= bits && bits <= 18 && word.bnr(bits) == number
 }
@@ -120,7 +120,7 @@ fn is_label(text: &str, value: u8) -> bool {
     }
 }
 
-/// Whether a text has just these digits, and is read as the label of this number.
+/// Whether a text has exactly these digits, and is read as the label of this number.
 fn is_printed(text: &str, digits: &[u8], value: u8) -> bool {
     text.as_bytes() == digits && is_label(text, value)
 }

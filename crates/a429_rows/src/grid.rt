@@ -47,7 +47,7 @@ fn a_period_fits_within_its_interval(rt: HostRuntime) {
 
 #[test]
 fn spacings_last_at_least_their_interval(rt: HostRuntime) {
-    // at 100000 bit/s a slot is 360 us, at 12500 bit/s 2880 us
+    // at 100000 bit/s a slot is 360 µs, at 12500 bit/s 2880 µs
     assert!(rt; spacing(360, 100000) == 1 && spacing(361, 100000) == 2);
     assert!(rt; spacing(2880, 12500) == 1 && spacing(2881, 12500) == 2);
 }

@@ -23,7 +23,7 @@ fn feed_slot(rt: &impl Abort, reader: &mut LineReader, found: &mut Vec<Found>, s
     }
 }
 
-/// What a reader reports of the slot and a Null behind it, in pieces of this size.
+/// What a reader reports of the slot and a Null after it, in pieces of this size.
 fn reports(rt: &impl Abort, alloc: Global, size: usize) -> Vec<Found>
     requires { 1 ≤ size }
 {
@@ -34,7 +34,7 @@ fn reports(rt: &impl Abort, alloc: Global, size: usize) -> Vec<Found>
     found
 }
 
-/// Whether there is just the report of the word.
+/// Whether there is only the report of the word.
 fn is_sent_word(found: &[Found]) -> bool {
     match found {
         [Found::Word(word)] => word.raw() == 0x6000_00c1,

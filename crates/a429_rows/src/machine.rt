@@ -157,7 +157,7 @@ impl Pieces {
             .expect(rt, "memory");
     }
 
-    /// Adds an event to the piece, which may end with it. Where `by_step` asks for it, a piece of one event is taken by
+    /// Adds an event to the piece, which may end with it. If `by_step` is true, a piece of one event is taken by
     /// `step`.
     fn take(&mut self, rt: &impl Abort, event: Event, ends: bool, by_step: bool) {
         if ends && by_step && self.piece.is_empty() {
@@ -181,7 +181,7 @@ impl Pieces {
     }
 }
 
-/// What the nine events of the script are answered, where this is its word.
+/// The answers to the nine events of the script, if this is its word.
 fn expected_answers(word: Word) -> [Answer; 9] {
     [
         cell(0, None),

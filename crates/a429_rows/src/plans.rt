@@ -18,7 +18,7 @@ fn first_group(rt: &impl Abort, alloc: Global, table: &str) -> GroupPlan<OUTPUTS
     *made.group(0)
 }
 
-/// Outputs of `b` and `c` in every fourth slot, and behind them `a` in every other.
+/// Outputs of `b` and `c` in every fourth slot, followed by `a` in every other.
 const BEHIND: &str = r#"version = 1
 rate = 100000
 receiver = [{ name = "r" }]
@@ -145,7 +145,7 @@ fn gap_of_second(before: &GroupPlan<OUTPUTS>, after: &GroupPlan<OUTPUTS>) -> Opt
     Some(gap(before, second, after, second))
 }
 
-/// The group of `BEHIND`, where `b` is in every other slot.
+/// The group of `BEHIND`, with `b` in every other slot.
 fn faster_group(rt: &impl Abort, alloc: Global) -> GroupPlan<OUTPUTS> {
     let faster = replace_once(rt, alloc, BEHIND, "1440", "720");
     first_group(rt, alloc, &faster)

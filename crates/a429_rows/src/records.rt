@@ -7,7 +7,7 @@ use std::alloc::Global;
 use std::fmt::Write;
 use std::process::Abort;
 
-/// Whether there is just the receiver `r` with the filter 200/370.
+/// Whether there is only the receiver `r` with the filter 200/370.
 fn are_receivers(receivers: &[ReceiverRow]) -> bool {
     match receivers {
         [only] => only.name.as_str() == "r" && is_filter(only.filters.list()),
@@ -15,7 +15,7 @@ fn are_receivers(receivers: &[ReceiverRow]) -> bool {
     }
 }
 
-/// Whether there is just the filter 200/370.
+/// Whether there is only the filter 200/370.
 fn is_filter(filters: Option<&[Filter]>) -> bool {
     match filters {
         Some([only]) => only.label.value() == 0o200 && only.mask == 0o370,
@@ -23,7 +23,7 @@ fn is_filter(filters: Option<&[Filter]>) -> bool {
     }
 }
 
-/// Whether there is just the source `s` of label 203 and any SDI.
+/// Whether there is only the source `s` of label 203 and any SDI.
 fn are_sources(sources: &[SourceRow]) -> bool {
     match sources {
         [only] => {
@@ -36,7 +36,7 @@ fn are_sources(sources: &[SourceRow]) -> bool {
     }
 }
 
-/// Whether there is just the group `g`.
+/// Whether there is only the group `g`.
 fn are_groups(groups: &[GroupRow]) -> bool {
     match groups {
         [only] => only.name.as_str() == "g",
@@ -44,7 +44,7 @@ fn are_groups(groups: &[GroupRow]) -> bool {
     }
 }
 
-/// Whether the first group has just this output.
+/// Whether the first group has only this output.
 fn has_output(equipment: &Equipment, stated: &OutputRow) -> bool {
     if equipment.groups().is_empty() {
         return false;
@@ -95,7 +95,7 @@ fn first_rate(equipment: &Equipment) -> u32 {
     equipment.group_rate(0)
 }
 
-/// The hold of the first output.
+/// The first output's hold.
 fn first_hold(equipment: &Equipment) -> Option<u32> {
     if equipment.groups().is_empty() || equipment.outputs(0).is_empty() {
         return None;
@@ -161,7 +161,7 @@ fn add_group(rt: &impl Abort, table: &mut String, k: u32) {
     }
 }
 
-/// Adds all receivers, and all sources behind them.
+/// Adds all receivers, and all sources after them.
 fn add_sources(rt: &impl Abort, table: &mut String) {
     for k in 0..16u32 {
         add(rt, table, "[[receiver]]\nname = \"r", k, FILTERS);

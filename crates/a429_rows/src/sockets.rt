@@ -11,7 +11,7 @@ const WORD: u32 = 0x6000_00c1;
 /// The same with another parity bit.
 const EVEN: u32 = 0xe000_00c1;
 
-/// A socket without filters on so many words of even parity, and behind them the word of the examples.
+/// A socket without filters on this number of words of even parity, followed by the word of the examples.
 fn socket_of(rt: &impl Abort, alloc: Global, evens: usize) -> Socket<MemoryLine> {
     let mut words = vec![in alloc; EVEN; evens].expect(rt, "memory");
     words.push(WORD).expect(rt, "memory");

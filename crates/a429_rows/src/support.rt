@@ -40,8 +40,8 @@ output = [
 ]
 "#;
 
-/// A table of version 2 with one output, at 12500 bit/s: 2881 us are more than one slot of 2880, and a period of
-/// two slots is the greatest within 5760.
+/// A table of version 2 with one output, at 12500 bit/s: 2881 µs are more than one slot of 2880, and a period of two
+/// slots is the greatest within 5760.
 pub const LIMITED: &str = r#"version = 2
 receiver = [{ name = "r" }]
 source = [{ name = "s", receiver = "r", label = "203", sdi = "any" }]
@@ -51,7 +51,7 @@ rate = 12500
 output = [{ source = "s", min_us = 2881, max_us = 5760, hold = 7 }]
 "#;
 
-/// A text with one piece of it replaced, where it first stands.
+/// A text with one piece of it replaced, at its first place.
 pub fn replace_once(rt: &impl Abort, alloc: Global, text: &str, old: &str, new: &str) -> String {
     text.replacen(alloc, old, new, 1).expect(rt, "memory")
 }

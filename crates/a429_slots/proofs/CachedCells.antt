@@ -27,11 +27,11 @@ pub record StandAlike {n : ℕ} (p q : Inside n) : Type 0 where
   pub offsets : p.offsets ≡ q.offsets
   pub periods : p.periods ≡ q.periods
 
--- whether the output of this number stands in a cell
+-- whether the output of this number is in a cell
 abbrev stands : ℕ → ℕ → List ℕ → List ℕ → List ℕ → ℕ → Bool
 stands bus slot on_bus offsets periods o = nat_eq (get_or on_bus o 0) bus && nat_eq (slot % 2 ^ get_or periods o 0) (get_or offsets o 0)
 
--- so their outputs stand in the same cells
+-- so their outputs are in the same cells
 pub same_cells : {n : ℕ} (p q : Inside n) → StandAlike p q → (bus slot : ℕ) → cell_at (table_in p) bus slot ≡ cell_at (table_in q) bus slot
 unfolding cell_at
 same_cells p q same bus slot =
@@ -46,7 +46,7 @@ same_cells p q same bus slot =
 pub forgotten_cached : (t : SlotTable) (cells : List ℕ) → IsForgotten cells → AreCached t cells
 forgotten_cached t cells none i = inl (none i)
 
--- what is kept of one table is kept of another, whose outputs stand in the same cells
+-- what is kept of one table is kept of another, whose outputs are in the same cells
 pub cached_alike : (t u : SlotTable) (cells : List ℕ) → ((bus slot : ℕ) → cell_at t bus slot ≡ cell_at u bus slot) → AreCached t cells → AreCached u cells
 cached_alike t u cells same kept i = ⊎_elim (λ none. inl none) (λ is. inr (is ∙ ap cached (same (i % 16) (i / 16)))) (kept i)
 

@@ -29,7 +29,7 @@ AreApart t = (x i j : ℕ) → Holds (demands_of t) x i → Holds (demands_of t)
 pub length-demands : (t : SlotTable) → HasEach t → length (demands_of t) ≡ length t.outputs
 length-demands t each = length-map t.order (share_of t) ∙ each.length
 
--- an output stands in a cell just where the cell is of its stretch
+-- an output is in a cell if and only if the cell is of its stretch
 stands : (t : SlotTable) (k bus slot : ℕ) (x : Placed) → HoldsJustCellsOf t k x → HoldsCell t k bus slot → stands_in bus slot x ≡ true
 stands t k bus slot x just holds =
     let (row, at) = (just.cells bus slot).0 holds in
@@ -42,7 +42,7 @@ holds_where t k bus slot x just there =
     let (row, at) = and_parts (nat_eq x.place.bus bus) (nat_eq (slot % 2 ^ x.place.period) x.place.offset) there in
     (just.cells bus slot).1 (sym (eqb-true x.place.bus bus row), eqb-true (slot % 2 ^ x.place.period) x.place.offset at)
 
--- the place of an output in the layout, with a cell in which it stands
+-- the place of an output in the layout, with a cell that it has
 held_by : (n : ℕ) (t : SlotTable) → IsTable n t → HasEach t → (o bus slot : ℕ) → o < length t.outputs → stands_in bus slot (placed_at t o) ≡ true
     → (k : ℕ) × (get_or t.order k 0 ≡ o) × HoldsCell t k bus slot
 held_by n t w each o bus slot below there =
@@ -50,7 +50,7 @@ held_by n t w each o bus slot below there =
     let at : stands_in bus slot (placed_at t (get_or t.order k 0)) ≡ true = ap (λ z. stands_in bus slot (placed_at t z)) is ∙ there in
     (k, is, holds_where t k bus slot (placed_at t (get_or t.order k 0)) (w.periodic k low) at)
 
--- what is found of a stretch is the output that stands in the cell
+-- what is found of a stretch is the output in the cell
 pub cell_found : (n : ℕ) (t : SlotTable) → IsTable n t → HasEach t → AreApart t → (k bus slot : ℕ) → HoldsCell t k bus slot → cell_at t bus slot ≡ Some (get_or t.order k 0)
 unfolding cell_at
 cell_found n t w each apart k bus slot holds =
@@ -66,7 +66,7 @@ cell_found n t w each apart k bus slot holds =
     let first : position_or_len (stands_in bus slot) t.outputs ≡ o = position_or_len_is (stands_in bus slot) t.outputs o unplaced (omega arith) before (λ l. here) in
     rw (first, lt-ltb o (length t.outputs) inside) refl
 
--- no output stands in a cell of no stretch
+-- a cell outside of all stretches is empty
 pub cell_empty : (n : ℕ) (t : SlotTable) → IsTable n t → HasEach t → (bus slot : ℕ) → ((k : ℕ) → HoldsCell t k bus slot → ⊥) → cell_at t bus slot ≡ None
 unfolding cell_at
 cell_empty n t w each bus slot none =
@@ -91,7 +91,7 @@ holding n t w k low row slot there =
     let found = position-Some (stands_in row slot) t.outputs (get_or t.order k 0) unplaced there in
     holds_where t k row slot (placed_at t (get_or t.order k 0)) (w.periodic k low) found.1
 
--- an output stands in the cells of its bus, once in every period, and in no others
+-- an output is in the cells of its bus, once in every period, and in no others
 pub stands_just_at : (n : ℕ) (t : SlotTable) → IsTable n t → HasEach t → AreApart t → (o : ℕ) → o < length t.outputs
     → StandsJustAt t o (placed_at t o).place.bus (placed_at t o).place.offset (2 ^ (placed_at t o).place.period)
 stands_just_at n t w each apart o below =
@@ -104,7 +104,7 @@ stands_just_at n t w each apart o below =
       );
     })
 
--- what stands in a cell is an output of the table
+-- the output in a cell is one of the table
 pub cell_known : (t : SlotTable) (bus slot o : ℕ) → cell_at t bus slot ≡ Some o → o < length t.outputs
 unfolding cell_at
 cell_known t bus slot o is = (position-Some (stands_in bus slot) t.outputs o unplaced is).0

@@ -27,7 +27,7 @@ mapped_at f g xs ys i d e same here there = sym (get_or-map f xs i d (f d) here)
 
 -- ---- arrays that are filled from the front
 
--- one value more behind the first i
+-- one value more after the first i
 pub padded_more : {A : Type 0} (d : A) (n : ℕ) (xs ys : List A) (i : ℕ) (x : A) → i < n → length ys ≡ i → xs ≡ padded d n ys → set xs i x ≡ padded d n (ys ++ x ∷ [])
 padded_more d n xs ys i x room long same = ap (λ zs. set zs i x) same ∙ ap (λ k. set (padded d n ys) k x) (sym long) ∙ padded-set d n ys x (omega arith)
 
@@ -44,7 +44,7 @@ mapped_more b n f xs ys i x d room there old is =
 
 -- ---- arrays that are filled in another order
 
--- one more number where the order says, for the place i
+-- one more number at the place that the order says, for the place i
 pub placed_more : (n : ℕ) (order xs : List ℕ) (f : ℕ → ℕ) (i o x : ℕ) → NamesEachOnce n order → i < n → o ≡ get_or order i 0 → o < length xs → x ≡ f i
     → ((k : ℕ) → k < i → get_or xs (get_or order k 0) 0 ≡ f k) → (k : ℕ) → k < i + 1 → get_or (set xs o x) (get_or order k 0) 0 ≡ f k
 placed_more n order xs f i o x each below is inside value old k less = elim (cases_eq k i) [

@@ -89,7 +89,7 @@ later_at o g p E j k there after few =
     let rest : (k - j) + j ≡ k = omega (arith, after) in
     subst (λ (n : ℕ). IsLater g (frame_at_place o g p E j) (frame_at_place o g p E n)) rest (later_by o g p E there j (k - j) (omega (arith, few, rest)))
 
--- behind a cell the frame is the same
+-- after a cell the frame is the same
 pub behind_cell : (o : Opening) (g : ℕ) (p : SlotTable) (E : List Event) (j : ℕ) → slice_get E j ≡ Some (Cell g) → frame_at_place o g p E (suc j) ≡ goes_on (frame_at_place o g p E j) (Cell g)
 behind_cell o g p E j asked = ap (current o g p) (take_following E j (Cell g) asked) ∙ same_frame o g p (take j E) (Cell g) refl
 

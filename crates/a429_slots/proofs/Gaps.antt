@@ -21,7 +21,7 @@ multiple h e few =
 exponents : (e h : ℕ) → 2 ^ e ≤ 2 ^ h → e ≤ h
 exponents e h few = elim (cases_lt h e) [ inl above ↦ absurd (omega (arith, pow_below h e above)) | inr below ↦ below ]
 
--- where an output first stands
+-- the first slot of an output
 first_is : (t : SlotTable) (o bus offset e : ℕ) → StandsJustAt t o bus offset (2 ^ e) → 2 ^ e ≤ frame_of t → IsFirstSlot t o offset
 first_is t o bus offset e at few = record {
   within = omega (arith, at.within);
@@ -32,7 +32,7 @@ first_is t o bus offset e at few = record {
       omega (arith, both.1);
 }
 
--- where it last stands
+-- the last slot of it
 last_is : (t : SlotTable) (o bus offset e : ℕ) → StandsJustAt t o bus offset (2 ^ e) → 2 ^ e ≤ frame_of t → IsLastSlot t o (frame_of t - 2 ^ e + offset)
 last_is t o bus offset e at few =
     let (m, whole) = multiple t.frame e (exponents e t.frame few) in

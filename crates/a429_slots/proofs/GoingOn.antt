@@ -11,7 +11,7 @@ use Rattle.a429_slots.specs.GoingOn.{AnsweredCellsGrow, CellsCount, FramesTurn, 
 use Rattle.a429_slots.proofs.Histories.{goes_on, gone_on, current_next, cells_next}
 use Rattle.a429_slots.proofs.Answered.{answered_push}
 
--- ---- where the group stands
+-- ---- the state of the group
 
 abbrev pub sent_at : ℕ → Current → ℕ → FrameState
 sent_at g f n = record { table = f.table; first = f.first; sent = n }
@@ -69,7 +69,7 @@ turn g number now f =
 pub frames_turn : FramesTurn
 frames_turn o g p E = ap (frame_state_of g) (current_next o g p E (Frame g)) ∙ turn g (newest_number o E) (newest_table o g p E) (current o g p E)
 
--- ---- what that tells
+-- ---- what that determines
 
 pub next_cell_is : TellsNextCell
 next_cell_is g f =

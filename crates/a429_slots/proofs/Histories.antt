@@ -9,7 +9,7 @@ use Rattle.a429_slots.specs.Events.{Event}
 use Rattle.a429_slots.specs.History.{Opening, Current, current, frame_after, is_cell, is_taken, next_frame, cells_since, newest_number, newest_table}
 use Rattle.a429_slots.specs.TakenFrames.{is_taken_after}
 
--- what holds of the empty list and goes on by an element at the end holds of all
+-- what is true of the empty list and stays true with a further element at the end is true of all
 by_past : {A : Type 0} (P : List A → Type 0) → P [] → ((xs : List A) (x : A) → P xs → P (xs ++ x ∷ [])) → (past : List A) → P (reverse past)
 by_past P none more [] = none
 by_past P none more (x ∷ past) = subst P (sym (reverse-append (x ∷ []) past)) (more (reverse past) x (by_past P none more past))
@@ -27,7 +27,7 @@ take_following (y ∷ ys) (suc i) x h = ap (λ zs. y ∷ zs) (take_following ys 
 abbrev pub goes_on : Current → Event → Current
 goes_on f e = record f { since = e ∷ f.since }
 
--- the frame after one more event, where this is the newest table
+-- the frame after one more event, if this is the newest table
 abbrev pub gone_on : ℕ → ℕ → SlotTable → Current → Event → Current
 gone_on g n now f e = if is_taken g now f e then next_frame n now f else goes_on f e
 

@@ -54,7 +54,7 @@ bus_of_cell n bus slot below = mod-mul-add slot n bus below
 pub slot_of_cell : (n bus slot : ℕ) → bus < n → (slot * n + bus) / n ≡ slot
 slot_of_cell n bus slot below = div-mul-add slot n bus below
 
--- behind the last bus of a slot follows the next slot
+-- after the last bus of a slot comes the next slot
 pub next_slot : (n bus slot : ℕ) → bus + 1 ≡ n → (slot + 1) * n + 0 ≡ slot * n + bus + 1
 next_slot n bus slot last =
     let more : (slot + 1) * n ≡ slot * n + n = omega arith in

@@ -42,7 +42,7 @@ fault_in e g rate rows (group.Unfit o) there earlier fault = record { rate = rat
 fault_in e g rate rows (group.TooManyBuses n) there earlier fault = record { rate = rate; rows = rows; there = there; fault = fault; earlier = earlier }
 fault_in e g rate rows group.NoMemory there earlier fault = tt
 
--- ---- outputs beside their rates
+-- ---- outputs with their bit rates
 
 pub length-rated : (e : TableRecord) → length e.outputs ≡ length e.groups → length (rated_outputs e) ≡ length e.outputs
 length-rated e same = omega (arith, length-zip (map (λ (g : GroupRow). g.rate) e.groups) e.outputs, length-map e.groups (λ (g : GroupRow). g.rate), same)

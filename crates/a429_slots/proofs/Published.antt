@@ -1,4 +1,4 @@
--- Where the plans in force come from.
+-- The origin of the plans in force.
 use Rattle.std.proofs.Common.{◌≡◌, ℕ, ◌+◌, ◌<◌, ◌≤◌, true, false, List, [], ◌∷◌, ◌++◌, length, take, ◌∙◌, sym, ap, subst, refl, inl, inr, ◌⊎◌, arith, append-nil, append_assoc}
 use Rattle.std.specs.Prelude.{Option, Some, None, filter_map, slice_get, unwrap_or}
 use Rattle.std.specs.Option.{option_map_or}

@@ -56,7 +56,7 @@ later_slot c d m less same =
 
 -- ---- one table
 
--- what stands in a cell has a number
+-- the output in a cell has a number
 pub record IsAt (t : SlotTable) (bus slot : ℕ) (x : Placed) : Type 0 where
   pub number : ℕ
   pub cell : cell_at t bus slot ≡ Some number
@@ -120,7 +120,7 @@ period_apart g f h x y u t S A B same table r first later =
     let far : c / m + 2 ^ y.place.period ≤ r * H + d / m = rests_apart (c / m) (r * H + d / m) (2 ^ y.place.period) (later L.bus) rest in
     omega (arith, A.slot_is, at, first, far, L.spaced)
 
--- the frame behind the first cell, and the second cell's
+-- the frame after the first cell, and the second cell's
 spaced_by : (g : ℕ) (f h : Current) (x y : Placed) (u t : ℕ) → IsSpacedTable f.table → Cells g f x u → Cells g h y t → x.source ≡ y.source → h.number ≡ f.number → IsLater g (goes_on f (Cell g)) h → u + y.limits.spacing ≤ t
 spaced_by g f h x y u t S A B same number (inl L) =
     let c = cells_since g f in

@@ -31,7 +31,7 @@ row_of R (x ∷ xs) (z ∷ ys) (suc n) y all h =
     let rest = row_of R xs ys n y all.1 h in
     record { row = rest.row; there = rest.there; related = rest.related }
 
--- what stands under a number
+-- what has a number
 placed_is : (t : SlotTable) (n : ℕ) (x : Placed) → slice_get (outputs_of t) n ≡ Some x → x ≡ placed_at t n
 placed_is t n x h =
     same_Some x (placed_at t n) (sym h ∙ output_is t n (slice_get_within (outputs_of t) n x h))

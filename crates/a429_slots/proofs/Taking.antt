@@ -16,7 +16,7 @@ use Rattle.a429_slots.specs.TakenFrames.{taken_before, last_taken, table_in_forc
 use Rattle.a429_slots.proofs.Histories.{take_following, goes_on, cells_next, same_frame, new_frame}
 use Rattle.a429_equipment.proofs.Cutting.{last_push}
 
--- where the frame began
+-- the place at which the frame began
 abbrev began : (ℕ → Bool) → ℕ → ℕ
 began T k = option_map_or (λ j. j + 1) (last_taken T k) 0
 

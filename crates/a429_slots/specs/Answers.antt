@@ -41,7 +41,7 @@ publish_answer o E q =
     then (if nat_lt (newest_number o E) (2 ^ 64 - 1) then Published (newest_number o E + 1) else Refused CountSpent)
     else Refused StationDiffers
 
--- the answer to an event after the history E, where words are counted in C bits
+-- the answer to an event after the history E, if words are counted in C bits
 abbrev pub answer : ℕ → Opening → List Event → Event → Answer
 answer C o E (Arrive r raw) = arrive_answer C o E r raw
 answer C o E (Cell g) =

@@ -29,7 +29,7 @@ limits_at rate row = record { hold = row.hold; spacing = least_spacing row.min_u
 abbrev pub AreBusesOf : Layout → List ℕ → Type 0
 AreBusesOf l buses = (k : ℕ) → k < length l.inputs → slice_index buses (slice_index l.inputs k) ≡ start_of l.demands k / 2 ^ l.frame
 
--- each has here its offset: the digits in reverse of the place on the bus where its stretch begins
+-- the offset of each: the digits in reverse of the place on the bus at which its stretch begins
 abbrev pub AreOffsetsOf : Layout → List ℕ → Type 0
 AreOffsetsOf l offsets =
     (k : ℕ) → k < length l.inputs → slice_index offsets (slice_index l.inputs k) ≡ reversed l.frame (start_of l.demands k % 2 ^ l.frame)

@@ -7,7 +7,7 @@ abbrev pub cached : Option ℕ → ℕ
 cached None = 1
 cached (Some o) = o + 2
 
--- each number is 0, or what stands in the cell of its place: places count slot by slot, and in a slot 16 buses
+-- each number is 0, or states what is in the cell of its place: places count slot by slot, and in a slot 16 buses
 abbrev pub AreCached : SlotTable → List ℕ → Type 0
 AreCached t cells = (i : ℕ) → (get_or cells i 0 ≡ 0) ⊎ (get_or cells i 0 ≡ cached (cell_at t (i % 16) (i / 16)))
 

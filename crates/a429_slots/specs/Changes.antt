@@ -1,9 +1,9 @@
--- What lies between the cells of an output where the plan of its group changes.
+-- The distance between the cells of an output when the plan of its group changes.
 use Rattle.std.specs.Prelude.{◌≡◌, ℕ, ◌+◌, ◌-◌, ◌^◌, ◌<◌, Some}
 use Rattle.a429_slots.specs.declared.group_plan.SlotPlace.{SlotPlace}
 use Rattle.a429_slots.specs.Tables.{SlotTable, cell_at, frame_of, place_of}
 
--- the output stands in the slot, on some bus
+-- the output has a cell in the slot, on some bus
 abbrev pub StandsIn : SlotTable → ℕ → ℕ → Type 0
 StandsIn t output slot = (bus : ℕ) × (cell_at t bus slot ≡ Some output)
 
@@ -19,8 +19,8 @@ pub record IsFirstSlot (t : SlotTable) (output slot : ℕ) : Type 0 where
   pub stands : StandsIn t output slot
   pub first : (earlier : ℕ) → earlier < slot → ¬ (StandsIn t output earlier)
 
--- how many slots lie between the last cell of an output in a frame by one table and its first in the next frame, which goes by another
--- table, where the output may have another number
+-- The distance in slots from the last cell of an output in a frame to its first cell in the next frame. The next frame
+-- follows another table, in which the output may have another number.
 pub record IsGap (before : SlotTable) (output : ℕ) (after : SlotTable) (same gap : ℕ) : Type 0 where
   pub from : ℕ
   pub to : ℕ

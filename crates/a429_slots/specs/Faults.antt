@@ -8,7 +8,7 @@ use Rattle.a429_slots.specs.Planned.{IsFirstUnfit, NeedsTooMany, IsFirstFaulty}
 use Rattle.a429_slots.specs.declared.planner.PlanFault.{PlanFault}
 use Rattle.a429_slots.specs.declared.planner.PlanFault.TheVariants as plan
 
--- the fault stands in the table: its group is the first that cannot be planned, and the fault is that group's
+-- the fault is one of the table: its group is the first that cannot be planned, and the fault is that group's
 abbrev pub IsFaultOf : TableRecord → PlanFault → Type 0
 IsFaultOf e (plan.Unfit g o) = IsFirstFaulty e g (λ rate rows. IsFirstUnfit rate rows o)
 IsFaultOf e (plan.TooManyBuses g needed) = IsFirstFaulty e g (λ rate rows. NeedsTooMany rate rows needed)

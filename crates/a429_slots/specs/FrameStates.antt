@@ -1,4 +1,4 @@
--- Where a group stands in its frame, as the machine keeps it.
+-- The state of a group in its frame, as the machine keeps it.
 use Rattle.std.specs.Prelude.{◌≡◌, ◌<◌, ◌*◌, ◌⊎◌, ◌+◌, ◌/◌, ◌%◌, ◌^◌, ℕ, Bool, Option, Some, None, List, if◌then◌else◌, nat_lt, min}
 use Rattle.std.specs.List.{list_all}
 use Rattle.a429_slots.specs.Tables.{Placed, SlotTable, frame_of, buses_of, cells_of}
@@ -11,11 +11,11 @@ pub record FrameState : Type 0 where
   pub first : ℕ
   pub sent : ℕ
 
--- how many cells of a frame stand before one: cells are counted slot by slot, and in a slot bus by bus
+-- how many cells of a frame come before one: cells are counted slot by slot, and in a slot bus by bus
 abbrev pub cells_before : SlotTable → ℕ → ℕ → ℕ
 cells_before t bus slot = slot * buses_of t + bus
 
--- a frame's next cell: one of its cells, or the first behind them
+-- a frame's next cell: one of its cells, or the first after them
 pub record IsNextCell (t : SlotTable) (bus slot : ℕ) : Type 0 where
   pub bus_of : (bus ≡ 0) ⊎ (bus < buses_of t)
   pub slot_of : (slot < frame_of t) ⊎ ((slot ≡ frame_of t) × (bus ≡ 0))
@@ -46,6 +46,6 @@ turned s newest =
 abbrev pub frame_state_of : ℕ → Current → FrameState
 frame_state_of g f = record { table = f.table; first = f.first; sent = min (cells_since g f) (cells_of f.table) }
 
--- the output that stands in a cell: its source, and what limits its sends
+-- the output in a cell: its source, and what limits its sends
 abbrev pub due_of : Placed → Due
 due_of output = record { source = output.source; limits = output.limits }

@@ -9,15 +9,15 @@ use Rattle.a429_slots.specs.declared.answers.Answer.TheVariants.{Changed, Refuse
 use Rattle.a429_slots.specs.declared.answers.Refusal.TheVariants.{MidFrame, SlotsSpent}
 use Rattle.a429_slots.specs.Answers.{frame_answer}
 
--- where the group stands after a history
+-- the state of the group in its frame after a history
 abbrev pub stands_after : Opening → ℕ → SlotTable → List Event → FrameState
 stands_after o g p E = frame_state_of g (current o g p E)
 
--- where a Frame leads: one that comes before the frame's last cell changes nothing
+-- the state after a Frame: one that comes before the frame's last cell changes nothing
 abbrev pub after_frame : FrameState → SlotTable → FrameState
 after_frame s newest = if nat_lt s.sent (cells_of s.table) then s else turned s newest
 
--- what it is answered, where the newest plan has this number
+-- the answer to a Frame, if the newest plan has this number
 abbrev pub frame_reply : FrameState → ℕ → SlotTable → Answer
 frame_reply s number newest =
     if nat_lt s.sent (cells_of s.table) then Refused MidFrame else (if fits_next s newest then Changed number else Refused SlotsSpent)
@@ -38,14 +38,14 @@ OthersPass =
     (o : Opening) (g : ℕ) (p : SlotTable) (E : List Event) (e : Event)
     → is_frame g e ≡ false → is_cell g e ≡ false → stands_after o g p (E ++ e ∷ []) ≡ stands_after o g p E
 
--- where the group stands tells its next cell, and the answer to a Frame
+-- the state of the group in its frame determines its next cell, and the answer to a Frame
 abbrev pub TellsNextCell : Type 0
 TellsNextCell = (g : ℕ) (f : Current) → cell_due g f ≡ next_cell (frame_state_of g f)
 
 abbrev pub TellsFrameAnswer : Type 0
 TellsFrameAnswer = (g number : ℕ) (newest : SlotTable) (f : Current) → frame_answer g number newest f ≡ frame_reply (frame_state_of g f) number newest
 
--- a Cell of the group adds the cell that is due, where an output stands there, and no other event adds any
+-- a Cell of the group adds the cell that is due, if it has an output, and no other event adds any
 abbrev pub AnsweredCellsGrow : Type 0
 AnsweredCellsGrow =
     (C : ℕ) (o : Opening) (g : ℕ) (p : SlotTable) (E : List Event) (e : Event)

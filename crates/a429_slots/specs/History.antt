@@ -1,4 +1,5 @@
--- What a history comes to: the words that were accepted, the plans in force, the cell that is due, and the word that is sent in it.
+-- What a history determines: the words that were accepted, the plans in force, the cell that is due, and the word that
+-- is sent in it.
 use Rattle.std.specs.Prelude.{◌≡◌, ◌==◌, ◌&&◌, ◌||◌, ◌++◌, ◌+◌, ◌-◌, ◌/◌, ◌%◌, ◌^◌, ◌∷◌, [], ℕ, Bool, false, List, Option, Some, None, if◌then◌else◌, nat_lt, nat_le, length, take, reverse, filter_map, count_by, slice_get, option_and_then, option_map, unwrap_or, is_some}
 use Rattle.std.specs.List.{list_any}
 use Rattle.std.specs.Option.{option_map_or}
@@ -97,7 +98,7 @@ is_over g f = nat_le (cells_of f.table) (cells_since g f)
 abbrev pub has_room : Current → SlotTable → Bool
 has_room f newest = nat_lt (f.first + frame_of f.table + frame_of newest) (2 ^ 64)
 
--- a Frame of the group is taken where the frame before it is over and the next one has room
+-- a Frame of the group is taken if the frame before it is over and the next one has room
 abbrev pub is_taken : ℕ → SlotTable → Current → Event → Bool
 is_taken g newest f e = is_frame g e && (is_over g f && has_room f newest)
 
@@ -126,8 +127,9 @@ cell_due g f =
 
 -- ---- words that are sent
 
--- A cell of an output that a group has answered: its slot, counted from the station's first, the output's source, how many words of the
--- source were accepted then, and the word that was sent, where there was one. Such a list has the oldest cell first.
+-- A cell of an output that a group has answered. It has: its slot, counted from the station's first; the output's
+-- source; how many words of the source were accepted then; the word that was sent, if any. A list of such cells has the
+-- oldest first.
 pub record AnsweredCell : Type 0 where
   pub slot : ℕ
   pub source : ℕ
@@ -150,8 +152,9 @@ is_held earlier source hold count = option_map_or (λ most. nat_le most (times_s
 abbrev pub is_too_close : List AnsweredCell → ℕ → ℕ → ℕ → Bool
 is_too_close earlier slot source q = list_any (λ c. has_sent source c && nat_lt slot (c.slot + q)) earlier
 
--- The word that goes out in a cell after these earlier cells of its group, where so many words of the source were accepted and this is the
--- last of them: none where the group has sent that very word `hold` times, or a word of the source fewer than q slots before.
+-- The word that goes out in a cell after these earlier cells of its group. `latest` is the number of accepted words of
+-- the source, and the last of them. No word goes out if the group has sent that accepted word `hold` times, or a word
+-- of the source fewer than q slots before.
 abbrev pub sent_word : List AnsweredCell → ℕ → ℕ → Option ℕ → ℕ → ℕ × Option ℕ → Option ℕ
 sent_word earlier slot source hold q latest = if is_held earlier source hold latest.0 || is_too_close earlier slot source q then None else latest.1
 
@@ -168,7 +171,7 @@ answered_cell C o E earlier slot output = record {
   word = sent_word earlier slot output.source output.limits.hold output.limits.spacing (latest_by C o output.source E);
 }
 
--- the next cell of the group, if it is due and an output stands there
+-- the next cell of the group, if it is due and has an output
 abbrev pub next_answered : ℕ → Opening → List Event → ℕ → Current → List AnsweredCell → Option AnsweredCell
 next_answered C o E g f earlier =
     option_and_then (λ cell. option_map (answered_cell C o E earlier (f.first + cell.1)) (output_in f.table cell.0 cell.1)) (cell_due g f)
@@ -184,7 +187,7 @@ answered_after C o g p (e ∷ past) =
 abbrev pub answered_cells : ℕ → Opening → ℕ → SlotTable → List Event → List AnsweredCell
 answered_cells C o g p E = answered_after C o g p (reverse E)
 
--- the word that is sent in a cell, after these earlier cells of the group: that of the output that stands there
+-- the word that is sent in a cell, after these earlier cells of the group: that of the cell's output
 abbrev pub word_sent : ℕ → Opening → List Event → List AnsweredCell → Current → ℕ × ℕ → Option ℕ
 word_sent C o E earlier f cell =
     option_and_then (λ output. (answered_cell C o E earlier (f.first + cell.1) output).word) (output_in f.table cell.0 cell.1)

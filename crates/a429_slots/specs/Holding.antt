@@ -9,7 +9,8 @@ use Rattle.a429_slots.specs.Spacing.{Sends}
 abbrev pub times_before : ℕ → Opening → ℕ → SlotTable → List Event → ℕ → ℕ → ℕ
 times_before C o g p E k source = times_sent (answered_cells C o g p (take k E)) source (length (accepted_by C o source (take k E)))
 
--- a cell sends a word only where the group sent that very word fewer times before, by whatever plans, than the plan in force allows
+-- a cell sends an accepted word only if the group sent it fewer times before, under any plans, than the plan in force
+-- allows
 abbrev pub HoldsAreKept : Type 0
 HoldsAreKept =
     (C : ℕ) (o : Opening) (g : ℕ) (p : SlotTable) (E : List Event) (k : ℕ) (output : Placed) (slot word hold : ℕ)

@@ -1,4 +1,4 @@
--- What holds of every slot table (profile: layout).
+-- What is true of every slot table (profile: layout).
 use Rattle.std.specs.Prelude.{◌≡◌, ◌+◌, ◌<◌, ◌≤◌, ◌*◌, ◌/◌, ◌%◌, ◌^◌, ℕ, Some, length, slice_index, sum}
 use Rattle.std.specs.List.{range_with_len}
 use Rattle.std.specs.List.Sorted.{IsPermutation}
@@ -12,15 +12,16 @@ use Rattle.a429_slots.specs.Tables.{Placed, SlotTable, placed_at, cell_at, frame
 abbrev pub HoldsCell : SlotTable → ℕ → ℕ → ℕ → Type 0
 HoldsCell t k bus slot = Holds (demands_of t) (bus * frame_of t + reversed t.frame (slot % frame_of t)) k
 
--- one bus and one offset: the output stands in the cells of that bus once in every period, and in no others
+-- one bus and one offset: the output has the cells of that bus once in every period, and no others
 abbrev pub StandsJustAt : SlotTable → ℕ → ℕ → ℕ → ℕ → Type 0
 StandsJustAt t o bus offset period = IsExactlyPeriodic (λ row slot. cell_at t row slot ≡ Some o) bus offset period
 
--- the stretch at place k of the layout has just the cells of this output
+-- the stretch at place k of the layout has exactly the cells of this output
 abbrev pub HoldsJustCellsOf : SlotTable → ℕ → Placed → Type 0
 HoldsJustCellsOf t k o = IsExactlyPeriodic (HoldsCell t k) o.place.bus o.place.offset (2 ^ o.place.period)
 
--- the stretch of an output begins at a place: so many places on from the first bus's, and the slot has the digits of the rest in reverse
+-- The stretch of an output begins at a place, counted from the first bus's first. The frame divides that place: the
+-- quotient is the bus, and the slot is the remainder with its digits in reverse.
 pub record BeginsAt (t : SlotTable) (o start : ℕ) : Type 0 where
   pub bus : (placed_at t o).place.bus ≡ start / frame_of t
   pub offset : (placed_at t o).place.offset ≡ reversed t.frame (start % frame_of t)

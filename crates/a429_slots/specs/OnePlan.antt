@@ -11,7 +11,7 @@ use Rattle.a429_slots.specs.Tables.{PlanTable}
 abbrev pub PlansAreUnique : Type 0
 PlansAreUnique = (e : TableRecord) (p q : PlanTable) → IsPlanOf e p → IsPlanOf e q → p ≡ q
 
--- and one fault, want of memory apart
+-- and one fault, apart from `NoMemory`
 abbrev pub FaultsAreUnique : Type 0
 FaultsAreUnique = (e : TableRecord) (f g : PlanFault) → IsFaultOf e f → IsFaultOf e g → f ≢ NoMemory → g ≢ NoMemory → f ≡ g
 

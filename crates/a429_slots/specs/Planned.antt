@@ -1,4 +1,4 @@
--- What holds of every plan, and when a station has none (profile: layout).
+-- What is true of every plan, and when a station has none (profile: layout).
 use Rattle.std.specs.Prelude.{◌≡◌, ◌<◌, ◌≤◌, ◌^◌, ℕ, List, Some, length, map, take, slice_get, slice_index, option_and_then}
 use Rattle.std.specs.List.{AllZip, AllByRecursion, zip}
 use Rattle.std.specs.Option.{option_map_or}
@@ -17,8 +17,8 @@ use Rattle.a429_slots.specs.Kept.{BeginsAt, StandsJustAt}
 abbrev pub HasPeriod : ℕ → OutputRow → ℕ → Type 0
 HasPeriod rate row k = IsGridPeriod row.min_us row.max_us rate (2 ^ k)
 
--- the output has the source of its row, its period is the grid period of the row's interval, and its sends are limited by the row's hold
--- and by the least spacing of the interval
+-- The output has the source of its row. Its period is the grid period of the row's interval. Its sends are limited by
+-- the row's hold and by the least spacing of the interval.
 abbrev pub IsServed : ℕ → OutputRow → Placed → Type 0
 IsServed rate row o =
     (o.source ≡ row.source) × HasPeriod rate row o.place.period × (o.limits.hold ≡ row.hold) × IsLeastSpacing row.min_us rate o.limits.spacing
@@ -34,15 +34,17 @@ asked_by sources o = record {
 abbrev pub asked_of : List SourceRow → SlotTable → List Demand
 asked_of sources t = map (asked_by sources) (outputs_of t)
 
--- The layout: the frame is the greatest period, and the outputs follow one another by period, then label as a number, then SDI with any
--- before 0, then place in the table. An output has as many places as slots of a frame, its demand, and begins where those before it end.
+-- The layout: the frame is the greatest period, and the outputs follow one another by period, then label as a number,
+-- then SDI with any before 0, then place in the table. The number of an output's places is its demand, its slots in a
+-- frame. They begin at the end of those before it.
 pub record IsLayout (sources : List SourceRow) (t : SlotTable) : Type 0 where
   pub frame : t.frame ≡ greatest (exponents_of (asked_of sources t))
   pub order : IsLayoutOrder (asked_of sources t) (order_of t)
   pub places : (k : ℕ) → k < length (outputs_of t) → BeginsAt t (slice_index (order_of t) k) (start_of (demands_of t) k)
 
--- So many buses are the fewest for these rows: each has a grid period at this rate, in some schedule of so many buses each output recurs
--- within its own, and in none of fewer. A schedule is of any form, and at least as long as the greatest of the periods.
+-- The number of buses is the fewest for these rows. Each row has a grid period at this bit rate. In some schedule of
+-- that number of buses each output recurs within its period, and in none of fewer. A schedule is of any form, and at
+-- least as long as the greatest of the periods.
 pub record AreFewestBusesFor (rate : ℕ) (rows : List OutputRow) (buses : ℕ) : Type 0 where
   pub exponents : List ℕ
   pub fit : AllZip (HasPeriod rate) rows exponents
@@ -58,11 +60,11 @@ pub record IsPlannedFor (rate : ℕ) (sources : List SourceRow) (rows : List Out
   pub few_buses : buses_of t ≤ 16
   pub few_slots : frame_of t ≤ 8192
 
--- the outputs of each group, beside the rate of its buses
+-- the outputs of each group, with the bit rate of its buses
 abbrev pub rated_outputs : TableRecord → List (ℕ × List OutputRow)
 rated_outputs e = zip (map (λ g. g.rate) e.groups) e.outputs
 
--- the table is one for these outputs, at the rate beside them
+-- the table is one for these outputs, at the bit rate that comes with them
 abbrev pub IsPlannedAt : List SourceRow → ℕ × List OutputRow → SlotTable → Type 0
 IsPlannedAt sources rated t = IsPlannedFor rated.0 sources rated.1 t
 
@@ -82,11 +84,11 @@ HaveRoom n outputs = AllByRecursion (λ rows. length rows ≤ n) outputs
 
 -- ---- when there is no plan
 
--- the interval of the output admits a period of the grid
+-- the interval of the output allows a period of the grid
 abbrev pub IsFit : ℕ → OutputRow → Type 0
 IsFit rate row = (k : ℕ) × HasPeriod rate row k
 
--- output o is the first of the group whose interval admits none
+-- output o is the first of the group whose interval allows none
 pub record IsFirstUnfit (rate : ℕ) (rows : List OutputRow) (o : ℕ) : Type 0 where
   pub row : OutputRow
   pub there : slice_get rows o ≡ Some row
@@ -101,7 +103,7 @@ NeedsTooMany rate rows needed = AreFewestBusesFor rate rows needed × (16 < need
 abbrev pub CanBePlanned : ℕ → List OutputRow → Type 0
 CanBePlanned rate rows = (needed : ℕ) × AreFewestBusesFor rate rows needed × (needed ≤ 16)
 
--- the same of outputs with the rate beside them
+-- the same of outputs with their bit rate
 abbrev pub CanBePlannedAt : ℕ × List OutputRow → Type 0
 CanBePlannedAt rated = CanBePlanned rated.0 rated.1
 

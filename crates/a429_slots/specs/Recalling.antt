@@ -1,11 +1,11 @@
--- What has to be kept of a group's earlier cells to tell the word that is sent in the next one.
+-- What has to be kept of a group's earlier cells to determine the word that is sent in the next one.
 use Rattle.std.specs.Prelude.{◌≡◌, ◌==◌, ◌&&◌, ◌+◌, ◌<◌, ◌≤◌, ◌++◌, ◌∷◌, [], ℕ, Bool, List, Option, Some, None, false, not, if◌then◌else◌, nat_lt, nat_le, slice_get, slice_set}
 use Rattle.std.specs.Option.{option_map_or}
 use Rattle.a429_slots.specs.declared.senders.Due.{Due}
 use Rattle.a429_slots.specs.History.{AnsweredCell, has_sent, sent_word, times_sent, is_too_close}
 
--- the word of a source that the group sent last: its number among the accepted words, how often it was sent, and the slot of the last
--- time; `times` is 0 where none was sent
+-- The word of a source that the group sent last: its number among the accepted words, how often it was sent, and the
+-- slot of the last time. `times` is 0 if none was sent.
 pub record Recent : Type 0 where
   pub count : ℕ
   pub times : ℕ
@@ -26,7 +26,7 @@ may_send r slot count hold q =
 abbrev pub sent_again : Recent → ℕ → ℕ → Recent
 sent_again r slot count = record { count = count; times = times_of r count + 1; slot = slot }
 
--- what is kept after the cell, where it was asked for
+-- what is kept after the cell, if the cell was asked for
 abbrev pub recent_after : Recent → ℕ → ℕ → Option ℕ → ℕ → Recent
 recent_after r slot count hold q = if may_send r slot count hold q then sent_again r slot count else r
 
@@ -44,7 +44,8 @@ pub record Recalls (earlier : List AnsweredCell) (source : ℕ) (r : Recent) : T
   pub newer : (count : ℕ) → r.count < count → times_sent earlier source count ≡ 0
   pub close : (slot q : ℕ) → is_too_close earlier slot source q ≡ (nat_lt 0 r.times && nat_lt slot (r.slot + q))
 
--- what is kept tells the word that is sent in the next cell, as long as the number of accepted words does not go back
+-- what is kept determines the word that is sent in the next cell, as long as the number of accepted words does not go
+-- back
 abbrev pub RecentDecides : Type 0
 RecentDecides =
     (earlier : List AnsweredCell) (source : ℕ) (r : Recent) (slot count : ℕ) (hold : Option ℕ) (q : ℕ) (word : Option ℕ)

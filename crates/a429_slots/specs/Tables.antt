@@ -1,9 +1,9 @@
--- Slot tables as contracts see them, and which output stands in which cell (profile: layout).
+-- Slot tables as contracts see them, and which output is in which cell (profile: layout).
 use Rattle.std.specs.Prelude.{◌==◌, ◌&&◌, ◌*◌, ◌/◌, ◌%◌, ◌^◌, [], ℕ, Bool, List, Option, None, get_or, map, option_and_then, option_map, position, slice_get}
 use Rattle.a429_slots.specs.declared.group_plan.SendLimits.{SendLimits}
 use Rattle.a429_slots.specs.declared.group_plan.SlotPlace.{SlotPlace}
 
--- an output: the number of its source, where it stands, and what limits its sends
+-- an output: the number of its source, its place, and what limits its sends
 pub record Placed : Type 0 where
   pub source : ℕ
   pub place : SlotPlace
@@ -55,15 +55,15 @@ share_of t o = frame_of t / 2 ^ (placed_at t o).place.period
 abbrev pub demands_of : SlotTable → List ℕ
 demands_of t = map (share_of t) t.order
 
--- the output stands on this bus in this slot, counted from the frame's start
+-- the output is on this bus in this slot, counted from the frame's start
 abbrev pub stands_in : ℕ → ℕ → Placed → Bool
 stands_in bus slot o = o.place.bus == bus && slot % 2 ^ o.place.period == o.place.offset
 
--- the number of the output that stands in a cell
+-- the number of the output in a cell
 unfoldable pub cell_at : SlotTable → ℕ → ℕ → Option ℕ
 cell_at t bus slot = position (stands_in bus slot) (outputs_of t)
 
--- where an output stands
+-- the place of an output
 abbrev pub place_of : SlotTable → ℕ → Option SlotPlace
 place_of t o = option_map (λ p. p.place) (slice_get (outputs_of t) o)
 
@@ -75,11 +75,11 @@ source_of t o = option_map (λ p. p.source) (slice_get (outputs_of t) o)
 abbrev pub limits_of : SlotTable → ℕ → Option SendLimits
 limits_of t o = option_map (λ p. p.limits) (slice_get (outputs_of t) o)
 
--- the output that stands in a cell
+-- the output in a cell
 abbrev pub output_in : SlotTable → ℕ → ℕ → Option Placed
 output_in t bus slot = option_and_then (λ o. slice_get (outputs_of t) o) (cell_at t bus slot)
 
--- the source of the output that stands in a cell
+-- the source of the output in a cell
 abbrev pub source_at : SlotTable → ℕ → ℕ → Option ℕ
 source_at t bus slot = option_and_then (source_of t) (cell_at t bus slot)
 

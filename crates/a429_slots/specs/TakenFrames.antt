@@ -1,5 +1,5 @@
--- The taken frames of a group, by their places in a history (profile: frames). A place is how many events come before it. T tells of each
--- place whether a taken Frame of the group stands there.
+-- The taken frames of a group, by their places in a history (profile: frames). A place is how many events come before
+-- it. T says of each place whether a taken Frame of the group is there.
 use Rattle.std.specs.Prelude.{◌≡◌, ◌+◌, ◌-◌, ◌<◌, ◌≤◌, ◌^◌, ◌↔◌, ◌++◌, ◌∷◌, [], ◌⊎◌, ℕ, Bool, false, IsTrue, List, Option, Some, length, take, drop, filter, sum_by, count_by, slice_get, unwrap_or}
 use Rattle.std.specs.List.{range_with_len}
 use Rattle.std.specs.Option.{option_map_or}
@@ -13,7 +13,7 @@ use Rattle.a429_slots.specs.History.{Opening, Current, current, is_cell, is_take
 abbrev pub taken_before : (ℕ → Bool) → ℕ → List ℕ
 taken_before T k = filter T (range_with_len 0 k)
 
--- the last of them, where there is one
+-- the last of them, if there is one
 abbrev pub last_taken : (ℕ → Bool) → ℕ → Option ℕ
 last_taken T k = last_of (taken_before T k)
 
@@ -39,7 +39,7 @@ pub record IsTakenAt (o : Opening) (g : ℕ) (p : SlotTable) (E : List Event) (T
   pub over : cells_of (table_in_force o g p E T k) ≤ count_by (is_cell g) (events_since E T k)
   pub room : first_slot o g p E T k + frame_of (table_in_force o g p E T k) + frame_of (newest_table o g p (take k E)) ≤ 2 ^ 64 - 1
 
--- T has just the taken Frames of the history
+-- T has exactly the taken Frames of the history
 abbrev pub AreTakenFrames : Opening → ℕ → SlotTable → List Event → (ℕ → Bool) → Type 0
 AreTakenFrames o g p E T = (k : ℕ) → k < length E → IsTrue (T k) ↔ IsTakenAt o g p E T k
 
@@ -86,7 +86,7 @@ BeginsFrame o g p E = (E ≡ []) ⊎ EndsInTaken o g p E
 abbrev pub NoneTaken : Opening → ℕ → SlotTable → List Event → List Event → Type 0
 NoneTaken o g p E stretch = (xs ys : List Event) (e : Event) → stretch ≡ xs ++ e ∷ ys → is_taken_after o g p (E ++ xs) e ≡ false
 
--- ---- where plans come from
+-- ---- the origin of plans
 
 -- the history has a Publish of this proposal, for the opening station, that gave it this number
 pub record IsPublished (o : Opening) (E : List Event) (q : Proposed) (number : ℕ) : Type 0 where

@@ -19,7 +19,7 @@ pub enum Refusal {
     /// No source of the receiver has the word's label and SDI.
     #[error("no source")]
     NoSource,
-    /// The source has accepted as many words as can be counted; or so many plans were published.
+    /// No more can be counted: accepted words of the source, or published plans.
     #[error("count spent")]
     CountSpent,
     /// All cells of the frame were sent.
@@ -58,8 +58,7 @@ pub enum Answer {
     Accepted {
         source: usize,
     },
-    /// The cell on this bus, in this slot counted from the station's first, and the word that was sent
-    /// in it, where there is one.
+    /// The cell on this bus, in this slot counted from the station's first, and the word that was sent in it, if any.
     Sent {
         bus: u32,
         slot: u64,

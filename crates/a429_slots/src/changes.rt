@@ -6,9 +6,9 @@ ghost use Rattle.a429_slots.specs.Changes.{IsGap, IsGapOfPlaces};
 use crate::group_plan::GroupPlan;
 use crate::outputs::OutputId;
 
-/// How many slots lie between the last cell of an output by one plan of its group and its first cell by another,
-/// which follows with the next frame: at least one, and fewer than both periods together. The output may have
-/// another number in the second plan; it is the same where its source is.
+/// The distance in slots, start to start, from the last cell of an output by one plan of its group to its first cell by
+/// another plan. The other plan follows with the next frame. The distance is at least one, and less than both periods
+/// together. The output may have another number in the second plan; it is the same output if it has the same source.
 pub fn gap<const N: usize>(
     before: &GroupPlan<N>,
     output: OutputId,

@@ -11,8 +11,8 @@ use a429_pack::laws::{none_is_above_the_greatest, orders_name_each_once, stretch
 use a429_pack::{Demand, Packed, SumTable};
 use std::marker::Model;
 
-/// Where an output stands: on one bus of its group, in the slots that leave this offset when they are
-/// divided by the period. Buses and slots are counted from 0, slots from the frame's start.
+/// The place of an output: on one bus of its group, in the slots that leave this offset when they are divided by the
+/// period. Buses and slots are counted from 0, slots from the frame's start.
 #[derive(Clone, Copy, Debug, PartialEq, Eq)]
 pub struct SlotPlace {
     pub bus: u32,
@@ -23,14 +23,13 @@ pub struct SlotPlace {
 /// What limits the sends of an output.
 #[derive(Clone, Copy, Debug, PartialEq, Eq)]
 pub struct SendLimits {
-    /// How often one accepted word is sent at most; None where there is no limit.
+    /// One accepted word is sent at most this number of times; `None`: no limit.
     pub hold: Option<u32>,
-    /// How many slots two words of the output's source are apart at least.
+    /// Two words of the output's source are at least this number of slots apart, start to start.
     pub spacing: u32,
 }
 
-/// The slot table of a group of at most `N` outputs. Each output stands in cells of its own, once in
-/// every period.
+/// The slot table of a group of at most `N` outputs. Each output has cells of its own, once in every period.
 #[derive(Clone, Copy)]
 pub struct GroupPlan<const N: usize> {
     frame: Period,
@@ -89,7 +88,7 @@ impl<const N: usize> GroupPlan<N> {
         }
     }
 
-    /// The table of a layout, which was made of the outputs' demands, at this rate in bit/s.
+    /// The table of a layout, which was made of the outputs' demands, at this bit rate in bit/s.
     pub(crate) fn of(
         rate: u32,
         packed: &Packed<N>,
@@ -172,10 +171,10 @@ impl<const N: usize> GroupPlan<N> {
         OutputId::new(self.order[k])
     }
 
-    /// The output in a cell: on this bus, in this slot counted from the frame's start. Slots past the
-    /// frame are those of the frames that follow. None is an empty cell, or a bus outside the plan. Beside it
-    /// stands how many running sums were read to find it: at most as many as the number of outputs has binary
-    /// digits, at least one fewer where there is an output, and none where there is none. It takes no memory.
+    /// The output in a cell: on this bus, in this slot counted from the frame's start. Slots past the frame are those
+    /// of the frames that follow. `None`: an empty cell, or a bus outside the plan. The second number is how many
+    /// running sums were read to find the output. For n outputs with d binary digits it is at most d, at least d - 1 if
+    /// the cell has an output, and 0 if it has none. The call allocates no memory.
     pub fn at_counted(&self, bus: u32, slot: u64) -> (Option<OutputId>, u32)
         ensures cell { result.0 ≡ cell_at self.now bus slot }
         ensures known { IfSome result.0 (λ output. output < length (outputs_of self.now)) }
@@ -195,7 +194,7 @@ impl<const N: usize> GroupPlan<N> {
         }
     }
 
-    /// The output in a cell, as `at_counted` finds it.
+    /// The output in a cell, found in the way of `at_counted`; `None`: an empty cell, or a bus outside the plan.
     pub fn at(&self, bus: u32, slot: u64) -> Option<OutputId>
         ensures cell { result ≡ cell_at self.now bus slot }
         ensures known { IfSome result (λ output. output < length (outputs_of self.now)) }
@@ -203,8 +202,8 @@ impl<const N: usize> GroupPlan<N> {
         self.at_counted(bus, slot).0
     }
 
-    /// Whether the outputs of another table stand in the same cells. Where a table is laid out otherwise, and yet in
-    /// the same cells, it may answer that they do not.
+    /// Whether the outputs of another table are in the same cells. If the other table is laid out in another way, and
+    /// yet has the same cells, the answer may be `false`.
     pub(crate) fn has_cells_of(&self, other: &GroupPlan<N>) -> bool
         ensures { (bus slot : ℕ) → result ≡ true → cell_at self.now bus slot ≡ cell_at other.now bus slot }
     {
@@ -220,7 +219,7 @@ impl<const N: usize> GroupPlan<N> {
         self.periods == other.periods
     }
 
-    /// Where an output stands: in these cells and in no others.
+    /// The place of an output: it has these cells and no others.
     pub fn place(&self, output: OutputId) -> SlotPlace
         requires { output < length (outputs_of self.now) }
         ensures place { place_of self.now output ≡ Some result }
@@ -261,7 +260,7 @@ impl<const N: usize> GroupPlan<N> {
         self.limits[number]
     }
 
-    /// How often the group sends one accepted word of an output's source at most; None where there is no limit.
+    /// The group sends one accepted word of the output's source at most this number of times; `None`: no limit.
     pub fn hold(&self, output: OutputId) -> Option<u32>
         requires { output < length (outputs_of self.now) }
         ensures { option_map (λ l. l.hold) (limits_of self.now output) ≡ Some result }
@@ -269,8 +268,8 @@ impl<const N: usize> GroupPlan<N> {
         self.limits(output).hold
     }
 
-    /// How many slots two words of an output are apart at least, whatever plans change between: the least spacing
-    /// of its interval.
+    /// Two words of an output are at least this number of slots apart, start to start, even if plans change between:
+    /// the least spacing of its interval.
     pub fn spacing(&self, output: OutputId) -> u32
         requires { output < length (outputs_of self.now) }
         ensures spacing { option_map (λ l. l.spacing) (limits_of self.now output) ≡ Some result }

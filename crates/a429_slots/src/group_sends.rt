@@ -34,7 +34,8 @@ fn send_source(sources: &mut Vec<LastSend>, slot: u64, count: u64, due: Due) -> 
 }
 
 impl GroupSends {
-    /// Nothing was sent of so many sources. All the memory that is ever needed is taken here.
+    /// Nothing was sent of this number of sources. All the memory that is ever needed is allocated here. Error: an
+    /// allocation failed.
     pub fn open(alloc: Global, sources: usize) -> Result<GroupSends, AllocError>
         ensures { IfOk result (λ sends. sends ≡ replicate sources never) }
     {
@@ -43,15 +44,16 @@ impl GroupSends {
         })
     }
 
-    /// Of how many sources sends are kept.
+    /// The number of sources whose sends are kept.
     pub fn sources(&self) -> usize
         ensures { result ≡ length self.now }
     {
         self.sources.len()
     }
 
-    /// Sends the accepted word of this number of an output's source, where the output's limits and what was sent
-    /// before let it. Answers whether it is sent; a source of which no sends are kept sends nothing.
+    /// Sends the accepted word of this number of an output's source, if the output's limits and what was sent before
+    /// allow it. Answers whether it is sent. If no sends are kept of the source, nothing is sent. Slots count from the
+    /// station's first.
     pub fn send(&mut self, slot: u64, count: u64, due: Due) -> bool
         requires some { 1 ≤ due.limits.spacing }
         requires room { slot + 1 < 2 ^ 64 }
@@ -64,7 +66,7 @@ impl GroupSends {
         self.send_kept(slot, count, due)
     }
 
-    /// As `send`, for an output of a source of which sends are kept.
+    /// Like `send`, for an output whose source has its sends kept here: its number is below the number of sources.
     #[inline(always)]
     pub fn send_kept(&mut self, slot: u64, count: u64, due: Due) -> bool
         requires kept { due.source < length self.old }

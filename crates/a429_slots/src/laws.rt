@@ -15,8 +15,8 @@ use a429_pack::laws::{
     stretches_are_apart,
 };
 
-/// A table has one plan or one fault: two plans of it are equal; want of memory apart, so are two faults of it; and a
-/// table that has a plan has no other fault.
+/// A table has one plan or one fault. Two plans of it are equal. Two faults of it are equal, apart from `NoMemory`. A
+/// table that has a plan has no other fault than `NoMemory`.
 pub fn plans_are_unique()
     ensures plan { PlansAreUnique }
     ensures fault { FaultsAreUnique }
@@ -27,10 +27,10 @@ pub fn plans_are_unique()
     orders_name_each_once();
 }
 
-/// A Frame is taken just where all cells of the plan in force were asked for since the last taken one, or
-/// since the opening, and 64 bits can count the slots of the frame that follows. The plan in force is the
-/// newest at the last taken Frame, or the opening one; a frame's first slot is the opening's and the slots
-/// of every frame that the group has left.
+/// A Frame is taken if and only if two things are true: all cells of the plan in force were asked for since the last
+/// taken Frame, or since the opening; 64 bits can count the slots of the frame that follows. The plan in force is the
+/// newest at the last taken Frame, or the opening one. A frame's first slot is the opening's plus the slots of every
+/// frame that the group has left.
 pub fn frames_are_taken()
     ensures taken { (o : Opening) (g : ℕ) (p : SlotTable) (E : List Event) → AreTakenFrames o g p E (is_taken_at o g p E) }
     ensures only { TakenFramesAreUnique }
@@ -55,8 +55,8 @@ pub fn plan_changes_at_taken_frames()
         → LeavesFrame o g p E e }
 {}
 
-/// Where a group stands in its frame goes on by its own Cells and Frames alone, and tells its next cell and the
-/// answer to a Frame.
+/// The state of a group in its frame changes at its own Cells and Frames only. It determines the group's next cell and
+/// the answer to a Frame.
 pub fn frames_go_on()
     ensures cell { CellsCount }
     ensures frame { FramesTurn }
@@ -65,13 +65,13 @@ pub fn frames_go_on()
     ensures answer { TellsFrameAnswer }
 {}
 
-/// The cells that a group has answered go on by its own Cells alone.
+/// A group's answered cells grow only by its own Cells.
 pub fn answered_cells_grow()
     ensures { AnsweredCellsGrow }
 {}
 
-/// What a group keeps of its sends of a source tells the word that is sent in a cell, whatever cells came before, as
-/// long as neither the number of accepted words nor the slot goes back.
+/// What a group keeps of its sends of a source determines the word that is sent in a cell, after any earlier cells.
+/// This holds as long as neither the number of accepted words nor the slot goes back.
 pub fn sends_are_recalled()
     ensures none { (source : ℕ) → Recalls [] source never }
     ensures decides { RecentDecides }
@@ -79,22 +79,22 @@ pub fn sends_are_recalled()
     ensures other { RecentPassesOtherCells }
 {}
 
-/// A group never sends two words of one source in cells that are fewer slots apart than the plan in force at the
-/// second asks, whatever plans changed between. A cell is empty for this only where a word of the source was sent
-/// within that many slots before.
+/// Let q be the least spacing, in slots, of an output in the plan in force at its cell. If the cell sends a word, each
+/// earlier word of the source was sent at least q slots before, even if plans changed between. A cell is empty for this
+/// reason only if a word of the source was sent fewer than q slots before.
 pub fn words_are_spaced()
     ensures apart { WordsAreApart }
     ensures only { EmptyCellsFollowWords }
 {}
 
-/// A group sends one accepted word at most as often as the output's hold says, under whatever plans: each time it is
-/// sent, it was sent fewer times before. Where an output has no hold, no word is held back.
+/// A group sends one accepted word at most as often as the output's hold says, under any plans: each time it is sent,
+/// it was sent fewer times before. An output without a hold has no such limit.
 pub fn holds_are_kept()
     ensures { HoldsAreKept }
 {}
 
-/// Where no plan comes between, two cells of an output are far enough apart: so a cell can be empty for the sake of
-/// the least spacing only as the output's first one after a change of plans.
+/// If no plan comes between, two cells of an output are far enough apart. So a cell can be empty because of the least
+/// spacing only if it is the output's first one after a change of plans.
 pub fn spacing_empties_first_cells_only()
     ensures plan { CellsOfOnePlanAreApart }
     ensures first { EmptyCellsAreFirst }
@@ -111,9 +111,9 @@ pub fn planned_tables_are_spaced()
     stretches_are_apart();
 }
 
-/// Where each proposal, the opening one and those that are published, has the plan of its own table, the slot
-/// table in force of a group keeps to the least spacings at every place of a history: it is what the laws of
-/// spacing ask for.
+/// A proposal is the opening one or one that is published. If each proposal has the plan of its own table, then the
+/// slot table in force of a group keeps to the least spacings at every place of a history. The laws of spacing ask for
+/// this.
 pub fn plans_in_force_are_spaced()
     ensures { PlansInForceAreSpaced }
 {

@@ -33,7 +33,7 @@ pub fn sources_in<const N: usize>(outputs: &[OutputRow]) -> [usize; N]
     sources
 }
 
-/// The exponent of the period that is asked for, 0 where there is none.
+/// The exponent of the period that is asked for; 0 if there is none.
 fn exponent(demand: &Demand) -> u32
     ensures { result ≡ exponent_of demand.now }
 {

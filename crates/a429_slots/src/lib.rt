@@ -1,9 +1,9 @@
-//! Slot tables: which output stands in which cell, and the plans of a station (profile: layout).
+//! Slot tables: which output is in which cell, and the plans of a station (profile: layout).
 //!
 //! `plan` makes the plan of an equipment: a `GroupPlan` for each group, on the fewest buses. A `Proposal` is an
-//! equipment with its own plan. `GroupPlan::at` says which output is in a cell, `place` where an output is. `Sender`
-//! and `GroupSends` go through the cells of frames, for the machine and for transmitters. `gap` bounds the slots
-//! between two sends when plans change.
+//! equipment with its own plan. `GroupPlan::at` says which output is in a cell, `place` which cells an output has.
+//! `Sender` and `GroupSends` go through the cells of frames, for the machine and for transmitters. `gap` is the number
+//! of slots between two cells of an output at a change of plan.
 //!
 //! ```text
 //! let proposal: Proposal<OUTPUTS> = Proposal::of(alloc, equipment)?;

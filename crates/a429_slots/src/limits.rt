@@ -10,7 +10,7 @@ use crate::group_plan::SendLimits;
 use a429_equipment::OutputRow;
 use a429_grid::spacing;
 
-/// The limits of an output, at this rate in bit/s.
+/// The limits of an output, at this bit rate in bit/s.
 fn limits(rate: u32, output: &OutputRow) -> SendLimits
     requires interval { IsInterval output.now }
     requires rate { (1 ≤ rate) × (rate ≤ 100000) }

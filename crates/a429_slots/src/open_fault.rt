@@ -1,15 +1,15 @@
-//! Why neither a machine nor a transmitter is opened.
+//! The fault of opening a machine or a transmitter.
 
 use std::alloc::AllocError;
 use thiserror::Error;
 
-/// Why a machine of all groups, or a transmitter of one, is not opened.
+/// Why opening a machine of all groups, or a transmitter of one, failed.
 #[derive(Clone, Copy, Debug, PartialEq, Eq, Error)]
 pub enum OpenFault {
     /// The first frame of a group that is opened has slots that 64 bits cannot count.
     #[error("slots spent")]
     SlotsSpent,
-    /// Memory was refused.
+    /// An allocation failed.
     #[error("out of memory")]
     NoMemory,
 }

@@ -19,14 +19,14 @@ use thiserror::Error;
 /// Why a station has no plan. Groups and outputs are numbered from 0 in table order.
 #[derive(Clone, Copy, Debug, PartialEq, Eq, Error)]
 pub enum PlanFault {
-    /// The interval of the output admits no period of the grid.
+    /// The interval of the output allows no period of the grid.
     #[error("output {output} of group {group} has no period")]
     Unfit { group: usize, output: usize },
     /// Each output of the group has a grid period, and the fewest buses that serve them are this many,
     /// more than 16.
     #[error("group {group} needs {needed} buses")]
     TooManyBuses { group: usize, needed: usize },
-    /// Memory was refused.
+    /// An allocation failed.
     #[error("out of memory")]
     NoMemory,
 }
@@ -42,7 +42,7 @@ fn in_group(group: usize, fault: PackFault) -> PlanFault
     }
 }
 
-/// What the outputs of a group ask of its layout, at this rate in bit/s.
+/// What the outputs of a group ask of its layout, at this bit rate in bit/s.
 #[tactic(auto, using(crate::proofs::Rows::all_below, crate::proofs::Rows::zipped_more, a429_word::proofs::Lists::read_is))]
 fn demands_of(
     alloc: Global,
@@ -66,7 +66,7 @@ fn demands_of(
     Ok(demands)
 }
 
-/// The slot table of a group, at this rate in bit/s.
+/// The slot table of a group, at this bit rate in bit/s.
 fn group_plan<const N: usize>(
     alloc: Global,
     rate: u32,
@@ -91,9 +91,9 @@ fn group_plan<const N: usize>(
 }
 
 /// Plans each group of a station, in table order: every output at its grid period, in cells of its own, on
-/// as few buses as any schedule needs. The plan has the number 0. Refused is the first group that has an
-/// output without a grid period (`Unfit`, with its first such output) or else needs more than 16 buses
-/// (`TooManyBuses`, with the fewest that it needs).
+/// as few buses as any schedule needs. The plan has the number 0. An error names the first group that cannot be
+/// planned: `Unfit` with its first output without a grid period; otherwise `TooManyBuses` with the fewest buses that it
+/// needs, more than 16. `NoMemory`: an allocation failed.
 pub fn plan<const N: usize>(alloc: Global, equipment: &Equipment) -> Result<Plan<N>, PlanFault>
     requires { HaveRoom N equipment.now.outputs }
     ensures planned { IfOk result (λ plan. IsPlanOf equipment.now plan) }

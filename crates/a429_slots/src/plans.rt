@@ -97,7 +97,7 @@ impl<const N: usize> Plan<N> {
         Plan { number, ..self }
     }
 
-    /// The same plan once more.
+    /// A copy of the plan.
     pub fn copied(&self) -> Plan<N>
         ensures { result ≡ self.now }
     {

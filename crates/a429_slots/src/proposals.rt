@@ -41,11 +41,11 @@ impl<const N: usize> Proposal<N> {
     ghost use Rattle.a429_slots.specs.Planned.{HaveRoom, IsPlanOf};
     ghost use Rattle.a429_slots.specs.Faults.{IsFaultOf};
 
-    /// Plans the groups of an equipment. Where `plan` or memory refuses, the equipment comes back with
-    /// the fault.
+    /// Plans the groups of an equipment. Error: the fault of `plan`, or an allocation failed; the equipment comes back
+    /// with it.
     pub fn of(alloc: Global, equipment: Equipment) -> Result<Proposal<N>, NoProposal>
         requires room { HaveRoom N equipment.outputs }
-        // A plan of so many outputs fits in memory.
+        // A plan of at most 65536 outputs fits in memory.
         requires size { N ≤ 65536 }
         ensures planned { IfOk result (λ p. (p.station ≡ equipment) × IsPlanOf equipment p.plan) }
         ensures fault { IfErr result (λ none. (none.equipment ≡ equipment) × IsFaultOf equipment none.fault) }

@@ -1,4 +1,4 @@
-//! Where a group stands in its frame.
+//! The place of a group in its frame.
 pub mod cached;
 
 ghost use Rattle.std.specs.Prelude.{◌≡◌, ◌≤◌, ◌+◌, ◌<◌, ◌^◌, length, nat_lt, option_map, slice_get, IfSome, MatchOption, Some, ⊤};
@@ -76,7 +76,7 @@ impl Sender {
         self.bus < self.plan.buses() && self.slot < self.plan.frame()
     }
 
-    /// The output that stands on a bus in a slot of the frame.
+    /// The output of a bus in a slot of the frame; `None`: an empty cell.
     pub fn output_in(&self, bus: u32, slot: u64) -> Option<Due>
         ensures output { result ≡ option_map due_of (output_in self.now.table bus slot) }
         ensures some { IfSome result (λ due. 1 ≤ due.limits.spacing) }
@@ -105,7 +105,8 @@ impl Sender {
         }
     }
 
-    /// The bus and the slot in the frame of the next cell, which then counts as sent.
+    /// The bus and the slot in the frame of the next cell, which then counts as sent; `None` if all cells of the frame
+    /// were sent.
     #[inline(always)]
     pub fn cell(&mut self) -> Option<(u32, u64)>
         ensures due { result ≡ next_cell self.old }
@@ -124,7 +125,8 @@ impl Sender {
         Some((bus, u64::from(slot)))
     }
 
-    /// Goes on to the next frame by this plan, unless its slots cannot be counted in 64 bits.
+    /// Goes on to the next frame by this plan. The answer is `false`, and nothing changes, if the frame's slots cannot
+    /// be counted in 64 bits.
     pub fn turn(&mut self, newest: &GroupPlan<OUTPUTS>) -> bool
         ensures room { result ≡ fits_next self.old newest.now }
         ensures after { self.new ≡ turned self.old newest.now }

@@ -39,8 +39,8 @@ impl LastSend {
         }
     }
 
-    /// Whether the accepted word of this number may be sent in this slot: not where it was sent as often as the
-    /// limits say, nor where a word of the source was sent fewer slots before. If so, it counts as sent.
+    /// Whether the accepted word of this number may be sent in this slot. It may not if it was sent as often as the
+    /// hold says, or if a word of the source was sent too few slots before. If it may, it counts as sent.
     #[inline(always)]
     pub fn send(&mut self, slot: u64, count: u64, limits: SendLimits) -> bool
         requires some { 1 ≤ limits.spacing }

@@ -20,7 +20,7 @@ use Rattle.a429_workers.proofs.Order.{seen_on}
 
 -- ---- the tables of groups
 
--- a table has few slots where the first one of the group and those of the plans have
+-- a table has few slots if the first one of the group and those of the plans have
 few_of : (g : ℕ) (p : SlotTable) (plans : List PlanTable) → frame_of p ≤ 8192 → AllByRecursion HasFewSlots plans → frame_of (table_of g p plans) ≤ 8192
 few_of g p plans first all = by_plan (last_of plans) refl
   where
@@ -43,7 +43,7 @@ seen_grows g p s (Turns plans StaysMid) is = is.0
 seen_grows g p s (Turns plans StaysSpent) is = is.0
 seen_grows g p s (Meets loads) is = prefix_self s.seen
 
--- a frame of few slots, whose first is not past so many
+-- a frame of few slots, whose first is not past this number
 pub record IsWithin (s : GroupState) (first : ℕ) : Type 0 where
   pub few : frame_of s.frame.table ≤ 8192
   pub first_slot : s.frame.first ≤ first
@@ -101,7 +101,7 @@ fits_at_first opened g inside few spent =
 
 -- ---- a next frame
 
--- where the slots so far are few, a change is not refused for want of slots
+-- if the slots so far are few, a change is not refused because of its slots
 pub not_spent : (g : ℕ) (p : SlotTable) (s : GroupState) (plans : List PlanTable) (first : ℕ) → frame_of p ≤ 8192 → AllByRecursion HasFewSlots plans → IsWithin s first → first + 16384 < 2 ^ 64
     → turn g p s plans ≡ StaysSpent → ⊥
 not_spent g p s plans first few all W room is =

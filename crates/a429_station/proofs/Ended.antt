@@ -70,7 +70,7 @@ module _ {L : Type 0} (source : LineSource.Ghosts L) (gate : GatePoints) where
     gated = h.gated.2;
   }
 
-  -- what it did, where it ended well
+  -- what it did, if it ended well
   pub heard_one : (own : ℕ) (at : ends.Place) (c : Course) (k : ℕ) (old new : Listening L) (answer : Result ReceiveTotals ReceiveFault) (totals : ReceiveTotals) (h : HasReceived source gate own old new answer)
       → old.receiver ≡ fresh at k → answer ≡ Ok totals → c.came k ≡ h.words → IsHeardIn (Gives source.given source.left) source.ended at.station c k old.line new.line totals
   heard_one own at c k old new (Ok counts) totals h is same came =
@@ -201,7 +201,7 @@ module _ {B : Type 0} (sink : BusSink.Ghosts B) (gate : GatePoints) (r : ℕ) wh
             (subst (λ (x : TableRecord). AllByRecursion (IsKnownPlan x) new.planner.list) (G.station ∙ sym here) N.known) N.small few E.sent beginning is;
       }
 
-  -- a group's worker that ended well, was told all plans, and met the receivers
+  -- a group's worker that ended well, was given all plans, and met the receivers
   pub group_one : (x : TakenIn) (frames own g : ℕ) (v w : Emitting B) (answer : Result SendTotals SendFault) (totals : SendTotals)
       → IsTakenIn x → HasEmitted sink gate r own v w answer → IsJoined x.at.station x.last.list x.receivers w.transmit → IsReady x.at x.first g v.transmit → own ≡ frames → answer ≡ Ok totals
       → IsSentIn sink.taken frames x.at.station x.course g v.sink w.sink totals
@@ -220,11 +220,11 @@ group_ended sink gate g frames v w answer E =
 
 -- ---- the first fault
 
--- where no worker has a fault
+-- if no worker has a fault
 pub want_of_memory : (x : Option ReceiveFault) (y : Option SendFault) (fault : LiveFault) → x ≡ None → y ≡ None → fault ≡ NoMemory → IsFirstFault x y fault
 want_of_memory x y fault well none is = subst (λ (z : Option ReceiveFault). IsFirstFault z y fault) (sym well) (subst (λ (z : Option SendFault). IsFirstFault None z fault) (sym none) is)
 
--- so it is where what receivers did is gathered
+-- so it is when what receivers did is gathered
 pub unheard : (x : Option ReceiveFault) (y : Option SendFault) (fault e : LiveFault) → x ≡ None → y ≡ None → (fault ≡ NoMemory) ⊎ (Some fault ≡ option_map of_receiver x) → e ≡ fault → IsFirstFault x y e
 unheard x y fault e well none (inl want) is = want_of_memory x y e well none (is ∙ want)
 unheard x y fault e well none (inr why) is = absurd (none-some fault (sym (why ∙ ap (option_map of_receiver) well)))

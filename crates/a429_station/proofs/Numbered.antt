@@ -19,7 +19,7 @@ all_last P (y ∷ ys) x all = all_last P ys x all.1
 
 -- ---- numbers that were given out
 
--- where those are all lower, this one was not
+-- if those are all lower, this one was not
 pub none_taken : (number : ℕ) (xs : List ℕ) → AllByRecursion (λ y. y < number) xs → IsTrue (list_any (λ y. y == number) xs) → ⊥
 none_taken number [] low taken = absurd (cc taken)
 none_taken number (x ∷ xs) low taken =
@@ -72,7 +72,7 @@ mapped_grown {X} {Y} f xs ys x before rest all grown next so_far =
 
 -- ---- counts of what is left
 
--- so many come after it of those that are left
+-- this number of those that are left come after it
 pub inside_of : (n more now all most : ℕ) → n + now ≡ all → more + 1 ≡ now → all ≤ most → n < most
 inside_of n more now all most left one few = omega (arith, left, one, few)
 
@@ -91,7 +91,7 @@ at_most n m k one other = omega (arith, one, other)
 pub at_most_same : (n m k : ℕ) → n ≤ m → k ≡ m → n ≤ k
 at_most_same n m k few same = omega (arith, few, same)
 
--- what holds of a place alone
+-- what is true of one place
 pub numbered_place : {X : Type 0} (P : ℕ → Type 0) (xs : List X) (k : ℕ) → k < length xs → AllNumbered (λ j x. P j) xs → P k
 numbered_place P [] k inside all = absurd (omega (arith, inside))
 numbered_place P (x ∷ xs) zero inside all = all.0

@@ -72,7 +72,7 @@ calls_go_on g p s calls plans table first few lawful many =
     not_spent g p (state_after g p s calls) plans (0 + 8192 * count_by is_taken calls) table few
     (calls_within g p s calls 0 table (lawful_front g p s calls (Turns plans StaysSpent) lawful) (all_beginning HasFewSlots (state_after g p s calls).seen plans last.0 few) first) many (sym last.1)
 
--- plans that are a beginning of known ones are known where the transmitter is
+-- plans that are a beginning of known ones are known to the transmitter
 known_there : (at : ends.Place) (v : Transmitting) (list : List PlanTable) → v.transmitter.at ≡ at → IsPrefix v.watcher.list list → AllByRecursion (IsKnownPlan at.station) list
     → AllByRecursion (IsKnownPlan v.transmitter.at.station) v.watcher.list
 known_there at v list here beginning known =
@@ -85,7 +85,7 @@ table_there (p ∷ l) zero inside = (p, refl)
 table_there (p ∷ l) (suc g) inside = table_there l g (omega (arith, inside))
 
 module _ (g : ℕ) (opened : PlanTable) (p : SlotTable) (there : slice_get (groups_of opened) g ≡ Some p) where
-  -- a transmitter that stood for no call, and sees plans of few slots alone
+  -- a transmitter that stood for no call, and sees only plans of few slots
   made_on : (w : Transmitting) (calls : List Call) (plans : List PlanTable) → HasFewSlots opened → AllByRecursion HasFewSlots w.watcher.list → HasMade (outset opened g p) (calls ++ Turns plans StaysSpent ∷ []) w
       → 0 + 8192 * count_by is_taken calls + 16384 < 2 ^ 64 → ⊥
   made_on w calls plans first small made many =
@@ -107,7 +107,7 @@ never_by gate r frames at planner list g old new R first known small few beginni
     (sent_on g planner.last hit.0 hit.1 v w old.taken new.taken S.calls S.last S.ended.0 (stands_first at planner g v hit.0 R hit.1) S.sent S.ended.1 (known_there at w list (same_hub at planner g v w R S.sent.same) beginning known))
     (room (count_by is_taken S.calls) frames S.fewer few)
 
--- where the watcher saw published plans alone
+-- if the watcher saw only published plans
 pub never_refused : (gate : GatePoints) (r frames : ℕ) (at : ends.Place) (planner : Planning) (list : List PlanTable) (g : ℕ) (old new : Sending) (answer : Result SendTotals SendFault)
     → IsReady at planner g old.transmit → HasFewSlots planner.last → g < length (groups_of planner.last) → AllByRecursion (IsKnownPlan at.station) list → AllByRecursion HasFewSlots list → frames ≤ 1000000
     → AreSent gate r frames old new answer → IsPrefix new.transmit.watcher.list list → answer ≢ Err Change
@@ -119,7 +119,7 @@ never_refused gate r frames at planner list g old new answer R first inside know
 no_more : (calls : List Call) → (calls ++ []) ++ [] ≡ calls
 no_more calls = append-nil (calls ++ []) ∙ append-nil calls
 
--- a transmitter that stood for no call, sent, and was told a list
+-- a transmitter that stood for no call, sent, and was given a list
 told_stands : (b : Outset) (calls : List Call) (v w : Transmitting) (before after : Option (List Sent)) (list : List PlanTable) → StandsForCalls b [] v → HasSent v w before after calls [] → GoesOnByCalls w [] (told w list)
     → StandsForCalls b calls (told w list)
 told_stands b calls v w before after list start H goes = subst (λ (cs : List Call). StandsForCalls b cs (told w list)) (no_more calls) (goes b (calls ++ []) (H.stands b [] start))
@@ -128,13 +128,13 @@ told_stands b calls v w before after list start H goes = subst (λ (cs : List Ca
 met_stands : (b : Outset) (calls met : List Call) (t : TableRecord) (receivers : List ends.ReceiverEnd) (v z : Transmitting) → StandsForCalls b calls v → HasMet t receivers v z → map (meeting_of t) receivers ≡ met → StandsForCalls b (calls ++ met) z
 met_stands b calls met t receivers v z start M same = subst (λ (cs : List Call). StandsForCalls b (calls ++ cs) z) same (M.stands b calls start)
 
--- all plans of a list are known where a transmitter of it is
+-- all plans of a list are known to a transmitter of it
 list_known : (t : TableRecord) (v : Transmitting) (list : List PlanTable) → v.transmitter.at.station ≡ t → v.watcher.list ≡ list → AllByRecursion (IsKnownPlan t) list
     → AllByRecursion (IsKnownPlan v.transmitter.at.station) v.watcher.list
 list_known t v list here same known =
     subst (λ (x : TableRecord). AllByRecursion (IsKnownPlan x) v.watcher.list) (sym here) (subst (AllByRecursion (IsKnownPlan t)) (sym same) known)
 
--- calls that a transmitter made are those of a working one, where it saw the published plans
+-- calls that a transmitter made are those of a working one, if it saw the published plans
 working : (t : TableRecord) (opened : PlanTable) (later : List Proposed) (g : ℕ) (p : SlotTable) (calls : List Call) (heard : ℕ → List (ℕ × ℕ)) (z : Transmitting)
     → IsWired t → slice_get (groups_of opened) g ≡ Some p → ArePublished (opening t opened) later → HasMade (outset opened g p) calls z → z.transmitter.at.station ≡ t
     → z.watcher.list ≡ plans_of (opening t opened) later → AreHeard 41 t heard → ((r : ℕ) → r < length t.receivers → Agrees t r (heard r) z.transmitter.loads)
@@ -176,7 +176,7 @@ module _ (x : TakenIn) (K : IsTakenIn x) (g : ℕ) (p : SlotTable) (there : slic
   begun_so v R =
       subst (λ (q : PlanTable). StandsForCalls (outset q g p) [] v) K.opened (stands_first x.at x.first g v p R (ap (λ (q : PlanTable). slice_get (groups_of q) g) K.opened ∙ there))
 
-  -- when it was told all plans, and then met the receivers
+  -- when it was given all plans, and then met the receivers
   working_on : (w z : Transmitting) (calls : List Call) → w.transmitter.at ≡ x.at → StandsForCalls (outset x.course.opened g p) calls (told w x.last.list) → HasMet x.at.station x.receivers (told w x.last.list) z
       → IsWorking 41 (opening x.at.station x.course.opened) g p x.course.later (calls ++ meetings x.at.station x.course) (heard_in x.at.station x.course)
   working_on w z calls here stands M =

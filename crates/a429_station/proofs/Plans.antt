@@ -1,4 +1,4 @@
--- Plans of a station send its sources alone, and stay in order when one more is published.
+-- Plans of a station send only its sources, and stay in order when one more is published.
 use Rattle.std.proofs.Common.{◌≡◌, ℕ, zero, suc, ◌+◌, ◌<◌, ◌≤◌, ◌^◌, true, List, [], ◌∷◌, ◌++◌, length, map, ◌∙◌, sym, ap, subst, refl, arith, append-nil, append_assoc}
 use Rattle.std.specs.Prelude.{Some, IsTrue, slice_get, ◌==◌, ◌&&◌}
 use Rattle.std.specs.List.{AllByRecursion, AllZip, zip}
@@ -80,7 +80,7 @@ numbered_on base (y ∷ ys) q each next (suc k) x h =
     let on = numbered_on (base + 1) ys q (λ j z e. let was = each (suc j) z e in omega (arith, was)) (omega (arith, next)) k x h in
     omega (arith, on)
 
--- where the board begins with the station's plan
+-- if the board begins with the station's plan
 pub led_first : (t : TableRecord) (v : Planning) → IsSound t → IsPlanOf t v.last → v.list ≡ v.last ∷ [] → IsLed (record { station = t; planner = v })
 led_first t v sound planned first = record {
   opened = v.last;
@@ -94,11 +94,11 @@ led_first t v sound planned first = record {
   small = subst (AllByRecursion HasFewSlots) (sym first) (plan_small t v.last planned, tt);
 }
 
--- a plan of a sound table is its own, under whatever number
+-- a plan of a sound table is its own, under any number
 own_but_number : (e : TableRecord) (p : PlanTable) (n : ℕ) → IsSound e → IsPlanOf e p → IsOwnPlan (record { station = e; plan = numbered p n })
 own_but_number e p n sound planned = record { plan = record { number = refl; count = planned.count; groups = planned.groups }; own = sound.own_sources }
 
--- where one more is published
+-- if one more is published
 pub led_on : (old new : Running) (bytes : List ℕ) (n : ℕ) (P : Publishes old bytes n new) → n < 2 ^ 64 → IsLed old → IsLed new
 led_on old new bytes n P fits L =
     let q : Proposed = record { station = P.of.record_of; plan = numbered P.of.plan n } in

@@ -1,4 +1,4 @@
--- What holds of a result that a `?` hands on.
+-- What is true of a result that a `?` hands on.
 use Rattle.std.specs.Prelude.{Result, Ok, Err, IfOk, IfErr, IsErrAnd}
 
 pub early_ok : {T E : Type 0} (Q : E → Type 0) (P : T → Type 0) (r : Result T E) → IsErrAnd r Q → IfOk r P

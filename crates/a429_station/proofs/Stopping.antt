@@ -36,7 +36,7 @@ first_of_all {D} f d before rest all next so_far = ap (λ (l : List D). first_fa
 pub first_goes_on : {D A E : Type 0} (f : D → Result A E) (d : D) (before rest : List D) (all : Option E) → before ≡ d ∷ rest → first_fault (f d ∷ []) ≡ None → first_fault (map f before) ≡ all → first_fault (map f rest) ≡ all
 first_goes_on f d before rest all next well so_far = sym (first_later (f d) (map f rest) well) ∙ first_of_all f d before rest all next so_far
 
--- the fault of a group, or want of memory if it ended well
+-- the fault of a group, or `NoMemory` if it ended well
 group_here : (r : Result SendTotals SendFault) (rs : List (Result SendTotals SendFault)) (fault : LiveFault) → IsFirstFault None (first_fault (r ∷ [])) fault → (fault ≡ NoMemory) ⊎ IsFirstFault None (first_fault (r ∷ rs)) fault
 group_here (Ok totals) rs fault is = inl is
 group_here (Err why) rs fault is = inr is
@@ -62,7 +62,7 @@ receiver_stops f d before rest all fault e next so_far stop is =
 
 -- ---- the worker whose fault it is
 
--- the item at a place beside which this fault stands
+-- the item at a place that comes with this fault
 pub record HasFault {X A E : Type 0} (P : ℕ → X → Result A E → Type 0) (xs : List X) (why : E) : Type 0 where
   pub place : ℕ
   pub item : X

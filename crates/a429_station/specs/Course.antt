@@ -1,4 +1,5 @@
--- The course of a run of a station: what came to its receivers, what its groups sent by that, and which plans were published meanwhile.
+-- The course of a run of a station: what came to its receivers, what its groups sent by that, and which plans were
+-- published during the run.
 use Rattle.std.specs.Prelude.{◌≡◌, ◌≤◌, ◌-◌, ◌^◌, ◌++◌, [], ℕ, Bool, true, List, Option, IsTrue, length, map}
 use Rattle.std.specs.List.{AllByRecursion, range_with_len}
 use Rattle.a429_equipment.specs.TableRecord.{TableRecord}
@@ -26,7 +27,8 @@ use Rattle.a429_station.specs.Resubmitting.{IsDoneBetween, Running, opening}
 use Rattle.a429_station.specs.declared.control.Control as Control
 use Rattle.a429_station.specs.declared.reports.Report.{Report}
 
--- the plan that the run began with, the proposals that were published meanwhile, in order, and the raw words that came to each receiver
+-- the plan that the run began with, the proposals that were published during it, in order, and the raw words that came
+-- to each receiver
 pub record Course : Type 0 where
   pub opened : PlanTable
   pub later : List Proposed
@@ -61,9 +63,10 @@ meeting t c r = Meets (loads_of_all t r (heard_in t c r))
 abbrev pub meetings : TableRecord → Course → List Call
 meetings t c = map (meeting t c) (range_with_len 0 (length t.receivers))
 
--- Group g was asked for so many whole frames, from slot 0 on by the plan that the run began with, and then met each receiver. Its calls are a
--- working transmitter's, as one run (`a429_workers::laws`) supposes, by the plans that were published and what each receiver accepted. Its sink
--- took the cells, where it tells them, and the totals count them.
+-- Group g was asked for this number of whole frames, from slot 0 on by the plan that the run began with, and then met
+-- each receiver. Its calls are those of a working transmitter, which one run (`a429_workers::laws`) supposes, by the
+-- plans that were published and what each receiver accepted. Its sink took the cells, if it says what it took, and the
+-- totals count them.
 pub record IsSentIn {B : Type 0} (taken : B → Option (List Sent)) (frames : ℕ) (t : TableRecord) (c : Course) (g : ℕ) (before after : B) (totals : SendTotals) : Type 0 where
   pub table : SlotTable
   pub calls : List Call
@@ -75,7 +78,8 @@ pub record IsSentIn {B : Type 0} (taken : B → Option (List Sent)) (frames : �
 
 -- ---- the station
 
--- what a run is asked: to send so many frames of each group of this table, with a source for each receiver's line and a sink for each group
+-- What a run is asked: to send this number of frames of each group of this table, with a source for each receiver's
+-- line and a sink for each group.
 pub record RunAsk (L B : Type 0) : Type 0 where
   pub table : TableRecord
   pub frames : ℕ
@@ -85,8 +89,8 @@ pub record RunAsk (L B : Type 0) : Type 0 where
 abbrev pub asked : {L B : Type 0} → TableRecord → ℕ → List L → List B → RunAsk L B
 asked table frames sources sinks = record { table = table; frames = frames; sources = sources; sinks = sinks }
 
--- The station ran by a plan of its own table, and by plans of their own tables that were published meanwhile. Receivers and groups go by their
--- numbers, which are their places in the table.
+-- The station ran by a plan of its own table, and by plans of their own tables that were published during the run. The
+-- number of a receiver or a group is its place in the table.
 pub record HasRun {L B : Type 0} (source : LineSource.Ghosts L) (sink : BusSink.Ghosts B) (ask : RunAsk L B) (report : Report L B) : Type 0 where
   pub course : Course
   pub planned : IsPlanOf ask.table course.opened
@@ -96,11 +100,11 @@ pub record HasRun {L B : Type 0} (source : LineSource.Ghosts L) (sink : BusSink.
   pub heard : AllOfThree (IsHeardIn (Gives source.given source.left) source.ended ask.table course) ask.sources report.sources.items report.receivers.items
   pub sent : AllOfThree (IsSentIn sink.taken ask.frames ask.table course) ask.sinks report.sinks.items report.groups.items
 
--- what a control tells that it did to a station, from what it was itself to what it is
+-- what a control says that it did to a station, from what it was itself to what it is
 abbrev pub done_by : {K R : Type 0} → Control.Ghosts K R → K → K → Running → Running → Type 0
 done_by control before after begin end = control.did before begin end after
 
--- such a run beside a control: what it did was done to the station meanwhile
+-- such a run with a control: what the control did was done to the station during the run
 abbrev pub HasRunBeside : {L B : Type 0} → (Running → Running → Type 0) → LineSource.Ghosts L → BusSink.Ghosts B → RunAsk L B → Report L B → Type 0
 HasRunBeside did source sink ask report =
     (ran : HasRun source sink ask report) × IsDoneBetween did ask.table ran.course.opened ran.course.later

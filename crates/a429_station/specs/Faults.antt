@@ -41,22 +41,23 @@ first_fault [] = None
 first_fault (Ok done ∷ answers) = first_fault answers
 first_fault (Err fault ∷ answers) = Some fault
 
--- the fault is that of the first receiver that has one, or else of the first group, or else want of memory
+-- the fault is that of the first receiver that has one; otherwise that of the first group that has one; otherwise
+-- `NoMemory`
 abbrev pub IsFirstFault : Option ReceiveFault → Option SendFault → LiveFault → Type 0
 IsFirstFault (Some why) groups fault = fault ≡ of_receiver why
 IsFirstFault None (Some why) fault = IsOfGroup why fault
 IsFirstFault None None fault = fault ≡ live.NoMemory
 
--- the line gave a word after a million, where that is why its receiver's loop ended
+-- the line gave a word after a million, if that is why its receiver's loop ended
 abbrev pub GaveTooMuch : List ℕ → Result ReceiveTotals ReceiveFault → Type 0
 GaveTooMuch words (Err (receive.TooMuch raw totals)) = length words ≡ 1000001
 GaveTooMuch words (Err receive.Source) = ⊤
 GaveTooMuch words (Err receive.Gate) = ⊤
 GaveTooMuch words (Ok totals) = ⊤
 
--- The source of receiver r's line gave words until the loop of that receiver ended with this answer, at the point of the gate to which it had come.
--- Where the answer is Ok the source was at its end; its count of failures rose where it is Source, as far as 64 bits count, and stayed where it is
--- another.
+-- The source of receiver r's line gave words until the loop of that receiver ended with this answer, at the point of
+-- the gate to which it had come. If the answer is Ok the source was at its end. The source's count of failures rose, as
+-- far as 64 bits count, if the answer is Source, and stayed otherwise.
 pub record EndsLine {L : Type 0} (source : LineSource.Ghosts L) (gate : GatePoints) (r : ℕ) (before : L) (answer : Result ReceiveTotals ReceiveFault) : Type 0 where
   pub after : L
   pub words : List ℕ
@@ -67,8 +68,8 @@ pub record EndsLine {L : Type 0} (source : LineSource.Ghosts L) (gate : GatePoin
   pub taken : ℕ
   pub gated : IsGatedLine gate r (length words) taken answer
 
--- The sink of group g was there until the group's loop ended with this answer, at the point of the gate to which it had come. Its count of failures
--- rose where the answer is Sink, as far as 64 bits count, and stayed where it is another.
+-- The sink of group g was there until the group's loop ended with this answer, at the point of the gate to which it had
+-- come. Its count of failures rose, as far as 64 bits count, if the answer is Sink, and stayed otherwise.
 pub record EndsGroup {B : Type 0} (sink : BusSink.Ghosts B) (gate : GatePoints) (g : ℕ) (before : B) (answer : Result SendTotals SendFault) : Type 0 where
   pub after : B
   pub failures : sink.failed after ≡ sink_failures (sink.failed before) answer
@@ -77,13 +78,13 @@ pub record EndsGroup {B : Type 0} (sink : BusSink.Ghosts B) (gate : GatePoints) 
 
 -- ---- of a run
 
--- the table has a plan, and so many frames can be sent: threads may be started
+-- the table has a plan, and this number of frames can be sent: threads may be started
 pub record CanStart (t : TableRecord) (frames : ℕ) : Type 0 where
   pub plan : PlanTable
   pub planned : IsPlanOf t plan
   pub few : frames ≤ 1000000
 
--- the loops of all receivers and groups ended, and the fault is the first of theirs, or want of memory where none has one
+-- the loops of all receivers and groups ended, and the fault is the first of theirs, or `NoMemory` if none has one
 pub record HasStopped {L B : Type 0} (source : LineSource.Ghosts L) (sink : BusSink.Ghosts B) (gate : GatePoints) (ask : RunAsk L B) (fault : LiveFault) : Type 0 where
   pub heard : List (Result ReceiveTotals ReceiveFault)
   pub sent : List (Result SendTotals SendFault)
@@ -91,8 +92,8 @@ pub record HasStopped {L B : Type 0} (source : LineSource.Ghosts L) (sink : BusS
   pub groups : AllOfTwo (EndsGroup sink gate) ask.sinks sent
   pub first : IsFirstFault (first_fault heard) (first_fault sent) fault
 
--- why a run has no report: memory was refused while the run was idle, before its control began; or a thread could not be started or taken in; or all
--- loops ended, and it is the first fault
+-- Why a run has no report: an allocation failed while the run was idle, before its control began; or a thread could not
+-- be started or taken in; or all loops ended, and it is the first fault.
 abbrev pub IsRunFault : {L B : Type 0} → Type 0 → LineSource.Ghosts L → BusSink.Ghosts B → GatePoints → RunAsk L B → LiveFault → Type 0
 IsRunFault idle source sink gate ask fault = ((fault ≡ live.NoMemory) × idle) ⊎ ((fault ≡ live.Join) ⊎ HasStopped source sink gate ask fault)
 

@@ -7,6 +7,6 @@ abbrev pub LendsTheSame : {S M X Y : Type 0} → Lent S M X Y → Lent S M X Y �
 LendsTheSame old new =
     (new.to.ghost_name ≡ old.to.ghost_name) × (new.meanwhile.ghost_name ≡ old.meanwhile.ghost_name) × (new.ended.ghost_name ≡ old.ended.ghost_name)
 
--- where the threads ended, what was to be done meanwhile was done so
+-- if the threads ended, the work of the calling thread was done in the way that it states
 abbrev pub IsDoneMeanwhile : {S M X Y : Type 0} → (M → S → S → M → Bool → Type 0) → Lent S M X Y → Lent S M X Y → Type 0
 IsDoneMeanwhile did old new = IfOk new.ended.now (λ done. did old.meanwhile.now old.to.now new.to.now new.meanwhile.now (is_ok done.answer))

@@ -75,8 +75,8 @@ pub record IsDoneBetween (did : Running → Running → Type 0) (t : TableRecord
 
 -- ---- laws
 
--- The plans of a run keep to the least spacings of their outputs, where each is the plan of its own table, and the table's outputs have sources of
--- their own.
+-- Each plan of a run is the plan of its own table, and the table's outputs have sources of their own. Then the plans
+-- keep to the least spacings of their outputs.
 abbrev pub PlansOfRunsAreSpaced : Type 0
 PlansOfRunsAreSpaced =
     (t : TableRecord) (opened : PlanTable) (later : List Proposed)

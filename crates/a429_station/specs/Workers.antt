@@ -18,7 +18,7 @@ use Rattle.a429_station.specs.declared.working.Emitted.{Emitted}
 use Rattle.a429_station.specs.declared.working.GroupWorker.{GroupWorker}
 use Rattle.a429_station.specs.declared.working.Received.{Received}
 
--- each worker is of the group at its place, before its first cell, and is to send so many frames
+-- each worker is of the group at its place, before its first cell, and must send this number of frames
 abbrev pub AreReady : {B G : Type 0} {b : sink.Ghosts B} {h : gate.Ghosts G} → ends.Place → Planning → ℕ → List (GroupWorker B G b h) → Type 0
 AreReady at p frames workers = AllNumbered (λ g w. IsReady at p g w.transmit × (w.frames ≡ frames)) workers
 
@@ -30,12 +30,12 @@ receivers_fault received = first_fault (map (λ d. d.answer) received)
 abbrev pub groups_fault : {B : Type 0} → List (Emitted B) → Option SendFault
 groups_fault sent = first_fault (map (λ d. d.answer) sent)
 
--- the transmitters of all groups were told all plans that were published, and then met the receivers
+-- the transmitters of all groups were given all plans that were published, and then met the receivers
 abbrev pub AreJoined : {B : Type 0} → TableRecord → List PlanTable → List ends.ReceiverEnd → List (Emitted B) → Type 0
 AreJoined t list receivers sent = AllByRecursion (λ d. IsJoined t list receivers d.transmit) sent
 
--- What the workers did, all of which ended well, with their devices. The transmitters of all groups were told all plans that were published, and then
--- met the receivers; and the control ended well too.
+-- What the workers did, all of which ended well, with their devices. The transmitters of all groups were given all
+-- plans that were published, and then met the receivers. The control ended well too.
 pub record ReportsAllEnds {L B : Type 0} (t : TableRecord) (list : List PlanTable) (done : Ended (Received L) (Emitted B)) (report : Report L B) : Type 0 where
   pub receivers : map (λ x. Ok x) report.receivers.items ≡ map (λ d. d.answer) done.first.items
   pub groups : map (λ x. Ok x) report.groups.items ≡ map (λ d. d.answer) done.second.items

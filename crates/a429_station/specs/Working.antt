@@ -22,8 +22,8 @@ use Rattle.a429_workers.specs.declared.sending.SendFault.TheVariants.{Change}
 
 -- ---- receivers
 
--- The line gave words, the receiver took them, each between two points of the gate, and the answer says how many and why it ended; where it is Ok the
--- line's last call answered the end.
+-- The line gave words, and the receiver took them, each between two points of the gate. The answer says how many, and
+-- why it ended. If it is Ok the line's last call answered the end.
 pub record HasReceived {L : Type 0} (source : LineSource.Ghosts L) (gate : GatePoints) (r : ℕ) (old new : Listening L) (answer : Result ReceiveTotals ReceiveFault) : Type 0 where
   pub words : List ℕ
   pub gave : Gives source.given source.left old.line words new.line
@@ -82,7 +82,7 @@ pub record HasMet (t : TableRecord) (receivers : List ends.ReceiverEnd) (old new
 abbrev pub told : Transmitting → List PlanTable → Transmitting
 told v list = record v { watcher = record v.watcher { list = list } }
 
--- the transmitter was told all plans that were published, and then met the receivers
+-- the transmitter was given all plans that were published, and then met the receivers
 pub record IsJoined (t : TableRecord) (list : List PlanTable) (receivers : List ends.ReceiverEnd) (v : Transmitting) : Type 0 where
   pub beginning : IsPrefix v.watcher.list list
   pub stands : GoesOnByCalls v [] (told v list)

@@ -1,4 +1,4 @@
-//! What runs beside the workers of a station.
+//! What runs on the calling thread at the same time as the workers of a station.
 ghost use Rattle.a429_station.specs.Resubmitting.{GoesOn, Running};
 ghost use Rattle.std.specs.Prelude.{⊤, OnOk};
 
@@ -9,11 +9,11 @@ use std::sync::Wait;
 
 /// Runs once on the calling thread while the workers of a station run, and may publish plans for it.
 pub trait Control<R: Wait> {
-    /// What it tells of a run that memory was not refused: whether it and the station can so change. By default it
-    /// tells nothing.
+    /// What it says of a run in which no allocation failed: whether it and the station can so change. By default it
+    /// says nothing.
     ghost did: { Self → Running → Running → Self → Type 0 } = { λ _ _ _ _. ⊤ };
 
-    /// Resubmits tables. The error is that memory was refused.
+    /// Resubmits tables. Error: an allocation failed.
     fn run(&mut self, station: &mut Station<'_, R>) -> Result<(), AllocError>
         ensures station { GoesOn station.old station.new }
         ensures did { OnOk result (did self.old station.old station.new self.new) };

@@ -29,7 +29,7 @@ pub enum LiveFault {
     /// The sink of a group failed.
     #[error("a group's sink failed")]
     Sink,
-    /// Memory was refused.
+    /// An allocation failed.
     #[error("out of memory")]
     NoMemory,
 }

@@ -1,8 +1,8 @@
-//! A running station: its receivers and groups on threads of their own, and plans that are published meanwhile.
+//! A running station: its receivers and groups on threads of their own, and plans that are published during the run.
 //!
 //! `live` runs a station of an equipment, with a line for each receiver and a bus for each group, and answers their
-//! totals when all have ended. A `Control` runs meanwhile on the calling thread: `Station::resubmit` publishes the
-//! plan of a further table. `live_planned` does the same by a plan that was made before. `docs/EMBEDDING.md` has a
+//! totals when all have ended. A `Control` runs at the same time on the calling thread: `Station::resubmit` publishes
+//! the plan of a further table. `live_planned` does the same by a plan that was made before. `docs/EMBEDDING.md` has a
 //! program.
 //!
 //! ```text

@@ -40,7 +40,7 @@ struct ReceiverReports<L> {
 }
 
 impl<L: Drop> ReceiverReports<L> {
-    /// Adds what a further receiver did. The error is that memory was refused.
+    /// Adds what a further receiver did. Error: an allocation failed.
     fn push(&mut self, totals: ReceiveTotals, line: L, receiver: Receiver) -> Result<(), LiveFault>
         ensures totals { OnOk result (self.new.totals.items ≡ self.old.totals.items ++ totals ∷ []) }
         ensures sources { OnOk result (self.new.sources.items ≡ self.old.sources.items ++ line ∷ []) }
@@ -62,7 +62,7 @@ struct GroupReports<B> {
 }
 
 impl<B: Drop> GroupReports<B> {
-    /// Adds what a further group did. The error is that memory was refused.
+    /// Adds what a further group did. Error: an allocation failed.
     fn push(&mut self, totals: SendTotals, sink: B) -> Result<(), LiveFault>
         ensures totals { OnOk result (self.new.totals.items ≡ self.old.totals.items ++ totals ∷ []) }
         ensures sinks { OnOk result (self.new.sinks.items ≡ self.old.sinks.items ++ sink ∷ []) }
@@ -74,8 +74,8 @@ impl<B: Drop> GroupReports<B> {
     }
 }
 
-/// Whether the loops of all receivers came to their ends. The error is the fault of the first that has one. It takes no
-/// memory.
+/// Whether the loops of all receivers came to their ends. Error: the fault of the first that has one. The call
+/// allocates no memory.
 fn check_receiver_ends<L: Drop>(received: &Vec<Received<L>>) -> Result<(), LiveFault>
     ensures ended { OnOk result (receivers_fault received.now.items ≡ None) }
     ensures fault { IfErr result (λ f. Some f ≡ option_map of_receiver (receivers_fault received.now.items)) }
@@ -88,8 +88,8 @@ fn check_receiver_ends<L: Drop>(received: &Vec<Received<L>>) -> Result<(), LiveF
     Ok(())
 }
 
-/// Whether the loops of all groups came to their ends. The error is the fault of the first that has one. It takes no
-/// memory.
+/// Whether the loops of all groups came to their ends. Error: the fault of the first that has one. The call allocates
+/// no memory.
 fn check_group_ends<R: Wait, B: Drop>(
     hub: &Values,
     station: &mut Station<'_, R>,
@@ -111,9 +111,9 @@ fn check_group_ends<R: Wait, B: Drop>(
     Ok(())
 }
 
-/// Whether all loops came to their ends, and the control too. The error is the fault of the first receiver that has one,
-/// or else of the first group, or else `NoMemory` of the control. It takes no memory, so a worker's fault is told
-/// whatever memory the report would take.
+/// Whether all loops came to their ends, and the control too. Error: the fault of the first receiver that has one;
+/// otherwise that of the first group that has one; otherwise `NoMemory` of the control. The call allocates no memory,
+/// so a worker's fault is reported even if the report would run out of memory.
 fn check_all_ends<R: Wait, L: Drop, B: Drop>(
     hub: &Values,
     station: &mut Station<'_, R>,
@@ -135,7 +135,8 @@ fn check_all_ends<R: Wait, L: Drop, B: Drop>(
     Ok(())
 }
 
-/// Adds what a receiver did to what those before it did. The error is its fault, or else `NoMemory`.
+/// Adds what a receiver did to what those before it did. Error: its fault; otherwise `NoMemory` if an allocation
+/// failed.
 fn report_receiver<L: Drop>(
     done: Received<L>,
     heard: &mut ReceiverReports<L>,
@@ -160,7 +161,7 @@ fn report_receiver<L: Drop>(
     }
 }
 
-/// The totals of the receivers, or the fault of the first that has one.
+/// The totals of the receivers. Error: the fault of the first that has one.
 fn report_receivers<L: Drop>(
     alloc: Global,
     received: Vec<Received<L>>,
@@ -192,8 +193,8 @@ fn meet_all(transmit: &mut Transmit, receivers: &mut [Receiver])
     }
 }
 
-/// A group's transmitter is told all plans that were published, and meets each receiver. Then what the group did is
-/// added to what those before it did. The error is its fault, or else `NoMemory`.
+/// A group's transmitter takes all plans that were published, and meets each receiver. Then what the group did is added
+/// to what those before it did. Error: the group's fault; otherwise `NoMemory` if an allocation failed.
 fn report_group<R: Wait, B: Drop>(
     hub: &Values,
     station: &mut Station<'_, R>,
@@ -227,8 +228,8 @@ fn report_group<R: Wait, B: Drop>(
     }
 }
 
-/// Each group's transmitter is told all plans that were published, and meets each receiver. Answers the totals of the
-/// groups, or the fault of the first that has one.
+/// Each group's transmitter takes all plans that were published, and meets each receiver. Answers the totals of the
+/// groups. Error: the fault of the first group that has one.
 fn report_groups<R: Wait, B: Drop>(
     alloc: Global,
     hub: &Values,
@@ -253,7 +254,7 @@ fn report_groups<R: Wait, B: Drop>(
     Ok(told)
 }
 
-/// What the workers did, with their devices alone.
+/// What the workers did, with only their devices.
 fn report_from<L: Drop, B: Drop>(heard: ReceiverReports<L>, told: GroupReports<B>) -> Report<L, B>
     ensures receivers { result.receivers.items ≡ heard.totals.items }
     ensures groups { result.groups.items ≡ told.totals.items }
@@ -268,8 +269,8 @@ fn report_from<L: Drop, B: Drop>(heard: ReceiverReports<L>, told: GroupReports<B
     }
 }
 
-/// What the workers did, when all of them have ended, and the control too. The error is the fault of the first receiver
-/// that has one, or else of the first group, or else `NoMemory`.
+/// What the workers did, when all of them have ended, and the control too. Error: the fault of the first receiver that
+/// has one; otherwise that of the first group that has one; otherwise `NoMemory`.
 pub(crate) fn report_all<R: Wait, L: Drop, B: Drop>(
     alloc: Global,
     hub: &Values,

@@ -136,7 +136,7 @@ fn transmitter(
     }
 }
 
-/// Adds the worker of the next group, with its sink. It was not given out before. The error is that memory was refused.
+/// Adds the worker of the next group, which was not given out before, with its sink. Error: an allocation failed.
 fn push_group<'a, R: Wait, B: BusSink + Drop, G: Gate>(
     alloc: Global,
     hub: &Values,
@@ -258,21 +258,22 @@ fn run<
 }
 
 /// Runs a station: of its equipment, with a source for the line of each receiver and a sink for each group. One thread
-/// for each receiver takes the words of its line, one for each group sends so many frames from slot 0 on, and the
-/// calling thread runs the control meanwhile. Answers their totals when all have ended, with the devices.
+/// for each receiver takes the words of its line. One thread for each group sends this number of frames from slot 0 on.
+/// At the same time the calling thread runs the control. Answers their totals when all have ended, with the devices.
 ///
-/// Then each receiver took the words that its source gave up to its end, each sink took the cells of so many whole
-/// frames, and what a group did is one run of the machine: its calls meet the premises of
-/// `a429_workers::laws::one_run`, by the equipment's plan from slot 0 on, the plans that were published meanwhile, and
-/// what all receivers accepted, each of which its transmitter met in the end. Those plans were published while the control ran:
-/// what it tells of its run holds between a station that began by the equipment's plan and one that has published them.
+/// Then each receiver took the words that its source gave up to its end, and each sink took the cells of this number of
+/// whole frames. What a group did is one run of the machine: its calls meet the premises of
+/// `a429_workers::laws::one_run`. The run has the equipment's plan from slot 0 on, the plans that were published during
+/// it, and what all receivers accepted. In the end the group's transmitter met each receiver. Those plans were
+/// published while the control ran. What the control says of its run is true between a station that began by the
+/// equipment's plan and one that has published them.
 ///
-/// Refused is, in this order, an equipment without a plan (`Plan`), and more than a million frames (`TooMuch`); then
-/// nothing was started. `Join` where a thread could not be started or taken in. When all have ended: the fault of the
-/// first receiver that has one (`Source`, `Gate`, or `TooMuch` where its source gave a word after a million), or else
-/// of the first group (`Sink`, `Gate`), or else `NoMemory` of the control. `NoMemory` may also come before the control
-/// ran, or where no worker has a fault, in place of the report. `Gate` stands only at a point at which the gate may end
-/// a loop, and to which the worker's loop had come.
+/// Errors before anything is started, in this order: `Plan` if the equipment has no plan, `TooMuch` for more than a
+/// million frames. `Join` if a thread could not be started or taken in. When all have ended: the fault of the first
+/// receiver that has one (`Source`, `Gate`, or `TooMuch` if its source gave a word after a million); otherwise that of
+/// the first group (`Sink`, `Gate`); otherwise `NoMemory` of the control. `NoMemory` may also come before the control
+/// ran, or instead of the report if no worker has a fault. `Gate` comes only at a point at which the gate may end a
+/// loop, and to which the worker's loop had come.
 pub fn live<
     R: Threads + Wait,
     L: LineSource + Send + Drop,
@@ -304,7 +305,7 @@ pub fn live<
     )
 }
 
-/// Runs a station as `live` does, by a plan of its equipment that was made before.
+/// Runs a station like `live`, by a plan of its equipment that was made before.
 pub fn live_planned<
     R: Threads + Wait,
     L: LineSource + Send + Drop,

@@ -22,10 +22,10 @@ use thiserror::Error;
 /// Why no plan is published. Groups and outputs are numbered from 0 in table order.
 #[derive(Debug, Drop, Error)]
 pub enum ReplanFault {
-    /// The table is not read, for this kind of fault at this place. Want of memory is `NoMemory`.
+    /// The table is not read, for this kind of fault at this place. If memory runs out, the error is `NoMemory`.
     #[error("{0}")]
     Table(TableFault),
-    /// The interval of the output admits no period of the grid.
+    /// The interval of the output allows no period of the grid.
     #[error("output {output} of group {group} has no period")]
     Unfit { group: usize, output: usize },
     /// The group needs this many buses, more than 16.
@@ -37,7 +37,7 @@ pub enum ReplanFault {
     /// The last plan has the last number of 64 bits.
     #[error("count spent")]
     CountSpent,
-    /// Memory was refused. It may come in place of any other answer.
+    /// An allocation failed. This may come instead of any other answer.
     #[error("out of memory")]
     NoMemory,
 }
@@ -127,7 +127,7 @@ impl<'a, R: Wait> Model for Station<'a, R> {
 }
 
 impl<'a, R: Wait> Station<'a, R> {
-    /// The station whose board this planner has, which begins with the station's plan.
+    /// The running station of this equipment, over this planner, whose list has only the equipment's own plan.
     pub(crate) fn of_planner(
         rt: &'a R,
         alloc: Global,
@@ -147,11 +147,11 @@ impl<'a, R: Wait> Station<'a, R> {
         }
     }
 
-    /// Reads an equipment table and plans it, and publishes that plan to all groups: each takes it at its next
-    /// frame. Answers the number of the plan. Refused is, in this order, a table with a fault (`Table`), one that
-    /// has no plan (`Unfit`, `TooManyBuses`), one of another station (`StationDiffers`, just where the receivers
-    /// with their filters, the sources or the groups differ), and a plan after the last number of 64 bits
-    /// (`CountSpent`). Then nothing changes. It may wait for groups that read the board.
+    /// Reads an equipment table and plans it, and publishes that plan to all groups: each takes it at its next frame.
+    /// Answers the number of the plan. Errors, in this order: `Table` if the table has a fault; `Unfit` or
+    /// `TooManyBuses` if it has no plan; `StationDiffers` if and only if the receivers with their filters, the sources
+    /// or the groups differ; `CountSpent` if the last plan has the last number of 64 bits. `NoMemory` may come instead
+    /// of any of these. Then nothing changes. The call may wait for groups that read the board.
     pub fn resubmit(&mut self, table: &[u8]) -> Result<u64, ReplanFault>
         ensures published { IfOk result (λ number. Publishes self.old table.now number self.new) }
         ensures fault { IfErr result (IsReplanFault self.old table.now) }
@@ -164,7 +164,7 @@ impl<'a, R: Wait> Station<'a, R> {
         }
     }
 
-    /// Submits a table as `resubmit` does; its equipment was read before.
+    /// Like `resubmit`, for a table whose equipment was read before.
     pub fn resubmit_read(&mut self, table: &[u8], equipment: &Equipment) -> Result<u64, ReplanFault>
         requires read { reading table.now ≡ Ok equipment.now }
         ensures published { IfOk result (λ number. Publishes self.old table.now number self.new) }
@@ -189,7 +189,7 @@ impl<'a, R: Wait> Station<'a, R> {
         let _ = &self.rt;
     }
 
-    /// Tells a group's transmitter of this board all that was published.
+    /// Gives a group's transmitter of this board all that was published.
     pub(crate) fn tell(&mut self, transmit: &mut Transmit)
         requires board { transmit.old.watcher.book ≡ self.old.planner.book }
         ensures station { self.new ≡ self.old }

@@ -11,10 +11,10 @@ use std::thread::{Promise, PromisedHandle, Threads, join_promised};
 
 /// A piece of work for a thread of its own.
 pub trait Work: Send + Drop {
-    /// What is there when it is done.
+    /// The result of the work.
     type Done: Send + Drop;
 
-    /// Whether work that began so can end so.
+    /// Whether this work can end with this result.
     ghost did: { Self → Self.Done → Type 0 };
 
     fn work(self) -> Self::Done
@@ -70,14 +70,14 @@ fn join_workers<R: Threads, W: Work>(rt: &R, handles: Handles<W>) -> Result<Vec<
 
 /// What the calling thread does while workers run, to a value.
 pub trait Meanwhile<S> {
-    /// Whether it and the value can so change, where it ends well or does not.
+    /// Whether it and the value can so change; the last argument says whether it ended well.
     ghost did: { Self → S → S → Self → Bool → Type 0 };
 
     fn meanwhile(&mut self, to: &mut S) -> Result<(), AllocError>
         ensures { did self.old to.old to.new self.new (is_ok result) };
 }
 
-/// What workers did at once, and what the calling thread answered meanwhile.
+/// What workers did at once, and the answer of the calling thread's own work.
 #[derive(Drop)]
 pub struct Ended<X: Drop, Y: Drop> {
     pub first: Vec<X>,
@@ -85,7 +85,7 @@ pub struct Ended<X: Drop, Y: Drop> {
     pub answer: Result<(), AllocError>,
 }
 
-// Starts the workers, does what is to be done meanwhile, and takes the workers in.
+// Starts the workers, does the calling thread's own work, and takes the workers in.
 fn run_workers<
     's,
     E,
@@ -200,9 +200,8 @@ fn run_in_scope<
     )
 }
 
-/// Runs each worker on a thread of its own, all at once, and what is to be done meanwhile on the calling thread.
-/// Where a thread cannot be started or taken in, no worker runs in its place; in any case the threads that were
-/// started have ended.
+/// Runs each worker on a thread of its own, all at once, and at the same time the calling thread's own work. If a
+/// thread cannot be started or taken in, no worker runs instead. In any case the threads that were started have ended.
 pub fn run_at_once<
     R: Threads + Wait,
     W: Work<Done = X>,

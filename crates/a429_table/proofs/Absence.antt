@@ -66,7 +66,7 @@ is_faultless root h =
       hold = n.1.1.1.1.1.1.1.1.1.1.1.1.1.1.1.0;
     }
 
--- what a kind that stands nowhere says of the parts of the walk
+-- what a kind that is nowhere says of the parts of the walk
 pub record IsAbsent (root : Data) (kind : FaultKind) : Type 0 where
   pub at_root : stands root kind (Root, root) ≡ false
   pub at_receivers : StandsAtNone root (numbered Receivers (rows_at (codes "receiver") root)) kind
@@ -123,7 +123,7 @@ pub all_from : {X : Type 0} (P : X → Type 0) (xs : List X) → ((i : ℕ) (x :
 all_from P [] h = tt
 all_from P (x ∷ xs) h = (h 0 x refl, all_from P xs (λ i y e. h (suc i) y e))
 
--- what holds of each row holds of each value of the code that stands for one
+-- what is true of each row is true of each value of the code that stands for one
 pub all_views : {X Y : Type 0} (P : Y → Type 0) (v : X → Y) (xs : List X) → AllByRecursion P (map v xs) → (k : ℕ) (d : X) → k < length xs → P (v (get_or xs k d))
 all_views P v [] h k d below = absurd (omega arith)
 all_views P v (x ∷ xs) h zero d below = h.0

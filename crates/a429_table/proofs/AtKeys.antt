@@ -1,4 +1,4 @@
--- What stands at the keys of a table whose kinds of fault are absent.
+-- The values at the keys of a table without these kinds of fault.
 use Rattle.std.proofs.Common.{codes, ◌≡◌, ℕ, zero, suc, ◌+◌, ◌^◌, ◌<◌, ℤ, pos, negsuc, Bool, true, false, not, ◌&&◌, List, [], ◌∷◌, ◌++◌, length, map, take, drop, get_or, Option, Some, None, is_none, option_map, unwrap_or, refl, sym, ap, ◌∙◌, subst, arith, ⊎_elim, drop-cons}
 use Rattle.std.specs.Prelude.{slice_get, is_some, if◌then◌else◌}
 use Rattle.std.proofs.lemmas.List.{take-append-drop}
@@ -23,7 +23,7 @@ use Rattle.a429_table.proofs.Absence.{all_from}
 use Rattle.a429_word.proofs.LabelTexts.{written}
 use Rattle.a429_table.proofs.SoundValues.{natural-pos, within}
 
--- ---- what stands at a key
+-- ---- the value at a key
 
 text_in : (o : Option Data) (key : List ℕ) (d : Data) → get key d ≡ o → is_none o ≡ false → option_map_or (λ v. not (has_shape Text v)) o false ≡ false → HasText key d (text_at key d)
 unfolding text_at
@@ -47,7 +47,7 @@ integer_in (Some (datetime t)) key d e some fits = cc
 integer_in (Some (array ds)) key d e some fits = cc
 integer_in (Some (table ms)) key d e some fits = cc
 
--- an array stands there, whose elements are the rows
+-- the value is an array, whose elements are the rows
 pub record HasArray (key : List ℕ) (d : Data) : Type 0 where
   pub rows : Items
   pub there : get key d ≡ Some (array rows)
@@ -64,7 +64,7 @@ array_in (Some (datetime t)) key d e some fits = cc
 array_in (Some (array ds)) key d e some fits = record { rows = ds; there = e; are = rw e refl }
 array_in (Some (table ms)) key d e some fits = cc
 
--- a number in range is the one that stands there
+-- a number in range is the one that is written there
 pub number_in : (limit low high : ℕ) (z : ℤ) → high < limit → is_within low high z ≡ true → z ≡ pos (natural limit z)
 number_in limit low high (negsuc n) room h = cc
 number_in limit low high (pos n) room h = let r = within low high n h in ap (λ (k : ℕ). pos k) (sym (natural-pos limit n (omega arith)))

@@ -29,7 +29,7 @@ with_kind : (kind : FaultKind) (o : Option Stop) → option_map {U = FaultKind �
 with_kind kind None = refl
 with_kind kind (Some s) = refl
 
--- the first place of a kind, else the first fault of the later kinds
+-- the first place of a kind; otherwise the first fault of the later kinds
 pub first_of_two : (test : FaultKind → Stop → Bool) (stops : List Stop) (kind : FaultKind) (later : List FaultKind) (place : Option TablePlace) → place ≡ option_map (λ s. s.0) (find (test kind) stops)
     → first (flat_map (found test stops) (kind ∷ later)) ≡ option_or (option_map (λ p. (kind, p)) place) (first (flat_map (found test stops) later))
 first_of_two test stops kind later place e =

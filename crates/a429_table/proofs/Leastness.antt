@@ -38,7 +38,7 @@ pub all_fail : {X : Type 0} (p : X → Bool) (xs : List X) → find p xs ≡ Non
 all_fail p [] h = tt
 all_fail p (y ∷ ys) h = none_at p y ys (p y) refl h (all_fail p ys)
 
--- the same for a list of kinds in place of all kinds
+-- the same for a list of kinds instead of all kinds
 record LeastOf (root : Data) (ks : List FaultKind) (kind : FaultKind) (place : TablePlace) : Type 0 where
   before : List FaultKind
   after : List FaultKind

@@ -1,4 +1,5 @@
--- The repeats among the rows of the record are those that the format tells of, if the table has no fault of an earlier kind.
+-- The repeats among the rows of the record are those that the format states, if the table has no fault of an earlier
+-- kind.
 use Rattle.std.proofs.Common.{◌≡◌, ℕ, zero, suc, ◌+◌, ◌^◌, ◌<◌, ◌≤◌, min, max, ℤ, pos, Bool, true, false, not, ◌&&◌, ◌||◌, eqb, List, [], ◌∷◌, ◌++◌, length, map, take, filter, get_or, replicate, codes, Option, Some, None, IfSome, option_map, is_none, bit_and, bit_or, inl, inr, refl, sym, ap, ◌∙◌, arith, Global, Vec}
 use Rattle.std.specs.Int.Bits.{and_self, and_zero_l, or_add_and}
 use Rattle.std.proofs.lemmas.Bool.{cases_eq, cases_lt, eq-eqb, ne_eqb}

@@ -101,7 +101,7 @@ interval_at : (root : Data) (n j : ℕ) (d : Data) → stands root Interval (Out
 unfolding stands has_bad_interval output_row
 interval_at root n j d h = is_interval_within (integer_at (codes "min_us") d) (integer_at (codes "max_us") d) h
 
--- what holds of each output holds of the rows of each group
+-- what is true of each output is true of the rows of each group
 outputs_hold : (root : Data) (kind : FaultKind) (Q : OutputRow → Type 0) → ((n j : ℕ) (d : Data) → stands root kind (Output n j, d) ≡ false → Q (output_row root d))
     → StandsAtNone root (flat_map group_stops (enumerate_from 0 (rows_at (codes "group") root))) kind
     → AllByRecursion (AllByRecursion Q) (map (output_rows root) (rows_at (codes "group") root))

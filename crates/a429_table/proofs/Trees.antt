@@ -1,4 +1,4 @@
--- A value beside the data that it stands for.
+-- A value, and the data that it stands for.
 use Rattle.std.proofs.Common.{◌≡◌, ℕ, zero, suc, ◌+◌, ◌≤◌, ltb, arith, Bool, ◌||◌, cond, true, false, List, [], ◌∷◌, map, take, refl, ap, String, Global, string_bytes, Option, Some, None, option_map}
 use Rattle.std.proofs.lemmas.Bool.{ltb-false}
 use Rattle.std.specs.List.{list_any, find, prefix_len}

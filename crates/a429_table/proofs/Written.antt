@@ -1,4 +1,4 @@
--- The record of a table without faults says what stands in the document.
+-- The record of a table without faults says what is written in the document.
 use Rattle.std.proofs.Common.{codes, ◌≡◌, ℕ, ◌^◌, ℤ, pos, Bool, true, false, not, ◌||◌, List, [], ◌∷◌, map, Option, Some, None, is_none, option_map, unwrap_or, Ok, refl, sym, ap, ◌∙◌, subst, arith, ⊎_elim}
 use Rattle.std.specs.Prelude.{IfSome, slice_get, if◌then◌else◌}
 use Rattle.std.specs.Ordering.{int_eq}

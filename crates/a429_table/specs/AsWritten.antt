@@ -1,4 +1,5 @@
--- The record of a table says what stands in the document: no value is made up for one that is absent or of another kind.
+-- The record of a table says what is written in the document: no value is made up for one that is absent or of another
+-- kind.
 use Rattle.std.specs.Prelude.{codes, ◌≡◌, ℕ, pos, List, [], ◌∷◌, ◌++◌, Option, Some, None, IfSome, slice_get}
 use Rattle.toml.specs.Data.{Data, Items, string, integer, array, get}
 use Rattle.a429_word.specs.Texts.{octal}
@@ -11,11 +12,11 @@ use Rattle.a429_equipment.specs.TableRecord.{TableRecord}
 use Rattle.a429_table.specs.Tree.{elements}
 use Rattle.a429_table.specs.Reading.{document}
 
--- this text stands at the key
+-- the key has this text
 abbrev pub HasText : List ℕ → Data → List ℕ → Type 0
 HasText key d text = get key d ≡ Some (string text)
 
--- this integer stands there
+-- the key has this integer
 abbrev pub HasInteger : List ℕ → Data → ℕ → Type 0
 HasInteger key d n = get key d ≡ Some (integer (pos n))
 
@@ -26,11 +27,11 @@ AreOf P [] (x ∷ xs) = ⊥
 AreOf P (d ∷ ds) [] = ⊥
 AreOf P (d ∷ ds) (x ∷ xs) = P d x × AreOf P ds xs
 
--- an array stands at the key, and these are its rows
+-- the key has an array, and these are its rows
 abbrev pub HasRows : {X : Type 0} → List ℕ → Data → (Data → X → Type 0) → List X → Type 0
 HasRows key d P xs = (rows : Items) × (get key d ≡ Some (array rows)) × AreOf P (elements rows) xs
 
--- a label and a mask, as in 203/377
+-- a label and a mask, for example 203/377
 abbrev pub IsFilterText : Data → Filter → Type 0
 IsFilterText d f = d ≡ string (octal f.label ++ 47 ∷ octal f.mask)
 
@@ -57,7 +58,7 @@ pub record IsSourceOf (t : TableRecord) (d : Data) (s : SourceRow) : Type 0 wher
   pub label : HasText (codes "label") d (octal s.label)
   pub sdi : HasSdi d s.sdi
 
--- the rate stands at the root in version 1, and at the group in version 2 (profile: equipment table)
+-- the bit rate is a key of the root in version 1, and of the group in version 2 (profile: equipment table)
 pub record IsGroupOf (root : Data) (t : TableRecord) (d : Data) (g : GroupRow) : Type 0 where
   pub name : HasText (codes "name") d g.name
   pub root_rate : t.version ≡ 1 → HasInteger (codes "rate") root g.rate

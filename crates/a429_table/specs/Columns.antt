@@ -1,4 +1,4 @@
--- The keys of each table, and what stands at each.
+-- The keys of each table, and the shape of each value.
 use Rattle.std.specs.Prelude.{codes, ℕ, List, [], ◌∷◌, Bool, true, false}
 use Rattle.a429_equipment.specs.declared.version.TableVersion.{TableVersion}
 use Rattle.a429_equipment.specs.declared.version.TableVersion.TheVariants.{One, Two}
@@ -8,7 +8,7 @@ use Rattle.a429_table.specs.declared.columns.Shape.{Shape}
 use Rattle.a429_table.specs.declared.columns.Shape.TheVariants.{Integer, Text, Texts, Tables, IntegerOrText}
 use Rattle.a429_table.specs.declared.columns.Column.{Column as CodeColumn}
 
--- a key, what stands there, and whether it must stand there
+-- a key, the shape of its value, and whether it is required
 pub record Column : Type 0 where
   pub key : List ℕ
   pub shape : Shape

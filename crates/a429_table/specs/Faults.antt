@@ -1,4 +1,4 @@
--- The faults of a table: which kind stands at which place.
+-- The faults of a table: which kind is at which place.
 use Rattle.std.specs.Prelude.{codes, ℕ, List, [], ◌∷◌, length, map, filter, ℤ, pos, negsuc, Bool, true, false, not, ◌&&◌, ◌||◌, Option, Some, None, is_none, slice_get, nat_lt, nat_le, int_le, ◌==◌}
 use Rattle.std.specs.Option.{option_map_or, option_and_then}
 use Rattle.std.specs.Ordering.{int_eq}
@@ -154,7 +154,7 @@ abbrev pub sdis_meet : Option ℤ → Option ℤ → Bool
 sdis_meet (Some a) (Some b) = int_eq a b
 sdis_meet _ _ = true
 
--- equal, where any equals any alone
+-- equal; any equals only any
 abbrev pub same_sdi : Option ℤ → Option ℤ → Bool
 same_sdi (Some a) (Some b) = int_eq a b
 same_sdi None None = true
@@ -190,7 +190,7 @@ is_empty_group _ d = false
 
 -- ## The least fault
 
--- whether the kind stands at a place of the table
+-- whether a place of the table has a fault of this kind
 unfoldable pub stands : Data → FaultKind → Stop → Bool
 stands root NotToml s = false
 stands root Version s = has_wrong_version s.0 s.1

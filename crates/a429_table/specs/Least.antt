@@ -7,11 +7,11 @@ use Rattle.a429_table.specs.declared.fault.TablePlace.{TablePlace}
 use Rattle.a429_table.specs.Walk.{Stop, walk}
 use Rattle.a429_table.specs.Faults.{kinds, stands}
 
--- the kind stands at none of the stops
+-- none of the stops has a fault of this kind
 abbrev pub StandsAtNone : Data → List Stop → FaultKind → Type 0
 StandsAtNone root stops kind = AllByRecursion (λ s. stands root kind s ≡ false) stops
 
--- the kind stands at the place, no earlier kind stands anywhere, and this one at no earlier place
+-- The place has a fault of this kind. No earlier place has one of this kind. A fault of an earlier kind is at no place.
 pub record IsLeast (root : Data) (kind : FaultKind) (place : TablePlace) : Type 0 where
   pub before : List FaultKind
   pub after : List FaultKind

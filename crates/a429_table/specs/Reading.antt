@@ -13,11 +13,11 @@ use Rattle.a429_table.specs.Faults.{faults}
 use Rattle.a429_equipment.specs.TableRecord.{TableRecord}
 use Rattle.a429_table.specs.Stated.{stated}
 
--- the root table, where the bytes are UTF-8 and a TOML document
+-- the root table, if the bytes are UTF-8 and a TOML document
 unfoldable pub document : List ℕ → Option Data
 document bytes = if is_utf8 bytes then option_map table (parse_document bytes) else None
 
--- the record where there is no fault, and else the least one
+-- the record if there is no fault; otherwise the least fault
 abbrev pub judged : Data → List (FaultKind × TablePlace) → Result TableRecord (FaultKind × TablePlace)
 judged root [] = Ok (stated root)
 judged root (fault ∷ later) = Err fault
@@ -34,7 +34,7 @@ read_root (Ok root) = judged root (faults root)
 unfoldable pub reading : List ℕ → Result TableRecord (FaultKind × TablePlace)
 reading bytes = read_root (root_of (document bytes))
 
--- a function gives what is stated by these bytes, unless memory runs out: it does so only where they are UTF-8
+-- a function gives what is stated by these bytes, unless memory runs out, which it does only for bytes that are UTF-8
 abbrev pub GivesUnlessMemory : {X Y : Type 0} → (X → Y) → List ℕ → Result X TableFault → Result Y (FaultKind × TablePlace) → Type 0
 GivesUnlessMemory view bytes (Ok x) stated = stated ≡ Ok (view x)
 GivesUnlessMemory view bytes (Err NoMemory) stated = is_utf8 bytes ≡ true

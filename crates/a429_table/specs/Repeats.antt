@@ -1,4 +1,5 @@
--- How repeats are found among the rows of the record: a row repeats an earlier one here where the format says so, if the table has no fault of an earlier kind.
+-- How repeats are found among the rows of the record. A row repeats an earlier one here if the format says so, provided
+-- that the table has no fault of an earlier kind.
 use Rattle.std.specs.Prelude.{◌≡◌, ◌==◌, ◌+◌, ◌*◌, ◌^◌, ℕ, min, List, [], ◌∷◌, map, filter, replicate, Bool, false, not, Option, slice_get, slice_index, slice_index_or, slice_set, bit_and, bit_or}
 use Rattle.std.specs.Option.{option_map_or}
 use Rattle.toml.specs.Data.{Data}

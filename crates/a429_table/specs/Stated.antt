@@ -29,7 +29,7 @@ number_of name ds = unwrap_or (number_named name ds) 0
 abbrev pub filter_row : Data → Filter
 filter_row d = filter_of (text_of (Some d))
 
--- the filters, where there is a list of them
+-- the filters, if there is a list of them
 abbrev pub filters_of : Data → Option (List Filter)
 filters_of d = if is_none (get (codes "filters") d) then None else Some (map filter_row (rows_at (codes "filters") d))
 
@@ -44,7 +44,7 @@ source_row root d = record {
   sdi = option_map (natural 4) (sdi_at d);
 }
 
--- the rate that stands in a table, in bit/s
+-- the bit rate of a table, in bit/s
 abbrev pub rate_at : Data → ℕ
 rate_at d = natural (2 ^ 32) (integer_at (codes "rate") d)
 
@@ -53,7 +53,7 @@ abbrev pub rate_of : TableVersion → Data → Option ℕ
 rate_of One root = Some (rate_at root)
 rate_of Two root = None
 
--- the root's rate, where there is one, and else the group's own (profile: equipment table, version 2)
+-- the root's bit rate, if there is one; otherwise the group's own (profile: equipment table, version 2)
 unfoldable pub group_row : Option ℕ → Data → GroupRow
 group_row rate d = record { name = name_of d; rate = unwrap_or rate (rate_at d) }
 

@@ -6,6 +6,6 @@ use Rattle.a429_equipment.specs.declared.version.TableVersion.{TableVersion}
 use Rattle.a429_equipment.specs.declared.version.TableVersion.TheVariants.{One, Two}
 use Rattle.a429_table.specs.Tree.{integer_at}
 
--- 2 where the root states it, and else 1: where the root states neither, that is the fault which is asked first
+-- 2 if the root states it, otherwise 1: a root that states neither has the fault that is tested first
 unfoldable pub version_of : Data → TableVersion
 version_of root = if int_eq (integer_at (codes "version") root) (pos 2) then Two else One

@@ -1,4 +1,4 @@
--- The places of a table in walk order, each with the value that stands there.
+-- The places of a table in walk order, each with its value.
 use Rattle.std.specs.Prelude.{codes, ℕ, List, [], ◌∷◌, ◌++◌, map, take, Option, Some, None, slice_get}
 use Rattle.std.specs.List.{enumerate_from, flat_map}
 use Rattle.toml.specs.Data.{Data}
@@ -8,7 +8,7 @@ use Rattle.a429_table.specs.declared.walk.Rows.{Rows}
 use Rattle.a429_table.specs.declared.walk.Rows.TheVariants as rows
 use Rattle.a429_table.specs.Tree.{rows_at}
 
--- a place, and the value that stands there
+-- a place, and its value
 abbrev pub Stop : Type 0
 Stop = TablePlace × Data
 

@@ -64,7 +64,7 @@ fn sdi_number(value: i64) -> Sdi
     }
 }
 
-/// The label of a text that states one, as each does in a table without faults.
+/// The label of a text that states one; in a table without faults each label text does.
 #[tactic(auto, unfolding(a429_word::specs::Texts::octal_number))]
 fn label_of(text: &str) -> Label
     ensures { result ≡ octal_number text.now }
@@ -72,7 +72,7 @@ fn label_of(text: &str) -> Label
     Label::of_digits(text.as_bytes()).unwrap_or(Label::new(0))
 }
 
-/// The filter of a text that states one, as each does in a table without faults.
+/// The filter of a text that states one; in a table without faults each filter text does.
 #[tactic(auto, unfolding(a429_filter::specs::FilterTexts::filter_of))]
 fn filter_of(text: &str) -> Filter
     ensures { result ≡ filter_of text.now }
@@ -168,7 +168,7 @@ fn group_row(alloc: Global, rate: Option<u32>, table: &Value) -> Result<GroupRow
     Ok(GroupRow { name, rate })
 }
 
-/// The groups: each has this rate, where there is one, and else its own.
+/// The groups: each has this bit rate, if there is one, and otherwise its own.
 pub fn group_rows(
     alloc: Global,
     rate: Option<u32>,

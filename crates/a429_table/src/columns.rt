@@ -1,4 +1,4 @@
-//! The keys of each table, and what stands at each.
+//! The keys of each table, and the shape of each value.
 
 ghost use Rattle.std.specs.Prelude.{◌≡◌, map};
 ghost use Rattle.a429_table.specs.Columns.{columns, column_view};
@@ -6,7 +6,7 @@ ghost use Rattle.a429_table.specs.Columns.{columns, column_view};
 use crate::fault::TablePlace;
 use a429_equipment::TableVersion;
 
-/// What stands at a key.
+/// The shape of a value.
 #[derive(Clone, Copy)]
 pub enum Shape {
     Integer,
@@ -22,7 +22,7 @@ pub enum Shape {
 pub struct Column {
     pub key: &'static str,
     pub shape: Shape,
-    /// Whether the key must stand there.
+    /// Whether the key is required.
     pub required: bool,
 }
 

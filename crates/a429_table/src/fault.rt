@@ -1,4 +1,4 @@
-//! What is wrong with a table, and where.
+//! The faults of a table, and their places.
 
 ghost use Rattle.std.specs.Prelude.{◌≡◌, Some};
 ghost use Rattle.a429_table.specs.Printed.{kind_text, place_text};
@@ -8,20 +8,20 @@ use std::alloc::{AllocError, AllocFailed};
 use std::fmt;
 use thiserror::Error;
 
-/// The kinds of fault, in the order in which they are asked (profile). A kind is asked of the whole table
-/// before the next one is.
+/// The kinds of fault, in the order in which they are tested (profile). Each kind is tested over the whole table before
+/// the next.
 #[derive(Clone, Copy, Debug, PartialEq, Eq)]
 pub enum FaultKind {
-    /// The bytes are not UTF-8, or no TOML document. At the root.
+    /// The bytes are not UTF-8, or not a TOML document. At the root.
     NotToml,
     /// `version` is absent, or is neither the integer 1 nor the integer 2. At the root.
     Version,
-    /// A table has a key that is none of its own in this version. At that table.
+    /// A table has a key that this version does not know. At that table.
     UnknownKey,
-    /// A table lacks a key that it must have: each but `filters` and `hold`. At that table.
+    /// A table lacks a required key; only `filters` and `hold` are optional. At that table.
     MissingKey,
-    /// The value of a key, or a filter, has another kind: at the table with the key. An element of an
-    /// array of tables is no table: at that element.
+    /// The value of a key, or a filter, has another kind: at the table with the key. An element of an array of tables
+    /// is not a table: at that element.
     WrongKind,
     /// A rate is neither 100000 bit/s nor 12000 to 14500 bit/s. In version 1 at the root, in version 2 at
     /// that group.
@@ -33,8 +33,8 @@ pub enum FaultKind {
     Name,
     /// A name is that of an earlier table of the same array. At the later one.
     DuplicateName,
-    /// A label is not three octal digits, 000 to 377, or a filter not two such with a slash between them.
-    /// At that table.
+    /// A label is not three octal digits, 000 to 377, or a filter is not two such with a slash between them. At that
+    /// table.
     Label,
     /// An SDI is neither 0 to 3 nor `any`. At that source.
     Sdi,
@@ -45,8 +45,8 @@ pub enum FaultKind {
     /// An earlier source has the same receiver and label, and the SDIs are equal or one of them is any.
     /// At the later one.
     DuplicateSource,
-    /// An earlier output of the group has a source of the same label and the same SDI, where any equals
-    /// any alone. At the later one.
+    /// An earlier output of the group has a source of the same label and the same SDI; any equals only any. At the
+    /// later one.
     DuplicateOutput,
     /// A group has no output. At that group.
     EmptyGroup,
@@ -109,7 +109,7 @@ impl fmt::Display for FaultKind {
 impl fmt::Display for TablePlace {
     ghost output = { λ place. Some (place_text place) };
 
-    /// As refusals print it: `root`, `receiver 0`, or `output 1 0` with the group first.
+    /// The form in which refusals print it: `root`, `receiver 0`, or `output 1 0` with the group first.
     #[tactic(auto, unfolding(crate::specs::Printed::place_text))]
     fn fmt<W: fmt::Write>(&self, f: &mut fmt::Formatter<W>) -> fmt::Result {
         match self {
@@ -125,7 +125,7 @@ impl fmt::Display for TablePlace {
 /// Why a table is not read.
 #[derive(Debug, Drop, Error)]
 pub enum TableFault {
-    /// Memory ran out. It may come in place of any other answer.
+    /// Memory ran out. This may come instead of any other answer.
     #[error("out of memory")]
     NoMemory,
     /// The table has a fault of this kind at this place, and none of an earlier kind or at an earlier place.

@@ -10,14 +10,14 @@ ghost use Rattle.a429_table.specs.Least.{IsLeast};
 ghost use Rattle.a429_table.specs.Reading.{reading};
 ghost use Rattle.a429_table.specs.AsWritten.{IsWrittenIn};
 
-/// The first fault is the least: no earlier kind stands anywhere, and its kind at no earlier place.
+/// The first fault is the least: no place has a fault of an earlier kind, and no earlier place has one of its kind.
 #[tactic(auto, using(crate::proofs::Leastness::is_least))]
 pub fn first_is_least()
     ensures { (root : Data) (kind : FaultKind) (place : TablePlace) → first (faults root) ≡ Some (kind, place) → IsLeast root kind place }
 {}
 
-/// The record that `read_equipment` answers says what stands in the document: its texts and integers are those at the keys, a
-/// filter and a label are the text that is printed of them, and the row that a name stands for has that name.
+/// The record that `read_equipment` answers says what is written in the document. Its texts and integers are those at
+/// the keys. A filter and a label are the text that is printed of them. The row that a name stands for has that name.
 #[tactic(auto, using(crate::proofs::Written::is_as_written))]
 pub fn record_is_as_written()
     ensures { (bytes : List ℕ) (t : TableRecord) → reading bytes ≡ Ok t → IsWrittenIn bytes t }

@@ -18,10 +18,9 @@ use a429_equipment::{Equipment, StationRows};
 use std::alloc::{AllocError, Global};
 use toml::Value;
 
-/// Reads an equipment table, as TOML (profile: equipment table, versions 1 and 2). The fault is the
-/// first by kind, and of its kind the first in walk order: root, receivers, sources, then each group
-/// followed by its outputs. It is `NoMemory` only where memory ran out, and for bytes that are UTF-8: others are
-/// `NotToml`.
+/// Reads an equipment table, as TOML (profile: equipment table, versions 1 and 2). The fault is the first by kind, and
+/// of its kind the first in walk order: root, receivers, sources, then each group followed by its outputs. `NoMemory`:
+/// memory ran out, which is answered only for bytes that are UTF-8; for other bytes the fault is `NotToml`.
 pub fn read_equipment(alloc: Global, bytes: &[u8]) -> Result<Equipment, TableFault>
     ensures { GivesUnlessMemory (λ e. e) bytes.now result (reading bytes.now) }
 {

@@ -181,8 +181,8 @@ fn places_in(
     places_with(alloc, index, &repeats, kind)
 }
 
-/// All places of a root table with a fault of this kind, in walk order: for a hint, so it has no clause. The table has no
-/// fault of an earlier kind. The error is that memory was refused.
+/// All places of a root table with a fault of this kind, in walk order: for a hint, so it has no clause. The table has
+/// no fault of an earlier kind. Error: an allocation failed.
 pub fn places_of(
     alloc: Global,
     root: &Value,

@@ -118,7 +118,8 @@ fn number_name(
     Ok(())
 }
 
-/// Numbers the tables of an array by their names, where there were none. Of tables with one name the first has it.
+/// Numbers the tables of an array by their names, from an empty index. Of tables with one name the first has it. Error:
+/// an allocation failed.
 #[tactic(auto, unfolding(crate::specs::Names::number_named))]
 fn number_names(
     numbers: &mut IndexMap<String, usize>,

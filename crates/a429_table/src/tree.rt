@@ -1,4 +1,4 @@
-//! What stands at a key of a table.
+//! The value at a key of a table.
 
 ghost use Rattle.std.specs.Prelude.{◌≡◌, map, Some};
 ghost use Rattle.toml.specs.Data.{get};
@@ -7,7 +7,7 @@ ghost use Rattle.a429_table.specs.Tree.{text_of, text_at, integer_at, get_intege
 
 use toml::Value;
 
-/// The text at a key, or the empty text where there is none.
+/// The text at a key; the empty text if there is no text.
 #[tactic(auto, unfolding(crate::specs::Tree::text_at))]
 pub fn text_at<'a>(table: &'a Value, key: &str) -> &'a str
     ensures { result.now ≡ text_at key.now (view table.now) }
@@ -18,7 +18,7 @@ pub fn text_at<'a>(table: &'a Value, key: &str) -> &'a str
     }
 }
 
-/// The integer at a key, or 0 where there is none.
+/// The integer at a key; 0 if there is no integer.
 #[tactic(auto, unfolding(crate::specs::Tree::integer_at))]
 pub fn integer_at(table: &Value, key: &str) -> i64
     ensures { result ≡ integer_at key.now (view table.now) }
@@ -29,7 +29,7 @@ pub fn integer_at(table: &Value, key: &str) -> i64
     }
 }
 
-/// The integer at a key, where there is one.
+/// The integer at a key, if there is one.
 #[tactic(auto, unfolding(crate::specs::Tree::get_integer))]
 pub fn get_integer(table: &Value, key: &str) -> Option<i64>
     ensures { result ≡ get_integer key.now (view table.now) }
@@ -40,7 +40,7 @@ pub fn get_integer(table: &Value, key: &str) -> Option<i64>
     }
 }
 
-/// The elements of the array at a key; none where there is no array.
+/// The elements of the array at a key; nothing if there is no array.
 #[tactic(auto, unfolding(crate::specs::Tree::rows_at))]
 pub fn rows_at<'a>(table: &'a Value, key: &str) -> &'a [Value]
     ensures { map view result.now ≡ rows_at key.now (view table.now) }
@@ -51,7 +51,7 @@ pub fn rows_at<'a>(table: &'a Value, key: &str) -> &'a [Value]
     }
 }
 
-/// A text, or the empty text where the value is none.
+/// A text; the empty text if the value is not a text.
 pub fn text_of(value: &Value) -> &str
     ensures { result.now ≡ text_of (Some (view value.now)) }
 {

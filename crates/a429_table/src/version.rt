@@ -8,7 +8,7 @@ use crate::tree::integer_at;
 use a429_equipment::TableVersion;
 use toml::Value;
 
-/// The version that a root table states; 1 also where it states none.
+/// The version that a root table states: 2 if it states 2, otherwise 1.
 #[tactic(auto, unfolding(crate::specs::Version::version_of))]
 pub fn version_of(root: &Value) -> TableVersion
     ensures { result ≡ version_of (view root.now) }

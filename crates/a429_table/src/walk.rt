@@ -19,7 +19,7 @@ pub enum Rows {
     Outputs(usize),
 }
 
-/// A place, and the value that stands there.
+/// A place, and its value.
 #[derive(Clone, Copy)]
 pub struct Stop<'a> {
     pub place: TablePlace,

@@ -2,7 +2,7 @@
 use Rattle.std.specs.Prelude.{ℕ, ◌+◌, ◌-◌, List, [], ◌++◌, codes, if◌then◌else◌, length, max, map, nat_lt, replicate, slice_index, slice_index_or}
 use Rattle.std.specs.List.{flat_map, fold, range_with_len}
 
--- the field of a row in a column; behind the last field, nothing
+-- the field of a row in a column; after the last field, nothing
 abbrev pub field_in : ℕ → List (List ℕ) → List ℕ
 field_in column row = slice_index_or row column []
 
@@ -18,19 +18,19 @@ columns_of rows = fold (λ columns row. max columns (length row)) 0 rows
 abbrev pub widths_of : List (List (List ℕ)) → List ℕ
 widths_of rows = map (λ column. width_of column rows) (range_with_len 0 (columns_of rows))
 
--- so many spaces
+-- this number of spaces
 abbrev pub spaces : ℕ → List ℕ
 spaces count = replicate count 32
 
--- a field with spaces behind it, as many as its column has room for
+-- a field, followed by spaces up to the width of its column
 abbrev pub padded : ℕ → List ℕ → List ℕ
 padded width field = field ++ spaces (width - length field)
 
--- what stands between two columns
+-- the text between two columns
 abbrev pub gap : List ℕ
 gap = spaces 2
 
--- the field of a row in a column, and what stands between it and the next; behind the last field stands nothing
+-- the field of a row in a column, and the text between it and the next; after the last field there is nothing
 abbrev pub column_text : List ℕ → List (List ℕ) → ℕ → List ℕ
 column_text widths row column =
     if nat_lt (column + 1) (length row) then padded (slice_index widths column) (field_in column row) ++ gap else field_in column row

@@ -11,7 +11,8 @@ pub record IsAtLine {W : Type 0} (w : Writer W) : Type 0 where
   pub fields : fields_written w ≡ 0
   pub clean : has_written w ≡ false
 
--- where the call succeeds, the writer's output and what it has not passed on yet have these bytes more, together
+-- if the call succeeds, these bytes are added to the writer's text: its output and what it has not passed on yet,
+-- together
 abbrev pub WritesText : {W A E : Type 0} → (W → Option (List ℕ)) → Result A E → Writer W → Writer W → List ℕ → Type 0
 WritesText contents result old new bytes = OnOk result (Appends (text_written contents old) (text_written contents new) bytes)
 

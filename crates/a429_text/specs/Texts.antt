@@ -4,7 +4,7 @@ use Rattle.std.specs.Fmt.{decimal}
 use Rattle.a429_text.specs.declared.said.Said.{Said}
 use Rattle.a429_text.specs.Said.{bytes_of}
 
--- what is kept, or what was lost if memory was refused
+-- what is kept, or what was lost if an allocation failed
 abbrev pub written : Option Said → List ℕ → List ℕ
 written None kept = kept
 written (Some said) kept = bytes_of said

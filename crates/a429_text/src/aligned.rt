@@ -83,8 +83,8 @@ fn put_rows(text: &mut Text, widths: &[usize], rows: &[TextRow])
     }
 }
 
-/// A line for each row. Each column is as wide as its widest text, and two spaces are between two columns. The error is
-/// that memory was refused.
+/// A line for each row. Each column is as wide as its widest text, and two spaces are between two columns. Error: an
+/// allocation failed.
 #[tactic(auto, unfolding(crate::specs::Aligned::aligned_text))]
 pub fn aligned_text(alloc: Global, rows: &[TextRow]) -> Result<Vec<u8>, AllocError>
     ensures { IfOk result (λ text. text.items ≡ aligned_text rows.now) }

@@ -75,7 +75,7 @@ impl Row {
         Row { cells: kept }
     }
 
-    /// The text in a column; `None` if there is no such cell or it has no text. The error is that memory was refused.
+    /// The text in a column; `None` for an absent cell and after the last cell. Error: an allocation failed for a cell.
     pub fn text(&self, column: usize) -> Result<Option<&[u8]>, AllocError>
         ensures { IfOk result (λ text. option_map (λ t. t.now) text ≡ text_in column self.now) }
     {
@@ -85,7 +85,7 @@ impl Row {
         }
     }
 
-    /// Its cells. The error is that memory was refused for one of them.
+    /// Its cells. Error: an allocation failed for one of them.
     pub fn cells(&self) -> Result<&[KeptCell], AllocError>
         ensures { IfOk result (λ cells. map kept_field cells.now ≡ self.now) }
     {

@@ -31,8 +31,8 @@ fn write_rows<W: Write + Drop>(writer: &mut Writer<W>, rows: &[TextRow]) -> Resu
     Ok(())
 }
 
-/// A line for each row, with commas between its fields (RFC 4180, with a line feed at each line's end). The error is that
-/// memory was refused, or that not all rows have as many fields.
+/// A line for each row, with commas between its fields (RFC 4180, with a line feed at each line's end). Error: an
+/// allocation failed, or the rows have different numbers of fields.
 pub fn csv_text(alloc: Global, rows: &[TextRow]) -> Result<Vec<u8>, AllocError>
     ensures { IfOk result (λ text. text.items ≡ csv_text_of rows.now) }
 {

@@ -106,8 +106,8 @@ fn texts_of_row(alloc: Global, absent: &str, row: &Row) -> Result<TextRow, Alloc
     Ok(TextRow { fields })
 }
 
-/// The names of columns, and then the texts of each row. An absent cell has the text `absent`. The error is that memory
-/// was refused.
+/// The names of columns, and then the texts of each row. An absent cell has the text `absent`. Error: an allocation
+/// failed.
 pub fn texts_of(
     alloc: Global,
     absent: &str,

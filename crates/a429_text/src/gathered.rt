@@ -6,12 +6,12 @@ use std::alloc::{AllocError, Global};
 use std::marker::Model;
 use std::snapshot::Snapshot;
 
-/// A list that is gathered item by item. Clauses see all items that were added. If memory is refused for one, the list
-/// is not kept, and the one who takes it is told. So an item is added without a question.
+/// A list that is gathered item by item. Clauses see all items that were added. Adding an item has no error: if an
+/// allocation fails, the list is dropped, and the call that takes the list returns the error.
 #[derive(Drop)]
 pub struct Gathered<T: Drop> {
     kept: Vec<T>,
-    /// All that was added, if memory was refused.
+    /// All that was added, if an allocation failed.
     lost: Option<Lost<T>>,
 }
 
@@ -54,7 +54,7 @@ impl<T: Drop> Gathered<T> {
         self.lost = Some(Lost::Then(before, last));
     }
 
-    /// The list. The error is that memory was refused for an item of it.
+    /// The list. Error: an allocation failed for an item of it.
     pub fn as_slice(&self) -> Result<&[T], AllocError>
         ensures { IfOk result (λ list. list.now ≡ self.now) }
     {
@@ -64,7 +64,7 @@ impl<T: Drop> Gathered<T> {
         }
     }
 
-    /// Gives the list. The error is that memory was refused for an item of it.
+    /// Gives the list. Error: an allocation failed for an item of it.
     pub fn into_vec(self) -> Result<Vec<T>, AllocError>
         ensures { IfOk result (λ list. list.items ≡ self) }
     {

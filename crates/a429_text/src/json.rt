@@ -117,8 +117,7 @@ fn put_rows(text: &mut Text, columns: &[&str], rows: &[Row]) -> Result<(), Alloc
     Ok(())
 }
 
-/// An array with an object for each row, whose members have the names of the columns. The error is that memory was
-/// refused.
+/// An array with an object for each row, whose members have the names of the columns. Error: an allocation failed.
 #[tactic(auto, unfolding(crate::specs::Fields::json_text))]
 pub fn json_text(alloc: Global, columns: &[&str], rows: &Rows) -> Result<Vec<u8>, AllocError>
     ensures { IfOk result (λ text. text.items ≡ json_text (map (λ name. name.now) columns.now) rows.now) }

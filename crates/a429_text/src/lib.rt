@@ -1,8 +1,8 @@
-//! Texts that grow without a question, and sheets: rows of cells under named columns.
+//! Texts and lists that are built without an error at each step, and sheets: rows of cells under named columns.
 //!
-//! A `Text` is written at its end, and a `Gathered` list gets items at its end. No call that adds has an error: if memory
-//! is refused for a part, the one who takes the whole is told. A `Sheet` has rows of `Cell`s; `Sheet::render` gives it in
-//! columns for people, as comma-separated values, or as JSON.
+//! A `Text` is written at its end, and a `Gathered` list gets items at its end. No call that adds has an error: if an
+//! allocation fails for a part, the call that takes the whole returns the error. A `Sheet` has rows of `Cell`s;
+//! `Sheet::render` gives it in columns for people, as comma-separated values, or as JSON.
 //!
 //! ```text
 //! let mut rows = Rows::new(alloc);

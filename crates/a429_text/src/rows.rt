@@ -7,7 +7,8 @@ use crate::gathered::Gathered;
 use std::alloc::{AllocError, Global};
 use std::marker::Model;
 
-/// Rows of cells. Clauses see all rows that were added. If memory is refused for one, the one who renders them is told.
+/// Rows of cells. Clauses see all rows that were added. If an allocation fails for one, the call that reads them
+/// returns the error.
 #[derive(Drop)]
 pub struct Rows {
     alloc: Global,
@@ -41,7 +42,7 @@ impl Rows {
         self.rows.push(Row::of(self.alloc, cells));
     }
 
-    /// Whether there is none. The error is that memory was refused for one.
+    /// Whether there is no row. Error: an allocation failed for a row.
     pub fn is_empty(&self) -> Result<bool, AllocError>
         ensures { IfOk result (λ empty. empty ≡ (length self.now == 0)) }
     {
@@ -49,8 +50,8 @@ impl Rows {
         Ok(rows.is_empty())
     }
 
-    /// The text in a row and a column, counted from 0; `None` if there is no such cell or it has no text. The error is that
-    /// memory was refused.
+    /// The text in a row and a column, counted from 0; `None` if the cell is absent or outside the rows. Error: an
+    /// allocation failed.
     pub fn text(&self, row: usize, column: usize) -> Result<Option<&[u8]>, AllocError>
         ensures { IfOk result (λ text. option_map (λ t. t.now) text ≡ text_at row column self.now) }
     {
@@ -60,7 +61,7 @@ impl Rows {
         }
     }
 
-    /// The rows. The error is that memory was refused for one of them.
+    /// The rows. Error: an allocation failed for one of them.
     pub fn as_slice(&self) -> Result<&[Row], AllocError>
         ensures { IfOk result (λ rows. rows.now ≡ self.now) }
     {

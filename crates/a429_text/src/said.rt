@@ -4,8 +4,8 @@ ghost use Rattle.a429_text.specs.Said.{bytes_of};
 
 use std::snapshot::Snapshot;
 
-/// The bytes of a text, one after another. A program has the last one alone. Those before it are in a snapshot, which
-/// proofs read and which takes no memory, however long the text is.
+/// The bytes of a text, one after another. A program has only the last one. Those before it are in a snapshot, which
+/// proofs read and which takes no memory, even for a long text.
 #[derive(Drop)]
 pub enum Said {
     Nothing,

@@ -29,8 +29,8 @@ pub struct Sheet {
 
 impl Sheet {
     /// The sheet in a form: the names of the columns and then a line for each row, or an array of objects. An absent
-    /// cell is `-` in columns, nothing in comma-separated values, and `null` in JSON. The error is that memory was
-    /// refused, for a row or for the text.
+    /// cell is `-` in columns, nothing in comma-separated values, and `null` in JSON. Error: an allocation failed for a
+    /// row or for the text.
     pub fn render(&self, alloc: Global, form: SheetForm) -> Result<Vec<u8>, AllocError>
         ensures { IfOk result (λ text. text.items ≡ sheet_text form (map (λ name. name.now) self.now.columns.now) self.now.rows) }
     {

@@ -8,12 +8,12 @@ use itoa::Buffer;
 use std::alloc::{AllocError, Global};
 use std::marker::Model;
 
-/// A text that is written at its end. Clauses see all that was written. If memory is refused for a part, the text is not
-/// kept, and the one who takes it is told. So a part is written without a question.
+/// A text that is written at its end. Clauses see all that was written. Writing a part has no error: if an allocation
+/// fails, the text is dropped, and the call that takes the text returns the error.
 #[derive(Drop)]
 pub struct Text {
     kept: Vec<u8>,
-    /// All that was written, if memory was refused.
+    /// All that was written, if an allocation failed.
     lost: Option<Said>,
 }
 
@@ -97,7 +97,7 @@ impl Text {
         }
     }
 
-    /// What was written. The error is that memory was refused for a part of it.
+    /// What was written. Error: an allocation failed for a part of it.
     pub fn as_bytes(&self) -> Result<&[u8], AllocError>
         ensures { IfOk result (λ bytes. bytes.now ≡ self.now) }
     {
@@ -107,7 +107,7 @@ impl Text {
         }
     }
 
-    /// Gives what was written. The error is that memory was refused for a part of it.
+    /// Gives what was written. Error: an allocation failed for a part of it.
     pub fn into_bytes(self) -> Result<Vec<u8>, AllocError>
         ensures { IfOk result (λ bytes. bytes.items ≡ self) }
     {

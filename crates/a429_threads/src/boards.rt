@@ -2,7 +2,7 @@
 ghost use Rattle.std.specs.Prelude.{◌≡◌, All};
 
 use crate::support::{ONE, let_go, open_board, plan_of, publish};
-use a429_board::{BoardFault, Planner, Watcher};
+use a429_board::{Planner, Watcher};
 use a429_slots::{OUTPUTS, Plan};
 use std::alloc::Global;
 use std::process::Abort;
@@ -10,7 +10,7 @@ use std::sync::Wait;
 use std::sync::atomic::{AtomicU64, Ordering};
 use std::thread::{Threads, for_each_mut, join_mut};
 
-/// The number of the newest plan that each watcher reads, where it is one for all, and that plan has one group.
+/// The number of the newest plan that each watcher reads, if it is one for all, and that plan has one group.
 fn number_of_all(watchers: &mut [Watcher]) -> Option<u64> {
     let mut common = None;
     for watcher in watchers.iter_mut() {
@@ -23,7 +23,7 @@ fn number_of_all(watchers: &mut [Watcher]) -> Option<u64> {
     common
 }
 
-/// Tells one of the watchers what was published. The others are not told.
+/// Gives one of the watchers what was published. The others get nothing.
 fn tell_one(planner: &mut Planner, watchers: &mut Vec<Watcher>)
     requires { All (λ w. w.book ≡ planner.old.book) watchers.old.items }
 {
@@ -32,7 +32,7 @@ fn tell_one(planner: &mut Planner, watchers: &mut Vec<Watcher>)
     }
 }
 
-/// What two watchers read, of which one was told, after one plan was published.
+/// What two watchers read after one plan was published, which only one of them was given.
 fn read_after_one<R: Wait + Abort>(rt: &R, alloc: Global) -> (Option<u64>, Option<u64>) {
     let (mut planner, mut watchers) = open_board(rt, alloc, ONE, 0, 2);
     let answer = publish(rt, alloc, &mut planner, ONE);
@@ -48,27 +48,7 @@ fn watchers_read_what_was_published(rt: HostRuntime) {
     assert!(rt; read_after_one(&rt, rt.alloc()) == (Some(1), Some(1)));
 }
 
-/// What a planner answers to two proposals after the last number but one.
-fn last_answers<R: Wait + Abort>(
-    rt: &R,
-    alloc: Global,
-) -> (Result<u64, BoardFault>, Result<u64, BoardFault>) {
-    let plan = plan_of(rt, alloc, ONE);
-    let (mut planner, watchers) = open_board(rt, alloc, ONE, u64::MAX - 1, 1);
-    let last = planner.publish(rt, plan);
-    let refused = planner.publish(rt, plan);
-    planner.close(rt);
-    let_go(watchers);
-    (last, refused)
-}
-
-#[test]
-fn numbers_end(rt: HostRuntime) {
-    let (last, refused) = last_answers(&rt, rt.alloc());
-    assert!(rt; last == Ok(u64::MAX) && refused == Err(BoardFault::CountSpent));
-}
-
-/// Reads so often, and says whether the numbers never fell.
+/// Reads this number of times, and says whether the numbers never fell.
 fn read_all(watcher: &mut Watcher, times: u64) -> bool {
     let mut last = 0;
     let mut rises = true;
@@ -80,7 +60,7 @@ fn read_all(watcher: &mut Watcher, times: u64) -> bool {
     rises
 }
 
-/// Publishes the plan so often, and counts the plans that were published.
+/// Publishes the plan this number of times, and counts the plans that were published.
 fn publish_all<R: Wait>(rt: &R, planner: &mut Planner, plan: Plan<OUTPUTS>, times: u64) -> u64 {
     let mut published = 0u64;
     for _ in 0..times {
@@ -105,8 +85,8 @@ fn read_by_all<R: Threads + Sync>(rt: &R, watchers: &mut [Watcher], times: u64, 
     );
 }
 
-/// Publishes the plan so often while all watchers read. How many plans were published, and how many watchers read
-/// numbers that fell.
+/// Publishes the plan this number of times while all watchers read. Answers how many plans were published, and how many
+/// watchers read numbers that fell.
 fn soak<R: Threads + Wait + Sync>(
     rt: &R,
     planner: &mut Planner,
@@ -122,8 +102,8 @@ fn soak<R: Threads + Wait + Sync>(
     (published, falls.load(Ordering::SeqCst))
 }
 
-/// What ten watchers come to who read while plans are published: how many plans and falls there were, and which number
-/// all of them read after it. None of them was told.
+/// Ten watchers read while plans are published: how many plans and falls there were, and which number all of them read
+/// after it. None of them was given a plan.
 fn soak_ten<R: Threads + Wait + Abort + Sync>(rt: &R, alloc: Global) -> ((u64, u64), Option<u64>) {
     let (mut planner, mut watchers) = open_board(rt, alloc, ONE, 0, 10);
     let plan = plan_of(rt, alloc, ONE);

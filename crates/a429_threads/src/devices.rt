@@ -1,6 +1,7 @@
 //! Devices that fail in one call and go on after it, and a gate that is shut at one point.
 use a429_filter::{LineSource, MemoryLine, SourceFault};
-use a429_workers::{BusSink, Gate, GateFault, MemorySink, Point, Sent, SinkFault};
+use a429_values::Accept;
+use a429_workers::{BusSink, Gate, GateFault, MemorySink, Point, ReceiveTotals, Sent, SinkFault};
 use std::alloc::Global;
 use std::process::Abort;
 
@@ -101,10 +102,12 @@ pub struct ShutGate {
 }
 
 impl Gate for ShutGate {
-    fn pass(&self, point: Point) -> Result<(), GateFault> {
+    fn pass<S>(&self, point: Point, _shown: &S) -> Result<(), GateFault> {
         if point == self.at {
             return Err(GateFault);
         }
         Ok(())
     }
+
+    fn tell_counted(&self, _answer: Accept, _totals: &ReceiveTotals) {}
 }

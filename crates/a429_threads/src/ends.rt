@@ -49,7 +49,7 @@ fn ends_of<R: Abort, const C: u32>(
     }
 }
 
-/// Those ends of the station of a table, where words are counted in C bits.
+/// Those ends of the station of a table, with words counted in C bits.
 pub fn open_ends<R: Abort, const C: u32>(rt: &R, alloc: Global, table: &str) -> Ends
     requires { (1 ≤ C) × (C ≤ 41) }
     ensures { result.transmitter.number ≡ 0 }

@@ -1,6 +1,5 @@
 //! Stations that run, on threads of their own. The words: 00000080 has label 001, 00000040 has 002, 80000021 has 204.
 ghost use Rattle.std.specs.Prelude.{◌≡◌, length, vec_len};
-ghost use Rattle.a429_station.specs.Resubmitting.{GoesOn};
 
 mod holds;
 mod in_turn;
@@ -10,10 +9,9 @@ mod stopping;
 use crate::devices::{FailingLine, FailingSink, line_of, sink_of};
 use crate::support::{EVEN, FIRST, ONE, SECOND, THREE, THREE_FASTER, TWO, let_go, read};
 use a429_equipment::Equipment;
-use a429_station::{Control, LiveFault, NoControl, ReplanFault, Report, Station, live};
-use a429_table::{FaultKind, TableFault, TablePlace};
+use a429_station::{Control, LiveFault, Report, Station, live};
 use a429_word::Word;
-use a429_workers::{Gate, OpenGate, ReceiveTotals, Sent};
+use a429_workers::{Gate, ReceiveTotals, Sent};
 use holds::{CONTROL, Held, MarksRun, TURNS, gate};
 use spacing::count_spaced_words;
 use std::alloc::{AllocError, Global};
@@ -140,7 +138,7 @@ struct Outcome {
     /// Of the first group, the words and the plan in force at the end.
     words: u64,
     plan: u64,
-    /// The first cell of the first group, and how many of its cells have a word, where those are two slots apart.
+    /// The first cell of the first group, and how many of its cells have a word, if those are two slots apart.
     first: Option<CellRow>,
     spaced: usize,
 }
@@ -265,117 +263,111 @@ fn word_taken_before_a_cell_goes_out_in_it(rt: HostRuntime) {
     assert!(rt; outcome.first == Some((0, 0, Some(FIRST))));
 }
 
-#[test]
-fn workers_and_control_run_at_once(rt: HostRuntime) {
-    let outcome = run_held(&rt, rt.alloc(), &setup_of(TWO, WORDS, 1), Held::UntilAll);
-    assert!(rt; outcome.accepted == (1, 1) && outcome.cells == (1, 1));
-}
-
-#[test]
-fn frames_of_one_run_are_few(rt: HostRuntime) {
-    let setup = Setup {
-        table: TWO,
-        words: WORDS,
-        frames: 1000001,
-        line_fails: true,
-        sinks_fail: true,
-    };
-    let outcome = run_held(&rt, rt.alloc(), &setup, Held::UntilAll);
-    // No worker came to the gate, and the control did not run.
-    assert!(rt; outcome.fault == Some(LiveFault::TooMuch) && outcome.marks == 0);
-}
-
-#[test]
-fn a_run_of_no_frames_takes_its_words(rt: HostRuntime) {
-    let setup = setup_of(ONE, ONE_WORD, 0);
-    let outcome = run(&rt, rt.alloc(), &setup, &OpenGate, &mut NoControl);
-    assert!(rt; outcome.accepted == (1, 0) && outcome.cells == (0, 0));
-}
-
 /// A word of label 001, one of even parity, and one of a label without a source.
 const MIXED_WORDS: &[&[u32]] = &[&[0x00000080, EVEN, 0x80000021]];
 
-#[test]
-fn words_and_cells_are_counted(rt: HostRuntime) {
-    let setup = setup_of(THREE, MIXED_WORDS, 2);
-    let outcome = run(&rt, rt.alloc(), &setup, &OpenGate, &mut NoControl);
-    assert!(rt; outcome.accepted == (1, 0) && outcome.refused == (1, 1));
-    assert!(rt; outcome.cells == (8, 0) && outcome.plan == 0);
+/// How often two receivers accepted, how many cells two groups sent, and how many words of even parity and without a
+/// source the first receiver had; and the fault.
+type Counts = ((u64, u64), (usize, usize), (u64, u64), Option<LiveFault>);
+
+/// A run at a gate that holds so, and its counts.
+type RunRow = (&'static str, &'static [&'static [u32]], u32, Held, Counts);
+
+static RUNS: [RunRow; 4] = [
+    // Workers and control run at once.
+    (
+        TWO,
+        WORDS,
+        1,
+        Held::UntilAll,
+        ((1, 1), (1, 1), (0, 0), None),
+    ),
+    // A run of no frames takes its words.
+    (
+        ONE,
+        ONE_WORD,
+        0,
+        Held::Nothing,
+        ((1, 0), (0, 0), (0, 0), None),
+    ),
+    // Words and cells are counted.
+    (
+        THREE,
+        MIXED_WORDS,
+        2,
+        Held::Nothing,
+        ((1, 0), (8, 0), (1, 1), None),
+    ),
+    // The frames of one run are few.
+    (
+        TWO,
+        WORDS,
+        1000001,
+        Held::UntilAll,
+        ((0, 0), (0, 0), (0, 0), Some(LiveFault::TooMuch)),
+    ),
+];
+
+/// Whether the run of a row comes to that. A run that is refused begins nothing: no worker comes to its gate, and its
+/// control does not run.
+fn comes_to<R: Threads + Wait + Clock + Abort + Sync>(rt: &R, alloc: Global, row: &RunRow) -> bool {
+    let (table, words, frames, held, counts) = *row;
+    let outcome = run_held(rt, alloc, &setup_of(table, words, frames), held);
+    let Outcome {
+        accepted,
+        cells,
+        refused,
+        fault,
+        ..
+    } = outcome;
+    (accepted, cells, refused, fault) == counts && fault.is_none() == (outcome.marks > 0)
 }
 
-/// Submits a table of its station, then one of another station and one that is no table.
+#[test]
+fn runs_are_counted(rt: HostRuntime) {
+    for row in &RUNS {
+        assert!(rt; comes_to(&rt, rt.alloc(), row));
+    }
+}
+
+/// Submits a table of its station.
 #[derive(Drop)]
-struct MixedTables<'a> {
+struct Publishes<'a> {
     made: &'a AtomicU64,
     published: bool,
-    refused: bool,
 }
 
-/// Whether the faster table is published as plan 1.
-fn publishes_faster<R: Wait>(station: &mut Station<'_, R>) -> bool
-    ensures after { GoesOn station.old station.new }
-{
-    matches!(station.resubmit(THREE_FASTER.as_bytes()), Ok(1))
-}
-
-/// Whether a table of another station is refused.
-fn refuses_other_station<R: Wait>(station: &mut Station<'_, R>) -> bool
-    ensures after { GoesOn station.old station.new }
-{
-    matches!(
-        station.resubmit(ONE.as_bytes()),
-        Err(ReplanFault::StationDiffers)
-    )
-}
-
-/// Whether a text that is no table is refused.
-fn refuses_no_table<R: Wait>(station: &mut Station<'_, R>) -> bool
-    ensures after { GoesOn station.old station.new }
-{
-    let answer = station.resubmit(b"x");
-    matches!(
-        answer,
-        Err(ReplanFault::Table(TableFault::At(FaultKind::NotToml, TablePlace::Root)))
-    )
-}
-
-impl<'a, R: Wait> Control<R> for MixedTables<'a> {
+impl<'a, R: Wait> Control<R> for Publishes<'a> {
     fn run(&mut self, station: &mut Station<'_, R>) -> Result<(), AllocError> {
-        self.published = publishes_faster(station);
+        self.published = matches!(station.resubmit(THREE_FASTER.as_bytes()), Ok(1));
         self.made.fetch_or(CONTROL, Ordering::SeqCst);
-        let differs = refuses_other_station(station);
-        let unread = refuses_no_table(station);
-        self.refused = differs && unread;
         Ok(())
     }
 }
 
-/// Runs two frames of the station while those tables are submitted, and says whether they were answered so.
-fn run_mixed<R: Threads + Wait + Clock + Abort + Sync>(rt: &R, alloc: Global) -> (Outcome, bool) {
+/// Runs two frames of the station while that table is submitted, and says whether it was published.
+fn run_publishing<R: Threads + Wait + Clock + Abort + Sync>(
+    rt: &R,
+    alloc: Global,
+) -> (Outcome, bool) {
     let gate = gate(rt, Held::UntilAnswered, TURNS);
-    let mut control = MixedTables {
+    let mut control = Publishes {
         made: &gate.made,
         published: false,
-        refused: false,
     };
-    let outcome = run(
-        rt,
-        alloc,
-        &setup_of(THREE, NO_WORDS, 2),
-        &gate,
-        &mut control,
-    );
-    let answered = control.published && control.refused;
+    let setup = setup_of(THREE, NO_WORDS, 2);
+    let outcome = run(rt, alloc, &setup, &gate, &mut control);
+    let published = control.published;
     let_go(control);
     let_go(gate);
-    (outcome, answered)
+    (outcome, published)
 }
 
 const NO_WORDS: &[&[u32]] = &[&[]];
 
 #[test]
 fn resubmitted_plans_come_into_force(rt: HostRuntime) {
-    let (outcome, answered) = run_mixed(&rt, rt.alloc());
+    let (outcome, published) = run_publishing(&rt, rt.alloc());
     // Four cells by the table, then eight of two buses by the plan that was published.
-    assert!(rt; answered && outcome.cells == (12, 0) && outcome.words == 0 && outcome.plan == 1);
+    assert!(rt; published && outcome.cells == (12, 0) && outcome.words == 0 && outcome.plan == 1);
 }

@@ -86,7 +86,7 @@ output = [
 ]
 "#;
 
-/// `THREE`, where two words of c are at least two slots apart.
+/// `THREE`, with two words of c at least two slots apart.
 pub const SPACED: &str = r#"version = 1
 rate = 100000
 receiver = [{ name = "r" }]
@@ -104,7 +104,7 @@ output = [
 ]
 "#;
 
-/// `THREE_FASTER`, where two words of c are at least two slots apart.
+/// `THREE_FASTER`, with two words of c at least two slots apart.
 pub const SPACED_FASTER: &str = r#"version = 1
 rate = 100000
 receiver = [{ name = "r" }]
@@ -129,7 +129,7 @@ pub fn read<R: Abort>(rt: &R, alloc: Global, table: &str) -> Equipment {
 
 /// The plan of an equipment.
 fn plan_of_read<R: Abort>(rt: &R, alloc: Global, equipment: &Equipment) -> Plan<OUTPUTS> {
-    // A reader tells that the tables of groups have room.
+    // This call gives the proof a fact: the tables of groups have room.
     let _groups = equipment.groups();
     plan(alloc, equipment).expect(rt, "a plan")
 }
@@ -142,7 +142,7 @@ pub fn plan_of<R: Abort>(rt: &R, alloc: Global, table: &str) -> Plan<OUTPUTS> {
     plan
 }
 
-/// A board with so many watchers, which begins with the plan of a table under this number.
+/// A board with this number of watchers, which begins with the plan of a table under this number.
 pub fn open_board<R: Wait + Abort>(
     rt: &R,
     alloc: Global,
@@ -157,7 +157,7 @@ pub fn open_board<R: Wait + Abort>(
     Board::open(rt, alloc, plan, watchers).expect(rt, "a board")
 }
 
-/// Publishes the plan of a table. Answers the plan's number; none where it is refused.
+/// Publishes the plan of a table. Answers the plan's number; `None` if it is refused.
 pub fn publish<R: Wait + Abort>(
     rt: &R,
     alloc: Global,
@@ -177,5 +177,5 @@ pub fn one_of(all: &mut Vec<Watcher>, planner: &Planner) -> Option<Watcher>
     all.pop()
 }
 
-/// Drops a value. The proof of a call is short, where a drop in place goes through all parts of the value.
+/// Drops a value. The proof of a call is short; that of a drop in place goes through all parts of the value.
 pub fn let_go<T: Drop>(_value: T) {}

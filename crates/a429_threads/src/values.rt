@@ -64,7 +64,7 @@ fn a_load_is_the_last_accepted_word(rt: HostRuntime) {
     assert!(rt; last);
 }
 
-/// Whether the receiver answers these raw words so, where words are counted in C bits; and the load after them.
+/// Whether the receiver answers these raw words so, with words counted in C bits; and the load after them.
 fn load_after<R: Abort, const C: u32>(
     rt: &R,
     alloc: Global,
@@ -91,17 +91,6 @@ fn refused_words_change_nothing(rt: HostRuntime) {
         (SECOND, Accept::CountSpent),
     ];
     assert!(rt; load_after::<_, 1>(&rt, rt.alloc(), &words) == (true, Some((1, FIRST))));
-}
-
-#[test]
-fn words_are_counted_to_the_last(rt: HostRuntime) {
-    let words = [
-        (FIRST, Accept::Accepted(0)),
-        (SECOND, Accept::Accepted(0)),
-        (FIRST, Accept::Accepted(0)),
-        (SECOND, Accept::CountSpent),
-    ];
-    assert!(rt; load_after::<_, 2>(&rt, rt.alloc(), &words) == (true, Some((3, FIRST))));
 }
 
 /// The receivers of a station of two receivers, two sources and two groups, and the desk that gives out its transmitters.

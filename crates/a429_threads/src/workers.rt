@@ -44,8 +44,8 @@ pub struct Workers {
     ghost one_board: { transmit.watcher.book ≡ planner.book },
 }
 
-/// A transmitter of the group that begins with a table's plan at this slot, where slots are left, and the planner of its
-/// board.
+/// A transmitter of the group that begins with a table's plan at this slot, after which slots are left, and the planner
+/// of its board.
 fn open_transmit<R: Wait + Abort>(
     rt: &R,
     alloc: Global,
@@ -79,19 +79,6 @@ pub fn open_workers<R: Wait + Abort>(rt: &R, alloc: Global, table: &str, first_s
         transmit: transmit.expect(rt, "a transmitter"),
         planner,
     }
-}
-
-/// Whether no transmitter of a table's station begins at this slot, since the slots of its first frame cannot be counted.
-fn are_slots_spent<R: Wait + Abort>(rt: &R, alloc: Global, table: &str, first_slot: u64) -> bool {
-    let Ends {
-        receiver,
-        transmitter,
-        ..
-    } = open_ends::<R, 41>(rt, alloc, table);
-    let_go(receiver);
-    let (transmit, planner) = open_transmit(rt, alloc, table, transmitter, first_slot);
-    planner.close(rt);
-    transmit.err() == Some(OpenFault::SlotsSpent)
 }
 
 /// A cell as a row says it: bus, slot and word.
@@ -151,7 +138,7 @@ impl Workers {
         answer == Accept::Accepted(source)
     }
 
-    /// Publishes the plan of a table and tells the transmitter.
+    /// Publishes the plan of a table and gives it to the transmitter.
     fn publish<R: Wait + Abort>(&mut self, rt: &R, alloc: Global, table: &str) -> Option<u64> {
         let Workers {
             transmit,
@@ -202,7 +189,7 @@ fn after_a_frame<R: Wait + Abort>(rt: &R, alloc: Global, table: &str, next: &str
 }
 
 impl Workers {
-    /// Whether the plan of two buses comes into force where the frame is over, and no other within the next frame.
+    /// Whether the plan of two buses comes into force when the frame is over, and no other within the next frame.
     fn changes_at_an_end(&mut self) -> bool {
         self.is_over()
             && self.changes(Ok(1))
@@ -255,28 +242,4 @@ fn a_word_is_sent_as_often_as_it_may_be_held(rt: HostRuntime) {
     let anew = workers.accepts(FIRST, 0) && workers.sends(&[(0, 3, Some(FIRST))]);
     workers.close(&rt);
     assert!(rt; twice && anew);
-}
-
-/// The first slot of the last frame that can be counted, and the cells of that frame.
-const LAST: u64 = u64::MAX - 4;
-
-const LAST_FRAME: &[CellRow] = &[
-    (0, LAST, None),
-    (0, LAST + 1, None),
-    (0, LAST + 2, None),
-    (0, LAST + 3, None),
-];
-
-#[test]
-fn slots_are_counted_to_the_last(rt: HostRuntime) {
-    let mut workers = open_workers(&rt, rt.alloc(), THREE, LAST);
-    let sent = workers.sends(LAST_FRAME);
-    let spent = workers.changes(Err(ChangeFault::SlotsSpent)) && workers.is_over();
-    workers.close(&rt);
-    assert!(rt; sent && spent);
-}
-
-#[test]
-fn no_transmitter_begins_whose_slots_are_spent(rt: HostRuntime) {
-    assert!(rt; are_slots_spent(&rt, rt.alloc(), THREE, LAST + 1));
 }

@@ -136,7 +136,7 @@ module _ (t : TableRecord) (one : length t.receivers ≡ 1) (received : (i : ℕ
   accepted_alike : (limit : ℕ) (u : TableRecord) (n : ℕ) (A : List (ℕ × ℕ)) (raws : List ℕ) → u ≡ t → n ≡ 0 → A ≡ [] → accepted_after limit u n A raws ≡ accepted_after limit t 0 [] raws
   accepted_alike limit u n A raws a b c = cc
 
-  -- the group sent cells, and then was told what was published and met the receiver
+  -- the group sent cells, and then was given what was published and met the receiver
   pub took_given : {L : Type 0} (given : L → List ℕ) (line rest : L) (before after : Option (List Sent)) (receiver heard : ReceiverEnd) (begun sent told done : Transmitting) (planner : Planning)
       (list : List PlanTable) (loads : List Load)
       → EndsAreReady t receiver begun planner → HasListened given line receiver rest heard → HasSentCells begun sent before after → IsSameGroup begun sent → AllByRecursion (IsKnownPlan t) list

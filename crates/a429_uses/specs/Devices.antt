@@ -9,8 +9,8 @@ use Rattle.a429_equipment.specs.TableRecord.{TableRecord}
 use Rattle.a429_workers.specs.declared.cells.Sent.{Sent}
 use Rattle.a429_uses.specs.Stations.{HasWordOfLine}
 
--- A word that is given is that of the next line of the text: eight hexadecimal digits and a line feed, which are read, and nothing else is. The end
--- is that of the text. It says so of readers that tell what they have left.
+-- A word that is given is that of the next line of the text: eight hexadecimal digits and a line feed, which are read,
+-- and nothing else is. The end is that of the text. It says so of readers that say what they have left.
 abbrev pub ReadsWord : Option (List ℕ) → Option (List ℕ) → Result (Option ℕ) SourceFault → Type 0
 ReadsWord before after (Ok None) = IsAtEnd before
 ReadsWord before after (Ok (Some raw)) = (digits : List ℕ) × (raw_word digits ≡ Some raw) × Consumes before after (digits ++ 10 ∷ [])
@@ -32,7 +32,7 @@ sent_line s = line_of s.bus s.slot s.word
 abbrev pub sent_lines : List Sent → List ℕ
 sent_lines cells = flat_map sent_line cells
 
--- writers of this kind tell what they took
+-- writers of this kind say what they took
 abbrev pub TellsTaken : {W : Type 0} → (W → Option (List ℕ)) → Type 0
 TellsTaken {W = W} contents = (w : W) → (text : List ℕ) × (contents w ≡ Some text)
 

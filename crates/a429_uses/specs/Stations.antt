@@ -1,4 +1,4 @@
--- A station of one receiver and one group: its ends, what its threads did, and where the words that it sent come from.
+-- A station of one receiver and one group: its ends, what its threads did, and the origin of the words that it sent.
 use Rattle.std.specs.Prelude.{◌≡◌, ℕ, List, [], Option, Some, Contains, IsTrue, slice_get}
 use Rattle.std.specs.List.{AllByRecursion}
 use Rattle.a429_equipment.specs.Arrivals.{accepts}
@@ -11,7 +11,7 @@ use Rattle.a429_workers.specs.Sends.{HasSent, with_cells}
 use Rattle.a429_workers.specs.Transmitting.{IsKnownPlan, Outset, StandsForCalls, Transmitting}
 use Rattle.a429_workers.specs.declared.cells.Sent.{Sent}
 
--- ---- where words come from
+-- ---- the origin of words
 
 -- a source of the table accepts the word at the receiver, by its parity, its label, its SDI and the filters, and the line gave it
 pub record IsWordOfLine (t : TableRecord) (given : List ℕ) (w : ℕ) : Type 0 where

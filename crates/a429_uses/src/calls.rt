@@ -12,8 +12,8 @@ use a429_table::read_equipment;
 use a429_word::{DataRange, Label, Sdi, Ssm, Word};
 use std::alloc::Global;
 
-/// The symbols of a slot with a word of this label and this data. Refused with `DataRange` if the data has more than 19
-/// bits. It takes no memory.
+/// The symbols of a slot with a word of this label and this data. Error: the data has more than 19 bits. It allocates
+/// no memory.
 pub fn slot_of(label: Label, value: u32) -> Result<[Symbol; SLOT], DataRange>
     ensures { IfOk result (IsSlotOf label value) }
 {
@@ -21,7 +21,8 @@ pub fn slot_of(label: Label, value: u32) -> Result<[Symbol; SLOT], DataRange>
     Ok(write_slot(Some(word)))
 }
 
-/// The equipment that a table states, with its plan. None if the table has a fault or no plan, or memory is refused.
+/// The equipment that a table states, with its plan. `None` if the table has a fault or no plan, or an allocation
+/// failed.
 pub fn plan_table(alloc: Global, table: &[u8]) -> Option<Proposal<OUTPUTS>>
     ensures { IfSome result (λ p. IsPlanOf p.station p.plan) }
 {

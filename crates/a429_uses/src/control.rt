@@ -1,6 +1,9 @@
 //! What the calling thread does while a station runs.
-ghost use Rattle.std.specs.Prelude.{◌≡◌, IfOk};
+ghost use Rattle.std.specs.Prelude.{◌≡◌, true, IfOk, OnErr};
 ghost use Rattle.std.specs.List.{AllByRecursion};
+ghost use Rattle.a429_equipment.specs.SameStation.{same_station};
+ghost use Rattle.a429_station.specs.Resubmitting.{IsPlanned, Publishes};
+ghost use Rattle.a429_uses.specs.Publishing.{running};
 ghost use Rattle.a429_workers.specs.Transmitting.{IsKnownPlan};
 
 use crate::pacing::Marks;
@@ -14,10 +17,11 @@ use std::alloc::Global;
 use std::sync::Wait;
 use std::sync::atomic::Ordering;
 
-/// The plan of a further table of the station. Refused if the table has a fault or no plan, is of another station, or
-/// memory is refused.
+/// The plan of a further table of the station. Error: the table has a fault or no plan, is of another station, or an
+/// allocation failed.
 fn further_plan(alloc: Global, station: &Equipment, table: &[u8]) -> anyhow::Result<Plan<OUTPUTS>>
-    ensures { IfOk result (IsKnownPlan station.now) }
+    ensures known { IfOk result (IsKnownPlan station.now) }
+    ensures planned { IfOk result (λ plan. (of : IsPlanned table.now) × (same_station station.now of.record_of ≡ true) × (plan ≡ of.plan)) }
 {
     one_station_is_equality();
     let next = read_equipment(alloc, table)?;
@@ -28,9 +32,9 @@ fn further_plan(alloc: Global, station: &Equipment, table: &[u8]) -> anyhow::Res
     Ok(plan(alloc, &next)?)
 }
 
-/// Publishes the plan of a further table of the station, which the group takes at its next frame, and answers the plan's
-/// number. Refused if the table has a fault or no plan, is of another station, or memory is refused: then no plan is
-/// published. It may wait for groups that read the board.
+/// Publishes the plan of a further table of the station, which the group takes at its next frame, and answers the
+/// plan's number. Error: the table has a fault or no plan, is of another station, or an allocation failed; then no plan
+/// is published. It may wait for groups that read the board.
 pub fn publish<R: Wait>(
     rt: &R,
     alloc: Global,
@@ -41,12 +45,14 @@ pub fn publish<R: Wait>(
     requires plans { AllByRecursion (IsKnownPlan station.now) planner.old.list }
     ensures plans { AllByRecursion (IsKnownPlan station.now) planner.new.list }
     ensures board { planner.new.book ≡ planner.old.book }
+    ensures published { IfOk result (λ n. Publishes (running station.now planner.old) table.now n (running station.now planner.new)) }
+    ensures unchanged { OnErr result (planner.new ≡ planner.old) }
 {
     let plan = further_plan(alloc, station, table)?;
     Ok(planner.publish(rt, plan)?)
 }
 
-/// A further table, and who is told that its plan was published.
+/// A further table, and the marks that record that its plan was published.
 #[derive(Drop)]
 pub struct PublishControl<'a> {
     pub table: &'a [u8],
@@ -54,7 +60,7 @@ pub struct PublishControl<'a> {
 }
 
 impl<'a> PublishControl<'a> {
-    /// Publishes the plan of its table, as `publish` does.
+    /// Publishes the plan of its table by `publish`.
     pub fn run<R: Wait>(
         &self,
         rt: &R,
@@ -65,6 +71,8 @@ impl<'a> PublishControl<'a> {
         requires plans { AllByRecursion (IsKnownPlan station.now) planner.old.list }
         ensures plans { AllByRecursion (IsKnownPlan station.now) planner.new.list }
         ensures board { planner.new.book ≡ planner.old.book }
+        ensures published { IfOk result (λ n. Publishes (running station.now planner.old) self.now.table.now n (running station.now planner.new)) }
+        ensures unchanged { OnErr result (planner.new ≡ planner.old) }
     {
         let answer = publish(rt, alloc, planner, station, self.table);
         self.marks.plans.fetch_add(1, Ordering::SeqCst);

@@ -4,8 +4,8 @@ ghost use Rattle.a429_uses.specs.Histories.{items_of};
 
 use std::snapshot::Snapshot;
 
-/// What happened, one item after another. A program has the last item alone. Those before it are in a snapshot, which
-/// proofs read and which takes no memory, however long the history is.
+/// What happened, one item after another. A program has only the last item. Those before it are in a snapshot, which
+/// proofs read and which takes no memory, even for a long history.
 #[derive(Drop)]
 pub enum History<T: Drop> {
     Nothing,

@@ -20,7 +20,7 @@ fn is_at_end<R: BufRead>(reader: &mut R) -> io::Result<bool>
     Ok(reader.fill_buf()?.is_empty())
 }
 
-/// Reads the word of the next line of a text: eight hexadecimal digits and a line feed. None at the end. Refused if the
+/// Reads the word of the next line of a text: eight hexadecimal digits and a line feed. `None` at the end. Error: the
 /// reader fails, or the line has another form.
 fn read_word<R: BufRead>(reader: &mut R) -> Result<Option<u32>, SourceFault>
     ensures word { ReadsWord (R.remaining reader.old) (R.remaining reader.new) result }

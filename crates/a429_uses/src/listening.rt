@@ -1,6 +1,7 @@
 //! A receiver and its line, of any length.
+ghost use Rattle.std.specs.Prelude.{IfOk};
 ghost use Rattle.a429_workers.specs.Receives.{IsSameReceiver};
-ghost use Rattle.a429_uses.specs.Listening.{HasListened};
+ghost use Rattle.a429_uses.specs.Listening.{HasHeard, HasListened, HasListenedToEnd, heard_at};
 
 use a429_filter::{LineSource, SourceFault};
 use a429_values::{Accept, Receiver};
@@ -20,7 +21,7 @@ fn hear<L: LineSource>(
     receiver: &mut Receiver,
     heard: &mut LineCount,
 ) -> Result<bool, SourceFault>
-    ensures listened { HasListened L.given line.old receiver.old line.new receiver.new }
+    ensures heard { HasHeard L.LineSource (heard_at line.old receiver.old heard.old) (heard_at line.new receiver.new heard.new) result }
     ensures same { IsSameReceiver receiver.old receiver.new }
 {
     let Some(raw) = line.next()? else {
@@ -28,21 +29,24 @@ fn hear<L: LineSource>(
     };
     match receiver.accept(raw) {
         Accept::Accepted(_) => heard.accepted = heard.accepted.saturating_add(1),
-        _ => heard.refused = heard.refused.saturating_add(1),
+        Accept::Parity | Accept::Filtered | Accept::NoSource | Accept::CountSpent => {
+            heard.refused = heard.refused.saturating_add(1)
+        }
     }
     Ok(true)
 }
 
-/// Takes the words of a line for a receiver until the line ends, however many. The error is that the line failed, or that
-/// the gate ended the loop after a word: whatever it answers, the receiver took each word that the line gave. It takes
-/// no memory.
-#[tactic(auto, using(crate::proofs::Listened::listened_then, a429_workers::proofs::Hearing::same_receiver))]
+/// Takes the words of a line for a receiver until the line ends, without a limit. Error: the line failed, or the gate
+/// ended the loop after a word. In any case the receiver took each word that the line gave. The call allocates no
+/// memory.
+#[tactic(auto, using(crate::proofs::Listened::none_heard, crate::proofs::Listened::heard_more, crate::proofs::Listened::heard_end, crate::proofs::Listened::heard_is_listened, a429_workers::proofs::Hearing::same_receiver))]
 pub fn listen<L: LineSource, G: Gate>(
     line: &mut L,
     receiver: &mut Receiver,
     gate: &G,
 ) -> anyhow::Result<LineCount>
     ensures listened { HasListened L.given line.old receiver.old line.new receiver.new }
+    ensures whole { IfOk result (HasListenedToEnd L.LineSource line.old receiver.old line.new receiver.new) }
     ensures same { IsSameReceiver receiver.old receiver.new }
 {
     let number = receiver.number();
@@ -54,7 +58,7 @@ pub fn listen<L: LineSource, G: Gate>(
         if !hear(line, receiver, &mut heard)? {
             return Ok(heard);
         }
-        gate.pass(Point::AfterAccept(number, place))?;
+        gate.pass(Point::AfterAccept(number, place), &*receiver)?;
     }
     Ok(heard)
 }

@@ -1,19 +1,19 @@
-//! A program of its own on the libraries of a429: copy it, and put your devices in place of its two.
+//! A program of its own on the libraries of a429: copy it, and put your devices in the places of its two.
 //!
 //! ```text
 //! usage: a429_uses TABLE NEXT FRAMES WORDS < LINES
 //! ```
 //!
-//! It runs the station of the table TABLE, which has one receiver and one group. The words that come in are the lines of
-//! standard input, eight hexadecimal digits each. The group sends FRAMES frames, and prints each word as a line of
-//! standard output. Meanwhile the plan of the table NEXT is published. So that the same words go out in each run, the
-//! group waits until WORDS words were taken.
+//! It runs the station of the table TABLE, which has one receiver and one group. The words that come in are the lines
+//! of standard input, eight hexadecimal digits each. The group sends FRAMES frames, and prints each word as a line of
+//! standard output. During the run the plan of the table NEXT is published. So that the same words go out in each run,
+//! the group waits until WORDS words were taken.
 //!
 //! | File | Has | In your program |
 //! |---|---|---|
 //! | `line.rt` | `HexLine`: a line whose words come as text | your receiver |
 //! | `bus.rt` | `PrintBus`: a bus that prints words | your transmitter |
-//! | `control.rt` | `PublishControl`: what runs beside the station, here `publish` | what publishes your tables |
+//! | `control.rt` | `PublishControl`: what runs next to the station, here `publish` | what publishes your tables |
 //! | `pacing.rt` | `LateStart`: when the group begins | `OpenGate` of `a429_workers` |
 //! | `station.rt` | `run_station`, `run_printing`: threads, and what is proved of them | as it is |
 //! | `listening.rt` | `listen`: a receiver and its line, of any length | as it is |
@@ -66,7 +66,7 @@ struct UseArguments {
     words: u64,
 }
 
-/// The words of the command line, with the program's name.
+/// The arguments, with the program's name first.
 fn given_words<R: Env + AllocGlobal>(rt: &R) -> io::Result<Vec<String>> {
     let mut words = Vec::new(rt.alloc());
     for word in env::args(rt)? {
@@ -75,7 +75,7 @@ fn given_words<R: Env + AllocGlobal>(rt: &R) -> io::Result<Vec<String>> {
     Ok(words)
 }
 
-/// Reads the command line and the tables. None if the words of the command line are others than these four.
+/// Reads the arguments and the tables. `None` if there are not exactly these four arguments.
 fn read_arguments<R: Env + Files + AllocGlobal>(rt: &R) -> anyhow::Result<Option<UseArguments>> {
     let words = given_words(rt)?;
     let [_, table, next, frames, count] = words.as_slice() else {

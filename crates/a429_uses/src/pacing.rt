@@ -1,6 +1,7 @@
 //! When sending begins.
 
-use a429_workers::{Gate, GateFault, Point};
+use a429_values::Accept;
+use a429_workers::{Gate, GateFault, Point, ReceiveTotals};
 use std::sync::atomic::{AtomicU64, Ordering};
 use std::thread;
 use std::time::{Clock, Duration};
@@ -25,8 +26,8 @@ impl Marks {
 /// How many turns of a millisecond a group waits at most.
 const TURNS: u64 = 10000;
 
-/// Lets no group send before so many words were taken and the further table was answered, so that the same words go out in each
-/// run. A station that runs beside real buses takes `OpenGate` in its place.
+/// Lets the group send only after this number of words was taken and the further table was answered, so that the same
+/// words go out in each run. A station with real buses takes `OpenGate` instead.
 #[derive(Drop)]
 pub struct LateStart<'a, R: Clock> {
     pub rt: &'a R,
@@ -50,7 +51,7 @@ impl<'a, R: Clock> LateStart<'a, R> {
 }
 
 impl<'a, R: Clock> Gate for LateStart<'a, R> {
-    fn pass(&self, point: Point) -> Result<(), GateFault> {
+    fn pass<S>(&self, point: Point, _shown: &S) -> Result<(), GateFault> {
         match point {
             Point::AfterAccept(..) => {
                 self.marks.words.fetch_add(1, Ordering::SeqCst);
@@ -60,4 +61,6 @@ impl<'a, R: Clock> Gate for LateStart<'a, R> {
             _ => Ok(()),
         }
     }
+
+    fn tell_counted(&self, _answer: Accept, _totals: &ReceiveTotals) {}
 }

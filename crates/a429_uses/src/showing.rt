@@ -1,4 +1,4 @@
-//! What the program prints beside the words that go out.
+//! What the program prints in addition to the words that go out.
 ghost use Rattle.std.specs.Prelude.{◌≡◌, ◌<◌, length};
 
 use crate::calls::{plan_table, simulate, slot_of};
@@ -18,7 +18,7 @@ use std::io;
 use std::sync::Wait;
 use std::thread::Threads;
 
-/// The line on which one word stands, of label 203.
+/// A line with one word, of label 203.
 fn line_of_one_word(alloc: Global) -> anyhow::Result<MemoryLine> {
     let mut symbols = Vec::from_array(alloc, slot_of(Label::new(0o203), 8000)?)?;
     symbols.extend_from_slice(&write_slot(None))?;

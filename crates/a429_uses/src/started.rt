@@ -12,11 +12,11 @@ use std::alloc::Global;
 use std::sync::Wait;
 use std::thread::Threads;
 
-/// Runs a station of any number of receivers and groups, with a line for each receiver and a bus for each group: each
-/// group sends so many frames, and each receiver takes the words of its line, a million at most. It answers when all
-/// have ended. What each group did is then one run of the machine. The error is that of `live`, whose gate is open: the
-/// table has no plan, there are more than a million frames, a thread is not started, or else the first fault of a line
-/// or of a bus, or memory that is refused.
+/// Runs a station of any number of receivers and groups, with a line for each receiver and a bus for each group. Each
+/// group sends this number of frames, and each receiver takes the words of its line, a million at most. It answers when
+/// all have ended. What each group did is then one run of the machine. The error is that of `live`, whose gate is open:
+/// the table has no plan, there are more than a million frames, or a thread is not started. Otherwise it is the first
+/// fault of a line or of a bus, or a failed allocation.
 pub fn run_all<R: Threads + Wait, L: LineSource + Send + Drop, B: BusSink + Send + Drop>(
     rt: &R,
     alloc: Global,

@@ -124,7 +124,7 @@ fn open_station<R: Wait>(
     })
 }
 
-/// Sends so many frames of a group.
+/// Sends this number of frames of a group.
 fn send<B: BusSink, G: Gate>(
     transmit: &mut Transmit,
     bus: &mut B,
@@ -138,7 +138,8 @@ fn send<B: BusSink, G: Gate>(
     send_frames(transmit, bus, 0, frames, gate)
 }
 
-/// The receiver takes the words of its line on a thread of its own, and the calling one runs the control meanwhile.
+/// The receiver takes the words of its line on a thread of its own, and at the same time the calling one runs the
+/// control.
 fn listen_and_publish<R: Threads + Wait + Sync, L: LineSource + Send, G: Gate + Sync>(
     rt: &R,
     alloc: Global,
@@ -164,8 +165,8 @@ fn listen_and_publish<R: Threads + Wait + Sync, L: LineSource + Send, G: Gate + 
     )
 }
 
-/// Runs the threads of a station: one sends so many frames of the group, one takes the words of the line, and the
-/// calling one runs the control. It returns when all have ended.
+/// Runs the threads of a station: one sends this number of frames of the group, one takes the words of the line, and
+/// the calling one runs the control. It returns when all have ended.
 fn run_threads<R: Threads + Wait + Sync, L: LineSource + Send, B: BusSink + Send, G: Gate + Sync>(
     rt: &R,
     alloc: Global,
@@ -207,10 +208,10 @@ fn run_threads<R: Threads + Wait + Sync, L: LineSource + Send, B: BusSink + Send
     }
 }
 
-/// Runs a station of one receiver and one group: the receiver takes the words of the line to its end, the group sends so
-/// many frames, and the control runs, all at once. Each word that the bus took is one that a source of the table accepts,
-/// and that the line gave. So it is whatever the threads answered. The error is that the station was not opened, since
-/// the equipment has no plan or memory is refused.
+/// Runs a station of one receiver and one group. All at once, the receiver takes the words of the line to its end, the
+/// group sends this number of frames, and the control runs. Each word that the bus took is one that a source of the
+/// table accepts, and that the line gave. This is so for any answers of the threads. Error: the station was not opened,
+/// since the equipment has no plan or an allocation failed.
 pub fn run_station<
     R: Threads + Wait + Sync,
     L: LineSource + Send,
@@ -248,10 +249,10 @@ pub fn run_station<
     Ok(done)
 }
 
-/// Runs a station as `run_station` does, whose words come in as text and go out as text. As long as its writer did not
-/// fail, what the bus printed is the lines of cells, and each word in them is one that a source of the table accepts, and
-/// that the line gave. It says so of writers that tell what they took, such as a `Vec<u8>`; what becomes of a text on
-/// standard output, no clause can say.
+/// Runs a station by `run_station`, whose words come in as text and go out as text. As long as its writer did not fail,
+/// what the bus printed is the lines of cells. Each word in them is one that a source of the table accepts, and that
+/// the line gave. It says so of writers that say what they took, such as a `Vec<u8>`. No clause covers what becomes of
+/// a text on standard output.
 pub fn run_printing<
     R: Threads + Wait + Sync,
     I: BufRead + Send + Drop,

@@ -1,4 +1,4 @@
--- Cuts stay where a list grows, one more load has a cut of its own, and no count goes back.
+-- Cuts stay when a list grows, one more load has a cut of its own, and no count goes back.
 use Rattle.std.proofs.Common.{◌≡◌, ℕ, ◌≤◌, List, [], ◌∷◌, ◌++◌, length, take, Bool, true, false, refl, sym, ap, ◌∙◌, subst, arith}
 use lib.Seq.{take-length}
 use Rattle.a429_equipment.specs.declared.loads.Load.{Load}

@@ -52,7 +52,7 @@ given_more xs r i seat given = reseated (λ (q : ℕ) (o : Option ℕ). list_any
     (list_any-append (λ y. eqb y r) xs (r ∷ []) ∙ rw (eq-eqb r r refl) (or_true (list_any (λ y. eqb y r) xs)))
     (λ q ne. list_any-append (λ y. eqb y q) xs (r ∷ []) ∙ rw (ne_eqb r q (λ is. ne (sym is))) (or-false (list_any (λ y. eqb y q) xs)) ∙ given q)
 
--- where a number that was given out goes to another seat, the same numbers are given out
+-- if a number that was given out goes to another seat, the same numbers are given out
 still_given : (r i : ℕ) (seat : ℕ → Option ℕ) → is_some (seat r) ≡ true → (q : ℕ) → is_some (reseat r i seat q) ≡ is_some (seat q)
 still_given r i seat is = reseated (λ (q : ℕ) (o : Option ℕ). is_some o ≡ is_some (seat q)) r i seat (sym is) (λ q ne. refl)
 
@@ -87,11 +87,11 @@ module _ (t : TableRecord) (seat sender : ℕ → Option ℕ) (acc : ℕ → Lis
     transmits = λ sends q. agrees_put v.number e q v.loads (f.transmits sends q);
   }
 
-  -- where a seat is given to a number, a view fits that is no desk
+  -- if a seat is given to a number, a view fits that is not a desk
   no_desk_fits : (seat' sender' : ℕ → Option ℕ) (u : View) → (u.deals ≡ true → ⊥) → Fits t seat sender acc u → Fits t seat' sender' acc u
   no_desk_fits seat' sender' u never f = record { station = f.station; apart = f.apart; given = λ desk. absurd (never desk); sent = λ desk. absurd (never desk); receives = f.receives; transmits = f.transmits }
 
-  -- where a receiver that was given out goes to another seat, each view fits
+  -- if a receiver that was given out goes to another seat, each view fits
   moved_fits : (r to : ℕ) (u : View) → is_some (seat r) ≡ true → Fits t seat sender acc u → Fits t (reseat r to seat) sender acc u
   moved_fits r to u is f = record { station = f.station; apart = f.apart; given = λ desk q. f.given desk q ∙ sym (still_given r to seat is q); sent = f.sent; receives = f.receives; transmits = f.transmits }
 
@@ -110,7 +110,7 @@ module _ (t : TableRecord) (seat sender : ℕ → Option ℕ) (acc : ℕ → Lis
       let P : Bool → Type 0 = λ c. IsCutOfLoad c (acc q) h.0 l h.0 in
       (h.0, cuts_longer (is_of t q) (acc q) 0 ls h.0 l h.0 h.1 (subst P (sym is) refl), (λ on. absurd (cc)))
 
--- every view but one fits as it did
+-- every other view fits as it did
 each_set : (F : View → Type 0) (views : List View) (id : ℕ) (w : View) → ((j : ℕ) (u : View) → j ≢ id → get_elem? views j ≡ some u → F u) → F w → (j : ℕ) (u : View) → get_elem? (set views id w) j ≡ some u → F u
 each_set F views id w others mine j u e = ⊎_elim (λ (x : (j ≡ id) × (w ≡ u)). subst F x.1 mine) (λ (x : (j ≢ id) × (get_elem? views j ≡ some u)). others j u x.0 x.1) (at_set views id j w u e)
 

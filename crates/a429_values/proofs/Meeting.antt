@@ -31,7 +31,7 @@ below_this t r n A ls is = append_assoc ls (loads_below t r A n) (load_after n A
 pub below_other : (t : TableRecord) (r n : ℕ) (A : List (ℕ × ℕ)) (ls : List Load) → is_of t r n ≡ false → ls ++ loads_below t r A n ≡ ls ++ loads_below t r A (suc n)
 below_other t r n A ls is = ap (λ (xs : List Load). ls ++ xs) (sym (below_snoc t r n A ∙ rw is (append-nil (loads_below t r A n))))
 
--- the loads agree with what the receiver accepted, and the last cut is all of it where it has a source below n
+-- the loads agree with what the receiver accepted, and the last cut is all of it if it has a source below n
 abbrev pub MetBelow : TableRecord → ℕ → List (ℕ × ℕ) → List Load → ℕ → Type 0
 MetBelow t r A loads n = (last : ℕ) × AgreesTo t r A loads last × ((s : ℕ) → s < n → is_of t r s ≡ true → last ≡ length A)
 

@@ -71,7 +71,7 @@ module _ (views : List View) (P : View → Type 0) where
         (at_set views id i w h.0 h.1)),
   )
 
-  -- another seat is one in place of the one that was
+  -- another seat is one instead of the one that was
   pub just_moved : (id other : ℕ) (v b x : View) → get_elem? views id ≡ some v → other ≢ id → P b → (P x → ⊥) → JustAt views P (Some other) → JustAt (set (set views id b) other x) P (Some id)
   just_moved id other v b x here apart has never just i = (
     (λ e. (b, ap (get_elem? (set (set views id b) other x)) (sym (same_seat id i e)) ∙ set_else (set views id b) other id x (λ is. apart (sym is)) ∙ put_at views id v b here, has)),
@@ -91,7 +91,7 @@ just_none P i = ((λ e. absurd (cc)), (λ h. absurd (some-ne-none h.0 (sym h.1))
 abbrev pub reseat : ℕ → ℕ → (ℕ → Option ℕ) → ℕ → Option ℕ
 reseat r i seat q = cond (eqb q r) (Some i) (seat q)
 
--- what holds of r at its new seat, and of any other number at its old one, holds of all
+-- what is true of r at its new seat, and of any other number at its old one, is true of all
 pub reseated : (Q : ℕ → Option ℕ → Type 0) (r i : ℕ) (seat : ℕ → Option ℕ) → Q r (Some i) → ((q : ℕ) → q ≢ r → Q q (seat q)) → (q : ℕ) → Q q (reseat r i seat q)
 reseated Q r i seat here others q = dite (ℕ_discrete q r)
     (λ is. rw (eq-eqb q r is) (subst (λ (k : ℕ). Q k (Some i)) (sym is) here))

@@ -4,8 +4,8 @@ use Rattle.a429_equipment.specs.declared.loads.Load.{Load}
 use Rattle.a429_equipment.specs.TableRecord.{TableRecord}
 use Rattle.a429_equipment.specs.Agreement.{is_of, AgreesTo, Cuts}
 
--- Whatever the receiver accepts and the transmitter loads after these lists, in every way in which they agree the loads so far have a last
--- cut that is no shorter than what was accepted so far, and later cuts begin there.
+-- The receiver may accept more, and the transmitter may load more, after these lists. In every way in which they agree,
+-- the loads so far have a last cut. It is at least as long as what was accepted so far, and later cuts begin there.
 abbrev pub StaysWhole : TableRecord → ℕ → List (ℕ × ℕ) → List Load → Type 0
 StaysWhole t r A loads =
     (more : List (ℕ × ℕ)) (later : List Load) (last : ℕ) → Cuts (is_of t r) (A ++ more) 0 (loads ++ later) last

@@ -1,5 +1,5 @@
--- The rule of the table: what holds of its words and of all views between any two steps. A view is that of a desk, a receiver, a transmitter,
--- a receiver and transmitter in one, or of a spent seat.
+-- The rule of the table: what is true of its words and of all views between any two steps. A view is that of a desk, a
+-- receiver, a transmitter, a receiver and transmitter in one, or of a spent seat.
 use Rattle.std.specs.Prelude.{◌≡◌, ◌==◌, ◌↔◌, ℕ, ◌≤◌, List, [], length, slice_get, slice_index, is_some, Option, None, Some, true, false}
 use Rattle.std.specs.List.{list_any}
 use mathlib.Core.Option.{some}
@@ -16,11 +16,11 @@ use Rattle.a429_values.specs.Words.{packed}
 abbrev pub number_of : Load → ℕ
 number_of l = packed l.count l.word
 
--- seat i has a view, and P holds of it
+-- seat i has a view, and P is true of it
 abbrev pub HasAt : List View → (View → Type 0) → ℕ → Type 0
 HasAt views P i = (v : View) × (get_elem? views i ≡ some v) × P v
 
--- P holds of the view of this seat and of no other view; without a seat, of no view at all
+-- P is true of the view of this seat and of no other view; without a seat, of no view at all
 abbrev pub JustAt : List View → (View → Type 0) → Option ℕ → Type 0
 JustAt views P seat = (i : ℕ) → (seat ≡ Some i) ↔ HasAt views P i
 
@@ -33,8 +33,8 @@ IsReceiver r v = (v.receives ≡ true) × (v.number ≡ r)
 abbrev pub IsTransmitter : ℕ → View → Type 0
 IsTransmitter g v = (v.transmits ≡ true) × (v.group ≡ g)
 
--- What the rule says of one view. Here `seat r` is the seat of receiver r, and `sender g` that of the transmitter of group g, where they were
--- given out; `accepted r` is the list of receiver r.
+-- What the rule says of one view. Here `seat r` is the seat of receiver r, and `sender g` that of the transmitter of
+-- group g, if they were given out; `accepted r` is the list of receiver r.
 pub record Fits (t : TableRecord) (seat sender : ℕ → Option ℕ) (accepted : ℕ → List (ℕ × ℕ)) (v : View) : Type 0 where
   -- it is of this station, unless it is spent
   pub station : (v.deals ≡ true → v.station ≡ t) × (v.receives ≡ true → v.station ≡ t) × (v.transmits ≡ true → v.station ≡ t)
@@ -56,7 +56,7 @@ pub record KeepsRule (t : TableRecord) (words : List ℕ) (views : List View) : 
   -- each source's number is that of all words that its receiver's list has of it
   pub long : length t.sources ≤ length words
   pub known : (s : ℕ) (row : SourceRow) → slice_get t.sources s ≡ Some row → slice_index words s ≡ number_of (load_after s (accepted row.receiver))
-  -- a list has words of its receiver's sources alone, and none where the receiver was not given out
+  -- a list has only words of its receiver's sources; it is empty if the receiver was not given out
   pub valid : (r : ℕ) → AreAccepted t r (accepted r)
   pub unused : (r : ℕ) → seat r ≡ None → accepted r ≡ []
   pub each : (i : ℕ) (v : View) → get_elem? views i ≡ some v → Fits t seat sender accepted v

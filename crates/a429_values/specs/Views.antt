@@ -75,7 +75,7 @@ Deals v r w other = (w ≡ dealt v r) × (other ≡ receiver v.station r)
 abbrev pub DealsTransmitter : View → ℕ → View → View → Type 0
 DealsTransmitter v g w other = (w ≡ dealt_transmitter v g) × (other ≡ transmitter v.station g)
 
--- a transmitter and no receiver, and a receiver and no transmitter
+-- the first is a transmitter only, the second a receiver only
 abbrev pub CanMeet : View → View → Type 0
 CanMeet v w = (v.transmits ≡ true) × (v.receives ≡ false) × (w.receives ≡ true) × (w.transmits ≡ false)
 
@@ -87,10 +87,10 @@ ReceivesFor v t = (v.receives ≡ true) × (v.station ≡ t)
 abbrev pub IsNextCount : View → ℕ → ℕ → Type 0
 IsNextCount v source count = (count ≡ length (words_of source v.accepted) + 1) × (count < 2 ^ count_bits)
 
--- ---- what the steps tell
+-- ---- what the steps find
 
--- a load that found the number, and no earlier one of its source found more words. The loads agree with the list of the receiver whose seat
--- this is too, and it is the load after all of that list where its source is one of that receiver's
+-- A load that found the number; no earlier load of its source found more words. The loads agree with the list of the
+-- receiver whose seat this is too. If the source is one of that receiver's, it is the load after all of that list.
 pub record HasFound (v : View) (s number : ℕ) (w : View) : Type 0 where
   pub load : Load
   pub view : w ≡ with_load v load

@@ -3,7 +3,7 @@ use Rattle.std.specs.Prelude.{◌≡◌, ◌+◌, ◌*◌, ◌<◌, ◌^◌, ℕ
 use Rattle.a429_word.specs.Bits.{has_odd_parity, label_of, number_from}
 use Rattle.a429_equipment.specs.declared.loads.Load.{Load}
 
--- a count above 23 bits of a word; 0 where there is none
+-- a count above 23 bits of a word; 0 if there is no word
 abbrev pub packed : ℕ → Option ℕ → ℕ
 packed count None = 0
 packed count (Some word) = count * 2 ^ 23 + number_from 9 23 word
@@ -17,7 +17,7 @@ load_of s (Some found) = record { source = s; count = found.0; word = Some found
 abbrev pub HasLabel : ℕ → ℕ → Type 0
 HasLabel label word = (word < 2 ^ 32) × IsTrue (has_odd_parity word) × (label_of word ≡ label)
 
--- there is a last word where words were counted, and it has this label
+-- if words were counted, there is a last one, and it has this label
 abbrev pub IsCounted : ℕ → ℕ → Option ℕ → Type 0
 IsCounted label count None = count ≡ 0
 IsCounted label count (Some word) = (0 < count) × HasLabel label word

@@ -46,7 +46,7 @@ pub enum HubFault {
     /// Its number was given out before.
     #[error("already taken")]
     AlreadyTaken,
-    /// Memory was refused. The number was not given out.
+    /// An allocation failed. The number was not given out.
     #[error("out of memory")]
     NoMemory,
 }
@@ -62,7 +62,7 @@ impl From<AllocError> for HubFault {
     }
 }
 
-/// What a receiver has beside its seat.
+/// What a receiver has in addition to its seat.
 #[derive(Drop)]
 struct ReceiverParts {
     wired: Arc<Wired, Global>,
@@ -96,8 +96,9 @@ impl Desk {
         }
     }
 
-    /// Gives out the receiver of this number, which has accepted nothing yet. `AlreadyTaken` just where it
-    /// was given out before. Where it is refused, nothing changes.
+    /// Gives out the receiver of this number, which has accepted nothing yet. Errors: `AlreadyTaken` if and only if it
+    /// was given out before; `NoMemory` if an allocation failed, or if the hub counts no further owner. Then nothing
+    /// changes.
     pub fn receiver<const S: usize, const C: u32>(
         &mut self,
         alloc: Global,
@@ -134,8 +135,9 @@ impl Desk {
         })
     }
 
-    /// Gives out the transmitter of this group, which has loaded nothing yet. `AlreadyTaken` just where it
-    /// was given out before. Where it is refused, nothing changes.
+    /// Gives out the transmitter of this group, which has loaded nothing yet. Errors: `AlreadyTaken` if and only if it
+    /// was given out before; `NoMemory` if an allocation failed, or if the hub counts no further owner. Then nothing
+    /// changes.
     pub fn transmitter<const S: usize, const C: u32>(
         &mut self,
         hub: &Hub<S, C>,

@@ -33,15 +33,15 @@ impl<const S: usize, const C: u32> Model for Hub<S, C> {
 }
 
 impl<const S: usize, const C: u32> Hub<S, C> {
-    /// A hub of this station, with the desk that gives out its receivers and transmitters, none of which
-    /// was given out yet. The error is that memory was refused.
+    /// A hub of this station, with the desk that gives out its receivers and transmitters, of which none was given out
+    /// yet. Error: an allocation failed.
     pub fn open(alloc: Global, equipment: &Equipment) -> Result<(Hub<S, C>, Desk), AllocError>
         requires sources { length equipment.now.sources ≤ S }
         requires bits { (1 ≤ C) × (C ≤ count_bits) }
         ensures station { IfOk result (λ ends. ends.0.station ≡ equipment.now) }
         ensures desk { IfOk result (λ ends. ends.1 ≡ record { at = ends.0; receivers = []; transmitters = [] }) }
     {
-        // Seats step on the first word, also where there is no source.
+        // Seats step on the first word, even if there is no source.
         let words = zeros(alloc, S.max(1))?;
         let about = Snapshot::of(equipment);
         let (shared_words, seat): (SharedWords, HubSeat) = Table::of_words(

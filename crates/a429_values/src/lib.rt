@@ -1,10 +1,10 @@
 //! The current value of each source, shared by threads: receivers accept words, and transmitters load the last
 //! accepted one, each by one step on one word of a table.
 //!
-//! `Hub::open` makes the shared table of an equipment, and a `Desk`, which gives out each receiver and each
-//! transmitter once. `Receiver::accept` takes a raw word, `Transmitter::load` has the last accepted word of a source.
-//! Both wait for nobody and take no memory, on whatever threads they are. `Transmitter::meet` shows that what was
-//! loaded is what the receiver accepted.
+//! `Hub::open` makes the shared table of an equipment, and a `Desk`, which gives out each receiver and each transmitter
+//! once. `Receiver::accept` takes a raw word, `Transmitter::load` has the last accepted word of a source. Both wait for
+//! nobody and allocate no memory, on any threads. `Transmitter::meet` shows that what was loaded is what the receiver
+//! accepted.
 //!
 //! ```text
 //! let (hub, mut desk) = Hub::<SOURCES, COUNT_BITS>::open(alloc, &equipment)?;

@@ -119,8 +119,8 @@ impl Receiver {
         self.number
     }
 
-    /// Takes a raw word that came in. It is answered by the first of `Parity`, `Filtered`, `NoSource` and
-    /// `CountSpent` that is the case, and nothing changes; else it is accepted, by one store. This takes
+    /// Takes a raw word that came in. If one of `Parity`, `Filtered`, `NoSource` and `CountSpent` is the case, the
+    /// first such is the answer, and nothing changes. Otherwise the word is accepted, by one store. The call allocates
     /// no memory and waits for nobody.
     pub fn accept(&mut self, raw: u32) -> Accept
         ensures answer { result ≡ accept_answer self.old raw }

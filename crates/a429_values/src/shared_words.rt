@@ -1,4 +1,4 @@
-//! The table under its rule, and what each of its steps tells.
+//! The table under its rule, and what each of its steps finds.
 use crate::view::View;
 use a429_equipment::Equipment;
 use atomic_table::{Join, Play, Seat, Split, Table, TableRule};
@@ -54,7 +54,7 @@ impl Play<(), View> for Loads {
     ghost then = { found_by };
 }
 
-/// A load that changes nothing, and tells whose seat it is that its lists agree.
+/// A load that changes nothing. It shows to its seat that the seat's lists agree.
 pub struct Looks;
 
 impl Play<(), View> for Looks {

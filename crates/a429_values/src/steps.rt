@@ -10,7 +10,7 @@ use crate::shared_words::{
     Accepts, Chosen, HubSeat, Loads, Looks, Meets, NewReceiver, NewTransmitter, SharedWords,
 };
 
-/// What one more word adds to the number of a source: the count stands above 23 bits of the last word.
+/// What one more word adds to the number of a source: the count is above the 23 bits of the last word.
 pub const ONE: u64 = 1 << 23;
 
 /// The one store of an accepted word, whose count and bits 9 to 31 are given.

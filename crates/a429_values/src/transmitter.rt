@@ -89,9 +89,9 @@ impl Transmitter {
         self.wired.equipment.sources().len()
     }
 
-    /// The last accepted word of the source, with its number among the source's accepted words, counted
-    /// from 1, by one load; none where no word was accepted. That number is no less than in any load of the
-    /// source before. This takes no memory and waits for nobody.
+    /// The last accepted word of the source, with its number among the source's accepted words, counted from 1, by one
+    /// load; `None` if no word was accepted. That number is at least that of any earlier load of the source. The call
+    /// allocates no memory and waits for nobody.
     pub fn load_numbered(&mut self, source: usize) -> Option<(u64, Word)>
         requires { source < length self.old.at.station.sources }
         ensures load { self.new ≡ with_loads self.old (load_of source result ∷ []) }
@@ -102,8 +102,8 @@ impl Transmitter {
         word_in(label, load_step(&wired.shared_words, seat, source))
     }
 
-    /// The last accepted word of the source, by one load; none where no word was accepted. This takes no
-    /// memory and waits for nobody.
+    /// The last accepted word of the source, by one load; `None` if no word was accepted. The call allocates no memory
+    /// and waits for nobody.
     pub fn load(&mut self, source: usize) -> Option<Word>
         requires { source < length self.old.at.station.sources }
         ensures load { (count : ℕ) × (self.new ≡ with_loads self.old (record { source = source; count = count; word = result } ∷ [])) }
@@ -113,7 +113,7 @@ impl Transmitter {
     }
 
     /// Takes in what the receiver accepted: it loads each of its sources. From then on the loads agree with
-    /// what the receiver accepted, up to all of it. This takes no memory and waits for nobody.
+    /// what the receiver accepted, up to all of it. This allocates no memory and waits for nobody.
     pub fn meet(&mut self, other: &mut Receiver)
         requires { other.old.at ≡ self.old.at }
         ensures receiver { other.new ≡ other.old }

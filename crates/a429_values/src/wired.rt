@@ -13,7 +13,7 @@ pub struct Wired {
     ghost room: { (length equipment.sources ≤ shared_words.shared.table_id.words) × (0 < shared_words.shared.table_id.words) },
 }
 
-/// So many zeros.
+/// This number of zeros. Error: an allocation failed.
 pub fn zeros(alloc: Global, count: usize) -> Result<Vec<u64>, AllocError>
     ensures len { IfOk result (λ v. length v.items ≡ count) }
     ensures items { IfOk result (λ v. v.items ≡ replicate count 0) }

@@ -1,4 +1,4 @@
--- A text states a label just if it is the label's three octal digits.
+-- A text states a label if and only if it is the label's three octal digits.
 use Rattle.std.proofs.Common.{◌≡◌, ℕ, ◌+◌, ◌*◌, ◌-◌, ◌/◌, ◌%◌, ◌<◌, ◌≤◌, Bool, true, List, [], ◌∷◌, Option, Some, None, refl, ap, ◌∙◌, arith}
 use Rattle.std.specs.Prelude.{◌&&◌, if◌then◌else◌, nat_le, unwrap_or}
 use Rattle.std.proofs.lemmas.Bool.{le-leb, leb-true, and_from, and_parts}
@@ -89,7 +89,7 @@ none_where text never = go (label_value text) refl
     go None e = e
     go (Some v) e = absurd (never v e)
 
--- a text that is written for no value has none
+-- a text that no value is written as states no label
 pub none_of_others : (text : List ℕ) → ((v : ℕ) → v < 256 → text ≡ octal v → ⊥) → label_value text ≡ None
 none_of_others text never = none_where text (λ v h. let w = written text v h in never v w.0 w.1)
 

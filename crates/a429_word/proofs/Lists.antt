@@ -1,4 +1,4 @@
--- What holds of any lists, options and tests. The libraries above use these too.
+-- What is true of any lists, options and tests. The libraries above use these too.
 use Rattle.std.proofs.Common.{◌≡◌, ℕ, zero, suc, ◌+◌, ◌*◌, ◌/◌, ◌^◌, ◌<◌, ◌≤◌, List, [], ◌∷◌, ◌++◌, length, take, drop, get_or, Bool, true, false, true≢false, refl, sym, ap, ap₂, subst, ◌∙◌, inl, inr, ◌⊎◌, arith, append-nil, append_assoc, length-append}
 use Rattle.std.specs.Prelude.{Option, Some, None, Result, Ok, map, not, if◌then◌else◌, is_some, slice_get, slice_set, position, ◌&&◌, ◌||◌}
 use Rattle.std.specs.List.{AllByRecursion, AllZip, position_or_len, range_with_len, zip}
@@ -126,7 +126,7 @@ none_passes p xs e i x h =
           subst (λ (y : _). p y ≡ false) (get_or_from_slice_get xs i x x h) (fails_before_first p xs i x k)
     ]
 
--- ---- what holds of each element
+-- ---- what is true of each element
 
 pub all_at : {X : Type 0} (P : X → Type 0) (xs : List X) (i : ℕ) (x : X) → AllByRecursion P xs → slice_get xs i ≡ Some x → P x
 all_at P [] i x h e = absurd (none-some x e)

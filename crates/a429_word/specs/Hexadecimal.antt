@@ -14,7 +14,7 @@ abbrev pub hex_onto : ℕ → List ℕ → Option ℕ
 hex_onto n [] = Some n
 hex_onto n (c ∷ cs) = option_and_then (λ d. hex_onto (n * 16 + d) cs) (hex_digit c)
 
--- the number of just eight hexadecimal digits
+-- the number of exactly eight hexadecimal digits
 unfoldable pub raw_word : List ℕ → Option ℕ
 raw_word text = if length text == 8 then hex_onto 0 text else None
 

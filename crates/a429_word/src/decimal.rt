@@ -33,7 +33,7 @@ fn value(digits: &[u8]) -> u64
     value
 }
 
-/// The number that one to ten decimal digits state, of which the first is 0 only if it is alone; `None` for every other
+/// The number that one to ten decimal digits state, without a leading 0 unless the text is `0`; `None` for any other
 /// text (profile).
 #[tactic(auto, using(crate::proofs::Numerals::numeral_digits, crate::proofs::Numerals::numeral_fits), unfolding(crate::specs::Decimal::decimal_number))]
 pub fn decimal_number(text: &[u8]) -> Option<u64>

@@ -15,8 +15,8 @@ fn hex_digit(digit: u8) -> Option<u32>
     }
 }
 
-/// The 32 bits that just eight hexadecimal digits stand for, in either case; None for every other text (profile).
-/// Their parity is not asked for.
+/// The 32 bits of exactly eight hexadecimal digits, in either case; `None` for any other text (profile). Even and odd
+/// parity are both accepted.
 #[tactic(auto, unfolding(crate::specs::Hexadecimal::raw_word))]
 pub fn raw_word(text: &[u8]) -> Option<u32>
     ensures { result ≡ raw_word text.now }

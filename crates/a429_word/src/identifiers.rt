@@ -25,7 +25,7 @@ impl Model for Sdi {
 }
 
 impl Sdi {
-    /// The identifier of this number.
+    /// The SDI of this number, 0 to 3.
     pub fn new(value: u8) -> Sdi
         requires { value < 4 }
         ensures { result ≡ value }
@@ -61,7 +61,7 @@ impl Model for Ssm {
 }
 
 impl Ssm {
-    /// The status of this number.
+    /// The SSM of this number, 0 to 3.
     pub fn new(bits: u8) -> Ssm
         requires { bits < 4 }
         ensures { result ≡ bits }

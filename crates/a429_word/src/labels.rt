@@ -36,8 +36,7 @@ impl Label {
         Label { value }
     }
 
-    /// Reads three octal digits, `000` to `377`, as labels are written (ARINC 429 Part 1).
-    /// Every other text is refused.
+    /// Reads three octal digits, `000` to `377`, as labels are written (ARINC 429 Part 1). Error: any other text.
     #[tactic(auto, using(crate::proofs::LabelTexts::written, crate::proofs::LabelTexts::value_of_written))]
     pub fn parse(text: &str) -> Result<Label, LabelText>
         ensures printed { IfOk result (λ label. text.now ≡ octal label) }
@@ -46,7 +45,7 @@ impl Label {
         Label::of_digits(text.as_bytes()).ok_or(LabelText)
     }
 
-    /// The label of three octal digits, `000` to `377`; `None` for all other bytes.
+    /// The label of three octal digits, `000` to `377`; `None` for any other bytes.
     #[tactic(auto, unfolding(crate::specs::Texts::label_value))]
     pub fn of_digits(digits: &[u8]) -> Option<Label>
         ensures { result ≡ label_value digits.now }

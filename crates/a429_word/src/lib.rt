@@ -1,8 +1,8 @@
 //! Words of ARINC 429: labels, fields, parity (ARINC 429 Part 1).
 //!
-//! A `Word` has 32 bits, of which an odd number are ones. `Word::build` makes one of its label, SDI, data and SSM,
-//! `Word::from_raw` takes one from a number, `raw_word` reads eight hexadecimal digits. `label`, `sdi`, `data`, `ssm`,
-//! `bnr` and `bcd` read its fields. `Label::parse` takes three octal digits. No call takes memory.
+//! A `Word` has 32 bits, of which an odd number are ones. `Word::build` makes one from its label, SDI, data and SSM,
+//! `Word::from_raw` makes one from a number, `raw_word` reads eight hexadecimal digits. `label`, `sdi`, `data`, `ssm`,
+//! `bnr` and `bcd` read its fields. `Label::parse` reads three octal digits. No call allocates memory.
 //!
 //! ```text
 //! let altitude = Label::new(0o203);

@@ -71,7 +71,7 @@ fn with_parity(bits: u32) -> u32
 }
 
 impl Word {
-    /// The word of these fields.
+    /// The word of these fields, with the parity bit that makes the parity odd. Error: the data has more than 19 bits.
     pub fn build(label: Label, sdi: Sdi, value: u32, ssm: Ssm) -> Result<Word, DataRange>
         ensures range { IsOk result ↔ (value < 2 ^ 19) }
         ensures label { IfOk result (λ word. label_of word ≡ label) }
@@ -101,7 +101,8 @@ impl Word {
         }
     }
 
-    /// The word of this number.
+    /// The word of this number: bit n is bit n - 1 of the number. Error: an even number of its bits are ones (ARINC 429
+    /// Part 1, parity).
     #[tactic(auto, using(crate::proofs::Ones::ones_are))]
     pub fn from_raw(raw: u32) -> Result<Word, Parity>
         ensures odd { IsOk result ↔ IsTrue (has_odd_parity raw) }
@@ -114,7 +115,7 @@ impl Word {
         }
     }
 
-    /// Its number.
+    /// Its 32 bits as a number: bit n is bit n - 1 of the number.
     pub fn raw(self) -> u32
         ensures raw { result ≡ self }
         ensures odd { IsTrue (has_odd_parity self) }
@@ -122,7 +123,7 @@ impl Word {
         self.raw
     }
 
-    /// Bits 1 to 8, bit 1 being the highest.
+    /// Its label: bits 1 to 8, bit 1 the highest.
     #[tactic(auto, using(crate::proofs::Fields::label_is))]
     pub fn label(self) -> Label
         ensures { result ≡ label_of self }
@@ -131,7 +132,7 @@ impl Word {
         Label::new(low.reverse_bits())
     }
 
-    /// Bits 9 and 10.
+    /// Its SDI: bits 9 and 10, bit 9 the lower.
     #[tactic(auto, using(crate::proofs::Fields::sdi_is))]
     pub fn sdi(self) -> Sdi
         ensures { result ≡ sdi_of self }
@@ -139,7 +140,7 @@ impl Word {
         Sdi::new(((self.raw >> 8) & 3) as u8)
     }
 
-    /// Bits 9 to 31: its SDI, data and SSM.
+    /// Its SDI, data and SSM as one number of 23 bits: bits 9 to 31, bit 9 the lowest.
     #[tactic(auto, using(crate::proofs::Fields::above_label_is))]
     pub fn above_label(self) -> u32
         ensures bits { result ≡ number_from 9 23 self }
@@ -148,7 +149,7 @@ impl Word {
         (self.raw >> 8) & 0x7fffff
     }
 
-    /// Bits 11 to 29.
+    /// Its data as a number of 19 bits: bits 11 to 29, bit 11 the lowest.
     #[tactic(auto, using(crate::proofs::Fields::data_is))]
     pub fn data(self) -> u32
         ensures { result ≡ data_of self }
@@ -156,7 +157,7 @@ impl Word {
         (self.raw >> 10) & 0x7ffff
     }
 
-    /// Bits 30 and 31.
+    /// Its SSM: bits 30 and 31, bit 30 the lower.
     #[tactic(auto, using(crate::proofs::Fields::ssm_is))]
     pub fn ssm(self) -> Ssm
         ensures { result ≡ ssm_of self }
@@ -164,7 +165,8 @@ impl Word {
         Ssm::new(((self.raw >> 29) & 3) as u8)
     }
 
-    /// The number of so many bits and the sign, in two's complement.
+    /// The BNR number of the sign (bit 29) and of this number of bits below it, 1 to 18, in two's complement (ARINC 429
+    /// Part 1).
     pub fn bnr(self, bits: u32) -> i32
         requires { (1 ≤ bits) × (bits ≤ 18) }
         ensures { result ≡ bnr_of bits self }
@@ -181,7 +183,7 @@ impl Word {
         (self.raw >> (28 - bits)) & ((1 << bits) - 1)
     }
 
-    /// What the sign counts.
+    /// The weight of the sign: 2^bits if bit 29 is 1, otherwise 0.
     fn sign(self, bits: u32) -> u32
         requires { bits ≤ 18 }
         ensures value { result ≡ 2 ^ bits * bit 29 self }
@@ -190,7 +192,7 @@ impl Word {
         ((self.raw >> 28) & 1) << bits
     }
 
-    /// The five digits, where each field is one.
+    /// The five BCD digits of the data, the highest first (ARINC 429 Part 1); `None` if a field is above 9.
     pub fn bcd(self) -> Option<[u8; 5]>
         ensures { result ≡ bcd_of self }
     {

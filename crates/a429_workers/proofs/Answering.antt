@@ -64,7 +64,7 @@ remembers_sent law ls all s i slot n u x y cell is R most due at there = record 
   reached = subst (λ (m : ℕ). IsReached (after_cell s.frame) m) (sym at) (reached_own s.frame cell due);
 }
 
--- ---- the output that stands there
+-- ---- the output of the cell
 
 -- it sends a source of the station
 output_known : (t : TableRecord) (p : SlotTable) (bus slot : ℕ) (o : Placed) → IsKnownTable t p → output_in p bus slot ≡ Some o → o.source < length t.sources
@@ -155,7 +155,7 @@ cell_end b calls v none M =
       at = M.at;
     }))
 
--- the answer to a cell, where this load was made
+-- the answer to a cell, if this load was made
 abbrev answer_by : Transmitting → ℕ × ℕ → Option ℕ → Option Load → Carried
 answer_by v cell word load = record { bus = cell.0; slot = v.frame.first + cell.1; load = load; word = word }
 

@@ -1,4 +1,4 @@
--- Beginnings of lists, the last of a list, and what holds of each element.
+-- Beginnings of lists, the last of a list, and what is true of each element.
 use Rattle.std.proofs.Common.{List, [], ◌∷◌, ◌++◌}
 use Rattle.std.specs.List.{AllByRecursion}
 

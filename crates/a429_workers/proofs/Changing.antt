@@ -1,4 +1,4 @@
--- A change, a meeting or a telling more, over every list of calls that a transmitter stands for.
+-- One more change, meeting or list of plans from the planner, over every list of calls that a transmitter stands for.
 use Rattle.std.proofs.Common.{◌≡◌, ℕ, zero, suc, ◌+◌, ◌<◌, ◌≤◌, Bool, true, false, List, [], ◌∷◌, ◌++◌, length, drop, replicate, ◌∙◌, sym, ap, subst, refl, arith, append-nil}
 use Rattle.std.specs.Prelude.{Option, Some, if◌then◌else◌, nat_lt, filter, map, slice_get}
 use Rattle.std.specs.List.{AllByRecursion, range_with_len}
@@ -25,7 +25,7 @@ first_known t plans q P all = (all_beginning (IsKnownPlan t) (q ∷ []) plans P 
 
 -- ---- changes
 
--- what is kept goes on where neither loads nor earlier cells change
+-- what is kept goes on if neither loads nor earlier cells change
 kept_by : (ls : List Load) (s r : GroupState) (i : ℕ) (x : Option Recent) → r.earlier ≡ s.earlier → ((slot : ℕ) → IsReached s.frame slot → IsReached r.frame slot) → RemembersLoads ls s i x → RemembersLoads ls r i x
 kept_by ls s r i x same on R = record {
   recent = R.recent;

@@ -1,4 +1,4 @@
--- What a receiver accepted, word by word, and the words that a source has accepted where these came.
+-- What a receiver accepted, word by word, and the words that a source has accepted when these came.
 use Rattle.std.proofs.Common.{◌≡◌, ℕ, suc, ◌+◌, ◌-◌, ◌^◌, ◌<◌, ◌≤◌, Bool, true, false, List, [], ◌∷◌, ◌++◌, length, take, drop, map, ◌∙◌, sym, ap, subst, refl, inl, inr, arith, append-nil, append_assoc}
 use Rattle.std.specs.Prelude.{Option, Some, None, Result, Ok, Err, ◌==◌, ◌&&◌, if◌then◌else◌, cond, filter, filter_map, slice_get}
 use Rattle.std.specs.Option.{option_map_or}
@@ -91,7 +91,7 @@ module _ (limit : ℕ) (t : TableRecord) (r : ℕ) where
       (ap (λ (B : List (ℕ × ℕ)). with_word limit B e.1 (sorted t r e.1)) (sym (beginning pieces A whole k))
       ∙ (sym (pieces limit r [] (words_in (take k A)) (e.1 ∷ [])) ∙ (ap (accepted_after limit t r []) (sym words) ∙ grown)))
 
--- ---- what comes to one receiver
+-- ---- the arrivals at one receiver
 
 -- the word that came to receiver r
 abbrev pub word_at : ℕ → Event → Option ℕ
@@ -103,7 +103,7 @@ word_at r (Publish q) = None
 abbrev pub words_at : ℕ → List Event → List ℕ
 words_at r E = filter_map (word_at r) E
 
--- a source takes words of its receiver alone
+-- a source takes only words of its receiver
 elsewhere : (t : TableRecord) (s : SourceRow) (k raw : ℕ) → (k ≡ s.receiver → ⊥) → accepts t s (k, raw) ≡ false
 elsewhere t s k raw other = by (has_odd_parity raw) (passes_at t k raw)
   where

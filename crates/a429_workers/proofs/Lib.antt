@@ -13,5 +13,6 @@ pub mod OneTable
 pub mod Example
 pub mod Hearing
 pub mod Gating
+pub mod AtGate
 pub mod Stretching
 pub mod Known

@@ -61,7 +61,7 @@ split_map {X} {Y} f (x ∷ xs) (y ∷ ys) zs h =
       of_back = rest.of_back;
     }
 
--- what of a list is newly seen, where `plans` were seen in place of `seen`, and `end` are seen in the end
+-- what of a list is newly seen, if `plans` were seen instead of `seen`, and `end` are seen in the end
 pub record IsNewlySeen {X Y : Type 0} (f : X → Y) (seen plans end : List Y) (rest : List X) : Type 0 where
   pub front : List X
   pub back : List X

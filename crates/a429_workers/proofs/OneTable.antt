@@ -23,7 +23,7 @@ use Rattle.a429_workers.proofs.SentWords.{lawful_at, stands_there, word_near}
 
 -- ---- cells of one table
 
--- an output stands in the next cell of the frame, in this slot counted from the station's first
+-- the next cell of the frame has an output, in this slot counted from the station's first
 record IsDueIn (t : SlotTable) (f : FrameState) (x : Placed) (slot : ℕ) : Type 0 where
   pub left : f.sent < cells_of t
   pub stands : output_in t (f.sent % buses_of t) (f.sent / buses_of t) ≡ Some x

@@ -56,7 +56,7 @@ turned_same g p s seen plans (Takes n) = refl
 turned_same g p s seen plans StaysMid = refl
 turned_same g p s seen plans StaysSpent = refl
 
--- where calls lead the group's frame does not depend on what was seen before
+-- the group's frame after calls does not depend on what was seen before
 frame_same : (g : ℕ) (p : SlotTable) (s : GroupState) (seen : List PlanTable) (calls : List Call) → (state_after g p (record s { seen = seen }) calls).frame ≡ (state_after g p s calls).frame
 frame_same g p s seen [] = refl
 frame_same g p s seen (Asks None ∷ calls) = frame_same g p s seen calls
@@ -75,7 +75,7 @@ seen_on g p s (Turns plans t ∷ calls) h =
     prefix_on s.seen plans end.seen h.0.0 (subst (λ (qs : List PlanTable). IsPrefix qs end.seen) (turned_seen g p s plans t) (seen_on g p (after_turn g p s plans t) calls h.1))
 
 module _ (C : ℕ) (o : Opening) (g : ℕ) (p : SlotTable) (later : List Proposed) (heard : ℕ → List (ℕ × ℕ)) (W : Given C o g p later heard) where
-  -- where the first of these events lead, and these calls
+  -- the state after the first of these events, and after these calls
   abbrev on_by : List Event → List (Event × Answer) → ℕ → List Event
   on_by E events n = E ++ map (λ (x : Event × Answer). x.0) (take n events)
 
@@ -96,7 +96,7 @@ module _ (C : ℕ) (o : Opening) (g : ℕ) (p : SlotTable) (later : List Propose
   abbrev CarriesEach : List Event → List (Event × Answer) → List Call → Type 0
   CarriesEach E events calls = (n : ℕ) (c : Carried) (l : Load) → slice_get calls n ≡ Some (Asks (Some c)) → c.load ≡ Some l → Carries E events (take n calls) l
 
-  -- the events that come next, with their answers, where these calls are yet to come and these plans to be published
+  -- the events that come next, with their answers, if these calls are yet to come and these plans must be published
   record Next (E : List Event) (cut : ℕ → ℕ) (s : GroupState) (calls : List Call) (rest : List Proposed) : Type 0 where
     pub events : List (Event × Answer)
     pub reached : (n : ℕ) → Leads E s events (take n calls)
@@ -146,7 +146,7 @@ module _ (C : ℕ) (o : Opening) (g : ℕ) (p : SlotTable) (later : List Propose
     latest = ap (λ (F : List Event). latest_by C o l.source F) (sym (on_one E (e, a) events K.count)) ∙ K.latest;
   }
 
-  -- where no call was made yet
+  -- if no call was made yet
   leads_here : (E : List Event) (cut : ℕ → ℕ) (s : GroupState) (rest : List Proposed) (events : List (Event × Answer)) → At E cut s rest → Leads E s events []
   leads_here E cut s rest events A = record {
     count = 0;
@@ -156,7 +156,7 @@ module _ (C : ℕ) (o : Opening) (g : ℕ) (p : SlotTable) (later : List Propose
     loaded = tt;
   }
 
-  -- and where one was
+  -- and if one was
   leads_call : (E : List Event) (s : GroupState) (call : Call) (e : Event) (a : Answer) (events : List (Event × Answer)) (calls : List Call) → is_sending e ≡ true → event_of g call ≡ Some (e, a)
       → AllByRecursion (IsCounted C o E) (loads_in call) → Leads (E ++ e ∷ []) (after g p s call) events calls → Leads E s ((e, a) ∷ events) (call ∷ calls)
   leads_call E s call e a events calls sends is shown L = record {

@@ -1,4 +1,4 @@
--- The words that lawful calls send: what went out before each of them, and what follows where one goes out.
+-- The words that lawful calls send: what went out before each of them, and what follows when one goes out.
 use Rattle.std.proofs.Common.{◌≡◌, ℕ, zero, suc, ◌+◌, ◌<◌, ◌≤◌, Bool, true, false, true≢false, List, [], ◌∷◌, ◌++◌, take, ◌∙◌, sym, ap, subst, refl, inl, inr, arith, append-nil, append_assoc}
 use Rattle.std.specs.Prelude.{Option, Some, None, ◌==◌, ◌&&◌, ◌||◌, cond, if◌then◌else◌, nat_lt, is_some, slice_get, option_map, option_and_then}
 use Rattle.std.specs.List.{list_any}
@@ -55,7 +55,7 @@ passed test (d ∷ calls) zero (suc k) c less h pass =
 passed test (d ∷ calls) (suc j) (suc k) c less h pass =
     list_any-append test (cells_in d) (cells_of (take k calls)) ∙ or_right (list_any test (cells_in d)) _ (passed test calls j k c (omega (arith, less)) h pass)
 
--- ---- where a word goes out
+-- ---- a word that goes out
 
 -- it is neither held back nor too close to another
 record IsFree (earlier : List AnsweredCell) (slot : ℕ) (output : Placed) (l : Load) : Type 0 where
@@ -116,7 +116,7 @@ holds_kept g p s calls k d m output hold all T due limited =
     ap (λ (cs : List AnsweredCell). times_sent cs output.source m.count) (earlier_is g p s (take k calls)) ∙ sum_by-append test s.earlier (cells_of (take k calls)) in
     subst (λ (i : ℕ). times_sent (cells_of (take k calls)) i m.count < hold) (sym F.source) (omega (arith, below, parts))
 
--- ---- where a word may go out
+-- ---- a word that may go out
 
 -- an earlier call in whose cell a test passes
 record IsFound (test : AnsweredCell → Bool) (calls : List Call) (k : ℕ) : Type 0 where

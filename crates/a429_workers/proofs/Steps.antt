@@ -1,4 +1,4 @@
--- One event of a run: what it is answered, and where it leads.
+-- One event of a run: its answer, and the state after it.
 use Rattle.std.proofs.Common.{◌≡◌, ℕ, suc, ◌+◌, ◌-◌, ◌^◌, ◌<◌, ◌≤◌, ◌/◌, ◌%◌, Bool, true, false, List, [], ◌∷◌, ◌++◌, length, take, map, ◌∙◌, sym, ap, subst, refl, inl, inr, arith, append-nil, append_assoc}
 use Rattle.std.specs.Prelude.{Option, Some, None, Result, Ok, IsTrue, if◌then◌else◌, ◌==◌, filter, filter_map, nat_lt, slice_get, unwrap_or, option_map, option_and_then, option_to_list}
 use Rattle.std.specs.Option.{option_map_or}
@@ -60,7 +60,7 @@ plans_in o E = filter_map (proposal_for o) E
 plans_in-no_proposal : (o : Opening) (E : List Event) (e : Event) → proposal_for o e ≡ None → plans_in o (E ++ e ∷ []) ≡ plans_in o E
 plans_in-no_proposal o E e h = filter_map-append (proposal_for o) E (e ∷ []) ∙ rw h (append-nil (plans_in o E))
 
--- the load tells what its source has accepted
+-- the load says what its source has accepted
 abbrev pub IsLatest : ℕ → Opening → List Event → Load → Type 0
 IsLatest C o E l = latest_by C o l.source E ≡ (l.count, l.word)
 
@@ -81,7 +81,7 @@ reply C o E s earlier due = option_map_or (λ c. Sent c.0 (s.first + c.1) (word_
 abbrev cells_next : ℕ → Opening → List Event → FrameState → List AnsweredCell → Option (ℕ × ℕ) → List AnsweredCell
 cells_next C o E s earlier due = option_to_list (option_and_then (λ cell. option_map (answered_cell C o E earlier (s.first + cell.1)) (output_in s.table cell.0 cell.1)) due)
 
--- the cell of an output is the machine's where the load tells the latest
+-- the cell of an output is the machine's if the load has the latest word
 pub record IsSame (C : ℕ) (o : Opening) (E : List Event) (earlier : List AnsweredCell) (slot : ℕ) (x : Option Placed) (y : Option Load) : Type 0 where
   pub word : word_after C o E earlier slot x ≡ word_of earlier slot x y
   pub cell : cell_after C o E earlier slot x ≡ cell_with slot y (word_of earlier slot x y)
@@ -102,7 +102,8 @@ same_cell C o E earlier slot (Some output) (Some l) same latest =
     }
 
 module _ (C : ℕ) (o : Opening) (g : ℕ) (p : SlotTable) (later : List Proposed) (heard : ℕ → List (ℕ × ℕ)) where
-  -- after these events each receiver's list stands at its cut, and the transmitter stands so; the rest of the plans is yet to come
+  -- after these events each receiver's list is at its cut, and the transmitter is in this state; the rest of the plans
+  -- is yet to come
   pub record IsAt (E : List Event) (cut : ℕ → ℕ) (s : GroupState) (rest : List Proposed) : Type 0 where
     pub arrivals : (r : ℕ) → words_at r E ≡ map (λ a. a.1) (take (cut r) (heard r))
     pub seen : s.seen ≡ plans_of o (plans_in o E)
@@ -326,7 +327,7 @@ module _ (C : ℕ) (o : Opening) (g : ℕ) (p : SlotTable) (later : List Propose
     table_is : (E : List Event) (cut : ℕ → ℕ) (s : GroupState) (rest : List Proposed) → IsAt E cut s rest → newest_table o g p E ≡ table_of g p s.seen
     table_is E cut s rest A = ap (λ (x : Option PlanTable). option_map_or (λ q. unwrap_or (slice_get (groups_of q) g) p) x p) (sym (newest_is E cut s rest A))
 
-    -- what a change is answered, and where it leads
+    -- the answer to a change, and the state after it
     pub record IsTurned (E : List Event) (cut : ℕ → ℕ) (s : GroupState) (rest : List Proposed) (t : Turn) : Type 0 where
       pub answer : answer C o E (Frame g) ≡ turn_answer t
       pub after : IsAt (E ++ Frame g ∷ []) cut (after_turn g p s s.seen t) rest

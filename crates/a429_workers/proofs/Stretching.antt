@@ -79,7 +79,7 @@ tallied_more s t u xs ys P Q = subst (IsTallied s u) (sym (sent_append xs ys)) (
 
 -- ---- a frame
 
--- so many cells of the frame were sent, and counted
+-- this number of cells of the frame was sent, and counted
 pub record IsInFrame (old now : Transmitting) (before after : Option (List Sent)) (start totals : SendTotals) (n : ℕ) : Type 0 where
   pub calls : List Call
   pub sends : HasSent old now before after calls []
@@ -158,7 +158,7 @@ frame_over old now a b start totals n F all = record { calls = F.calls; sent = F
 
 -- ---- frames
 
--- so many frames were sent, and counted
+-- this number of frames was sent, and counted
 pub record AreInFrames (old now : Transmitting) (before after : Option (List Sent)) (start totals : SendTotals) (n : ℕ) : Type 0 where
   pub calls : List Call
   pub sends : HasSent old now before after calls []

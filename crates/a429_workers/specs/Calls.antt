@@ -27,7 +27,7 @@ pub data Turn : Type 0 where
 
 -- a call with its answer
 pub data Call : Type 0 where
-  -- the next cell was asked for; none where none was due
+  -- the next cell was asked for; none if the frame had no cell left
   Asks : Option Carried → Call
   -- a change to the newest plan was asked for; by then the watcher had seen these plans, the opening one first
   Turns : List PlanTable → Turn → Call
@@ -43,7 +43,7 @@ loads_in (Meets loads) = loads
 abbrev pub loads_of : List Call → List Load
 loads_of calls = flat_map loads_in calls
 
--- ---- where calls lead
+-- ---- the state after calls
 
 -- the frame that the group is in and the number of its plan, the plans that were seen, and the cells of outputs that were answered
 pub record GroupState : Type 0 where
@@ -66,8 +66,8 @@ abbrev pub word_of : List AnsweredCell → ℕ → Option Placed → Option Load
 word_of earlier slot (Some output) (Some l) = word_by earlier slot output l
 word_of earlier slot _ _ = None
 
--- The answer is to the cell that is due. One load was made for it, of the source of the output that stands there, or none where none stands
--- there; the word is what goes out by this load.
+-- The answer is to the cell that is due. If the cell has an output, one load was made for it, of the output's source;
+-- otherwise none was made. The word is what goes out by this load.
 pub record IsAnswered (s : GroupState) (c : Carried) : Type 0 where
   pub cell : ℕ × ℕ
   pub due : next_cell s.frame ≡ Some cell
@@ -89,7 +89,7 @@ number_of plans = option_map_or (λ q. q.number) (last_of plans) 0
 abbrev pub table_of : ℕ → SlotTable → List PlanTable → SlotTable
 table_of g p plans = option_map_or (λ q. unwrap_or (slice_get (groups_of q) g) p) (last_of plans) p
 
--- what is answered to a change where these plans were seen
+-- the answer to a change, if these plans were seen
 abbrev pub turn : ℕ → SlotTable → GroupState → List PlanTable → Turn
 turn g p s plans =
     if nat_lt s.frame.sent (cells_of s.frame.table) then StaysMid
@@ -116,12 +116,12 @@ after g p s (Asks None) = s
 after g p s (Turns plans t) = after_turn g p s plans t
 after g p s (Meets loads) = s
 
--- where calls lead
+-- the state after calls, from this state
 abbrev pub state_after : ℕ → SlotTable → GroupState → List Call → GroupState
 state_after g p s [] = s
 state_after g p s (c ∷ calls) = state_after g p (after g p s c) calls
 
--- each call is lawful where those before it led
+-- each call is lawful in the state after those before it
 abbrev pub AreLawful : ℕ → SlotTable → GroupState → List Call → Type 0
 AreLawful g p s [] = ⊤
 AreLawful g p s (c ∷ calls) = IsLawful g p s c × AreLawful g p (after g p s c) calls

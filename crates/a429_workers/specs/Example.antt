@@ -24,7 +24,7 @@ station = record {
   outputs = (record { source = 0; min_us = 360; max_us = 360; hold = Some 1 } ∷ []) ∷ [];
 }
 
--- a frame of two slots on so many buses, in both of which the source stands on this one
+-- a frame of two slots on this number of buses; in both slots the source is on this bus
 abbrev pub table_on : ℕ → ℕ → SlotTable
 table_on buses bus = record {
   frame = 1;
@@ -70,7 +70,7 @@ first_load = record { source = 0; count = 1; word = Some first_word }
 abbrev pub next_load : Load
 next_load = record { source = 0; count = 2; word = Some next_word }
 
--- a cell of the source, and one in which no output stands
+-- a cell of the source, and a cell without an output
 abbrev pub sent : ℕ → ℕ → Load → Option ℕ → Call
 sent bus slot load word = Asks (Some (record { bus = bus; slot = slot; load = Some load; word = word }))
 

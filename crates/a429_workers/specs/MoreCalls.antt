@@ -3,13 +3,13 @@ use Rattle.std.specs.Prelude.{◌≡◌, ◌++◌, ◌∷◌, [], ℕ, List}
 use Rattle.a429_slots.specs.Tables.{SlotTable}
 use Rattle.a429_workers.specs.Calls.{Call, GroupState, IsLawful, AreLawful, after, state_after, loads_in, loads_of}
 
--- lawful calls stay lawful with one more that is lawful where they led
+-- lawful calls stay lawful with one more call that is lawful in the state after them
 abbrev pub LawfulCallsGrow : Type 0
 LawfulCallsGrow =
     (g : ℕ) (p : SlotTable) (s : GroupState) (calls : List Call) (c : Call)
     → AreLawful g p s calls → IsLawful g p (state_after g p s calls) c → AreLawful g p s (calls ++ c ∷ [])
 
--- they lead to where the last one leads from where the others led
+-- the state after all calls is the one to which the last call leads from the state after the others
 abbrev pub LastCallLeads : Type 0
 LastCallLeads =
     (g : ℕ) (p : SlotTable) (s : GroupState) (calls : List Call) (c : Call)

@@ -83,8 +83,8 @@ pub record AreAtMost (n : ℕ) (t : ReceiveTotals) : Type 0 where
   pub no_source : t.no_source ≤ n
   pub spent : t.spent ≤ n
 
--- Between these two states the source of a line gave these words, in order, and lost none: they are the first of those that it had still to give,
--- where it tells them.
+-- Between these two states the source of a line gave these words, in order, and lost none. If the source says what it
+-- had still to give, these words are the first of those.
 pub record Gives {L : Type 0} (given : L → List ℕ) (left : L → Option (List ℕ)) (before : L) (words : List ℕ) (after : L) : Type 0 where
   pub gave : given after ≡ given before ++ words
   pub kept : left before ≡ option_map (λ more. words ++ more) (left after)
@@ -97,15 +97,15 @@ pub record IsHandedBack (given : List ℕ) (raw : ℕ) (totals : ReceiveTotals) 
   pub taken : new ≡ after_words old words
   pub counted : totals ≡ totals_of (answers_to old words)
 
--- The line gave these words: the receiver took them, all of them where the line ended or failed, all but the last, which is handed back, where they
--- were too many, and all or all but the last where the gate ended the loop.
+-- The line gave these words. If the line ended or failed, the receiver took all of them. If they were too many, it took
+-- all but the last, which is handed back. If the gate ended the loop, it took all, or all but the last.
 abbrev pub LineWordsAreTaken : List ℕ → Result ReceiveTotals ReceiveFault → ReceiverEnd → ReceiverEnd → Type 0
 LineWordsAreTaken given (Ok totals) old new = (new ≡ after_words old given) × (totals ≡ totals_of (answers_to old given)) × (length given ≤ 1000000)
 LineWordsAreTaken given (Err Source) old new = (new ≡ after_words old given) × (length given ≤ 1000000)
 LineWordsAreTaken given (Err (TooMuch raw totals)) old new = IsHandedBack given raw totals old new
 LineWordsAreTaken given (Err Gate) old new = (taken : ℕ) × (new ≡ after_words old (take taken given)) × (length given ≤ taken + 1) × (length given ≤ 1000000)
 
--- the count of failures of the line: it rises by one where the line failed
+-- the count of failures of the line: it rises by one if the line failed
 abbrev pub source_failures : ℕ → Result ReceiveTotals ReceiveFault → ℕ
 source_failures n (Ok totals) = n
 source_failures n (Err Source) = failures_by {A = ℕ} {E = ReceiveFault} n (Err Source)

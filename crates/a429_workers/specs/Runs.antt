@@ -42,7 +42,7 @@ pub record ArePublished (o : Opening) (later : List Proposed) : Type 0 where
 abbrev pub plans_of : Opening → List Proposed → List PlanTable
 plans_of o later = o.proposal.plan ∷ map (λ q. q.plan) later
 
--- where the calls of a transmitter of group g led since the opening
+-- the state of group g after these calls of its transmitter, from the opening on
 abbrev pub led_to : Opening → ℕ → SlotTable → List Call → GroupState
 led_to o g p calls = state_after g p (before_calls o.proposal.plan p o.first) calls
 
@@ -94,9 +94,9 @@ event_of g (Asks None) = Some (Cell g, Refused FrameEnd)
 event_of g (Turns plans t) = Some (Frame g, turn_answer t)
 event_of g (Meets loads) = None
 
--- The place in a run to which some calls lead, the first of the transmitter's: the events before it have just the cells and frames of these
--- calls, lead the group to the frame that the calls led to, and have as many accepted words of each source that was loaded as each load counted,
--- or more.
+-- The place in a run to which some calls lead, the first of the transmitter's. The events before it have exactly the
+-- cells and frames of these calls, and lead the group to the frame that the calls led to. Of each source that was
+-- loaded, they have at least as many accepted words as each load counted.
 pub record HavePlace (C : ℕ) (o : Opening) (g : ℕ) (p : SlotTable) (calls : List Call) (E : List Event) : Type 0 where
   pub place : ℕ
   pub within : place ≤ length E
@@ -112,9 +112,10 @@ pub record HasCellPlace (C : ℕ) (o : Opening) (g : ℕ) (calls : List Call) (l
   pub sends : filter (λ x. is_sending x.0) (answered C o (take place E)) ≡ filter_map (event_of g) calls
   pub latest : latest_by C o l.source (take place E) ≡ (l.count, l.word)
 
--- The cells and frames of the events, with the machine's answers, are the calls with theirs; what comes to each receiver is what it
--- accepted, and is accepted; the publications are the proposals, under their numbers. Each list in its order, and nothing else. A word that was
--- loaded in a call comes in before the events of the calls behind it, and for a cell no later word of the source does before its own.
+-- The cells and frames of the events, with the machine's answers, are the calls with theirs. The arrivals at each
+-- receiver are the words that it accepted, and are accepted. The publications are the proposals, under their numbers.
+-- Each list is in its order, and there are no other events. A word that was loaded in a call comes in before the events
+-- of the calls after it. For a cell, no later word of the source comes in before the cell's own event.
 pub record IsRun (C : ℕ) (o : Opening) (g : ℕ) (later : List Proposed) (calls : List Call) (heard : ℕ → List (ℕ × ℕ)) (E : List Event) : Type 0 where
   pub sends : filter (λ x. is_sending x.0) (answered C o E) ≡ filter_map (event_of g) calls
   pub arrivals : (r : ℕ) → filter (λ x. comes_to r x.0) (answered C o E) ≡ map (λ a. (Arrive r a.1, Accepted a.0)) (heard r)
@@ -127,7 +128,8 @@ pub record CallsAreOneRun (C : ℕ) (o : Opening) (g : ℕ) (later : List Propos
   pub events : List Event
   pub is : IsRun C o g later calls heard events
 
--- whatever lawful calls a group's transmitter was asked for, they are one run with what the receivers accepted and the plans that were published
+-- any lawful calls of a group's transmitter are one run with what the receivers accepted and the plans that were
+-- published
 abbrev pub WorkIsOneRun : Type 0
 WorkIsOneRun =
     (C : ℕ) (o : Opening) (g : ℕ) (p : SlotTable) (later : List Proposed) (calls : List Call) (heard : ℕ → List (ℕ × ℕ))

@@ -42,7 +42,7 @@ is_send (Turns plans StaysMid) = false
 is_send (Turns plans StaysSpent) = false
 is_send (Meets loads) = false
 
--- what a sink has then, where it tells what it took
+-- what a sink has taken then, if it says what it took
 abbrev pub with_cells : Option (List Sent) → List Sent → Option (List Sent)
 with_cells taken cells = option_map (λ before. before ++ cells) taken
 
@@ -59,7 +59,7 @@ IsLast Gate last = last ≡ []
 IsLast Sink last = (c : Carried) × (last ≡ Asks (Some c) ∷ [])
 IsLast Change last = (plans : List PlanTable) × (last ≡ Turns plans StaysSpent ∷ [])
 
--- the calls are so many whole frames: a next one is taken between two, and all cells of the last one are sent
+-- the calls are this number of whole frames: a next one is taken between two, and all cells of the last one are sent
 abbrev pub AreWhole : ℕ → List Call → FrameState → Type 0
 AreWhole zero calls frame = calls ≡ []
 AreWhole (suc n) calls frame = (count_by is_taken calls ≡ n) × (frame.sent ≡ cells_of frame.table)
@@ -67,7 +67,7 @@ AreWhole (suc n) calls frame = (count_by is_taken calls ≡ n) × (frame.sent �
 abbrev pub totals_of : List Sent → ℕ → SendTotals
 totals_of cells plan = record { cells = length cells; words = count_by has_word cells; plan = plan }
 
--- a transmitter, and the cells that its sink took, where it tells them
+-- a transmitter, and the cells that its sink took, if the sink says so
 pub record Sending : Type 0 where
   pub transmit : Transmitting
   pub taken : Option (List Sent)
@@ -75,7 +75,8 @@ pub record Sending : Type 0 where
 abbrev pub sending : Transmitting → Option (List Sent) → Sending
 sending transmit taken = record { transmit = transmit; taken = taken }
 
--- so many frames of group g were sent from the beginning of a frame on, each cell between two points of the gate, and the totals count the cells
+-- This number of frames of group g was sent from the beginning of a frame on, each cell between two points of the gate.
+-- The totals count the cells.
 pub record AreAllSent (gate : GatePoints) (g frames : ℕ) (old new : Sending) (totals : SendTotals) : Type 0 where
   pub calls : List Call
   pub sent : HasSent old.transmit new.transmit old.taken new.taken calls []
@@ -83,7 +84,7 @@ pub record AreAllSent (gate : GatePoints) (g frames : ℕ) (old new : Sending) (
   pub whole : AreWhole frames calls new.transmit.frame
   pub gated : IsGatedGroup {A = SendTotals} gate g (length (sent_in calls)) (Ok totals)
 
--- or fewer, where a fault ended the loop before
+-- or fewer, if a fault ended the loop before
 pub record AreFewerSent (gate : GatePoints) (g frames : ℕ) (old new : Sending) (fault : SendFault) : Type 0 where
   pub calls : List Call
   pub last : List Call
@@ -97,7 +98,7 @@ abbrev pub AreSent : GatePoints → ℕ → ℕ → Sending → Sending → Resu
 AreSent gate g frames old new (Ok totals) = AreAllSent gate g frames old new totals
 AreSent gate g frames old new (Err fault) = AreFewerSent gate g frames old new fault
 
--- the count of failures of the sink: it rises by one where the sink failed
+-- the count of failures of the sink: it rises by one if the sink failed
 abbrev pub sink_failures : {A : Type 0} → ℕ → Result A SendFault → ℕ
 sink_failures n (Ok done) = n
 sink_failures n (Err Sink) = failures_by {A = ℕ} {E = SendFault} n (Err Sink)
@@ -148,7 +149,7 @@ pub record IsFrameSent (old new : Transmitting) (before after : Option (List Sen
   pub turns : count_by is_taken calls ≡ 0
   pub over : new.frame.sent ≡ cells_of new.frame.table
 
--- or fewer, where a fault ended the loop before
+-- or fewer, if a fault ended the loop before
 pub record IsFrameCut (old new : Transmitting) (before after : Option (List Sent)) (start totals : SendTotals) (fault : SendFault) : Type 0 where
   pub calls : List Call
   pub last : List Call

@@ -9,11 +9,11 @@ use Rattle.a429_slots.specs.FrameStates.{next_cell}
 use Rattle.a429_slots.specs.Spacing.{IsSpacedTable}
 use Rattle.a429_workers.specs.Calls.{Call, Asks, Turns, Meets, Carried, GroupState, AreLawful, state_after, answered_by}
 
--- where the calls before this place led
+-- the state after the calls before this place
 abbrev pub standing_at : ℕ → SlotTable → GroupState → List Call → ℕ → GroupState
 standing_at g p s calls k = state_after g p s (take k calls)
 
--- the output that stands in the next cell, by the plan in force
+-- the output of the next cell, by the plan in force
 abbrev pub output_due : GroupState → Option Placed
 output_due s = option_and_then (λ cell. output_in s.frame.table cell.0 cell.1) (next_cell s.frame)
 
@@ -41,15 +41,15 @@ WordsAreApartByCalls =
     → AreLawful g p s calls → j < k → SendsAt calls j c l → SendsAt calls k d m → l.source ≡ m.source
     → output_due (standing_at g p s calls k) ≡ Some output → c.slot + output.limits.spacing ≤ d.slot
 
--- an accepted word, which is known by its source and its number, goes out only where it did so fewer times before, by whatever plans, than the
--- plan in force allows
+-- An accepted word is known by its source and its number. It goes out only if it did so fewer times before, under any
+-- plans, than the plan in force allows.
 abbrev pub HoldsAreKeptByCalls : Type 0
 HoldsAreKeptByCalls =
     (g : ℕ) (p : SlotTable) (s : GroupState) (calls : List Call) (k : ℕ) (d : Carried) (m : Load) (output : Placed) (hold : ℕ)
     → AreLawful g p s calls → SendsAt calls k d m → output_due (standing_at g p s calls k) ≡ Some output
     → output.limits.hold ≡ Some hold → times_sent (cells_of (take k calls)) m.source m.count < hold
 
--- neither the hold of the output nor its least spacing keeps the load's word back in this cell
+-- neither the output's hold nor its least spacing keeps the load's word back in this cell
 pub record MayGoOut (calls : List Call) (k : ℕ) (output : Placed) (d : Carried) (m : Load) : Type 0 where
   pub held : (hold : ℕ) → output.limits.hold ≡ Some hold → times_sent (cells_of (take k calls)) m.source m.count < hold
   pub apart : (j : ℕ) (c : Carried) (l : Load) → j < k → SendsAt calls j c l → l.source ≡ m.source → c.slot + output.limits.spacing ≤ d.slot
@@ -72,7 +72,7 @@ pub record AnswersAt (g : ℕ) (p : SlotTable) (s : GroupState) (calls : List Ca
   pub asked : slice_get calls k ≡ Some (Asks (Some c))
   pub due : output_due (standing_at g p s calls k) ≡ Some output
 
--- the cell that is answered there has no word for the sake of the least spacing of its output
+-- the cell that is answered there has no word because of the least spacing of its output
 abbrev pub IsTooCloseAt : ℕ → SlotTable → GroupState → List Call → ℕ → Placed → Carried → Type 0
 IsTooCloseAt g p s calls k output c = is_too_close (standing_at g p s calls k).earlier c.slot output.source output.limits.spacing ≡ true
 
@@ -87,14 +87,14 @@ CellsOfOneTableAreApart =
     → AreLawful g p s calls → j < k → AnswersAt g p s calls j earlier c → AnswersAt g p s calls k now d → earlier.source ≡ now.source
     → IsSpacedTable (table_at g p s calls k) → HasOneTable g p s calls j k → c.slot + now.limits.spacing ≤ d.slot
 
--- before a cell that is empty for the sake of the least spacing there is none of its source since the slot table changed
+-- before a cell that is empty because of the least spacing there is none of its source since the slot table changed
 abbrev pub EmptyCellsAreFirstByCalls : Type 0
 EmptyCellsAreFirstByCalls =
     (g : ℕ) (p : SlotTable) (s : GroupState) (calls : List Call) (i k : ℕ) (earlier now : Placed) (c d : Carried)
     → s.earlier ≡ [] → AreLawful g p s calls → i < k → AnswersAt g p s calls i earlier c → AnswersAt g p s calls k now d
     → earlier.source ≡ now.source → IsSpacedTable (table_at g p s calls k) → IsTooCloseAt g p s calls k now d → ¬ (HasOneTable g p s calls i k)
 
--- before the slot table changes no cell is empty for the sake of the least spacing
+-- before the slot table changes no cell is empty because of the least spacing
 abbrev pub FirstTableEmptiesNone : Type 0
 FirstTableEmptiesNone =
     (g : ℕ) (p : SlotTable) (s : GroupState) (calls : List Call) (k : ℕ) (now : Placed) (d : Carried)
@@ -105,7 +105,8 @@ FirstTableEmptiesNone =
 abbrev pub IsSpacedPlan : PlanTable → Type 0
 IsSpacedPlan q = AllByRecursion IsSpacedTable (groups_of q)
 
--- where the plans that were seen keep to their least spacings, and the tables that the group began with, so does the table in force at each place
+-- if the plans that were seen keep to their least spacings, and so do the tables that the group began with, so does the
+-- table in force at each place
 abbrev pub TablesInForceAreSpaced : Type 0
 TablesInForceAreSpaced =
     (g : ℕ) (p : SlotTable) (s : GroupState) (calls : List Call) (k : ℕ)

@@ -20,8 +20,8 @@ use Rattle.a429_workers.specs.declared.cells.FrameEnd.{FrameEnd}
 use Rattle.a429_workers.specs.declared.cells.ChangeFault.{ChangeFault}
 use Rattle.a429_workers.specs.declared.cells.ChangeFault.TheVariants.{MidFrame, SlotsSpent}
 
--- a group's transmitter: its ends of the current values and of the board, the frame that the group is in with the number of its plan, and what
--- is kept of the group's sends, source by source
+-- A group's transmitter: its ends of the current values and of the board, and the frame that the group is in, with the
+-- number of its plan. It also has what is kept of the group's sends, source by source.
 pub record Transmitting : Type 0 where
   pub transmitter : ends.TransmitterEnd
   pub watcher : Watched
@@ -42,7 +42,8 @@ first_fits opened g first = option_map_or (λ p. nat_lt (first + frame_of p) (2 
 
 -- ---- the next cell and the next frame
 
--- the bus of the next cell of a frame, and its slot counted from the station's first; none where all cells of the frame were sent
+-- the bus of the next cell of a frame, and its slot counted from the station's first; none if all cells of the frame
+-- were sent
 abbrev pub place_due : FrameState → Option (ℕ × ℕ)
 place_due f = option_map (λ cell. (cell.0, f.first + cell.1)) (next_cell f)
 
@@ -50,11 +51,11 @@ place_due f = option_map (λ cell. (cell.0, f.first + cell.1)) (next_cell f)
 abbrev pub OpensBy : Transmitting → SlotTable → Type 0
 OpensBy v p = slice_get (groups_of v.watcher.opened) v.transmitter.number ≡ Some p
 
--- the group's slot table in the last plan that was seen; p where that plan has no such group
+-- the group's slot table in the last plan that was seen; p if that plan has no such group
 abbrev pub newest_table : Transmitting → SlotTable → SlotTable
 newest_table v p = table_of v.transmitter.number p v.watcher.list
 
--- the table is that of a group in the last plan that a watcher saw, or its opening one where that plan has no such group
+-- the table is that of a group in the last plan that a watcher saw, or its opening one if that plan has no such group
 abbrev pub IsLastTable : Watched → ℕ → SlotTable → Type 0
 IsLastTable w g t = (p : SlotTable) → slice_get (groups_of w.opened) g ≡ Some p → t ≡ table_of g p w.list
 
@@ -66,11 +67,12 @@ IsSpent f t = (cells_of f.table ≤ f.sent) × (fits_next f t ≡ false)
 abbrev pub frame_behind : FrameState → SlotTable → FrameState
 frame_behind f t = begun (f.first + frame_of f.table) t
 
--- where the group opened with table p, a change answers SlotsSpent just where the frame is over and 64 bits cannot count the slots of the next one
+-- If the group opened with table p, a change answers SlotsSpent if and only if the frame is over and 64 bits cannot
+-- count the slots of the next one.
 abbrev pub TellsSpent : Transmitting → Result ℕ ChangeFault → Transmitting → Type 0
 TellsSpent old answer new = (p : SlotTable) → OpensBy old p → (IsErrOf answer SlotsSpent ↔ IsSpent old.frame (newest_table new p))
 
--- and where it is Ok it begins the next frame, by the newest table
+-- and if it is Ok it begins the next frame, by the newest table
 abbrev pub TakesNext : Transmitting → Result ℕ ChangeFault → Transmitting → Type 0
 TakesNext old answer new = (p : SlotTable) → OpensBy old p → OnOk answer (new.frame ≡ frame_behind old.frame (newest_table new p))
 
@@ -93,7 +95,7 @@ pub record Outset : Type 0 where
   pub first : ℕ
   pub before : List Load
 
--- where calls led from there
+-- the state after these calls, from there
 abbrev pub led_by : Outset → List Call → GroupState
 led_by b calls = state_after b.group b.table (before_calls b.opened b.table b.first) calls
 
@@ -102,8 +104,8 @@ pub record IsReached (f : FrameState) (slot : ℕ) : Type 0 where
   pub passed : slot ≤ f.first + f.sent / buses_of f.table
   pub in_frame : slot ≤ f.first + frame_of f.table
 
--- This is kept of the cells that were answered, for source i: it is of no later word than any load finds that counts no less than these, and of
--- no later slot than the next cell.
+-- This is kept of the cells that were answered, for source i. Its count is at most that of any load of the source that
+-- counts at least as many words as these loads. Its slot is at most that of the next cell.
 pub record RemembersLoads (loads : List Load) (s : GroupState) (i : ℕ) (x : Option Recent) : Type 0 where
   pub recent : Recent
   pub there : x ≡ Some recent
@@ -111,7 +113,7 @@ pub record RemembersLoads (loads : List Load) (s : GroupState) (i : ℕ) (x : Op
   pub counted : (l : Load) → l.source ≡ i → CountsNoLess loads l → recent.count ≤ l.count
   pub reached : IsReached s.frame recent.slot
 
--- this is kept of where calls led
+-- this is kept of the state after calls
 pub record IsAt (b : Outset) (s : GroupState) (v : Transmitting) : Type 0 where
   pub group : v.transmitter.number ≡ b.group
   pub opened : v.watcher.opened ≡ b.opened
@@ -121,7 +123,8 @@ pub record IsAt (b : Outset) (s : GroupState) (v : Transmitting) : Type 0 where
   pub sources : IsKnownTable v.transmitter.at.station v.frame.table
   pub sends : (i : ℕ) → i < length v.transmitter.at.station.sources → RemembersLoads v.transmitter.loads s i (slice_get v.sends i)
 
--- the transmitter was asked for these calls since it began, each is lawful where those before it led, and its loads since are theirs
+-- the transmitter was asked for these calls since it began, each is lawful in the state after those before it, and its
+-- loads since are theirs
 pub record HasMade (b : Outset) (calls : List Call) (v : Transmitting) : Type 0 where
   pub opens : slice_get (groups_of b.opened) b.group ≡ Some b.table
   pub lawful : AreLawful b.group b.table (before_calls b.opened b.table b.first) calls
@@ -129,7 +132,8 @@ pub record HasMade (b : Outset) (calls : List Call) (v : Transmitting) : Type 0 
   pub known : AllByRecursion (λ l. l.source < length v.transmitter.at.station.sources) (loads_of calls)
   pub at : IsAt b (led_by b calls) v
 
--- so it is, where the plans that its watcher saw are plans of the hub's station: they send sources of it alone
+-- so it is, if the plans that its watcher saw are plans of the hub's station: such plans send only sources of that
+-- station
 abbrev pub StandsForCalls : Outset → List Call → Transmitting → Type 0
 StandsForCalls b calls v = AllByRecursion (IsKnownPlan v.transmitter.at.station) v.watcher.list → HasMade b calls v
 
@@ -153,12 +157,12 @@ met v r = record v { transmitter = ends.with_loads v.transmitter (loads_of_all v
 abbrev pub loads_since : Transmitting → Transmitting → List Load
 loads_since old new = drop (length old.transmitter.loads) new.transmitter.loads
 
--- the call that asked for a cell, where these loads were made in it
+-- the call that asked for a cell, if these loads were made in it
 abbrev pub cell_call : Result Sent FrameEnd → List Load → Call
 cell_call (Ok s) loads = Asks (Some (record { bus = s.bus; slot = s.slot; load = slice_get loads 0; word = s.word }))
 cell_call (Err e) loads = Asks None
 
--- the call that asked for a change, where these plans had been seen
+-- the call that asked for a change, if these plans had been seen
 abbrev pub change_call : Result ℕ ChangeFault → List PlanTable → Call
 change_call (Ok n) seen = Turns seen (Takes n)
 change_call (Err MidFrame) seen = Turns seen StaysMid
@@ -166,7 +170,7 @@ change_call (Err SlotsSpent) seen = Turns seen StaysSpent
 
 -- ---- what is done for the cell of an output
 
--- the word that goes out where the load of its source found this, and what is kept of the sends then
+-- the word that goes out if the load of its source found this, and what is kept of the sends then
 abbrev pub sent_by : List Recent → ℕ → Due → Option (ℕ × ℕ) → Option ℕ × List Recent
 sent_by sends slot due None = (None, sends)
 sent_by sends slot due (Some found) = (if source_sends sends slot found.0 due then Some found.1 else None, source_after sends slot found.0 due)

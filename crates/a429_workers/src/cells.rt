@@ -3,8 +3,7 @@
 use a429_word::Word;
 use thiserror::Error;
 
-/// An answered cell: its bus, its slot counted from the station's first, and the word that is sent in it, where
-/// there is one.
+/// An answered cell: its bus, its slot counted from the station's first, and the word that is sent in it, if any.
 #[derive(Clone, Copy, Debug, PartialEq, Eq)]
 pub struct Sent {
     pub bus: u32,

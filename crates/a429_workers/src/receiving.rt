@@ -1,7 +1,7 @@
 //! The loop of a receiver.
 ghost use Rattle.std.specs.Prelude.{◌≡◌, ◌+◌, ◌<◌, ◌∷◌, [], ℕ, true, OnOk, OnErr};
 ghost use Rattle.a429_values.specs.Ends.{accept_answer};
-ghost use Rattle.a429_workers.specs.Gates.{HasTaken, IsShutAt, listening, point_after_word, point_before_word, points_of};
+ghost use Rattle.a429_workers.specs.Gates.{HasTaken, IsHeardAt, IsShutAt, listening, point_after_word, point_before_word, points_of};
 ghost use Rattle.a429_workers.specs.Receives.{AreAtMost, IsSameReceiver, after_words, counted, source_failures};
 
 use crate::gates::{Gate, GateFault, Point};
@@ -63,21 +63,23 @@ fn receive<G: Gate>(
     ensures totals { OnOk result (totals.new ≡ counted totals.old (accept_answer receiver.old raw)) }
     ensures same { IsSameReceiver receiver.old receiver.new }
     ensures passed { OnOk result (G.passes gate.now (point_before_word number place) × G.passes gate.now (point_after_word number place)) }
-    ensures shut { OnErr result (IsShutAt (points_of G.Gate gate.now) number place raw receiver.old receiver.new) }
+    ensures order { OnOk result (IsHeardAt (points_of G.Gate gate.now) number place raw totals.old receiver.old receiver.new) }
+    ensures shut { OnErr result (IsShutAt (points_of G.Gate gate.now) number place raw totals.old receiver.old receiver.new) }
 {
-    gate.pass(Point::BeforeAccept(number, place))?;
+    gate.pass(Point::BeforeAccept(number, place), &*receiver)?;
     let answer = receiver.accept(raw);
     count(totals, answer);
     gate.tell_counted(answer, totals);
-    gate.pass(Point::AfterAccept(number, place))
+    gate.pass(Point::AfterAccept(number, place), &*receiver)
 }
 
-/// Takes the words of a line for a receiver, each between two points of the gate, until the line ends. Answers how
-/// many it accepted and refused. `Source` if the line failed. `TooMuch` if the line gave a word after a million: before
-/// that word's gate, with the word, which the receiver has not taken, and the totals of the million. `Gate` if the gate
-/// ended the loop, at the point that the loop had come to: a word is taken only after its first point. What was taken
-/// before stays taken, and what was accepted accepted. After `TooMuch` nothing is lost: give the word to
-/// `Receiver::accept` and call again. It takes no memory.
+/// Takes the words of a line for a receiver, each between two points of the gate, until the line ends. The gate is
+/// shown the receiver before the word and after it, and given the answer between. Answers how many it accepted and
+/// refused. Errors: `Source` if the line failed. `TooMuch` if the line gave a word after a million: this word comes
+/// with the error, before its gate, and the receiver has not taken it; the totals of the million come too. `Gate` if
+/// the gate ended the loop, at the point that the loop had reached. A word is taken only after its first point. On an
+/// error, what was taken stays taken, and what was accepted stays accepted. After `TooMuch` nothing is lost: give the
+/// word to `Receiver::accept` and call again. The call allocates no memory.
 pub fn receive_all<L: LineSource, G: Gate>(
     line: &mut L,
     receiver: &mut Receiver,

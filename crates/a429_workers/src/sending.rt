@@ -1,6 +1,7 @@
 //! The loop of a group.
 ghost use Rattle.std.specs.Prelude.{◌≡◌, ◌≤◌, ◌+◌, ◌<◌, ◌^◌, OnOk, IfErr};
 ghost use Rattle.a429_slots.specs.Tables.{cells_of};
+ghost use Rattle.a429_workers.specs.GateOrder.{IsCellUntil, IsFrameInOrder, IsLoopInOrder};
 ghost use Rattle.a429_workers.specs.Gates.{HaveCellsPassed, IsGatedGroup, points_of};
 ghost use Rattle.a429_workers.specs.Transmitting.{IsSameGroup};
 ghost use Rattle.a429_workers.specs.declared.sending.SendFault.TheVariants.{Change};
@@ -50,8 +51,9 @@ fn send_cell<B: BusSink, G: Gate>(
     ensures few { OnOk result ((totals.new.words ≤ totals.new.cells) × (totals.new.cells ≡ totals.old.cells + 1)) }
     ensures failed { B.failed sink.new ≡ sink_failures (B.failed sink.old) result }
     ensures gate { IsGatedGroup (points_of G.Gate gate.now) group totals.new.cells result }
+    ensures order { IsCellUntil (points_of G.Gate gate.now) B.BusSink group totals.old.cells totals.new.cells sink.old sink.new result }
 {
-    if let Err(_) = gate.pass(Point::BeforeCell(group, totals.cells)) {
+    if let Err(_) = gate.pass(Point::BeforeCell(group, totals.cells), &*sink) {
         return Err(SendFault::Gate);
     }
     let Ok(sent) = transmit.cell() else {
@@ -63,7 +65,7 @@ fn send_cell<B: BusSink, G: Gate>(
     let place = totals.cells;
     totals.cells += 1;
     totals.words += u64::from(sent.word.is_some());
-    if let Err(_) = gate.pass(Point::AfterCell(group, place)) {
+    if let Err(_) = gate.pass(Point::AfterCell(group, place), &*sink) {
         return Err(SendFault::Gate);
     }
     Ok(())
@@ -86,6 +88,7 @@ fn send_frame<B: BusSink, G: Gate>(
     ensures few { OnOk result ((totals.new.words ≤ totals.new.cells) × (totals.new.cells ≤ totals.old.cells + 131072)) }
     ensures failed { B.failed sink.new ≡ sink_failures (B.failed sink.old) result }
     ensures gate { IsGatedGroup (points_of G.Gate gate.now) group totals.new.cells result }
+    ensures order { IsFrameInOrder (points_of G.Gate gate.now) B.BusSink group totals.old.cells totals.new.cells sink.old sink.new result }
 {
     for _ in 0..transmit.cells() {
         send_cell(transmit, sink, group, totals, gate)?;
@@ -93,7 +96,7 @@ fn send_frame<B: BusSink, G: Gate>(
     Ok(())
 }
 
-/// Takes the next frame, where the one before is over.
+/// Takes the next frame, if the one before is over.
 fn next_frame(transmit: &mut Transmit) -> Result<(), SendFault>
     requires over { transmit.old.frame.sent ≡ cells_of transmit.old.frame.table }
     ensures turn { IsTurn transmit.old transmit.new result }
@@ -106,12 +109,12 @@ fn next_frame(transmit: &mut Transmit) -> Result<(), SendFault>
     }
 }
 
-/// Sends so many whole frames of a group, from the first cell of a frame on, and goes on to the next frame between
-/// two. Each cell passes the gate, is asked for, goes to the sink, and passes the gate again. Answers how many cells
-/// were sent. `Sink` where the sink failed: it took all cells but the last. `Change` where the slots of the next
-/// frame cannot be counted, and `Gate` where the gate ended the loop, at the point that the loop had come to: a cell is
-/// asked for only after its first point. What was sent before stays sent, and frames that were taken stay taken. It
-/// takes no memory, if the sink takes none.
+/// Sends this number of whole frames of a group, from the first cell of a frame on; between two frames it goes on to
+/// the next one. Each cell passes the gate, is asked for, goes to the sink, and passes the gate again. The gate is
+/// shown the sink without the cell, and then with it. Answers how many cells were sent. Errors: `Sink` if the sink
+/// failed: it took all cells except the last. `Change` if 64 bits cannot count the slots of the next frame. `Gate` if
+/// the gate ended the loop, at the point that the loop had reached. A cell is asked for only after its first point. On
+/// an error, what was sent stays sent, and frames that were taken stay taken. Only the sink may allocate memory.
 #[inline(always)]
 pub fn send_frames<B: BusSink, G: Gate>(
     transmit: &mut Transmit,
@@ -124,6 +127,7 @@ pub fn send_frames<B: BusSink, G: Gate>(
     ensures same { IsSameGroup transmit.old transmit.new }
     ensures sent { AreSent (points_of G.Gate gate.now) group frames
         (sending transmit.old (B.taken sink.old)) (sending transmit.new (B.taken sink.new)) result }
+    ensures order { IsLoopInOrder (points_of G.Gate gate.now) B.BusSink group sink.old sink.new result }
     ensures failed { B.failed sink.new ≡ sink_failures (B.failed sink.old) result }
 {
     let mut totals = SendTotals {

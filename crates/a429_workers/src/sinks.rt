@@ -1,4 +1,4 @@
-//! Where a group's cells go.
+//! The sinks of a group's cells.
 ghost use Rattle.std.specs.Prelude.{◌≡◌, ◌++◌, [], List, ℕ, Option, None, option_map};
 ghost use Rattle.a429_workers.specs.Sinks.{counted_by, failures_by, taken_by};
 ghost use Rattle.a429_workers.specs.declared.cells.Sent.{Sent as Cell};
@@ -15,10 +15,10 @@ pub struct SinkFault;
 
 /// Takes the cells of a group's buses, in order (profile).
 pub trait BusSink {
-    /// The cells that it took so far, where it tells them.
+    /// The cells that it took so far, if it says so.
     ghost taken: { Self → Option (List Cell) };
 
-    /// How many cells it took so far, where it counts them, as far as 64 bits count.
+    /// How many cells it took so far, as far as 64 bits count, if it says so.
     ghost counted: { Self → Option ℕ } = { λ _. None };
 
     /// How many of its calls answered a fault, as far as 64 bits count.
@@ -35,7 +35,7 @@ pub trait BusSink {
         ensures { result ≡ failed self.now };
 }
 
-/// A sink that keeps its cells in memory, and fails where memory for one is refused.
+/// A sink that keeps its cells in memory. It fails if an allocation for a cell fails.
 #[derive(Debug, Drop)]
 pub struct MemorySink {
     sent: Vec<Sent>,
@@ -69,11 +69,11 @@ impl MemorySink {
     }
 }
 
-// Keeps one more cell, or tells that memory is refused.
+// Keeps one more cell. Error: an allocation failed.
 fn keep(kept: &mut Vec<Sent>, sent: Sent) -> Result<(), SinkFault>
     ensures { kept.new.items ≡ kept.old.items ++ taken_by sent result }
 {
-    // The borrow checker has to be told of the type of the word.
+    // The borrow checker needs the type of the word.
     let _word = sent.word;
     kept.push(sent).map_err(|_| SinkFault)
 }
@@ -102,7 +102,7 @@ impl BusSink for MemorySink {
     }
 }
 
-/// A sink that counts its cells and keeps none. It never fails, and tells none of them.
+/// A sink that counts its cells and keeps none. It never fails, and it does not say which cells it took.
 #[derive(Clone, Copy, Debug, PartialEq, Eq)]
 pub struct CountSink {
     count: u64,

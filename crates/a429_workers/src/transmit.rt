@@ -21,9 +21,9 @@ use std::marker::Model;
 
 /// Sends the cells of one group: words by loads of the current values, in frames by the newest plan of a board.
 ///
-/// It keeps no list of its calls. Contracts speak of every list that it stands for: each call's answer is lawful
-/// after those before it, as long as the plans that the watcher saw are plans of the hub's station. Where a plan is
-/// not, an output of a source that the station has not is sent without a word and without a load.
+/// It keeps no list of its calls. Contracts speak of every list that it stands for: each call's answer is lawful after
+/// those before it, as long as the plans that the watcher saw are plans of the hub's station. A plan of another station
+/// may have an output whose source the hub's station lacks: its cells have neither a word nor a load.
 #[derive(Drop)]
 pub struct Transmit {
     transmitter: Transmitter,
@@ -52,7 +52,7 @@ impl Model for Transmit {
         × (t.transmitter.number < length (groups_of t.watcher.opened)) };
 }
 
-/// The word that goes out for an output where the load of its source found this.
+/// The word that goes out for an output if the load of its source found this.
 #[inline(always)]
 fn word_found(
     sends: &mut GroupSends,
@@ -75,7 +75,7 @@ fn word_found(
     }
 }
 
-/// The word that goes out in a cell in which this output stands, if any, by one load of its source.
+/// The word that goes out in a cell of this output, if any, by one load of its source.
 #[inline(always)]
 fn word_for(
     transmitter: &mut Transmitter,
@@ -99,14 +99,14 @@ fn word_for(
     word_found(sends, slot, due, found)
 }
 
-/// The number of the last plan that a watcher saw or was told.
+/// The number of the last plan that a watcher saw or was given.
 fn last_number(watcher: &Watcher) -> u64
     ensures { result ≡ number_of watcher.now.list }
 {
     watcher.last().number()
 }
 
-/// The slot table of a group in that plan, or the opening one where it has no such group.
+/// The slot table of a group in that plan; the opening one if that plan has no such group.
 fn last_table(watcher: &Watcher, group: usize) -> &GroupPlan<OUTPUTS>
     requires { group < length (groups_of watcher.now.opened) }
     ensures table { IsLastTable watcher.now group result.now }
@@ -121,9 +121,9 @@ fn last_table(watcher: &Watcher, group: usize) -> &GroupPlan<OUTPUTS>
 }
 
 impl Transmit {
-    /// The transmitter of a group, before its first cell: by the plan that the board was opened with, in frames
-    /// from this slot on. `SlotsSpent` just where 64 bits cannot count the slots of the group's first frame; else
-    /// `NoMemory` where memory is refused. What memory it ever needs is taken here.
+    /// The transmitter of a group, before its first cell: by the plan that the board was opened with, in frames from
+    /// this slot on. Errors: `SlotsSpent` if and only if 64 bits cannot count the slots of the group's first frame;
+    /// otherwise `NoMemory` if an allocation failed. All the memory that it ever needs is allocated here.
     pub fn open(
         alloc: Global,
         transmitter: Transmitter,
@@ -171,9 +171,9 @@ impl Transmit {
         self.number
     }
 
-    /// The next cell, slot by slot and in a slot bus by bus: for an output's cell by one load of its source, also
-    /// where the word is then held back; for an empty one without a load. `FrameEnd` just where all cells of the
-    /// frame were sent, and nothing changes. It takes no memory and waits for nobody.
+    /// The next cell, slot by slot and in a slot bus by bus. A cell of an output takes one load of its source, even if
+    /// the word is then held back; an empty cell takes none. Error: `FrameEnd` if and only if all cells of the frame
+    /// were sent; then nothing changes. The call allocates no memory and waits for nobody.
     #[inline(always)]
     pub fn cell(&mut self) -> Result<Sent, FrameEnd>
         ensures stands { GoesOnByCalls self.old (cell_call result (loads_since self.old self.new) ∷ []) self.new }
@@ -205,10 +205,11 @@ impl Transmit {
         })
     }
 
-    /// Goes on to the next frame, by the newest plan that the watcher reads; where that plan has no such group, by
-    /// the opening table. Answers the plan's number. `MidFrame` just where not all cells of the frame were sent;
-    /// `SlotsSpent` just where 64 bits cannot count the slots of the next frame. Then plan, frame and cell stay,
-    /// and the watcher may have seen a newer plan. It takes no memory and waits for nobody.
+    /// Goes on to the next frame, by the newest plan that the watcher reads; if that plan has no such group, by the
+    /// opening table. Answers the plan's number. Errors: `MidFrame` if and only if some cell of the frame was not sent;
+    /// `SlotsSpent` if and only if the frame is over and 64 bits cannot count the slots of the next one. Then plan,
+    /// frame and cell stay, and the watcher may have seen a newer plan. The call allocates no memory and waits for
+    /// nobody.
     pub fn change(&mut self) -> Result<u64, ChangeFault>
         ensures stands { GoesOnByCalls self.old (change_call result self.new.watcher.list ∷ []) self.new }
         ensures mid { IsErrOf result ChangeFault.MidFrame ↔ (self.old.frame.sent < cells_of self.old.frame.table) }
@@ -255,7 +256,7 @@ impl Transmit {
         self.transmitter.meet(other);
     }
 
-    /// Is told by the planner of its board all that was published. It takes no memory and waits for nobody.
+    /// Takes from the planner of its board all that was published. The call allocates no memory and waits for nobody.
     pub fn told(&mut self, planner: &mut Planner)
         requires { self.old.watcher.book ≡ planner.old.book }
         ensures stands { GoesOnByCalls self.old [] self.new }

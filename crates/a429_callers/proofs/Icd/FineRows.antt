@@ -1,4 +1,4 @@
--- No kind of fault stands at the stops of a table that is printed of rows in range.
+-- The stops of a table that is printed of rows in range have no kind of fault.
 use Rattle.std.proofs.Common.{◌≡◌, ◌∙◌, ℕ, ◌<◌, ◌≤◌, pos, Bool, true, false, List, length, Option, None, Some, codes, ap, refl, arith, inl, inr, le-leb, le-ltb, ne_eqb}
 use Rattle.std.specs.Prelude.{◌&&◌, ◌||◌, IfSome, is_none, int_le, nat_le, nat_lt, not}
 use Rattle.std.specs.List.{list_any}

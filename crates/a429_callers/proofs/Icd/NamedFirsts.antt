@@ -75,7 +75,7 @@ own_firsts part rows = own_after part [] rows
 -- ---- no more than what they are for
 
 module _ (n m : ℕ) (R : ℕ → ℕ → Type 0) (v : ℕ) (last : v < suc m) (at : R n v) (own : (i j k : ℕ) → i < suc n → j < suc n → R i k → R j k → i ≡ j) where
-  -- what a number has of the others, and in place of the greatest what the last one has
+  -- what a number has of the others, and instead of the greatest what the last one has
   abbrev Fewer : ℕ → ℕ → Type 0
   Fewer i k = (R i k × (k < m)) ⊎ (R i m × (k ≡ v))
 

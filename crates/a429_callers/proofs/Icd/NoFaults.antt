@@ -1,4 +1,4 @@
--- A table in which no kind of fault stands at a stop has no fault.
+-- A table has no fault if none of its stops has a kind of fault.
 use Rattle.std.proofs.Common.{◌≡◌, ◌∙◌, ℕ, zero, suc, ◌+◌, ◌<◌, cond, Bool, true, false, List, [], ◌∷◌, ◌++◌, map, take, codes, Some, ap, ap₂, subst, refl, arith}
 use Rattle.std.specs.Prelude.{filter, is_none, slice_get}
 use Rattle.std.specs.List.{AllByRecursion, enumerate_from, flat_map, list_any, position_from}
@@ -85,7 +85,7 @@ all_stops P root H =
 
 -- ---- the faults
 
--- no kind of fault stands there
+-- no kind of fault is there
 abbrev pub IsFine : Data → Stop → Type 0
 IsFine root s = (kind : FaultKind) → stands root kind s ≡ false
 

@@ -32,7 +32,7 @@ use Rattle.a429_table.proofs.AtKeys.{number_in}
 use Rattle.a429_table.proofs.Soundness.{is_sound}
 use Rattle.a429_cert.proofs.Again.{same_again}
 
--- no two of these outputs are of sources with one label and SDI, whatever their receivers
+-- no two of these outputs are of sources with one label and SDI, for any receivers
 abbrev pub HaveOwnWords : List SourceRow → List OutputRow → Type 0
 HaveOwnWords sources outputs =
     (i j : ℕ) (o p : OutputRow) (s u : SourceRow) → slice_get outputs i ≡ Some o → slice_get outputs j ≡ Some p

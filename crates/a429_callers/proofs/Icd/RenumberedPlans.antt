@@ -225,7 +225,7 @@ pub record IsRenumbered (t e : TableRecord) (f : ℕ → ℕ) : Type 0 where
   pub alike : AllByRecursion (AreKept e.sources t.sources f) e.outputs
 
 module _ (t e : TableRecord) (f : ℕ → ℕ) (R : IsRenumbered t e f) (p : PlanTable) (P : IsPlanOf e p) where
-  -- the plan of the one is that of the other
+  -- both tables have the same plan
   abbrev pub renumbered_plan : PlanTable
   renumbered_plan = record { groups = map (renumbered_table f) (groups_of p); number = p.number }
 

@@ -28,7 +28,7 @@ unfolding next_record
 no_record = refl
 
 -- what is written is read back, and nothing else
-records_back : (rows records : List (List (List ℕ))) → AreRecords default_config st.StartRecord (text_of rows) records → records ≡ map read_back rows
+pub records_back : (rows records : List (List (List ℕ))) → AreRecords default_config st.StartRecord (text_of rows) records → records ≡ map read_back rows
 unfolding Reached
 records_back [] [] h = refl
 records_back [] (r ∷ records) h = absurd (none-some h.2.0 (sym no_record ∙ h.2.1))

@@ -7,7 +7,7 @@ use a429_equipment::Equipment;
 use a429_slots::{OUTPUTS, plan};
 use std::alloc::Global;
 
-/// How many buses a group has in its plan, where there is one. No schedule in which each of its outputs recurs within
+/// The number of buses of a group in its plan, if there is one. No schedule in which each of its outputs recurs within
 /// its grid period has fewer.
 pub fn buses_of(alloc: Global, equipment: &Equipment, group: usize) -> Option<u32>
     requires { HaveRoom 128 equipment.now.outputs }

@@ -6,7 +6,7 @@ use a429_values::{Receiver, Transmitter};
 use a429_word::Word;
 
 /// Loads a source between two meetings with its receiver: the load is the last word of the source that the receiver
-/// accepted, and none where it accepted none.
+/// accepted; `None` if it accepted none.
 pub fn load_between_meetings(
     transmitter: &mut Transmitter,
     receiver: &mut Receiver,

@@ -8,7 +8,7 @@ use a429_cert::{Verdict, check};
 use std::alloc::Global;
 
 /// Whether a text is checked to show the fewest buses. Then for each group of the table a line of the text has its name
-/// and so many buses that no schedule in which each output of the group recurs within its grid period has fewer.
+/// and a number of buses. No schedule in which each output of the group recurs within its grid period has fewer buses.
 pub fn shows_fewest(alloc: Global, table: &[u8], text: &[u8]) -> bool
     ensures { IsTrue result → (e : TableRecord) × (reading table.now ≡ Ok e) × StatesFewestBuses e text.now }
 {

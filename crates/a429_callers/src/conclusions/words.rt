@@ -6,8 +6,8 @@ use a429_core::{Answer, Event, StationState};
 use a429_slots::{OUTPUTS, Proposal};
 use std::alloc::Global;
 
-/// Two words come in at a receiver, and then the first group's first cell is sent. Where both were accepted and the cell
-/// has a word: for which source each of them was accepted, and the word that was sent. Where they are of one source, that
+/// Two words come in at a receiver, and then the first group's first cell is sent. If both were accepted and the cell
+/// has a word, the answer has the source of each of them, and the word that was sent. If they are of one source, that
 /// is the second one.
 pub fn latest_of_two(
     alloc: Global,

@@ -13,7 +13,7 @@ use a429_line::Found;
 use a429_word::Word;
 use std::alloc::AllocError;
 
-/// Appends the line of a report. Where memory is refused, nothing is appended.
+/// Appends the line of a report. If an allocation fails, nothing is appended.
 pub fn push_found(text: &mut Vec<u8>, found: Found) -> Result<(), AllocError>
     ensures line { Gains result text.old.items text.new.items (found_line found) }
     ensures kept { OnErr result (text.new.items ≡ text.old.items) }
@@ -27,7 +27,7 @@ pub fn push_found(text: &mut Vec<u8>, found: Found) -> Result<(), AllocError>
     }
 }
 
-/// The word of a report, where it has odd parity and its label passes.
+/// The word of a report, if it has odd parity and its label passes.
 fn received_word(filters: &FilterSet, found: Found) -> Option<Word>
     ensures { option_to_list result ≡ received filters.now (found ∷ []) }
 {
@@ -44,7 +44,7 @@ fn received_word(filters: &FilterSet, found: Found) -> Option<Word>
 }
 
 /// Appends what is printed of a report: its line, or with a list of filters the line of a word that passes.
-/// Where memory is refused, nothing is appended.
+/// If an allocation fails, nothing is appended.
 fn push_report(lines: &mut Pending, filters: &FilterSet, found: Found) -> Result<(), AllocError>
     ensures line { OnOk result (lines.new.text.items ≡ lines.old.text.items ++ printed filters.now (found ∷ [])) }
     ensures kept { OnErr result (lines.new.text.items ≡ lines.old.text.items) }
@@ -58,8 +58,8 @@ fn push_report(lines: &mut Pending, filters: &FilterSet, found: Found) -> Result
     }
 }
 
-/// Appends what is printed of a report. The lines are put out where they have become many, and those that are
-/// left stand in `lines`. Whether memory sufficed; where it did not, nothing is appended.
+/// Appends what is printed of a report. The lines are put out when they have become many, and those that are left are
+/// in `lines`. The result is whether memory sufficed; if it did not, nothing is appended.
 pub fn print_report<O: Output>(
     filters: &FilterSet,
     found: Found,
@@ -77,8 +77,8 @@ pub fn print_report<O: Output>(
     Ok(true)
 }
 
-/// Appends the line of a rest of so many bits; nothing where there is no rest, or a list of filters. Where
-/// memory is refused, nothing is appended.
+/// Appends the line of a rest of this number of bits, unless there is no rest, or there is a list of filters. If an
+/// allocation fails, nothing is appended.
 pub fn push_rest(lines: &mut Pending, filters: &FilterSet, rest: u32) -> Result<(), AllocError>
     ensures line { OnOk result (lines.new.text.items ≡ lines.old.text.items ++ rest_line filters.now rest) }
     ensures kept { OnErr result (lines.new.text.items ≡ lines.old.text.items) }

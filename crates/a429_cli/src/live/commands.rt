@@ -23,8 +23,8 @@ use std::alloc::Global;
 use std::sync::Wait;
 use std::thread::Threads;
 
-/// Does the command `live`, as `command` does the others, which are a mistake here. Starts threads, and may wait for
-/// them: when it returns all have ended. While the station runs, `progress` is told how far it is.
+/// Does the command `live`. Every other command is a usage error here. It starts threads, and may wait for them: when
+/// it returns all have ended. While the station runs, `progress` gets reports of how far it is.
 pub fn command_live<
     'a,
     R: Threads + Wait,
@@ -43,7 +43,7 @@ pub fn command_live<
     err: &mut V,
     progress: &P,
 ) -> u8
-    // If the words ask for a run and no call of the output failed, the bytes put are those of its report or of the one refusal, and so is the status.
+    // If the words ask for a run and no call of the output failed, the bytes put and the status are those of its report or of the one refusal.
     ensures replied { RepliesToLive F.tells F.file O.contents O.failures (texts_of words.entry.now) files.old out.old out.new result }
     // The same of a reader of any files: the answer is that of files which give what the reader answered in this call.
     ensures read { RepliesToLiveByReader F.answers O.contents O.failures (texts_of words.entry.now) files.old out.old out.new result }
@@ -124,7 +124,7 @@ fn run_here<R: Threads + Wait, H: Hints, F: FileReader, O: Output, V: Output, P:
     }
 }
 
-/// Runs the station that is asked for. After a refusal, also of a further table, it tells on `err` what can be done
+/// Runs the station that is asked for. After a refusal, or that of a further table, it writes to `err` what can be done
 /// about it.
 fn run_with_hint<
     R: Threads + Wait,

@@ -66,7 +66,7 @@ impl<'a> Resubmits<'a> {
     }
 }
 
-/// The answer of a refusal. The error is that memory was refused.
+/// The answer of a refusal. Error: the refusal is that an allocation failed.
 fn refused(refusal: CommandRefusal) -> Result<SubmitAnswer, AllocError>
     ensures { IfOk result (λ answer. (answer ≡ Refused refusal) × (refusal ≢ Memory)) }
 {
@@ -76,7 +76,7 @@ fn refused(refusal: CommandRefusal) -> Result<SubmitAnswer, AllocError>
     }
 }
 
-/// The answer by the fault of a table whose equipment was read. The error is that memory was refused.
+/// The answer by the fault of a table whose equipment was read. Error: an allocation fails.
 fn answer_of_fault(
     alloc: Global,
     equipment: &Equipment,
@@ -96,7 +96,7 @@ fn answer_of_fault(
     }
 }
 
-/// Resubmits a table whose equipment was read. The error is that memory was refused.
+/// Resubmits a table whose equipment was read. Error: an allocation fails.
 fn answer_read<R: Wait>(
     alloc: Global,
     station: &mut Station<'_, R>,
@@ -113,7 +113,7 @@ fn answer_read<R: Wait>(
     }
 }
 
-/// Resubmits a table. What was read of it is kept in `seen`. The error is that memory was refused.
+/// Resubmits a table. What was read of it is kept in `seen`. Error: an allocation fails.
 fn answer_to<R: Wait>(
     alloc: Global,
     station: &mut Station<'_, R>,
@@ -133,7 +133,7 @@ fn answer_to<R: Wait>(
     }
 }
 
-/// Why the table of an answer was not taken, for a hint. `None` if it was, or if memory is refused.
+/// Why the table of an answer was not taken, for a hint. `None` if it was, or if an allocation fails.
 fn cause_of(
     alloc: Global,
     running: &Equipment,
@@ -166,7 +166,7 @@ fn note_answer(
     }
 }
 
-/// Resubmits the table of this number, from 1, and notes it if it is refused. The error is that memory was refused.
+/// Resubmits the table of this number, from 1, and notes it if it is refused. Error: an allocation fails.
 fn answer_and_note<R: Wait>(
     alloc: Global,
     station: &mut Station<'_, R>,

@@ -10,21 +10,21 @@ use std::io;
 use std::io::Write;
 use std::sync::atomic::{AtomicU64, Ordering};
 
-/// So many cells of a group, or accepted words of a receiver, are told together.
+/// The number of cells of a group, or of accepted words of a receiver, that are reported together.
 const STRIDE: u64 = 4096;
 
-/// So many cells of all groups are sent between two lines on a terminal.
+/// The number of cells of all groups that are sent between two lines on a terminal.
 const SHOWN: u64 = 1 << 22;
 
-/// Is told by the threads of a run how far it is. Nothing that it does changes what the run answers.
+/// What gets the progress of a run from its threads. Nothing that it does changes what the run answers.
 pub trait Progress {
-    /// The run begins: so many cells are to be sent, by the plan that it begins with.
+    /// The run begins. By the plan that it begins with, it sends this number of cells.
     fn begin(&self, cells: u64);
 
-    /// So many more cells were sent.
+    /// This number of further cells was sent.
     fn tell_sent(&self, cells: u64);
 
-    /// So many more words were accepted.
+    /// This number of further words was accepted.
     fn tell_accepted(&self, words: u64);
 
     /// The run has ended.
@@ -45,8 +45,8 @@ impl Progress for NoProgress {
     fn end(&self) {}
 }
 
-/// Shows on a terminal how many cells of all were sent, and how many words were accepted: one line, which is written anew
-/// while the run goes on, and is wiped at its end. Where the terminal fails, or memory is refused, nothing is shown.
+/// Shows on a terminal how many cells of all were sent, and how many words were accepted: one line, which is written
+/// again while the run goes on, and is wiped at its end. If the terminal or an allocation fails, nothing is shown.
 #[derive(Drop)]
 pub struct ProgressLine<W> {
     alloc: Global,
@@ -56,7 +56,7 @@ pub struct ProgressLine<W> {
     words: AtomicU64,
 }
 
-/// Appends the line's text. The error is a want of memory.
+/// Appends the line's text. Error: an allocation fails.
 fn push_line(text: &mut Vec<u8>, cells: u64, all: u64, words: u64) -> io::Result<()>
     ensures { Gains result text.old.items text.new.items (progress_line cells all words) }
 {
@@ -113,21 +113,21 @@ impl<W: Write + Copy> Progress for ProgressLine<W> {
     }
 }
 
-/// A gate that always lets pass, and tells how far the run is.
+/// A gate that always lets pass, and reports how far the run is.
 #[derive(Drop)]
 pub struct ProgressGate<'a, P> {
     progress: &'a P,
 }
 
 impl<'a, P: Progress> ProgressGate<'a, P> {
-    /// The run begins: so many frames are to be sent of each group.
+    /// The run begins. Each group sends this number of frames.
     pub fn begin(progress: &'a P, plan: &Plan<OUTPUTS>, frames: u32) -> ProgressGate<'a, P> {
         progress.begin(cells_of_run(plan, frames));
         ProgressGate { progress }
     }
 }
 
-/// How many cells are sent in so many frames of each group, as far as 64 bits count.
+/// How many cells are sent in this number of frames of each group, as far as 64 bits count.
 fn cells_of_run(plan: &Plan<OUTPUTS>, frames: u32) -> u64 {
     let mut cells: u64 = 0;
     for group in 0..plan.groups() {
@@ -146,7 +146,7 @@ fn is_last(cell: u64) -> bool {
 impl<P: Progress> Gate for ProgressGate<'_, P> {
     ghost shuts = { λ _ _. ⊥ };
 
-    fn pass(&self, point: Point) -> Result<(), GateFault> {
+    fn pass<S>(&self, point: Point, _shown: &S) -> Result<(), GateFault> {
         match point {
             Point::AfterCell(_, cell) if is_last(cell) => self.progress.tell_sent(STRIDE),
             _ => {}

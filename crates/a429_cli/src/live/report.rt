@@ -27,7 +27,7 @@ fn push_refused_words(text: &mut Vec<u8>, totals: ReceiveTotals) -> io::Result<(
     )
 }
 
-/// Appends the line of a receiver. The error is a want of memory, and may leave a part of the line.
+/// Appends the line of a receiver. Error: an allocation fails; a part of the line may be left.
 fn push_receiver(text: &mut Vec<u8>, row: &ReceiverRow, totals: ReceiveTotals) -> io::Result<()>
     ensures { Gains result text.old.items text.new.items (receiver_line row.now.name totals) }
 {
@@ -36,7 +36,7 @@ fn push_receiver(text: &mut Vec<u8>, row: &ReceiverRow, totals: ReceiveTotals) -
     push_refused_words(text, totals)
 }
 
-/// Appends the line of a group. The error is a want of memory, and may leave a part of the line.
+/// Appends the line of a group. Error: an allocation fails; a part of the line may be left.
 fn push_group(text: &mut Vec<u8>, row: &GroupRow, totals: SendTotals) -> io::Result<()>
     ensures { Gains result text.old.items text.new.items (group_line row.now.name totals) }
 {
@@ -78,7 +78,7 @@ fn push_groups(text: &mut Vec<u8>, rows: &[GroupRow], totals: &[SendTotals]) -> 
     Ok(())
 }
 
-/// Appends the line of a refusal. The error is a want of memory, and may leave a part of the line.
+/// Appends the line of a refusal. Error: an allocation fails; a part of the line may be left.
 fn push_refused(text: &mut Vec<u8>, refusal: &CommandRefusal) -> io::Result<()>
     ensures { Gains result text.old.items text.new.items (refusal_line refusal.now ++ 10 ∷ []) }
 {

@@ -68,7 +68,7 @@ fn read_input<F: FileReader>(
     })
 }
 
-/// The words of a file for the receivers of a station. Refused is the file.
+/// The words of a file for the receivers of a station. Error: the file is refused.
 fn read_arrivals(
     alloc: Global,
     equipment: &Equipment,
@@ -81,7 +81,7 @@ fn read_arrivals(
     read_words(alloc, &names, words, seen)
 }
 
-/// The station and the words that are given. Refused is the table, its plan, or the file of words.
+/// The station and the words that are given. Error: the table, its plan, or the file of words is refused.
 fn prepare(alloc: Global, input: &LiveInput, seen: &mut Seen) -> Result<PreparedRun, CommandRefusal>
     ensures { MatchResult result (IsPreparedLive (files_of input.now)) (OrMemory (IsNoLiveStart (files_of input.now))) }
 {
@@ -90,7 +90,7 @@ fn prepare(alloc: Global, input: &LiveInput, seen: &mut Seen) -> Result<Prepared
     Ok(PreparedRun { proposal, arrivals })
 }
 
-/// So many sinks, which count their cells.
+/// This number of sinks, which count their cells.
 fn count_sinks(alloc: Global, groups: usize) -> Result<Vec<CountSink>, AllocError>
     ensures { IfOk result (λ sinks. vec_len sinks ≡ groups) }
 {
@@ -101,7 +101,7 @@ fn count_sinks(alloc: Global, groups: usize) -> Result<Vec<CountSink>, AllocErro
     Ok(sinks)
 }
 
-/// The refusal that tells of a fault of a run. The plan was made before, so no fault of it is left but want of memory.
+/// The refusal for a fault of a run. The plan was made before, so a fault of it now means that an allocation failed.
 fn run_refusal(fault: LiveFault) -> CommandRefusal
     ensures { result ≡ refusal_of fault }
 {
@@ -115,8 +115,8 @@ fn run_refusal(fault: LiveFault) -> CommandRefusal
     }
 }
 
-/// Runs a station with the words of its receivers for so many frames, and resubmits further tables meanwhile. Answers
-/// the text of the report. The further tables whose plans the station does not take are noted.
+/// Runs a station with the words of its receivers for this number of frames, and resubmits further tables during the
+/// run. Answers the text of the report. The further tables whose plans the station does not take are noted.
 fn run<'a, R: Threads + Wait, P: Progress + Sync>(
     rt: &R,
     alloc: Global,
@@ -160,8 +160,9 @@ fn threads_of(equipment: &Equipment) -> usize {
     equipment.receivers().len() + equipment.groups().len()
 }
 
-/// The text of the report of a run. Refused is a file, the table, its plan, the file of words, or the run: `TooMuch` for
-/// more than a million frames or words of a receiver, `Join` where a thread could not be started or taken in.
+/// The text of the report of a run. Error: a file, the table, its plan, the file of words, or the run is refused. The
+/// run is refused as `TooMuch` for more than a million frames or words of a receiver, and as `Join` if a thread could
+/// not be started or taken in.
 fn run_report<R: Threads + Wait, F: FileReader, P: Progress + Sync>(
     rt: &R,
     alloc: Global,
@@ -191,7 +192,7 @@ fn run_report<R: Threads + Wait, F: FileReader, P: Progress + Sync>(
 }
 
 /// Runs the station of a table on threads of its own, and puts the report of the run, or the one line of a refusal.
-/// The status is 0, or 1 where it was refused. While the station runs, `progress` is told how far it is.
+/// The status is 0, or 1 after a refusal. While the station runs, `progress` gets reports of how far it is.
 pub fn run_station<R: Threads + Wait, F: FileReader, O: Output, P: Progress + Sync>(
     rt: &R,
     alloc: Global,

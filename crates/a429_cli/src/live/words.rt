@@ -54,8 +54,8 @@ impl LineForm for WordsForm<'_> {
     }
 }
 
-/// Reads a file of words for the receivers of these names. Refused is the number of its first faulty line, from 1: of
-/// one that is not a receiver's name and a word, names no receiver, or does not end with a line feed.
+/// Reads a file of words for the receivers of these names. Error: the number of its first faulty line, from 1. A line
+/// is faulty if it is not a receiver's name and a word, names no receiver, or does not end with a line feed.
 pub fn read_words(
     alloc: Global,
     names: &Names,
@@ -74,7 +74,7 @@ pub fn read_words(
     }
 }
 
-/// The raw word, where it comes in at this receiver.
+/// The raw word, if it comes in at this receiver.
 fn raw_for(receiver: usize, arrival: Arrival) -> Option<u32>
     ensures { result ≡ raw_for receiver arrival }
 {
@@ -95,7 +95,7 @@ fn words_for(alloc: Global, arrivals: &[Arrival], receiver: usize) -> Result<Vec
         .collect(alloc)
 }
 
-/// The lines of so many receivers: each gives the words for its receiver, in order.
+/// The lines of this number of receivers. Each gives the words for its receiver, in order.
 #[tactic(auto, using(crate::proofs::WordsLines::numbers_left))]
 pub fn line_sources(
     alloc: Global,

@@ -29,7 +29,7 @@ impl Model for NameList {
 }
 
 impl NameList {
-    /// The list of these names, of which each is mostly followed by this byte where it is looked for.
+    /// The list of these names, each of which is mostly followed by this byte in the text that is read.
     pub fn of(names: Vec<String>, end: u8) -> NameList
         requires { length names.items ≤ 16 }
         ensures { result ≡ map string_bytes names.items }
@@ -147,7 +147,7 @@ fn number_of(names: &[String], name: &[u8]) -> Option<u8>
     Some(number as u8)
 }
 
-/// The name of a number among these; nothing where there is none.
+/// The name of a number among these. Empty if there is no such name.
 fn name_in(names: &[String], number: usize) -> &[u8]
     ensures { result.now ≡ name_at (map string_bytes names.entry.now) number }
 {

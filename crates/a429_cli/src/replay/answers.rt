@@ -27,7 +27,7 @@ fn refusal_line(refusal: Refusal) -> &'static [u8]
     }
 }
 
-/// Writes what stands in a cell before the bytes that begin at `end`, and gives its start.
+/// Writes the content of a cell before the bytes that begin at `end`, and gives its start.
 fn put_cell(room: &mut [u8], end: usize, word: Option<Word>) -> usize
     requires { (8 ≤ end) × (end ≤ length room.old) }
     ensures start { (result ≤ end) × (end ≤ result + 8) }
@@ -40,7 +40,7 @@ fn put_cell(room: &mut [u8], end: usize, word: Option<Word>) -> usize
     }
 }
 
-/// Appends the line of a cell that was sent. Where memory is refused, nothing is appended.
+/// Appends the line of a cell that was sent. If an allocation fails, nothing is appended.
 #[inline(always)]
 fn push_sent(text: &mut Vec<u8>, bus: u32, slot: u64, word: Option<Word>) -> Result<(), AllocError>
     ensures line { Gains result text.old.items text.new.items (answer_line [] (Sent bus slot word)) }
@@ -57,7 +57,7 @@ fn push_sent(text: &mut Vec<u8>, bus: u32, slot: u64, word: Option<Word>) -> Res
     text.extend_from_slice(&room[at..])
 }
 
-/// Appends the line of an answer. Where memory is refused, nothing is appended.
+/// Appends the line of an answer. If an allocation fails, nothing is appended.
 #[inline(always)]
 pub fn push_answer(text: &mut Vec<u8>, names: &Names, answer: Answer) -> Result<(), AllocError>
     ensures line { Gains result text.old.items text.new.items (answer_line names.now.sources answer) }

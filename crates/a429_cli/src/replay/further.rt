@@ -17,7 +17,7 @@ use std::alloc::{AllocError, Global};
 use std::marker::Model;
 use std::mem::replace;
 
-/// A table by its bytes, and what these come to. Many events may publish it: so it is read and planned once.
+/// A table by its bytes, and its proposal or its refusal. Many events may publish it, so it is read and planned once.
 #[derive(Drop)]
 pub struct FurtherTable {
     bytes: Vec<u8>,
@@ -51,7 +51,7 @@ impl FurtherTable {
         &self.proposal
     }
 
-    /// The event that publishes it. Refused is its fault, or else that of its plan; with no refusal memory is.
+    /// The event that publishes it. Error: its fault, otherwise that of its plan, or `None` if an allocation fails.
     pub fn publication(&self, alloc: Global) -> Result<Event, Option<&CommandRefusal>>
         ensures { GivesEvent (IsPublication self.now) (IsTableRefusal self.now) result }
     {
@@ -64,7 +64,7 @@ impl FurtherTable {
         }
     }
 
-    /// Why a station does not take its plan, for a hint. `None` if the station takes it, or if memory is refused.
+    /// Why a station does not take its plan, for a hint. `None` if the station takes it, or if an allocation fails.
     fn cause_at(&self, alloc: Global, station: &Equipment) -> Option<FurtherCause>
         ensures { IsTakenBy station.now self.now → IsNone result }
     {

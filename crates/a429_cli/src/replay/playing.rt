@@ -16,8 +16,8 @@ use a429_core::laws::calls_are_answered;
 use a429_core::{Event, StationState};
 use std::alloc::{AllocError, Global};
 
-/// The event of the machine that publishes the further table of a number. Refused is the table's fault, or else that of
-/// its plan; with no refusal memory is.
+/// The event of the machine that publishes the further table of a number. Error: the table's fault, otherwise that of
+/// its plan, or `None` if an allocation fails.
 fn publication(
     alloc: Global,
     further: &[FurtherTable],
@@ -29,8 +29,7 @@ fn publication(
     further[number - 1].publication(alloc)
 }
 
-/// Publishes the further table of a number, and appends the line that this comes to. Where memory is refused, nothing is
-/// appended.
+/// Publishes the further table of a number, and appends its line. If an allocation fails, nothing is appended.
 fn play_publication(
     alloc: Global,
     state: &mut StationState,
@@ -54,7 +53,7 @@ fn play_publication(
     }
 }
 
-/// Appends the line that an event of a script comes to. Where memory is refused, nothing is appended.
+/// Plays an event of a script, and appends its line. If an allocation fails, nothing is appended.
 #[inline(always)]
 fn play(
     alloc: Global,
@@ -98,8 +97,8 @@ fn mark_published(published: &mut [bool], event: ScriptEvent) {
     }
 }
 
-/// Plays events one after another. Their lines are put out where they have become many, and those that are left stand
-/// in `lines`. The further tables that are published are marked. Whether memory sufficed for all.
+/// Plays events one after another. Their lines are put out when they have become many, and those that are left are in
+/// `lines`. The further tables that are published are marked. The result is whether memory sufficed for all.
 pub fn play_all<O: Output>(
     alloc: Global,
     state: &mut StationState,

@@ -32,7 +32,7 @@ fn arrive(names: &Names, words: &[u8]) -> Option<ScriptEvent>
     Some(ScriptEvent::Arrive(receiver, raw_word(raw)?))
 }
 
-/// The publication of one of so many further tables.
+/// The publication of one of this number of further tables.
 fn publish(further: usize, number: &[u8]) -> Option<ScriptEvent>
     ensures event { result ≡ publish_event further number.now }
     ensures fits { IfSome result (CanBeKept further) }
@@ -64,7 +64,7 @@ fn read_line(names: &Names, further: usize, line: &[u8]) -> Option<ScriptEvent>
     }
 }
 
-/// The form of a script's lines: with the names of its station, beside so many further tables.
+/// The form of a script's lines: the names of its station, and the number of further tables.
 #[derive(Clone, Copy)]
 pub struct ScriptForm<'a> {
     pub names: &'a Names,

@@ -23,8 +23,8 @@ pub struct ReplayStation {
 }
 
 impl ReplayStation {
-    /// The station of a table's bytes, to which nothing has happened, at slot 0. Refused is the table's
-    /// fault, or else the first fault of its plan. The further tables whose plans the station does not take are noted.
+    /// The station of a table's bytes, to which nothing has happened, at slot 0. Error: the table's fault, otherwise
+    /// the first fault of its plan. The further tables whose plans the station does not take are noted.
     pub fn open(
         alloc: Global,
         table: &[u8],

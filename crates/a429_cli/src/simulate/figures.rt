@@ -19,9 +19,9 @@ pub struct OutputSend {
     pub time: u64,
 }
 
-/// What is kept of the words that an output sent: how many, as far as 64 bits count; the last; the least and the greatest
-/// time between two in turn; and the greatest time from when a word came in to the end of the slot in which it first went
-/// out. Times are in microseconds, rounded up.
+/// What is kept of the words that an output sent: how many, as far as 64 bits count; the last; the minimum and the
+/// maximum time between two that follow each other; and the maximum time from when a word came in to the end of the
+/// slot in which it first went out. Times are in microseconds, rounded up.
 #[derive(Clone, Copy)]
 pub struct OutputFigures {
     pub sent: u64,
@@ -42,7 +42,7 @@ fn lesser(least: Option<u64>, more: Option<u64>) -> Option<u64>
     }
 }
 
-/// The greater of two numbers, if there are two.
+/// The maximum of two numbers. If one is missing, it is the other.
 fn greater(greatest: Option<u64>, more: Option<u64>) -> Option<u64>
     ensures { result ≡ greater greatest more }
 {

@@ -180,7 +180,8 @@ impl Setting {
         put_decimal(room, at, u64::from(sent.bus))
     }
 
-    /// Appends the line of a word that is sent in the slot that lines begin with. If memory is refused, nothing is appended.
+    /// Appends the line of a word that is sent in the slot that lines begin with. If an allocation fails, nothing is
+    /// appended.
     #[inline(always)]
     fn push_rest(
         &self,
@@ -200,7 +201,7 @@ impl Setting {
         text.extend_from_slice(&room[at..])
     }
 
-    /// Appends the line of a word that is sent. If memory is refused, nothing is appended.
+    /// Appends the line of a word that is sent. If an allocation fails, nothing is appended.
     #[inline(always)]
     fn push_sent(&self, lines: &mut PendingLines, sent: SentWord) -> Result<(), AllocError>
         requires names { HasStationNames self.now.names self.now.proposal }
@@ -214,7 +215,7 @@ impl Setting {
         self.push_rest(&mut lines.text, &lines.begin, sent)
     }
 
-    /// Appends the line of a word that is refused. If memory is refused, nothing is appended.
+    /// Appends the line of a word that is refused. If an allocation fails, nothing is appended.
     pub fn push_refused(
         &self,
         text: &mut Vec<u8>,
@@ -242,8 +243,8 @@ impl Setting {
         text.extend_from_slice(&room[at..])
     }
 
-    /// Appends the line of what happens: of a word that is sent, and without commas of one that is refused. If memory is
-    /// refused, nothing is appended.
+    /// Appends the line of what happens: of a word that is sent, and without commas of one that is refused. If an
+    /// allocation fails, nothing is appended.
     #[inline(always)]
     pub fn push(&self, lines: &mut PendingLines, happening: Happening) -> Result<(), AllocError>
         requires names { HasStationNames self.now.names self.now.proposal }

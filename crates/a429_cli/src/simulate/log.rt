@@ -150,8 +150,8 @@ fn keep_word(words: &mut Vec<LogWord>, last: u64, entry: LogEntry) -> Result<u64
     }
 }
 
-/// The words of a log for the receivers of these names. The error is the number of its first faulty line, from 1, or with
-/// no number that memory is refused.
+/// The words of a log for the receivers of these names. Error: the number of its first faulty line, from 1, or an
+/// allocation fails.
 fn read_words(alloc: Global, names: &Names, log: &[u8]) -> Result<Vec<LogWord>, LinesFault>
     ensures words { ReadsLog names.now log.now result }
     ensures in_time { IfOk result (λ words. AreInTime words.items) }
@@ -172,9 +172,9 @@ fn read_words(alloc: Global, names: &Names, log: &[u8]) -> Result<Vec<LogWord>, 
     Ok(words)
 }
 
-/// Reads a log for the receivers of these names. Refused is the number of its first faulty line, from 1: of one that is not a
-/// time, a receiver's name and a word, names no receiver, has a time below the one before, or does not end with a line
-/// feed. That line is kept in `seen`.
+/// Reads a log for the receivers of these names. Error: the number of its first faulty line, from 1. A line is faulty
+/// if it is not a time, a receiver's name and a word, or names no receiver. So is one with a time below the one before,
+/// or without a line feed at its end. The faulty line is kept in `seen`.
 pub fn read_log(
     alloc: Global,
     names: &Names,

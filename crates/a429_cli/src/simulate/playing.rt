@@ -30,7 +30,7 @@ pub struct Player {
 
 impl Player {
     /// A station to which nothing has happened, with these words before it, and slots up to this time or to that which the words
-    /// ask for. Refused is a group that would send too much.
+    /// ask for. Error: a group would send too much.
     pub fn open(
         alloc: Global,
         proposal: &Proposal<OUTPUTS>,

@@ -105,7 +105,7 @@ pub fn rate_of(proposal: &Proposal<OUTPUTS>, group: usize) -> u32
     proposal.equipment().group_rate(group)
 }
 
-/// How many microseconds so many slots last at a rate in bit/s, rounded up.
+/// How long a number of slots lasts at a rate in bit/s, in microseconds, rounded up.
 pub fn micros_of(rate: u32, slots: u64) -> u64
     requires rate { 1 ≤ rate }
     requires few { slots ≤ 8192000000 }
@@ -115,8 +115,8 @@ pub fn micros_of(rate: u32, slots: u64) -> u64
     (SLOT_TIME * slots).div_ceil(u64::from(rate))
 }
 
-/// How many slots begin at this time in microseconds or before, at a rate in bit/s. `None` if they are more than a million
-/// frames of so many slots.
+/// How many slots begin at this time in microseconds or before, at a rate in bit/s. `None` if they are more than a
+/// million frames of this length.
 fn count_slots(rate: u32, frame: u32, last: u64) -> Option<u64>
     requires { (1 ≤ frame) × (frame ≤ 8192) }
     ensures { SlotsAreCounted rate frame last result }
@@ -159,8 +159,8 @@ fn last_time(words: &[LogWord]) -> u64
     }
 }
 
-/// The last time at which slots begin, in microseconds: the one that is asked for, or else a longest frame after the last
-/// word.
+/// The last time at which slots begin, in microseconds: the one that is asked for, otherwise a longest frame after the
+/// last word.
 pub fn end_of(proposal: &Proposal<OUTPUTS>, words: &[LogWord], until: Option<u64>) -> u64
     requires { AreInTime words.now }
     ensures { result ≡ end_of proposal.now words.now until }
@@ -171,8 +171,8 @@ pub fn end_of(proposal: &Proposal<OUTPUTS>, words: &[LogWord], until: Option<u64
     last_time(words) + longest_frame(proposal.equipment(), proposal.plan())
 }
 
-/// Each group before its first slot, where slots begin up to this time in microseconds. Refused is a group that would send more
-/// than a million frames.
+/// Each group before its first slot, with slots that begin up to this time in microseconds. Error: a group would send
+/// more than a million frames.
 pub fn tracks_of(
     alloc: Global,
     proposal: &Proposal<OUTPUTS>,

@@ -85,7 +85,7 @@ fn named_command<'a>(alloc: Global, name: &'a str, about: &'a str, end: &'a str)
     Command::new(alloc, name).about(about).after_help(end)
 }
 
-/// A command with all that it is given beside options.
+/// A command with all that it is given apart from options.
 fn with_names<'a>(
     alloc: Global,
     command: Command<'a>,

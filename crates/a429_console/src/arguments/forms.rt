@@ -1,5 +1,5 @@
-//! The commands and their options: what each is given, its help, and an example. All else that goes by the commands of
-//! the program comes from these rows.
+//! The commands and their options: what each is given, its help, and an example. All else that depends on the commands
+//! of the program comes from these rows.
 ghost use Rattle.std.specs.Prelude.{◌≡◌, IfSome, map};
 ghost use Rattle.std.specs.List.{AllByRecursion};
 ghost use Rattle.a429_console.specs.CommandLine.{IsRow, form_row, row_of, verbs};
@@ -91,6 +91,26 @@ pub const CSV: OptionForm = OptionForm {
     id: "csv",
     kind: OptionKind::Flag,
     help: help::CSV,
+};
+
+/// `--json`
+pub const JSON: OptionForm = OptionForm {
+    id: "json",
+    kind: OptionKind::Flag,
+    help: help::JSON,
+};
+
+/// `--json` of a command whose lines have no such form: only its summary has.
+const SUMMARY_JSON: OptionForm = OptionForm {
+    help: help::SUMMARY_JSON,
+    ..JSON
+};
+
+/// `--all`
+pub const ALL: OptionForm = OptionForm {
+    id: "all",
+    kind: OptionKind::Flag,
+    help: help::ALL,
 };
 
 /// `--group`
@@ -216,7 +236,7 @@ static COMMANDS: [CommandForm; 13] = [
     CommandForm {
         verb: Verb::Icd,
         name: "icd",
-        options: &[CSV],
+        options: &[CSV, JSON],
         about: help::ICD,
         end: help::ICD_END,
         ..OF_TABLE
@@ -224,6 +244,7 @@ static COMMANDS: [CommandForm; 13] = [
     CommandForm {
         verb: Verb::Margin,
         name: "margin",
+        options: &[CSV, JSON],
         about: help::MARGIN,
         end: help::MARGIN_END,
         ..OF_TABLE
@@ -231,6 +252,7 @@ static COMMANDS: [CommandForm; 13] = [
     CommandForm {
         verb: Verb::Lint,
         name: "lint",
+        options: &[CSV, JSON],
         about: help::LINT,
         end: help::LINT_END,
         ..OF_TABLE
@@ -239,6 +261,7 @@ static COMMANDS: [CommandForm; 13] = [
         verb: Verb::Diff,
         name: "diff",
         second: Some(name!("OTHER", help::OTHER)),
+        options: &[ALL, CSV, JSON],
         about: help::DIFF,
         end: help::DIFF_END,
         ..OF_TABLE
@@ -264,7 +287,7 @@ static COMMANDS: [CommandForm; 13] = [
         verb: Verb::Simulate,
         name: "simulate",
         second: Some(name!("LOG", help::LOG)),
-        options: &[UNTIL, SUMMARY, CSV],
+        options: &[UNTIL, SUMMARY, CSV, SUMMARY_JSON],
         about: help::SIMULATE,
         end: help::SIMULATE_END,
         ..OF_TABLE

@@ -9,10 +9,10 @@ use std::alloc::{AllocError, Global};
 use std::env::{Env, FillError};
 use thiserror::Error;
 
-/// Why the words of the command line are not given.
+/// Why the arguments are not given.
 #[derive(Clone, Copy, Debug, PartialEq, Eq, Error)]
 pub enum WordsFault {
-    /// Memory was refused.
+    /// An allocation failed.
     #[error("out of memory")]
     NoMemory,
     /// A word is no UTF-8.
@@ -47,7 +47,7 @@ impl<R: Env> Arguments for R {
     }
 }
 
-/// The bytes of the argument at a place, or none where there is no argument.
+/// The bytes of the argument at a place. `None` if there is no argument.
 fn argument_bytes<A: Arguments>(
     alloc: Global,
     arguments: &A,
@@ -72,7 +72,7 @@ fn argument_bytes<A: Arguments>(
     Err(AllocError)
 }
 
-/// The words of the command line, without the program's path.
+/// The arguments, without the program's path.
 pub fn given_words<A: Arguments>(alloc: Global, arguments: &A) -> Result<Vec<String>, WordsFault>
     ensures words { IfOk result (λ words. AreAllWords (A.gives arguments.now) (A.ends arguments.now) (map string_bytes words.items)) }
     ensures not_text { result ≡ Err WordsFault.NotText → HasNoText (A.gives arguments.now) }
@@ -97,7 +97,7 @@ fn push_word(words: &mut Vec<String>, word: String) -> Result<(), WordsFault>
     }
 }
 
-/// The word at a place, or none behind the last.
+/// The word at a place. `None` after the last.
 fn word_at<A: Arguments>(
     alloc: Global,
     arguments: &A,

@@ -62,7 +62,7 @@ Example:
 
 pub const CHECK: &str = "Check whether a plan's text shows the fewest buses for a station";
 
-pub const TEXT: &str = "Text of a plan, as `plan` prints it, whoever wrote it";
+pub const TEXT: &str = "Text of a plan, by any program or person";
 
 pub const CHECK_END: &str = "\
 Example:
@@ -72,17 +72,19 @@ pub const ICD: &str = "Print what an interface control document says of each out
 
 pub const CSV: &str = "As comma-separated values, for spreadsheets";
 
+pub const JSON: &str = "As JSON, an array with an object for each row";
+
 pub const ICD_END: &str = "\
 Example:
   a429 icd --csv examples/displays/table.toml";
 
-pub const MARGIN: &str = "Print how far each group is from one bus fewer, and what would help";
+pub const MARGIN: &str = "Print how far each group is from one bus less, and what would help";
 
 pub const MARGIN_END: &str = "\
 Example:
   a429 margin examples/air_data_and_inertial/station.toml";
 
-pub const LINT: &str = "Print what a table does in silence, such as words that never arrive";
+pub const LINT: &str = "Print what a table does silently, such as words that never arrive";
 
 pub const LINT_END: &str = "\
 There is a row for each finding, and the status is 1 if there is one:
@@ -102,10 +104,13 @@ pub const DIFF: &str = "Print what changes from the plan of a table to that of a
 
 pub const OTHER: &str = "Equipment table that takes its place (TOML)";
 
+pub const ALL: &str = "Each output that only moves, instead of their number";
+
 pub const DIFF_END: &str = "\
-There is a row for each change. Without one the status is 0, else 1. A row
+There is a row for each change, and the status is 1 if there is one. A row
 `receiver`, `filters`, `source`, `source-receiver`, `label`, `sdi`, `group` or
-`rate` means that OTHER cannot be published while TABLE runs.
+`rate` means that OTHER cannot be published while TABLE runs. A row `moved` has
+the number of outputs that only change their slots.
 
 Example:
   a429 diff examples/displays/table.toml examples/displays/faster.toml";
@@ -114,9 +119,9 @@ pub const DRAW: &str = "Draw the slot tables of a plan as an image (SVG)";
 
 pub const GROUP: &str = "Only the group of this name";
 
-pub const SLOTS: &str = "Slots of each bus, 1 to 8192; else a frame, at most 256";
+pub const SLOTS: &str = "Slots drawn, 1 to 8192 [default: a frame, at most 256]";
 
-pub const WIDTH: &str = "Slots side by side, 64, 128 or 256; else 64";
+pub const WIDTH: &str = "Slots side by side, 64, 128 or 256 [default: 64]";
 
 pub const HTML: &str = "As a page (HTML) with `icd`, `margin` and `lint`";
 
@@ -146,9 +151,11 @@ pub const SIMULATE: &str = "Print which words a station would have sent, by a lo
 
 pub const LOG: &str = "Words that come in, `TIME RECEIVER HEX` on each line";
 
-pub const UNTIL: &str = "Ask for cells until then; else a frame after the last word";
+pub const UNTIL: &str = "Send until then [default: a frame after the last word]";
 
-pub const SUMMARY: &str = "One line for each output, in place of one for each word";
+pub const SUMMARY: &str = "One row for each output instead of a line for each word";
+
+pub const SUMMARY_JSON: &str = "The summary as JSON";
 
 pub const SIMULATE_END: &str = "\
 A log has a word on each line. TIME is in whole microseconds, and does not

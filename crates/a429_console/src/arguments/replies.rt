@@ -14,9 +14,8 @@ use std::alloc::{AllocError, Global};
 use std::io;
 use std::io::Write;
 
-/// Answers words that are no request, by the error that their parser gave. Help that was asked for is put, with
-/// status 0; the text of a mistake, with what may have been meant, is written to `err`, with status 2, or 1 where `err`
-/// fails.
+/// Answers words that are no request, by the error that their parser gave. Help that was asked for is put, with status
+/// 0. The text of a mistake, with what may have been meant, is written to `err`, with status 2, or 1 if `err` fails.
 pub fn explain<H: Hints, O: Output, V: Output>(
     alloc: Global,
     error: &Error,
@@ -28,15 +27,15 @@ pub fn explain<H: Hints, O: Output, V: Output>(
     ensures replied { ExplainsKind O.contents V.failures (kind_of error.now) out.old out.new err.old err.new result }
     ensures faults { CountsFault result (O.failures out.old) (O.failures out.new) }
     ensures status { IfOk result (λ status. status ≤ 2) }
-    // Where the status is 0, all was passed on; so it is with status 1, unless a call of `err` failed.
+    // If the status is 0, all was passed on; so it is with status 1, unless a call of `err` failed.
     ensures flushed { IfOk result (λ status. status ≡ 0 → IsTrue (O.is_flushed out.new)) }
     ensures told { IsPassedOnUnless (IsMistakeUntold V.failures (kind_of error.now) err.old err.new) (O.is_flushed out.new) result }
     ensures warned { IfOk result (λ status. status ≡ 2 → IsTrue (V.is_flushed err.new)) }
-    // Nothing is asked of `err` but where it is told of a mistake, nor of `out` there.
+    // With status 0, or after an error, `err` stays the same. With status 2 `out` stays the same.
     ensures quiet { IfOk result (λ status. status ≡ 0 → err.new ≡ err.old) }
     ensures left { OnErr result (err.new ≡ err.old) }
     ensures silent { IfOk result (λ status. status ≡ 2 → out.new ≡ out.old) }
-    // Where a call of `err` failed, the status is 1, and there is no further one.
+    // If a call of `err` failed, the status is 1, and there is no further one.
     ensures failed { IfOk result (λ status. (status ≡ 1) ⊎ (V.failures err.new ≡ V.failures err.old)) }
     ensures once { (V.failures err.new).count ≤ (V.failures err.old).count + 1 }
 {
@@ -47,7 +46,7 @@ pub fn explain<H: Hints, O: Output, V: Output>(
     }
 }
 
-/// Writes the text of a mistake to `err`. The status is 2, or 1 where `err` fails or memory for the text is refused.
+/// Writes the text of a mistake to `err`. The status is 2, or 1 if `err` or an allocation for the text fails.
 fn tell_mistake<H: Hints, O: Output, V: Output>(
     alloc: Global,
     mistake: &Error,
@@ -75,7 +74,7 @@ fn tell_mistake<H: Hints, O: Output, V: Output>(
     }
 }
 
-/// The text of a mistake. Words of the command line may be in it.
+/// The text of a mistake. Arguments may be in it.
 fn mistake_text(alloc: Global, mistake: &Error) -> io::Result<Vec<u8>> {
     let mut text = Vec::new(alloc);
     write!(text, "{mistake}")?;
@@ -100,7 +99,7 @@ fn add_suggestion<H: Hints>(alloc: Global, words: &[&str], hints: &H, text: &mut
     }
 }
 
-/// Writes a text about words that are a mistake. The status is 2, or 1 where the output fails.
+/// Writes a text about words that are a mistake. The status is 2, or 1 if the output fails.
 pub fn warn<V: Output>(text: &[u8], err: &mut V) -> u8
     ensures status { IsWarned (V.failures err.old) (V.failures err.new) result }
     ensures warned { result ≡ 2 → IsTrue (V.is_flushed err.new) }
@@ -112,7 +111,7 @@ pub fn warn<V: Output>(text: &[u8], err: &mut V) -> u8
     }
 }
 
-/// Puts the text of help that was asked for. The status is 0, or 1 where memory for the text is refused.
+/// Puts the text of help that was asked for. The status is 0, or 1 if an allocation for the text fails.
 fn put_help<O: Output>(alloc: Global, help: &Error, out: &mut O) -> Result<u8, OutputFault>
     ensures replied { IfOk result (IsPut (OrNoMemory IsHelpReply) (O.contents out.old) (O.contents out.new)) }
     ensures status { IfOk result (λ status. status ≤ 1) }

@@ -1,17 +1,18 @@
-//! What the words of the command line ask for.
+//! What the arguments ask for.
 ghost use Rattle.std.specs.Prelude.{◌≡◌, ◌<◌, ◌^◌, [], ℕ, List, Option, IfOk, MatchOption, Some, not, option_map, true};
 ghost use Rattle.clap.specs.Words.{HasKind, Text, first_of, found_of, one_of, rows_of, subcommand_rows_of};
 ghost use Rattle.a429_console.specs.CommandLine.{IsRow};
 ghost use Rattle.a429_console.specs.Files.{texts_of};
 ghost use Rattle.a429_console.specs.Requests.{AskedBytes, IsRead, OptionBytes, asked_of, given_of};
-ghost use Rattle.a429_console.specs.RequestRows.{AreOptions, AsksFor, IsAskedBy, IsFound, number_of, values_of};
+ghost use Rattle.a429_console.specs.RequestRows.{AreOptions, AsksFor, IsAskedBy, IsChosen, IsFound, number_of, values_of};
 ghost use Rattle.a429_console.specs.Usage.{ComesTo, elsewhere, found_kinds, is_live, is_run, kinds_of_words, live_kinds_of_words};
 
+use crate::arguments::choices::{Choices, choices_in, is_given};
 use crate::arguments::command_line::{build_command, words_error};
 use crate::arguments::forms::{
-    CSV, CommandForm, GROUP, HTML, NameForm, NumberForm, SLOTS, SUMMARY, UNTIL, Verb, command_named,
+    ALL, CommandForm, GROUP, HTML, NameForm, NumberForm, SLOTS, SUMMARY, UNTIL, Verb, command_named,
 };
-use crate::arguments::widths::width_given;
+use a429_text::SheetForm;
 use clap::error::ErrorKind;
 use clap::{ArgMatches, Error};
 use std::alloc::{AllocError, Global};
@@ -19,19 +20,21 @@ use std::alloc::{AllocError, Global};
 /// What is given of the options of all commands. A command has some of them.
 #[derive(Clone, Copy)]
 pub struct Options<'a> {
-    /// Comma-separated values are asked for.
-    pub csv: bool,
+    /// The form of what is printed: in columns, if no other is asked for.
+    pub form: SheetForm,
+    /// Rows are asked for of all that changes, even of outputs that only change their places.
+    pub all: bool,
     /// The one group that is drawn.
     pub group: Option<&'a str>,
-    /// How many slots of each bus are drawn, from 1 to 8192. Where that is not said a frame, of which 256 slots at most.
+    /// How many slots of each bus are drawn, from 1 to 8192. `None` draws a frame, of which 256 slots at most.
     pub slots: Option<u32>,
-    /// How many slots are drawn side by side, 64, 128 or 256. Where that is not said 64.
+    /// How many slots are drawn side by side, 64, 128 or 256. `None` is 64.
     pub width: Option<u32>,
     /// A page is asked for, with the image and the lines of the documents.
     pub html: bool,
-    /// Until which microsecond cells are asked for. Where that is not said until all words can be out.
+    /// Until which microsecond cells are asked for. `None` is until all words can be out.
     pub until: Option<u64>,
-    /// One line for each output is asked for, in place of one for each word.
+    /// One line for each output is asked for, instead of one for each word.
     pub summary: bool,
 }
 
@@ -49,10 +52,10 @@ pub struct Asked<'a> {
     pub options: Options<'a>,
 }
 
-/// Reads the words of the command line, without the program's name. The error has the usage or help text
-/// for people, and is of kind `OutOfMemory` where memory was refused.
+/// Reads the arguments, without the program's name. The error has the usage or help text for people. It is of kind
+/// `OutOfMemory` if an allocation failed.
 pub fn parse<'a>(alloc: Global, words: &'a [&'a str]) -> Result<Asked<'a>, Error>
-    // Words that ask for something are read as it, and are refused for want of memory alone.
+    // Arguments that ask for a request are read as it. The only error then is that an allocation fails.
     ensures asked { (r : AskedBytes) → AsksFor (texts_of words.entry.now) r → IsRead r result }
     // An error has a kind that the words come to for `command`; a request means that they come to none, unless it is for `live`.
     ensures kinds { ComesTo (kinds_of_words (texts_of words.entry.now)) is_run result }
@@ -61,36 +64,36 @@ pub fn parse<'a>(alloc: Global, words: &'a [&'a str]) -> Result<Asked<'a>, Error
 {
     let command = build_command(alloc)?;
     let matches = command.try_get_matches_from(words)?;
-    // behind a reference, so that its returns do not drop them: each would cost the check
+    // by reference, so that its returns do not drop them: each would cost the check
     read_matches(alloc, &matches)
 }
 
-/// The error of words that ask for a command which another call does.
+/// The error for a command which another call does.
 pub fn other_call_error(alloc: Global, message: &str) -> Error
     ensures { HasKind (elsewhere true) result }
 {
     words_error(alloc, ErrorKind::InvalidSubcommand, message)
 }
 
-/// What the words ask for, by what was found of them. The error is that a drawing has no such width.
+/// What the words ask for, by what was found of them. The error is that options are given which do not go together, or a
+/// width that no drawing has.
 fn read_matches<'a>(alloc: Global, matches: &ArgMatches<'a>) -> Result<Asked<'a>, Error>
     ensures asked { (r : AskedBytes) → IsFound (subcommand_rows_of matches.now) r → IsRead r result }
     ensures kinds { ComesTo (found_kinds (subcommand_rows_of matches.now) (is_live (subcommand_rows_of matches.now))) is_run result }
     ensures live_kinds { ComesTo (found_kinds (subcommand_rows_of matches.now) (not (is_live (subcommand_rows_of matches.now))))
         (λ verb. not (is_run verb)) result }
 {
-    // the rules of the command line take no words without the name of a command
+    // by the rules of the command line the name of a command is there
     let Some((name, found)) = matches.subcommand() else {
         return Err(Error::from(AllocError));
     };
     let Some(form) = command_named(name) else {
         return Err(Error::from(AllocError));
     };
-    let Some(width) = width_given(found) else {
-        let message = "'--width <N>' takes 64, 128 or 256";
-        return Err(words_error(alloc, ErrorKind::InvalidValue, message));
-    };
-    Ok(read_asked(alloc, form, found, width)?)
+    match choices_in(name, found) {
+        Ok(choices) => Ok(read_asked(alloc, form, found, choices)?),
+        Err(fault) => Err(words_error(alloc, ErrorKind::InvalidValue, fault)),
+    }
 }
 
 /// What a command of this form is asked for, by what was found of its words.
@@ -98,11 +101,11 @@ fn read_asked<'a>(
     alloc: Global,
     form: &CommandForm,
     found: &ArgMatches<'a>,
-    width: Option<u32>,
+    choices: Choices,
 ) -> Result<Asked<'a>, AllocError>
     requires { IsRow form.now }
     ensures verb { IfOk result (λ q. q.verb ≡ form.now.verb) }
-    ensures asked { IfOk result (λ q. (r : AskedBytes) → r.verb ≡ form.now.verb → r.options.width ≡ width
+    ensures asked { IfOk result (λ q. (r : AskedBytes) → r.verb ≡ form.now.verb → IsChosen choices r.options
         → IsAskedBy (rows_of (found_of found.now)) r → asked_of q ≡ r) }
 {
     Ok(Asked {
@@ -111,11 +114,11 @@ fn read_asked<'a>(
         second: name_in(found, form.second),
         number: number_in(found, form.number),
         more: names_in(alloc, found, form.more)?,
-        options: options_in(found, width),
+        options: options_in(found, choices),
     })
 }
 
-/// The name that is given, if the command is given it. The rules of the command line take no words without it.
+/// The name that is given, if the command takes it. By the rules of the command line it is there then.
 fn name_in<'a>(found: &ArgMatches<'a>, form: Option<NameForm>) -> &'a str
     ensures { (text : Text) → MatchOption (option_map (λ n. n.id.now) form) (text ≡ []) (λ id. first_of id (rows_of (found_of found.now)) ≡ Some text)
         → result.now ≡ text }
@@ -156,22 +159,23 @@ fn names_in<'a>(
     }
 }
 
-/// What is given of the options, beside the width of a drawing. An option that the command has not is found nowhere.
-fn options_in<'a>(found: &ArgMatches<'a>, width: Option<u32>) -> Options<'a>
-    ensures { (o : OptionBytes) → o.width ≡ width → AreOptions (rows_of (found_of found.now)) o → given_of result ≡ o }
+/// What is given of the options, with these choices. An option that the command has not is found nowhere.
+fn options_in<'a>(found: &ArgMatches<'a>, choices: Choices) -> Options<'a>
+    ensures { (o : OptionBytes) → IsChosen choices o → (name : Text) → AreOptions name (rows_of (found_of found.now)) o → given_of result ≡ o }
 {
     Options {
-        csv: found.get_flag(CSV.id),
+        form: choices.form,
+        all: is_given(found, ALL.id),
         group: found.get_str(GROUP.id),
         slots: asked_number(found, SLOTS.id),
-        width,
-        html: found.get_flag(HTML.id),
+        width: choices.width,
+        html: is_given(found, HTML.id),
         until: asked_time(found, UNTIL.id),
-        summary: found.get_flag(SUMMARY.id),
+        summary: is_given(found, SUMMARY.id),
     }
 }
 
-/// The number of an argument, where one is given: that of its text, which the rules of the command line let through.
+/// The number of an argument, if one is given: that of its text, which the rules of the command line let through.
 fn asked_number(found: &ArgMatches<'_>, id: &str) -> Option<u32>
     ensures { (least most : ℕ) (number : Option ℕ) → most < 2 ^ 32
         → number_of least most (one_of id.now (rows_of (found_of found.now))) ≡ Some number → result ≡ number }
@@ -179,7 +183,7 @@ fn asked_number(found: &ArgMatches<'_>, id: &str) -> Option<u32>
     found.get_one(id)
 }
 
-/// The time of an argument, where one is given: that of its text, which the rules of the command line let through.
+/// The time of an argument, if one is given: that of its text, which the rules of the command line let through.
 fn asked_time(found: &ArgMatches<'_>, id: &str) -> Option<u64>
     ensures { (least most : ℕ) (time : Option ℕ) → most < 2 ^ 64
         → number_of least most (one_of id.now (rows_of (found_of found.now))) ≡ Some time → result ≡ time }

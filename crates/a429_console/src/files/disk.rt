@@ -6,8 +6,8 @@ use std::io;
 use std::io::{ErrorKind, Read};
 use std::rt::Files;
 
-/// The system's files, by their paths. A missing file, a directory, and a file of more than 16 MiB are
-/// refused; of the latter no more is read than shows it.
+/// The system's files, by their paths. A missing file, a directory, and a file of more than 16 MiB are refused. Reading
+/// stops as soon as a file is too large.
 #[derive(Drop)]
 pub struct DiskFiles<'a, R: Files + AllocGlobal> {
     rt: &'a R,

@@ -14,7 +14,7 @@ pub trait LineForm {
     /// What a line states, if it has this form.
     ghost states: { Self → List ℕ → Option Self.Entry };
 
-    /// What holds of all that a line can state.
+    /// What is true of all that a line can state.
     ghost fits: { Self → Self.Entry → Type 0 };
 
     /// What a line states, which is given without its line feed.
@@ -29,7 +29,7 @@ pub enum LinesFault {
     /// The line of this number, from 1, is the first that does not have the form, or that no line feed ends.
     #[error("line {0}")]
     Line(usize),
-    /// Memory was refused.
+    /// An allocation failed.
     #[error("out of memory")]
     NoMemory,
 }

@@ -9,14 +9,14 @@ use crate::hints::Seen;
 use crate::refusals::CommandRefusal;
 use std::alloc::{AllocError, Global};
 
-/// A character as a refusal tells it: a control character, such as a line feed, as `?`.
+/// A character as a refusal prints it. A control character, such as a line feed, is `?`.
 pub(crate) fn printable_char(c: char) -> char
     ensures { result ≡ printable_char c }
 {
     if c.is_control() { '?' } else { c }
 }
 
-/// A name as a refusal tells it, in one line.
+/// A name as a refusal prints it, in one line.
 #[tactic(auto, unfolding(crate::specs::FileReadings::printable_name))]
 pub fn printable_name(alloc: Global, name: &str) -> Result<String, AllocError>
     ensures { IfOk result (λ shown. string_bytes shown ≡ printable_name name.now) }

@@ -5,7 +5,7 @@ ghost use Rattle.a429_console.specs.Outputs.{CountsFault, NoneFailed, ending, fa
 
 use crate::output::{Output, OutputFault};
 
-/// The words that say that memory was refused, with an ending.
+/// The line `refused memory`, with an ending.
 macro_rules! refused_memory {
     ($ending:literal) => {
         concat!("refused memory", $ending)
@@ -18,7 +18,7 @@ pub const REFUSED_MEMORY: &str = refused_memory!("");
 /// Its line: a constant, since to put it must take no memory.
 const REFUSED_MEMORY_LINE: &str = refused_memory!("\n");
 
-/// What a person is told where the output failed.
+/// The line for a person, if the output failed.
 const OUTPUT_FAILED: &[u8] = b"a429: standard output failed\n";
 
 /// Puts a text whole and passes it on.
@@ -31,29 +31,39 @@ pub fn put_whole<O: Output>(text: &[u8], out: &mut O) -> Result<(), OutputFault>
     out.flush()
 }
 
-/// Puts the line of a refusal, which has its line feed. The status is 1.
-pub fn put_refused<O: Output>(line: &[u8], out: &mut O) -> Result<u8, OutputFault>
-    ensures status { IfOk result (λ status. status ≡ 1) }
-    ensures line { OnOk result (Appends (O.contents out.old) (O.contents out.new) line.now) }
+/// Puts a text whole and passes it on. The status is this one.
+pub fn put_answer<O: Output>(text: &[u8], status: u8, out: &mut O) -> Result<u8, OutputFault>
+    ensures status { IfOk result (λ answered. answered ≡ status) }
+    ensures text { OnOk result (Appends (O.contents out.old) (O.contents out.new) text.now) }
     ensures flushed { OnOk result (IsTrue (O.is_flushed out.new)) }
     ensures faults { CountsFault result (O.failures out.old) (O.failures out.new) }
 {
-    put_whole(line, out)?;
-    Ok(1)
+    put_whole(text, out)?;
+    Ok(status)
 }
 
-/// Puts the line that says that memory was refused. The status is 1.
+/// Puts the line that says that an allocation failed. The status is this one.
+pub fn refuse_memory_as<O: Output>(status: u8, out: &mut O) -> Result<u8, OutputFault>
+    ensures status { IfOk result (λ answered. answered ≡ status) }
+    ensures line { OnOk result (Appends (O.contents out.old) (O.contents out.new) (memory_refused ++ 10 ∷ [])) }
+    ensures flushed { OnOk result (IsTrue (O.is_flushed out.new)) }
+    ensures faults { CountsFault result (O.failures out.old) (O.failures out.new) }
+{
+    put_answer(REFUSED_MEMORY_LINE.as_bytes(), status, out)
+}
+
+/// Puts the line that says that an allocation failed. The status is 1.
 pub fn refuse_memory<O: Output>(out: &mut O) -> Result<u8, OutputFault>
     ensures status { IfOk result (λ status. status ≡ 1) }
     ensures line { OnOk result (Appends (O.contents out.old) (O.contents out.new) (memory_refused ++ 10 ∷ [])) }
     ensures flushed { OnOk result (IsTrue (O.is_flushed out.new)) }
     ensures faults { CountsFault result (O.failures out.old) (O.failures out.new) }
 {
-    put_refused(REFUSED_MEMORY_LINE.as_bytes(), out)
+    refuse_memory_as(1, out)
 }
 
-/// Puts the lines that are left, and behind them, where memory did not suffice for all, the one that says so.
-/// The status is 0, or 1 where memory did not suffice.
+/// Puts the lines that are left, and after them, if memory did not suffice for all, the one that says so. The status is
+/// 0, or 1 if memory did not suffice.
 pub fn finish<O: Output>(left: &[u8], sufficed: bool, out: &mut O) -> Result<u8, OutputFault>
     ensures status { IfOk result (λ status. status ≡ status_of sufficed) }
     ensures put { OnOk result (Appends (O.contents out.old) (O.contents out.new) (left.now ++ ending sufficed)) }
@@ -68,8 +78,8 @@ pub fn finish<O: Output>(left: &[u8], sufficed: bool, out: &mut O) -> Result<u8,
     Ok(0)
 }
 
-/// Tells a person, on another output, that an output failed. Where its reader has closed it nobody waits for more, and
-/// nothing is told.
+/// Reports on another output that an output failed. If its reader has closed it, nobody waits for more, and nothing is
+/// reported.
 pub fn tell_fault<V: Output>(fault: OutputFault, err: &mut V)
     ensures announced { is_closing fault ≡ false → NoneFailed (V.failures err.old) (V.failures err.new)
         → Appends (V.contents err.old) (V.contents err.new) failed_line }
@@ -79,7 +89,7 @@ pub fn tell_fault<V: Output>(fault: OutputFault, err: &mut V)
     match fault {
         OutputFault::Closed => {}
         OutputFault::Failed => {
-            // where it cannot be told either, the status says so
+            // if this output fails too, the status says so
             let _ = put_whole(OUTPUT_FAILED, err);
         }
     }

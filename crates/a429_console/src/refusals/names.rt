@@ -1,10 +1,10 @@
-//! The names by which refusals and hints tell of groups and outputs.
+//! The names of groups and outputs in refusals and hints.
 ghost use Rattle.std.specs.Prelude.{◌≡◌};
 ghost use Rattle.a429_console.specs.Names.{group_name, output_name};
 
 use a429_equipment::Equipment;
 
-/// The name of an equipment's group; nothing where there is none of this number.
+/// The name of an equipment's group. Empty if there is no group of this number.
 pub fn group_name(equipment: &Equipment, group: usize) -> &str
     ensures { result.now ≡ group_name equipment.now group }
 {
@@ -14,7 +14,7 @@ pub fn group_name(equipment: &Equipment, group: usize) -> &str
     }
 }
 
-/// The name of an output's source; nothing where there is no such output.
+/// The name of an output's source. Empty if there is no such output.
 pub fn source_name(equipment: &Equipment, group: usize, output: usize) -> &str
     ensures { result.now ≡ output_name equipment.now group output }
 {

@@ -15,7 +15,7 @@ use a429_slots::{NoProposal, OUTPUTS, PlanFault, Proposal};
 use a429_table::{TableFault, read_or_keep};
 use std::alloc::Global;
 
-/// The proposal of a table's bytes. The refusal is the table's fault, or else the first fault of its plan.
+/// The proposal of a table's bytes. Error: the table's fault, otherwise the first fault of its plan.
 pub fn propose(
     alloc: Global,
     table: &[u8],
@@ -91,8 +91,8 @@ pub fn too_many_buses(
     }
 }
 
-/// The refusal of a group that a table does not have. It tells the name that was asked for, in one line; where memory
-/// for that is refused, it says so instead.
+/// The refusal of a group that a table does not have. It has the name that was asked for, in one line. If an allocation
+/// for that fails, it says so instead.
 pub fn no_group(alloc: Global, name: &str) -> CommandRefusal
     ensures { OrMemory (IsGroupRefusal name.now) result }
 {

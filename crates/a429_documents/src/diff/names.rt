@@ -1,4 +1,4 @@
-//! Lists of what has a name, in both tables.
+//! Lists of things with a name, in both tables.
 ghost use Rattle.std.specs.Prelude.{◌≡◌, ◌<◌, ◌++◌, List, ℕ, IfSome, length, option_copied};
 ghost use Rattle.std.specs.List.{flat_map};
 ghost use Rattle.a429_text.specs.Fields.{Field};
@@ -19,27 +19,27 @@ pub trait Named {
 
     ghost subject_of: { Self → diff.Subject };
 
-    /// What differs of one that both tables have; they have these receivers.
+    /// The rows of the differences between two rows of one name, given the receivers of both tables.
     ghost change_rows: { List ReceiverRow → List ReceiverRow → Self → Self → List (List Field) };
 
     /// All of a table.
     fn list(equipment: &Equipment) -> &[Self]
         ensures { result.now ≡ list_of equipment.now };
 
-    /// Its name.
+    /// The name of this row.
     fn name(&self) -> &str
         ensures { result.now ≡ name_of self.now };
 
-    /// Of what a row of it speaks.
+    /// The subject of the rows about it.
     fn subject(&self) -> Subject<'_>
         ensures { result ≡ subject_of self.now };
 
-    /// Adds a row for each thing that differs of one that both tables have.
+    /// Adds a row for each difference between this row and one of the same name.
     fn add_changes(&self, other: &Self, rows: &mut Rows, a: &Equipment, b: &Equipment)
         ensures { rows.new ≡ rows.old ++ change_rows a.now.receivers b.now.receivers self.now other.now };
 }
 
-/// The number of the one of this name.
+/// The number of the row with this name.
 #[tactic(auto, unfolding(crate::specs::Diff::number_named))]
 pub fn number_named<T: Named>(list: &[T], name: &str) -> Option<usize>
     ensures number { result ≡ number_named T.name_of list.now name.now }
@@ -48,7 +48,7 @@ pub fn number_named<T: Named>(list: &[T], name: &str) -> Option<usize>
     list.iter().position(|item| item.name() == name)
 }
 
-/// The same, as rows have it.
+/// The same number, as rows write it.
 fn place_of<T: Named>(list: &[T], name: &str) -> Option<u64>
     ensures { result ≡ number_named T.name_of list.now name.now }
 {
@@ -58,7 +58,7 @@ fn place_of<T: Named>(list: &[T], name: &str) -> Option<u64>
     }
 }
 
-/// Adds the row of one whose number in the second list is another than in the first, or that only one of them has.
+/// Adds a row if the number in the second list is another one than in the first, or if only one list has the name.
 fn add_place<T: Named>(rows: &mut Rows, change: &str, first: &[T], second: &[T], item: &T)
     ensures { rows.new ≡ rows.old ++ place_rows change.now T.name_of T.subject_of first.now second.now item.now }
 {
@@ -67,7 +67,7 @@ fn add_place<T: Named>(rows: &mut Rows, change: &str, first: &[T], second: &[T],
     add_number(rows, change, &item.subject(), own, other);
 }
 
-/// Adds the row of one that the first list does not have.
+/// Adds the row of a name that the first list does not have.
 fn add_new<T: Named>(rows: &mut Rows, change: &str, first: &[T], second: &[T], item: &T)
     ensures { rows.new ≡ rows.old ++ new_rows change.now T.name_of T.subject_of first.now second.now item.now }
 {
@@ -76,7 +76,7 @@ fn add_new<T: Named>(rows: &mut Rows, change: &str, first: &[T], second: &[T], i
     }
 }
 
-/// Adds what differs of one, if the second list has it too.
+/// Adds the differences of one name, if the second list has it too.
 fn add_both<T: Named>(rows: &mut Rows, a: &Equipment, b: &Equipment, second: &[T], item: &T)
     ensures { rows.new ≡ rows.old ++ of_both T.name_of (T.change_rows a.now.receivers b.now.receivers) second.now item.now }
 {
@@ -85,7 +85,7 @@ fn add_both<T: Named>(rows: &mut Rows, a: &Equipment, b: &Equipment, second: &[T
     }
 }
 
-/// Adds rows of those of the first list.
+/// Adds the rows of the names of the first list.
 fn add_places<T: Named>(rows: &mut Rows, change: &str, first: &[T], second: &[T])
     ensures { rows.new ≡ rows.old ++ flat_map (place_rows change.now T.name_of T.subject_of first.now second.now) first.now }
 {
@@ -94,7 +94,7 @@ fn add_places<T: Named>(rows: &mut Rows, change: &str, first: &[T], second: &[T]
     }
 }
 
-/// Adds rows of those that only the second list has.
+/// Adds the rows of the names that only the second list has.
 fn add_news<T: Named>(rows: &mut Rows, change: &str, first: &[T], second: &[T])
     ensures { rows.new ≡ rows.old ++ flat_map (new_rows change.now T.name_of T.subject_of first.now second.now) second.now }
 {
@@ -103,7 +103,7 @@ fn add_news<T: Named>(rows: &mut Rows, change: &str, first: &[T], second: &[T])
     }
 }
 
-/// Adds what differs of those that both lists have.
+/// Adds the differences of the names that both lists have.
 fn add_boths<T: Named>(rows: &mut Rows, a: &Equipment, b: &Equipment, first: &[T], second: &[T])
     ensures { rows.new ≡ rows.old ++ flat_map (of_both T.name_of (T.change_rows a.now.receivers b.now.receivers) second.now) first.now }
 {
@@ -112,8 +112,8 @@ fn add_boths<T: Named>(rows: &mut Rows, a: &Equipment, b: &Equipment, first: &[T
     }
 }
 
-/// Adds a row for each whose number in the second table is another than in the first, or that only one of them has, and
-/// what differs of those that both have.
+/// Adds a row for each name whose number in the second table is another one than in the first, or that only one table has.
+/// Then adds the differences of the names that both have.
 pub fn add_list<T: Named>(rows: &mut Rows, change: &str, a: &Equipment, b: &Equipment)
     ensures { rows.new ≡ rows.old ++ list_rows change.now T.name_of T.subject_of (T.change_rows a.now.receivers b.now.receivers) (T.list_of a.now) (T.list_of b.now) }
 {

@@ -10,7 +10,7 @@ use a429_slots::{OUTPUTS, OutputId, Proposal};
 use a429_text::{Cell, Rows};
 use std::marker::Model;
 
-/// A group that two proposals have: its name, and as each of them has it.
+/// A group that both proposals have: its name, and what each of them has for it.
 #[derive(Drop)]
 struct Both<'a> {
     name: &'a str,
@@ -26,7 +26,7 @@ impl<'a> Model for Both<'a> {
     ghost view = { λ g. record { name = g.name.now; first = g.first; second = g.second } };
 }
 
-/// Adds a row for each number of an output that differs; that of its slot if all are asked for.
+/// Adds a row for each number of an output that differs. The slot has a row only if all slots are requested.
 fn add_compared(rows: &mut Rows, all: bool, subject: &Subject<'_>, x: &Compared, y: &Compared)
     ensures { rows.new ≡ rows.old ++ compared_rows all subject.now x.now y.now }
 {
@@ -202,7 +202,7 @@ pub fn add_groups(
 
 // ---- outputs that have moved
 
-/// Whether both plans have an output, and it differs in nothing but its slot.
+/// Whether both plans have an output, and only its slot differs.
 fn is_moved(group: &Both<'_>, output: OutputId) -> bool
     requires { output < length (outputs_of group.now.first.table) }
     ensures { result ≡ is_moved group.now output }
@@ -253,7 +253,7 @@ fn moved_count(a: &Proposal<OUTPUTS>, b: &Proposal<OUTPUTS>) -> u64
     moved
 }
 
-/// Adds the row of how many outputs have moved, if any has.
+/// Adds the row with the number of moved outputs, if there are any.
 pub fn add_moved(rows: &mut Rows, a: &Proposal<OUTPUTS>, b: &Proposal<OUTPUTS>)
     ensures { rows.new ≡ rows.old ++ count_rows (moved_count a.now b.now) }
 {

@@ -6,8 +6,8 @@ ghost use Rattle.a429_documents.specs.Diff.{change_row, number_field, number_row
 use a429_text::{Cell, Rows};
 use std::marker::Model;
 
-/// Of what a row speaks: a group, a receiver, source or output, and how many slots are between its last send by the first
-/// plan and its next by the second.
+/// The subject of a row: a group, a receiver, a source or an output. For an output also the number of slots between its
+/// last send by the first plan and its next send by the second.
 #[derive(Drop)]
 pub struct Subject<'a> {
     group: Cell<'a>,
@@ -38,7 +38,7 @@ impl<'a> Subject<'a> {
         Subject::new(Cell::Absent, Cell::Absent, Cell::Absent)
     }
 
-    /// What has this name.
+    /// A receiver or a source with this name.
     pub fn of_name(name: &'a str) -> Subject<'a>
         ensures { result ≡ of_name name.now }
     {
@@ -60,7 +60,7 @@ impl<'a> Subject<'a> {
     }
 }
 
-/// Adds a row, unless both tables have the same: what changes, of what, and what it is in each of them.
+/// Adds a row, unless both tables have the same value. The row has the change, the subject and both values.
 pub fn add_unless(
     rows: &mut Rows,
     same: bool,
@@ -87,7 +87,7 @@ pub fn number_cell(number: Option<u64>) -> Cell<'static>
     }
 }
 
-/// Whether both are the same number, or none.
+/// Whether both are the same number, or both are `None`.
 pub fn same_number(first: Option<u64>, second: Option<u64>) -> bool
     ensures { result ≡ same_number first second }
 {
@@ -98,7 +98,7 @@ pub fn same_number(first: Option<u64>, second: Option<u64>) -> bool
     }
 }
 
-/// A number as rows have it.
+/// A number, as rows write it.
 pub fn wide(number: Option<u32>) -> Option<u64>
     ensures { result ≡ number }
 {

@@ -1,4 +1,4 @@
-//! A group as a proposal has it, and its outputs.
+//! A group of one proposal, and its outputs.
 ghost use Rattle.std.specs.Prelude.{◌≡◌, ◌<◌, ◌≤◌, IfSome, Some, length, option_map, slice_get};
 ghost use Rattle.a429_text.specs.Sheets.{field_of};
 ghost use Rattle.a429_slots.specs.Tables.{buses_of, frame_of, outputs_of, placed_at};
@@ -11,7 +11,7 @@ use a429_slots::{GroupPlan, OUTPUTS, OutputId, Proposal, SendLimits, SlotPlace};
 use a429_text::Cell;
 use std::marker::Model;
 
-/// What is compared of an output.
+/// The values of an output that are compared.
 #[derive(Clone, Copy)]
 pub struct Compared {
     pub min_us: Option<u64>,
@@ -24,7 +24,7 @@ pub struct Compared {
 }
 
 impl Compared {
-    /// Whether nothing but the slot differs.
+    /// Whether only the slot differs.
     pub fn has_moved(&self, other: &Compared) -> bool
         ensures { result ≡ has_moved self.now other.now }
     {
@@ -37,7 +37,7 @@ impl Compared {
     }
 }
 
-/// A group as a proposal has it: the sources that its outputs name, the rows of its outputs, and its slot table.
+/// A group of one proposal: the sources that its outputs name, the rows of its outputs, and its slot table.
 #[derive(Drop)]
 pub struct Side<'a> {
     sources: &'a [SourceRow],
@@ -53,7 +53,7 @@ impl<'a> Model for Side<'a> {
     ghost view = { λ s. record { sources = s.sources.now; rows = s.rows.now; table = s.table.now } };
 }
 
-/// The name of a source; after the last one, nothing.
+/// The name of a source; empty if there is no such source.
 fn source_name(sources: &[SourceRow], number: usize) -> &str
     ensures { result.now ≡ source_name sources.now number }
 {
@@ -74,7 +74,7 @@ fn interval(rows: &[OutputRow], output: usize) -> (Option<u64>, Option<u64>)
     }
 }
 
-/// What is compared of an output with this interval, place and hold.
+/// The values that are compared, of an output with this interval, place and hold.
 fn compared_of(
     interval: (Option<u64>, Option<u64>),
     place: SlotPlace,
@@ -106,7 +106,7 @@ impl<'a> Side<'a> {
         }
     }
 
-    /// How many outputs there are.
+    /// The number of outputs.
     pub fn outputs(&self) -> usize
         ensures count { result ≡ length (outputs_of self.now.table) }
         ensures few { result ≤ 128 }
@@ -114,14 +114,14 @@ impl<'a> Side<'a> {
         self.table.outputs()
     }
 
-    /// How many buses there are.
+    /// The number of buses.
     pub fn buses(&self) -> u64
         ensures { result ≡ buses_of self.now.table }
     {
         u64::from(self.table.buses())
     }
 
-    /// How many slots a frame has.
+    /// The number of slots in a frame.
     pub fn frame(&self) -> u64
         ensures { result ≡ frame_of self.now.table }
     {
@@ -150,7 +150,7 @@ impl<'a> Side<'a> {
         None
     }
 
-    /// The place of an output, and what limits its sends.
+    /// The place of an output, and the limits on its sends.
     fn placed(&self, output: OutputId) -> (SlotPlace, SendLimits)
         requires { output < length (outputs_of self.now.table) }
         ensures place { result.0 ≡ (placed_at self.now.table output).place }
@@ -159,7 +159,7 @@ impl<'a> Side<'a> {
         (self.table.place(output), self.table.limits(output))
     }
 
-    /// What is compared of an output.
+    /// The values of an output that are compared.
     pub fn compared(&self, output: OutputId) -> Compared
         requires { output < length (outputs_of self.now.table) }
         ensures { result ≡ compared_at self.now output }
@@ -168,8 +168,8 @@ impl<'a> Side<'a> {
         compared_of(interval(self.rows, output.number()), place, limits.hold)
     }
 
-    /// How many slots after its last send by this plan an output is sent next by the other, if that can follow and no
-    /// hold has run out.
+    /// The number of slots from an output's last send by this plan to its next send by the other plan, if no hold is used
+    /// up. It is absent if the other plan cannot follow.
     pub fn gap(
         &self,
         output: OutputId,

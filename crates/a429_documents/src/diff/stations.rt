@@ -31,7 +31,7 @@ fn same_filters(a: &FilterSet, b: &FilterSet) -> bool
     }
 }
 
-/// How many filters there are, if there is a list.
+/// The number of filters, if there is a list.
 fn filter_count(filters: &FilterSet) -> Cell<'static>
     ensures { field_of result ≡ filter_count filters.now }
 {
@@ -69,7 +69,7 @@ impl Named for ReceiverRow {
     }
 }
 
-/// The name of a receiver; after the last one, nothing.
+/// The name of a receiver; empty if there is no such receiver.
 fn receiver_name(equipment: &Equipment, number: usize) -> &str
     ensures { result.now ≡ receiver_name equipment.now.receivers number }
 {
@@ -79,7 +79,7 @@ fn receiver_name(equipment: &Equipment, number: usize) -> &str
     }
 }
 
-/// An SDI, or that any is meant.
+/// An SDI, or `any`.
 fn sdi_or_any(sdi: Option<Sdi>) -> Cell<'static>
     ensures { field_of result ≡ sdi_or_any sdi }
 {
@@ -212,7 +212,7 @@ impl Named for GroupRow {
     }
 }
 
-/// Adds the rows of the station: there is none just if the two tables are of one station.
+/// Adds the rows of the station. There is no such row if and only if the two tables are of one station.
 pub fn add_station(rows: &mut Rows, a: &Equipment, b: &Equipment)
     ensures { rows.new ≡ rows.old ++ station_rows a.now b.now }
 {

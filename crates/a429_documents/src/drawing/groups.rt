@@ -61,7 +61,7 @@ fn drawn_group(proposal: &Proposal<OUTPUTS>, form: DrawingForm, number: usize) -
     }
 }
 
-/// Writes a group, whose marks begin at this place among all. Gives the place after them.
+/// Writes a group whose marks begin at this index in the list of marks. Returns the index after them.
 fn put_group(text: &mut Text, group: &DrawnGroup<'_>, marks: &[Mark], begin: usize) -> usize {
     put_title(text, group);
     put_shapes(text, group);
@@ -73,7 +73,7 @@ fn put_group(text: &mut Text, group: &DrawnGroup<'_>, marks: &[Mark], begin: usi
     next
 }
 
-/// Writes so many groups from a first one on, each from its upper edge on.
+/// Writes `count` groups from the first one on, each at its upper edge.
 pub(crate) fn put_groups(
     text: &mut Text,
     proposal: &Proposal<OUTPUTS>,

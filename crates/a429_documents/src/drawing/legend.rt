@@ -11,7 +11,7 @@ use a429_slots::{GroupPlan, OUTPUTS, OutputId, SlotPlace};
 use a429_text::Text;
 use a429_word::Sdi;
 
-/// The order of a source: by label, then by SDI, of which any is the first.
+/// The order of a source: by label, then by SDI, with any first.
 fn order_of(source: &SourceRow) -> u32 {
     let sdi = match source.sdi {
         None => 0,
@@ -20,7 +20,7 @@ fn order_of(source: &SourceRow) -> u32 {
     5 * u32::from(source.label.value()) + sdi
 }
 
-/// How many outputs of a group come before one of this source.
+/// The number of outputs of a group that come before one of this source.
 fn rank_of(sources: &[SourceRow], table: &GroupPlan<OUTPUTS>, source: &SourceRow) -> u32 {
     let mut rank = 0;
     for output in 0..table.outputs() {
@@ -33,7 +33,7 @@ fn rank_of(sources: &[SourceRow], table: &GroupPlan<OUTPUTS>, source: &SourceRow
     rank
 }
 
-/// Writes an SDI, which may be any, between two spaces.
+/// Writes an SDI, or `any`, between two spaces.
 fn put_sdi(text: &mut Text, sdi: Option<Sdi>) {
     match sdi {
         None => text.put(" any "),
@@ -52,7 +52,7 @@ fn put_sent(text: &mut Text, receivers: &[ReceiverRow], source: &SourceRow) {
     }
 }
 
-/// Writes where an output is and how often: its bus, and its period in slots and in time, at a rate in bit/s.
+/// Writes the bus of an output, and its period in slots and in time, at a bit rate in bit/s.
 fn put_period(text: &mut Text, rate: u32, place: SlotPlace)
     requires { 1 ≤ rate }
 {
@@ -65,7 +65,7 @@ fn put_period(text: &mut Text, rate: u32, place: SlotPlace)
     text.put(")</text>\n");
 }
 
-/// Writes the shape of an output at its place in the legend, and begins the text beside it.
+/// Writes the shape of an output at its place in the legend, and begins the text next to it.
 fn put_begin(text: &mut Text, group: &DrawnGroup<'_>, output: OutputId, rank: u32) {
     let left = 8 + 590 * u64::from(rank % 2);
     let top = legend_top(group.form, group.table) + 20 * u64::from(rank / 2);
@@ -76,7 +76,7 @@ fn put_begin(text: &mut Text, group: &DrawnGroup<'_>, output: OutputId, rank: u3
     );
 }
 
-/// Writes the entry of an output that sends this source: its shape, and beside it what is said of it.
+/// Writes the entry of an output that sends this source: its shape, and the text next to it.
 fn put_entry(text: &mut Text, group: &DrawnGroup<'_>, output: OutputId, source: &SourceRow)
     requires { output < length (outputs_of group.now.table.now) }
 {

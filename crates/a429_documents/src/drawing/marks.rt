@@ -39,7 +39,7 @@ fn push_cell(
     }
 }
 
-/// Adds the marks of a bus in so many slots.
+/// Adds the marks of a bus in the first `slots` slots.
 fn push_bus(
     marks: &mut Gathered<Mark>,
     group: usize,
@@ -54,7 +54,7 @@ fn push_bus(
     }
 }
 
-/// Adds the marks of a group in so many slots, bus by bus.
+/// Adds the marks of a group in the first `slots` slots, bus by bus.
 fn push_group(marks: &mut Gathered<Mark>, group: usize, table: &GroupPlan<OUTPUTS>, slots: u32)
     ensures { marks.new ≡ marks.old ++ group_marks group table.now slots }
 {
@@ -63,7 +63,7 @@ fn push_group(marks: &mut Gathered<Mark>, group: usize, table: &GroupPlan<OUTPUT
     }
 }
 
-/// The marks of so many groups from a first one on, in table order.
+/// The marks of `count` groups from a first one on, in table order.
 pub(crate) fn marks_of(
     alloc: Global,
     plan: &Plan<OUTPUTS>,

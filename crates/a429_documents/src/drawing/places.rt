@@ -1,4 +1,4 @@
-//! Where the parts of an image are, in pixels: from the left, and below the upper edge of their group.
+//! The places of the parts of an image, in pixels: from the left edge, and from the upper edge of their group.
 ghost use Rattle.std.specs.Prelude.{◌≡◌, ◌≤◌, ◌<◌, ◌+◌, ◌^◌, length};
 ghost use Rattle.a429_slots.specs.Tables.{groups_of};
 ghost use Rattle.a429_documents.specs.Drawing.{fold_top, fold_width, folds_of, group_height, height_of, legend_top, slots_of};
@@ -6,19 +6,19 @@ ghost use Rattle.a429_documents.specs.Drawing.{fold_top, fold_width, folds_of, g
 use crate::drawing::DrawingForm;
 use a429_slots::{GroupPlan, OUTPUTS, Plan};
 
-/// How many slots are in a row if nobody says how many, and at least; those that follow are folded below.
+/// The number of slots in a row by default, and the minimum. The slots after them are in the folds below.
 const NARROW: u32 = 64;
 
-/// How many slots are in a row at most.
+/// The maximum number of slots in a row.
 const WIDE: u32 = 256;
 
-/// How many slots of a frame are drawn at most if nobody says how many.
+/// The maximum number of slots that are drawn by default.
 const SHOWN: u32 = 256;
 
-/// How many slots are drawn at most: the greatest frame (profile).
+/// The maximum number of slots that are drawn: the longest frame (profile).
 const MOST: u32 = 8192;
 
-/// How many slots of a group are drawn.
+/// The number of slots that are drawn of a group.
 pub(crate) fn slots_of(form: DrawingForm, table: &GroupPlan<OUTPUTS>) -> u32
     ensures { result ≡ slots_of form table.now }
 {
@@ -28,7 +28,7 @@ pub(crate) fn slots_of(form: DrawingForm, table: &GroupPlan<OUTPUTS>) -> u32
     }
 }
 
-/// How many slots are in a row.
+/// The number of slots in a row.
 fn fold_width(form: DrawingForm) -> u32
     ensures value { result ≡ fold_width form }
     ensures least { 64 ≤ result }
@@ -40,12 +40,12 @@ fn fold_width(form: DrawingForm) -> u32
     }
 }
 
-/// How wide an image is.
+/// The width of an image.
 pub(crate) fn width_of(form: DrawingForm) -> u32 {
     166 + 16 * fold_width(form)
 }
 
-/// In how many rows the slots of a bus are.
+/// The number of rows for the slots of a bus.
 pub(crate) fn folds_of(form: DrawingForm, table: &GroupPlan<OUTPUTS>) -> u32
     ensures { result ≡ folds_of form table.now }
 {
@@ -77,7 +77,7 @@ fn group_height(form: DrawingForm, table: &GroupPlan<OUTPUTS>) -> u64
     legend_top(form, table) + 20 * outputs.div_ceil(2) + 24
 }
 
-/// The height of so many groups from a first one on, one below the other.
+/// The height of `count` groups from a first one on, one below the other.
 pub(crate) fn height_of(plan: &Plan<OUTPUTS>, form: DrawingForm, first: usize, count: usize) -> u64
     requires known { first + count ≤ length (groups_of plan.now) }
     requires few { first + count ≤ 8 }
@@ -97,7 +97,7 @@ pub(crate) fn row_top(table: &GroupPlan<OUTPUTS>, fold: u32, bus: u32) -> u64
     fold_top(table, fold) + 14 + 18 * u64::from(bus)
 }
 
-/// In which fold a slot is.
+/// The fold that has a slot.
 pub(crate) fn fold_at(form: DrawingForm, slot: u32) -> u32 {
     slot / fold_width(form)
 }
@@ -107,7 +107,7 @@ pub(crate) fn slot_left(form: DrawingForm, slot: u32) -> u64 {
     100 + 16 * u64::from(slot % fold_width(form))
 }
 
-/// How many slots are in a fold.
+/// The number of slots in a fold.
 pub(crate) fn slots_in(form: DrawingForm, table: &GroupPlan<OUTPUTS>, fold: u32) -> u64
     ensures { result ≤ 256 }
 {

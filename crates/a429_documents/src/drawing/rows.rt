@@ -1,4 +1,4 @@
-//! The rows of an image: a bus each, with its load and its marks.
+//! The rows of an image: one for each bus, with its load and its marks.
 ghost use Rattle.std.specs.Prelude.{◌≤◌, ◌^◌};
 
 use crate::drawing::groups::DrawnGroup;
@@ -9,7 +9,7 @@ use crate::drawing::times::put_lasting;
 use a429_slots::{GroupPlan, OUTPUTS, OutputId};
 use a429_text::Text;
 
-/// Writes the number of a slot above it, and when it begins.
+/// Writes the number of a slot above it, and the time at which it begins.
 fn put_number(text: &mut Text, group: &DrawnGroup<'_>, slot: u32) {
     let base = fold_top(group.table, fold_at(group.form, slot)) + 11;
     text.fill(
@@ -29,7 +29,7 @@ pub(crate) fn put_numbers(text: &mut Text, group: &DrawnGroup<'_>) {
     }
 }
 
-/// How many slots of a frame have an output on a bus: each output has one in each of its periods.
+/// The number of slots of a frame with an output on a bus: each output has one in each of its periods.
 fn filled_on(table: &GroupPlan<OUTPUTS>, bus: u32) -> u64
     ensures { result ≤ 2 ^ 20 }
 {
@@ -55,7 +55,7 @@ fn put_load(text: &mut Text, group: &DrawnGroup<'_>, bus: u32) {
     );
 }
 
-/// Writes the row of a bus in a fold: its name, and a stripe on which its marks are.
+/// Writes the row of a bus in a fold: its name, and the stripe for its marks.
 fn put_row(text: &mut Text, group: &DrawnGroup<'_>, bus: u32, fold: u32) {
     let top = row_top(group.table, fold, bus);
     let width = 16 * slots_in(group.form, group.table, fold);
@@ -78,7 +78,7 @@ fn put_mark(text: &mut Text, group: &DrawnGroup<'_>, mark: &Mark) {
     put_used(text, mark.group, mark.output, left, top);
 }
 
-/// Writes the marks of a bus of a group, which begin at this place among all. Gives the place after them.
+/// Writes the marks of a bus of a group, from this index in the list of marks. Returns the index after them.
 fn put_marks(
     text: &mut Text,
     group: &DrawnGroup<'_>,
@@ -96,7 +96,7 @@ fn put_marks(
     marks.len()
 }
 
-/// Writes the buses of a group, whose marks begin at this place among all. Gives the place after them.
+/// Writes the buses of a group, whose marks begin at this index in the list of marks. Returns the index after them.
 pub(crate) fn put_buses(
     text: &mut Text,
     group: &DrawnGroup<'_>,

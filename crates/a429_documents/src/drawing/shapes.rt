@@ -30,8 +30,8 @@ fn put_colour(text: &mut Text, source: &SourceRow) {
     );
 }
 
-/// Writes the shape of an output that sends this source: the source's name, to be read if one points at it, its colour and
-/// its label.
+/// Writes the shape of an output that sends this source: its colour, its label, and the name of the source, which a viewer
+/// shows under the pointer.
 fn put_shape(text: &mut Text, group: usize, output: usize, source: &SourceRow) {
     text.fill(
         &["<g id='o", "-", "'><title>"],
@@ -43,7 +43,7 @@ fn put_shape(text: &mut Text, group: usize, output: usize, source: &SourceRow) {
     text.put("</text></g>\n");
 }
 
-/// Writes the shapes of a group's outputs, in table order. They are not shown where they are defined.
+/// Writes the shapes of a group's outputs, in table order. They are not shown here: the marks refer to them.
 pub(crate) fn put_shapes(text: &mut Text, group: &DrawnGroup<'_>) {
     let sources = group.equipment.sources();
     for output in 0..group.table.outputs() {

@@ -4,8 +4,8 @@ ghost use Rattle.std.specs.Prelude.{◌≤◌};
 use crate::document::slots_us;
 use a429_text::Text;
 
-/// Writes how long so many slots last at a rate in bit/s: rounded up to microseconds, in milliseconds with three digits
-/// after the point.
+/// Writes how long a number of slots is at a bit rate in bit/s: rounded up to microseconds, in milliseconds with three
+/// digits after the point.
 pub(crate) fn put_lasting(text: &mut Text, rate: u32, slots: u32)
     requires { 1 ≤ rate }
 {

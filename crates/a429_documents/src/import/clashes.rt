@@ -1,4 +1,4 @@
-//! What a row states otherwise than earlier rows, which agree with one another: it is compared with three of them alone,
+//! The contradictions between a row and earlier rows. The earlier rows agree, so a row is compared with only three of them:
 //! the first of its source, of its receiver and of its group.
 ghost use Rattle.std.specs.Prelude.{◌≡◌};
 ghost use Rattle.std.specs.Str.{bytes_eq};
@@ -13,7 +13,7 @@ use crate::import::rows::ImportRow;
 use a429_equipment::Name;
 use a429_word::Sdi;
 
-/// The number of an earlier row, and a column in which a later row states otherwise.
+/// The number of an earlier row, and a column in which a later row contradicts it.
 #[derive(Clone, Copy)]
 pub struct RowClash {
     number: usize,
@@ -36,7 +36,7 @@ fn same_text(a: &Name, b: &Name) -> bool
     a.as_str() == b.as_str()
 }
 
-/// What a later row states otherwise of the source of an earlier one.
+/// The column in which a row contradicts an earlier row of the same source.
 fn source_clash(earlier: &ImportRow, row: &ImportRow) -> Option<ImportColumn>
     ensures { result ≡ source_clash earlier.now row.now }
 {
@@ -53,7 +53,7 @@ fn source_clash(earlier: &ImportRow, row: &ImportRow) -> Option<ImportColumn>
     }
 }
 
-/// The same of the receiver.
+/// The same for the receiver.
 fn receiver_clash(earlier: &ImportRow, row: &ImportRow) -> Option<ImportColumn>
     ensures { result ≡ part_clash Part.Receivers earlier.now row.now }
 {
@@ -66,7 +66,7 @@ fn receiver_clash(earlier: &ImportRow, row: &ImportRow) -> Option<ImportColumn>
     }
 }
 
-/// The same of the group.
+/// The same for the group.
 fn group_clash(earlier: &ImportRow, row: &ImportRow) -> Option<ImportColumn>
     ensures { result ≡ part_clash Part.Groups earlier.now row.now }
 {
@@ -79,7 +79,7 @@ fn group_clash(earlier: &ImportRow, row: &ImportRow) -> Option<ImportColumn>
     }
 }
 
-/// The same of the receiver, the source or the group.
+/// The same for the receiver, the source or the group.
 fn part_clash(part: Part, earlier: &ImportRow, row: &ImportRow) -> Option<ImportColumn>
     ensures { result ≡ part_clash part earlier.now row.now }
 {
@@ -96,7 +96,7 @@ fn numbered(number: usize, column: Option<ImportColumn>) -> Option<RowClash>
     column.map(|column| RowClash { number, column })
 }
 
-/// The same with the earlier row of a number.
+/// The same, with the earlier row given by its number.
 fn clash_at(part: Part, earlier: &[ImportRow], number: usize, row: &ImportRow) -> Option<RowClash>
     ensures { result ≡ clash_at part earlier.now number row.now }
 {
@@ -106,8 +106,8 @@ fn clash_at(part: Part, earlier: &[ImportRow], number: usize, row: &ImportRow) -
     }
 }
 
-/// The same with the first of the earlier rows that states otherwise of the row's receiver, source or group. As the earlier
-/// rows agree, only the first that names it can.
+/// The same, for the first of the earlier rows that contradicts this row about its receiver, source or group. The earlier
+/// rows agree, so only the first row with that name can do so.
 fn first_part_clash(
     part: Part,
     earlier: &[ImportRow],
@@ -124,7 +124,7 @@ fn first_part_clash(
     }
 }
 
-/// Of two, that with the earlier row.
+/// The one of two clashes that has the earlier row.
 fn earlier_clash(a: Option<RowClash>, b: Option<RowClash>) -> Option<RowClash>
     ensures { result ≡ earlier_clash a b }
 {
@@ -135,7 +135,7 @@ fn earlier_clash(a: Option<RowClash>, b: Option<RowClash>) -> Option<RowClash>
     }
 }
 
-/// The first column in which a row states otherwise than the first of the earlier rows that it contradicts.
+/// The first column in which this row contradicts an earlier row, compared with the first such row.
 pub fn first_clash(
     earlier: &[ImportRow],
     firsts: &FirstRows,

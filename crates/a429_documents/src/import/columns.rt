@@ -2,13 +2,13 @@
 ghost use Rattle.std.specs.Prelude.{◌≡◌, ◌<◌, IfSome, length, position};
 ghost use Rattle.std.specs.List.{find};
 ghost use Rattle.csv.specs.Records.{fields_of};
-ghost use Rattle.a429_documents.specs.Aligned.{field_in};
+ghost use Rattle.a429_documents.specs.ImportFields.{field_in};
 ghost use Rattle.a429_documents.specs.ImportRows.{column_field, is_named, is_wrong, times, wrong_column};
 
 use crate::import::fault::ImportColumn;
 use crate::import::lines::CsvLine;
 
-/// All columns, in the order in which they are sought.
+/// All columns, in the order in which they are looked for.
 pub const COLUMNS: [ImportColumn; 10] = [
     ImportColumn::Group,
     ImportColumn::Rate,
@@ -29,7 +29,7 @@ fn is_named(heading: &CsvLine, place: usize, column: ImportColumn) -> bool
     heading.field(place) == column.name().as_bytes()
 }
 
-/// How many fields of the heading are the name of a column.
+/// The number of fields of the heading that are the name of a column.
 fn times(heading: &CsvLine, column: ImportColumn) -> usize
     ensures { result ≡ times (fields_of heading.now.fields) column }
 {
@@ -49,7 +49,7 @@ fn is_wrong(heading: &CsvLine, column: ImportColumn) -> bool
     1 < count || column.is_needed() && count == 0
 }
 
-/// The first of some columns that is wrong in the heading.
+/// The first of these columns that is wrong in the heading.
 fn first_wrong(heading: &CsvLine, columns: &[ImportColumn]) -> Option<ImportColumn>
     ensures { result ≡ find (is_wrong (fields_of heading.now.fields)) columns.now }
 {
@@ -61,7 +61,7 @@ fn first_wrong(heading: &CsvLine, columns: &[ImportColumn]) -> Option<ImportColu
     None
 }
 
-/// The first column that the heading lacks, though it needs it, or has twice.
+/// The first column that is wrong: the heading lacks it, although it is needed, or has it twice.
 #[tactic(auto, unfolding(crate::specs::ImportRows::wrong_column))]
 pub fn wrong_column(heading: &CsvLine) -> Option<ImportColumn>
     ensures { result ≡ wrong_column (fields_of heading.now.fields) }
@@ -69,7 +69,7 @@ pub fn wrong_column(heading: &CsvLine) -> Option<ImportColumn>
     first_wrong(heading, &COLUMNS)
 }
 
-/// The place of a column, counted from 0: that of the first field of the heading that is its name.
+/// The place of a column, counted from 0: that of the first field of the heading with its name.
 fn place_of(heading: &CsvLine, column: ImportColumn) -> Option<usize>
     ensures { result ≡ position (is_named column) (fields_of heading.now.fields) }
 {

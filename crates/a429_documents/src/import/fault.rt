@@ -1,4 +1,4 @@
-//! Why rows state no equipment table.
+//! Why rows do not give an equipment table.
 ghost use Rattle.std.specs.Prelude.{◌≡◌, Some};
 ghost use Rattle.a429_documents.specs.ImportRows.{column_name, is_needed};
 ghost use Rattle.a429_documents.specs.ImportFaults.{kind_text, of_table};
@@ -14,7 +14,7 @@ use thiserror::Error;
 pub enum ImportColumn {
     /// The name of the group that sends the output.
     Group,
-    /// The rate of the group, in bit/s.
+    /// The bit rate of the group, in bit/s.
     Rate,
     /// The name of the source.
     Source,
@@ -24,13 +24,13 @@ pub enum ImportColumn {
     Label,
     /// The source's SDI: 0 to 3, or `any`.
     Sdi,
-    /// The least time from one transmission to the next, in microseconds.
+    /// The minimum transmit interval, in microseconds.
     MinUs,
-    /// The greatest time from one transmission to the next, in microseconds.
+    /// The maximum transmit interval, in microseconds.
     MaxUs,
-    /// How often one accepted word is sent at most; empty or `none` if there is no limit. It may be absent.
+    /// The most times that one accepted word is sent; empty or `none` for no limit. The column may be absent.
     Hold,
-    /// The receiver's filters, separated by spaces; empty if it has none. It may be absent.
+    /// The receiver's filters, separated by spaces; empty if it has none. The column may be absent.
     Filters,
 }
 
@@ -68,11 +68,11 @@ impl ImportColumn {
 /// What is wrong with a row.
 #[derive(Clone, Copy, Debug, PartialEq, Eq)]
 pub enum CsvFaultKind {
-    /// The row has more or fewer fields than the heading, or a field is not of its column's form.
+    /// The row has more or fewer fields than the heading, or a field does not have the form of its column.
     Form,
     /// The heading lacks a column, or has it twice.
     Column,
-    /// An earlier row states otherwise of the same source, receiver or group.
+    /// The row contradicts an earlier row about the same source, receiver or group.
     Differs,
 }
 
@@ -98,21 +98,21 @@ impl fmt::Display for CsvFaultKind {
     }
 }
 
-/// Why rows are not imported.
+/// Error of `import_table`.
 #[derive(Debug, Drop, Error)]
 pub enum ImportFault {
-    /// Memory ran out. It may come in place of any other answer.
+    /// An allocation failed. This can come instead of any other answer.
     #[error("out of memory")]
     NoMemory,
-    /// The rows have a fault of this kind, and none in an earlier row. Lines are counted from 1; `column` is none if the
-    /// row has more or fewer fields than the heading.
+    /// The rows have a fault of this kind, and no earlier row has a fault. Lines are counted from 1; `column` is `None`
+    /// if the row has more or fewer fields than the heading.
     #[error("csv line {line} {kind}")]
     Csv {
         line: u64,
         kind: CsvFaultKind,
         column: Option<ImportColumn>,
     },
-    /// The table that the rows state has this fault.
+    /// The table that the rows describe has this fault.
     #[error("table {0}")]
     Table(TableFault),
 }

@@ -1,4 +1,4 @@
-//! What fields state.
+//! The values of fields.
 ghost use Rattle.std.specs.Prelude.{◌≡◌, is_some, option_map};
 ghost use Rattle.a429_filter.specs.FilterTexts.{filter_read};
 ghost use Rattle.a429_documents.specs.ImportFields.{are_filters, filters_in, hold_in, label_in, number_in, sdi_digit, sdi_in, text_in};
@@ -6,7 +6,7 @@ ghost use Rattle.a429_documents.specs.ImportFields.{are_filters, filters_in, hol
 use a429_filter::Filter;
 use a429_word::{Label, Sdi, decimal_number};
 
-/// The number that a field states: one to ten decimal digits without leading zeros, below 2^32.
+/// The number in a field: one to ten decimal digits without leading zeros, below 2^32.
 #[tactic(auto, unfolding(crate::specs::ImportFields::number_in))]
 pub fn number_in(field: &[u8]) -> Option<u32>
     ensures { result ≡ number_in field.now }
@@ -19,7 +19,7 @@ pub fn number_in(field: &[u8]) -> Option<u32>
     }
 }
 
-/// The label that a field states: three octal digits, 000 to 377, of which leading zeros may be lost.
+/// The label in a field: three octal digits, 000 to 377. Leading zeros may be missing.
 #[tactic(auto, unfolding(crate::specs::ImportFields::label_in))]
 pub fn label_in(field: &[u8]) -> Option<Label>
     ensures { result ≡ label_in field.now }
@@ -31,7 +31,7 @@ pub fn label_in(field: &[u8]) -> Option<Label>
     }
 }
 
-/// The SDI of a digit.
+/// The SDI in a digit.
 fn sdi_digit(field: &[u8]) -> Option<Option<Sdi>>
     ensures { result ≡ sdi_digit field.now }
 {
@@ -41,7 +41,7 @@ fn sdi_digit(field: &[u8]) -> Option<Option<Sdi>>
     }
 }
 
-/// The SDI that a field states: 0 to 3, or `any`, which is none.
+/// The SDI in a field: 0 to 3; `Some(None)` for `any`.
 #[tactic(auto, unfolding(crate::specs::ImportFields::sdi_in))]
 pub fn sdi_in(field: &[u8]) -> Option<Option<Sdi>>
     ensures { result ≡ sdi_in field.now }
@@ -53,7 +53,7 @@ pub fn sdi_in(field: &[u8]) -> Option<Option<Sdi>>
     }
 }
 
-/// The hold that a field states: a number, or none if it is empty or `none`.
+/// The hold in a field: a number; `Some(None)` if it is empty or `none`.
 #[tactic(auto, unfolding(crate::specs::ImportFields::hold_in))]
 pub fn hold_in(field: &[u8]) -> Option<Option<u32>>
     ensures { result ≡ hold_in field.now }
@@ -64,7 +64,7 @@ pub fn hold_in(field: &[u8]) -> Option<Option<u32>>
     Some(Some(number_in(field)?))
 }
 
-/// The text that a field states: any that is UTF-8.
+/// The text in a field: any UTF-8 text.
 #[tactic(auto, unfolding(crate::specs::ImportFields::text_in))]
 pub fn text_in(field: &[u8]) -> Option<&str>
     ensures { option_map (λ text. text.now) result ≡ text_in field.now }
@@ -85,7 +85,7 @@ fn is_filter(text: &str) -> bool
     }
 }
 
-/// Whether what stands between spaces is a filter or nothing.
+/// Whether each part between spaces is a filter or empty.
 fn are_filters(text: &str) -> bool
     ensures { result ≡ are_filters text.now }
 {
@@ -93,7 +93,7 @@ fn are_filters(text: &str) -> bool
         .all(|part| part.is_empty() || is_filter(part))
 }
 
-/// The filters that a field states, separated by spaces, as they are written.
+/// The filters in a field, separated by spaces, as they are written.
 #[tactic(auto, unfolding(crate::specs::ImportFields::filters_in))]
 pub fn filters_in(field: &[u8]) -> Option<&str>
     ensures { option_map (λ text. text.now) result ≡ filters_in field.now }

@@ -1,4 +1,4 @@
-//! Which rows are the first of their receiver, source or group.
+//! The rows that are the first of their receiver, source or group.
 ghost use Rattle.std.specs.Prelude.{◌≡◌, IfOk, OnOk};
 ghost use Rattle.a429_table.specs.Numbers.{NumbersOneMore};
 ghost use Rattle.a429_documents.specs.ImportTables.{name_in};
@@ -38,7 +38,7 @@ impl FirstRows {
     ghost use Rattle.std.specs.Prelude.{[]};
     ghost use Rattle.a429_documents.specs.FirstRows.{AreFirstRows, NotesRow, first_named};
 
-    /// Those of no rows.
+    /// The numbers for no rows.
     pub fn new(alloc: Global) -> FirstRows
         ensures { AreFirstRows result [] }
     {
@@ -49,7 +49,7 @@ impl FirstRows {
         }
     }
 
-    /// Those of these rows. The error is that memory was refused.
+    /// The numbers for these rows. Error: an allocation failed.
     pub fn of(alloc: Global, rows: &[ImportRow]) -> Result<FirstRows, AllocError>
         ensures { IfOk result (λ firsts. AreFirstRows firsts rows.now) }
     {
@@ -72,7 +72,7 @@ impl FirstRows {
         }
     }
 
-    /// Notes the number of a row for each of its names that has none. The error is that memory was refused.
+    /// Records the number of a row for each of its names that has none yet. Error: an allocation failed.
     pub fn note(&mut self, alloc: Global, row: &ImportRow, number: usize) -> Result<(), AllocError>
         ensures { OnOk result (NotesRow self.old self.new row.now number) }
     {
@@ -88,7 +88,7 @@ impl FirstRows {
     }
 }
 
-/// Gives a name a number, unless it has one.
+/// Gives a name a number, unless it has one already.
 fn note_name(
     numbers: &mut IndexMap<String, usize>,
     alloc: Global,

@@ -2,7 +2,7 @@
 ghost use Rattle.std.specs.Prelude.{◌≡◌, IfOk, length, option_map};
 ghost use Rattle.std.specs.Result.{result_ok};
 ghost use Rattle.csv.specs.Records.{fields_of};
-ghost use Rattle.a429_documents.specs.Aligned.{field_in};
+ghost use Rattle.a429_documents.specs.ImportFields.{field_in};
 ghost use Rattle.a429_documents.specs.Imports.{AreLines};
 
 use csv::{ByteRecord, Error, ReaderBuilder};
@@ -16,14 +16,14 @@ pub struct CsvLine {
 }
 
 impl CsvLine {
-    /// How many fields there are.
+    /// The number of fields.
     pub fn len(&self) -> usize
         ensures { result ≡ length (fields_of self.now.fields) }
     {
         self.fields.len()
     }
 
-    /// The field in a column, counted from 0; after the last field, an empty one.
+    /// The field in a column, counted from 0; empty if there is no such field.
     pub fn field(&self, column: usize) -> &[u8]
         ensures { result.now ≡ field_in column (fields_of self.now.fields) }
     {
@@ -57,7 +57,7 @@ impl LineCount {
         self.line
     }
 
-    /// Goes on by one byte.
+    /// Counts one more byte.
     pub fn pass(&mut self, byte: u8) {
         let ends_line = byte == b'\r' || byte == b'\n' && !self.is_after_return;
         if ends_line {
@@ -67,7 +67,7 @@ impl LineCount {
         self.at = self.at.saturating_add(1);
     }
 
-    /// Goes on to a byte of the text, and from there over line ends.
+    /// Counts the bytes up to a byte of the text, and the line ends that follow.
     fn pass_to(&mut self, text: &[u8], byte: usize) {
         for passed in text.get(self.at..byte).unwrap_or(&[]) {
             self.pass(*passed);
@@ -80,8 +80,8 @@ impl LineCount {
         }
     }
 
-    /// The line on which a row begins, after those before it. The library `csv` says where it began to read the row: empty lines
-    /// may follow there.
+    /// The line on which a row begins, after the rows before it. The library `csv` reports the place at which it began to
+    /// read the row; empty lines may follow that place.
     fn line_of_row(&mut self, text: &[u8], fields: &ByteRecord) -> u64 {
         if let Some(position) = fields.position() {
             self.pass_to(text, position.byte() as usize);
@@ -90,7 +90,7 @@ impl LineCount {
     }
 }
 
-/// What the library `csv` reads, as a line. It refuses no row, so that its error is that memory was refused.
+/// A line, from what the library `csv` reads. The library refuses no row, so its only error is that an allocation failed.
 fn line_of(
     text: &[u8],
     count: &mut LineCount,
@@ -107,8 +107,8 @@ fn line_of(
     }
 }
 
-/// The rows of a text, as the library `csv` reads them: a byte order mark and empty lines are passed over, lines may end
-/// with a carriage return before the line feed, and fields may have quotes. The error is that memory was refused.
+/// The rows of a text, as the library `csv` reads them. A byte order mark and empty lines are skipped, a carriage return
+/// may come before a line feed, and fields may have quotes. Error: an allocation failed.
 pub fn csv_lines(alloc: Global, text: &[u8]) -> Result<Vec<CsvLine>, AllocError>
     ensures { IfOk result (λ lines. AreLines text.now lines.items) }
 {

@@ -1,4 +1,4 @@
-//! What rows state, one after the other.
+//! The values of rows, one row after the other.
 ghost use Rattle.std.specs.Prelude.{◌≡◌, ◌++◌, [], ◌∷◌, OnOk, Some, length};
 ghost use Rattle.csv.specs.Records.{fields_of};
 ghost use Rattle.a429_documents.specs.FirstRows.{AreFirstRows, NotesRow};
@@ -14,7 +14,7 @@ use crate::import::lines::CsvLine;
 use crate::import::rows::{ImportRow, row_of};
 use std::alloc::{AllocError, Global};
 
-/// What a row states, after these.
+/// What a row says, after these rows.
 fn next_row(
     alloc: Global,
     heading: &CsvLine,
@@ -37,7 +37,7 @@ fn next_row(
     }
 }
 
-/// Adds a row, and notes its number if it is the first of its receiver, source or group.
+/// Adds a row, and records its number if it is the first of its receiver, source or group.
 fn push_row(
     alloc: Global,
     rows: &mut Vec<ImportRow>,
@@ -52,7 +52,7 @@ fn push_row(
     Ok(())
 }
 
-/// Adds what rows state below a heading, to no rows.
+/// Adds what the rows below a heading say, to an empty list.
 fn push_rows(
     alloc: Global,
     rows: &mut Vec<ImportRow>,
@@ -71,7 +71,7 @@ fn push_rows(
     Ok(())
 }
 
-/// What rows state below a heading.
+/// What the rows below a heading say.
 fn rows_below(
     alloc: Global,
     heading: &CsvLine,
@@ -82,7 +82,7 @@ fn rows_below(
     let mut rows = Vec::new(alloc);
     let mut firsts = FirstRows::new(alloc);
     let pushed = push_rows(alloc, &mut rows, &mut firsts, heading, lines);
-    // One call, in place of a drop of each of its parts at each return.
+    // One call, instead of a drop of each of its parts at each return.
     std::mem::drop(firsts);
     match pushed {
         Ok(()) => Ok(rows),
@@ -101,7 +101,7 @@ fn wrong_heading(column: ImportColumn) -> ImportFault
     }
 }
 
-/// What rows state below a heading, if that has each column once.
+/// What the rows below a heading say, if the heading has each column once.
 fn below_heading(
     alloc: Global,
     heading: &CsvLine,
@@ -115,7 +115,7 @@ fn below_heading(
     }
 }
 
-/// What lines state, of which the first is the heading. The fault is that of the first line that has one.
+/// What lines say. The first line is the heading. Error: the fault of the first line that has one.
 #[tactic(auto, unfolding(crate::specs::ImportRows::rows_stated))]
 pub fn import_rows(alloc: Global, lines: &[CsvLine]) -> Result<Vec<ImportRow>, ImportFault>
     ensures { States (λ rows. rows.items) result (rows_stated lines.now) }

@@ -1,4 +1,4 @@
-//! Rows whose first rows, and the next row of each group, are known.
+//! Rows with an index: the first row of each name, and the next row of each group.
 ghost use Rattle.std.specs.Prelude.{◌≡◌, ◌++◌, ℕ, [], ◌∷◌, List, None, OnOk, IfOk, if◌then◌else◌, reverse, slice_index_or};
 ghost use Rattle.std.specs.Str.{bytes_eq};
 ghost use Rattle.indexmap.specs.IndexMap.{get_by_text};
@@ -24,7 +24,7 @@ impl<'a> RowIndex<'a> {
     ghost use Rattle.std.specs.Prelude.{Some, not, slice_get, take};
     ghost use Rattle.a429_documents.specs.ImportTables.{is_known};
 
-    /// Looks through the rows once. The error is that memory was refused.
+    /// Builds the index of all rows in one pass. Error: an allocation failed.
     pub fn of(alloc: Global, rows: &'a [ImportRow]) -> Result<RowIndex<'a>, AllocError>
         ensures { IfOk result (λ index. index.rows.now ≡ rows.now) }
     {
@@ -36,7 +36,7 @@ impl<'a> RowIndex<'a> {
                 nexts,
             }),
             Err(error) => {
-                // One call, in place of a drop of each of its parts.
+                // One call, instead of a drop of each of its parts.
                 std::mem::drop(firsts);
                 Err(error)
             }
@@ -65,7 +65,7 @@ impl<'a> RowIndex<'a> {
     }
 }
 
-/// Adds the next row of the group of a row, which comes before the rows whose groups have numbers.
+/// Adds the next row of the group of a row. The row comes before the rows whose groups have numbers.
 fn push_next(
     alloc: Global,
     nexts: &mut Vec<Option<usize>>,

@@ -1,4 +1,4 @@
-//! What a row states by itself.
+//! What a row says by itself.
 ghost use Rattle.std.specs.Prelude.{◌≡◌, IfOk};
 ghost use Rattle.std.specs.Result.{result_map_both};
 ghost use Rattle.csv.specs.Records.{fields_of};
@@ -15,7 +15,7 @@ use a429_equipment::Name;
 use a429_word::{Label, Sdi};
 use std::alloc::{AllocError, Global};
 
-/// The texts of a row, whose form is not asked here.
+/// The texts of a row. Their form is not checked here.
 #[derive(Drop)]
 pub struct RowTexts {
     pub group: Name,
@@ -25,7 +25,7 @@ pub struct RowTexts {
     pub filters: Name,
 }
 
-/// The same, as the fields have them.
+/// The texts, as the fields have them.
 #[derive(Clone, Copy)]
 pub struct TextFields<'a> {
     group: &'a str,
@@ -40,17 +40,17 @@ pub struct RowNumbers {
     /// In bit/s.
     pub rate: u32,
     pub label: Label,
-    /// None where the SDI is any.
+    /// `None` if the SDI is any.
     pub sdi: Option<Sdi>,
     /// In microseconds.
     pub min_us: u32,
     /// In microseconds.
     pub max_us: u32,
-    /// None where there is no limit.
+    /// `None` if there is no limit.
     pub hold: Option<u32>,
 }
 
-/// What a row states: an output of a group, with its source, the source's receiver, and the receiver's filters.
+/// What a row says: an output of a group, with its source, the source's receiver, and the receiver's filters.
 #[derive(Drop)]
 pub struct ImportRow {
     pub texts: RowTexts,
@@ -97,7 +97,7 @@ fn filters_at<'a>(heading: &CsvLine, line: &'a CsvLine) -> Result<&'a str, Impor
     filters_in(field_of(heading, line, ImportColumn::Filters)).ok_or(ImportColumn::Filters)
 }
 
-/// The numbers of a row. The error is the first column that is not of its form.
+/// The numbers of a row. Error: the first column with a wrong form.
 #[tactic(auto, unfolding(crate::specs::ImportRows::numbers_of))]
 fn row_numbers(heading: &CsvLine, line: &CsvLine) -> Result<RowNumbers, ImportColumn>
     ensures { result ≡ numbers_of (fields_of heading.now.fields) (fields_of line.now.fields) }
@@ -118,7 +118,7 @@ fn row_numbers(heading: &CsvLine, line: &CsvLine) -> Result<RowNumbers, ImportCo
     })
 }
 
-/// The texts of a row. The error is the first column that is not UTF-8, or whose filters are not of their form.
+/// The texts of a row. Error: the first column that is not UTF-8, or whose filters have a wrong form.
 #[tactic(auto, unfolding(crate::specs::ImportRows::texts_of))]
 fn text_fields<'a>(heading: &CsvLine, line: &'a CsvLine) -> Result<TextFields<'a>, ImportColumn>
     ensures { result_map_both texts_view (λ c. c) result ≡ texts_of (fields_of heading.now.fields) (fields_of line.now.fields) }
@@ -135,7 +135,7 @@ fn text_fields<'a>(heading: &CsvLine, line: &'a CsvLine) -> Result<TextFields<'a
     })
 }
 
-/// A copy of texts. The error is that memory was refused.
+/// A copy of texts. Error: an allocation failed.
 fn row_texts(alloc: Global, fields: TextFields<'_>) -> Result<RowTexts, AllocError>
     ensures { IfOk result (λ texts. texts ≡ texts_view fields.entry) }
 {
@@ -151,7 +151,7 @@ fn row_texts(alloc: Global, fields: TextFields<'_>) -> Result<RowTexts, AllocErr
     })
 }
 
-/// The fault of a row that is not of its form.
+/// The fault of a row with a wrong form.
 fn wrong_form(line: &CsvLine, column: Option<ImportColumn>) -> ImportFault
     ensures { result ≡ ImportFault.Csv line.now.number CsvFaultKind.Form column }
 {
@@ -162,7 +162,7 @@ fn wrong_form(line: &CsvLine, column: Option<ImportColumn>) -> ImportFault
     }
 }
 
-/// What a row states by itself.
+/// What a row says by itself.
 #[tactic(auto, unfolding(crate::specs::ImportRows::row_of))]
 pub fn row_of(alloc: Global, heading: &CsvLine, line: &CsvLine) -> Result<ImportRow, ImportFault>
     ensures { States (λ row. row) result (row_of (fields_of heading.now.fields) line.now) }

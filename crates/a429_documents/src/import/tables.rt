@@ -1,4 +1,4 @@
-//! The equipment table that rows state, as TOML.
+//! The equipment table that rows describe, as TOML.
 ghost use Rattle.std.specs.Prelude.{◌≡◌, IfOk, [], ◌∷◌, Some, codes, if◌then◌else◌, map, slice_get, string_bytes, take};
 ghost use Rattle.toml.specs.Data.{string};
 ghost use Rattle.toml.specs.View.{table_view, view};
@@ -63,7 +63,7 @@ fn receiver_table(alloc: Global, row: &ImportRow) -> Result<Value, AllocError>
     Ok(Value::Table(table))
 }
 
-/// Puts the SDI of a source, which may be any.
+/// Puts the SDI of a source, or `any`.
 fn put_sdi(alloc: Global, table: &mut Table, row: &ImportRow) -> Result<(), AllocError>
     ensures { Puts result (table_view table.old) (table_view table.new) (codes "sdi") (sdi_data row.now.numbers.sdi) }
 {
@@ -246,18 +246,18 @@ fn root_table(alloc: Global, index: &RowIndex<'_>) -> Result<Table, AllocError>
     Ok(root)
 }
 
-/// The root table that rows state.
+/// The root table that rows describe.
 fn stated_root(alloc: Global, rows: &[ImportRow]) -> Result<Table, AllocError>
     ensures { IfOk result (λ root. table_view root ≡ root_members rows.now) }
 {
     let index = RowIndex::of(alloc, rows)?;
     let root = root_table(alloc, &index);
-    // One call, in place of a drop of each of its parts at each return.
+    // One call, instead of a drop of each of its parts at each return.
     std::mem::drop(index);
     root
 }
 
-/// The equipment table that rows state, as TOML of version 2. The error is that memory was refused.
+/// The equipment table that rows describe, as TOML of version 2. Error: an allocation failed.
 pub fn table_text(alloc: Global, rows: &[ImportRow]) -> Result<String, AllocError>
     ensures { IfOk result (λ text. parse_document (string_bytes text) ≡ Some (root_members rows.now)) }
 {

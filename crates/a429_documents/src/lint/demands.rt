@@ -1,4 +1,4 @@
-//! What the groups of an equipment ask of their layout.
+//! The demands of an equipment's groups.
 ghost use Rattle.std.specs.Prelude.{◌≡◌, ◌≤◌, IfOk, length, map};
 ghost use Rattle.std.specs.List.{AllZip};
 ghost use Rattle.a429_pack.specs.Demanded.{demand_of};
@@ -12,7 +12,7 @@ use a429_grid::{Period, grid_period};
 use a429_pack::Demand;
 use std::alloc::{AllocError, Global};
 
-/// What the outputs of a group ask of its layout, at this rate in bit/s.
+/// The demands of a group's outputs, at this bit rate in bit/s.
 #[tactic(auto, using(a429_slots::proofs::Rows::all_below, a429_slots::proofs::Rows::zipped_more, a429_word::proofs::Lists::read_is))]
 fn demands_of(
     alloc: Global,
@@ -36,7 +36,7 @@ fn demands_of(
     Ok(demands)
 }
 
-/// What the outputs of each group ask of its layout, in table order.
+/// The demands of each group's outputs, in table order.
 pub fn demands_of_groups(
     alloc: Global,
     equipment: &Equipment,
@@ -59,7 +59,7 @@ pub fn are_fit(demands: &[Demand]) -> bool
     demands.iter().all(|demand| demand.period.is_some())
 }
 
-/// The period that is asked for, one slot if there is none.
+/// The period of a demand; one slot if it has none.
 fn period_of(demand: &Demand) -> Period
     ensures { result ≡ exponent_of demand.now }
 {
@@ -69,7 +69,7 @@ fn period_of(demand: &Demand) -> Period
     }
 }
 
-/// The frame of a group: the greatest period that is asked for, one slot if there is none.
+/// The frame of a group: the longest period of its demands; one slot if there is none.
 pub fn frame_of(demands: &[Demand]) -> Period
     ensures { result ≡ frame_of demands.now }
 {
@@ -80,7 +80,7 @@ pub fn frame_of(demands: &[Demand]) -> Period
     Period::of_digits(digits)
 }
 
-/// How many cells of a frame the outputs fill.
+/// The number of cells of a frame that the outputs fill.
 pub fn cells_of(demands: &[Demand], frame: Period) -> u32
     requires few { length demands.now ≤ 128 }
     requires frame { frame ≡ frame_of demands.now }

@@ -1,4 +1,4 @@
-//! What is found in the groups of an equipment.
+//! The findings in the groups of an equipment.
 ghost use Rattle.std.specs.Prelude.{◌≡◌, ◌<◌, ◌≤◌, ◌++◌, ◌∷◌, [], length, map};
 ghost use Rattle.a429_text.specs.Sheets.{field_of};
 ghost use Rattle.a429_slots.specs.Planned.{HaveSources};
@@ -90,7 +90,7 @@ fn needs_too_many(demands: &[Demand]) -> bool
     are_fit(demands) && bus_count(demands) > 16
 }
 
-/// Adds how many buses a group needs, which are too many.
+/// Adds the number of buses that a group needs, if it is too large.
 fn add_needed(found: &mut Rows, group: &str, buses: u32)
     ensures { found.new ≡ found.old ++ needed_row group.now buses ∷ [] }
 {
@@ -116,7 +116,7 @@ fn add_too_many(found: &mut Rows, group: &str, demands: &[Demand])
     add_needed(found, group, bus_count(demands));
 }
 
-/// Whether one of the two is any, and the other a certain one.
+/// Whether one of the two is any, and the other a number.
 fn one_is_any(sdi: Option<Sdi>, other: Option<Sdi>) -> bool
     ensures { result ≡ one_is_any sdi other }
 {
@@ -127,7 +127,7 @@ fn one_is_any(sdi: Option<Sdi>, other: Option<Sdi>) -> bool
     }
 }
 
-/// Whether an output and a later one have one label, and just one of them takes any SDI.
+/// Whether an output and a later one have one label, and only one of them has SDI any.
 fn are_alike(demands: &[Demand], output: usize, other: usize) -> bool
     requires output { output < length demands.now }
     requires other { other < length demands.now }
@@ -137,7 +137,7 @@ fn are_alike(demands: &[Demand], output: usize, other: usize) -> bool
     output < other && first.label == later.label && one_is_any(first.sdi, later.sdi)
 }
 
-/// Adds an output with a later one, if a receiver cannot tell them apart.
+/// Adds an output with a later one, if a display cannot distinguish them.
 fn add_alike(
     found: &mut Rows,
     sources: &[SourceRow],
@@ -161,7 +161,7 @@ fn add_alike(
     add_finding(found, "alike", group, source, later, Cell::Absent);
 }
 
-/// Adds an output with each later one that a receiver cannot tell apart from it.
+/// Adds an output with each later one that a display cannot distinguish from it.
 fn add_alikes_of(
     found: &mut Rows,
     sources: &[SourceRow],
@@ -180,7 +180,7 @@ fn add_alikes_of(
     }
 }
 
-/// Adds the outputs that a receiver cannot tell apart.
+/// Adds the outputs that a display cannot distinguish.
 fn add_alikes(
     found: &mut Rows,
     sources: &[SourceRow],
@@ -197,7 +197,7 @@ fn add_alikes(
     }
 }
 
-/// Whether a group can be planned, and has no empty cell then.
+/// Whether a group can be planned, and its plan has no empty cell.
 fn is_full(demands: &[Demand]) -> bool
     requires few { length demands.now ≤ 128 }
     ensures { result ≡ is_full demands.now }
@@ -208,7 +208,7 @@ fn is_full(demands: &[Demand]) -> bool
     are_fit(demands) && buses <= 16 && cells == buses * frame.slots()
 }
 
-/// Adds that a group has no empty cell, if that is so.
+/// Adds a group without an empty cell.
 fn add_full(found: &mut Rows, group: &str, demands: &[Demand])
     requires few { length demands.now ≤ 128 }
     ensures { found.new ≡ found.old ++ full_rows group.now demands.now }

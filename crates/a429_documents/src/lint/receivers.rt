@@ -1,4 +1,4 @@
-//! What is found of the receivers of an equipment.
+//! The findings about the receivers of an equipment.
 ghost use Rattle.std.specs.Prelude.{◌≡◌, ◌<◌, ◌++◌, ◌∷◌, [], length};
 ghost use Rattle.a429_text.specs.Sheets.{field_of};
 ghost use Rattle.a429_documents.specs.Lint.{blind_rows, has_source, of_each, receiver_finding, receiver_row, receiver_rows, sees_source};
@@ -36,7 +36,7 @@ fn add_finding<'a>(found: &mut Rows, finding: &'a str, receiver: &'a str, number
     ]);
 }
 
-/// Adds that a receiver has no source, if that is so.
+/// Adds a receiver without a source.
 fn add_idle(found: &mut Rows, sources: &[SourceRow], number: usize, receiver: &ReceiverRow)
     ensures { found.new ≡ found.old ++ receiver_finding sources.now ReceiverFinding.Idle number receiver.now }
 {
@@ -46,7 +46,7 @@ fn add_idle(found: &mut Rows, sources: &[SourceRow], number: usize, receiver: &R
     add_finding(found, "idle", receiver.name.as_str(), Cell::Absent);
 }
 
-/// Adds that a filter passes no source of the receiver, if that is so.
+/// Adds a filter that passes no source of the receiver.
 fn add_blind(
     found: &mut Rows,
     sources: &[SourceRow],
@@ -79,7 +79,7 @@ fn add_blinds(
     }
 }
 
-/// Adds the filters of a receiver that pass no source of it.
+/// Adds the filters of a receiver that pass none of its sources.
 fn add_blind_filters(found: &mut Rows, sources: &[SourceRow], number: usize, receiver: &ReceiverRow)
     ensures { found.new ≡ found.old ++ receiver_finding sources.now ReceiverFinding.Blind number receiver.now }
 {

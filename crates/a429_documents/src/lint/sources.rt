@@ -1,4 +1,4 @@
-//! What is found of the sources of an equipment.
+//! The findings about the sources of an equipment.
 ghost use Rattle.std.specs.Prelude.{◌≡◌, ◌<◌, ◌++◌, ◌∷◌, [], length};
 ghost use Rattle.a429_documents.specs.Lint.{has_output_of, is_heard, is_sent, of_each, source_finding, source_row, source_rows};
 
@@ -46,7 +46,7 @@ fn add_finding<'a>(found: &mut Rows, finding: &'a str, source: &'a SourceRow)
     ]);
 }
 
-/// Adds that a source is never accepted, if that is so.
+/// Adds a source that is never accepted.
 fn add_unheard(found: &mut Rows, equipment: &Equipment, source: &SourceRow)
     requires { source.now.receiver < length equipment.now.receivers }
     ensures { found.new ≡ found.old ++ source_finding equipment.now SourceFinding.Unheard 0 source.now }
@@ -57,7 +57,7 @@ fn add_unheard(found: &mut Rows, equipment: &Equipment, source: &SourceRow)
     add_finding(found, "unheard", source);
 }
 
-/// Adds that a source is never sent, if that is so.
+/// Adds a source that is never sent.
 fn add_unsent(found: &mut Rows, equipment: &Equipment, number: usize, source: &SourceRow)
     ensures { found.new ≡ found.old ++ source_finding equipment.now SourceFinding.Unsent number source.now }
 {
@@ -67,7 +67,7 @@ fn add_unsent(found: &mut Rows, equipment: &Equipment, number: usize, source: &S
     add_finding(found, "unsent", source);
 }
 
-/// Adds the finding of one kind of a source, if it is so.
+/// Adds the finding of one kind about a source, if it applies.
 fn add_source(
     found: &mut Rows,
     equipment: &Equipment,
@@ -84,7 +84,7 @@ fn add_source(
     }
 }
 
-/// Adds the finding of one kind of each source.
+/// Adds the findings of one kind about each source.
 pub fn add_sources(found: &mut Rows, equipment: &Equipment, kind: SourceFinding)
     ensures { found.new ≡ found.old ++ of_each (length equipment.now.sources) (source_rows equipment.now kind) }
 {

@@ -1,13 +1,13 @@
-//! A proposal once more.
+//! Copies of a proposal.
 ghost use Rattle.std.specs.Prelude.{◌≡◌, ◌≤◌, IfOk};
 
 use crate::proposals::Proposal;
 use std::alloc::{AllocError, Global};
 
 impl<const N: usize> Proposal<N> {
-    /// The same proposal once more. The error is that memory was refused.
+    /// A copy of the proposal. Error: an allocation failed.
     pub fn copied(&self, alloc: Global) -> Result<Proposal<N>, AllocError>
-        // A plan of so many outputs fits in memory.
+        // A plan of at most 65536 outputs fits in memory.
         requires size { N ≤ 65536 }
         ensures { IfOk result (λ p. p ≡ self.now) }
     {

@@ -14,9 +14,9 @@ use std::marker::Model;
 /// How many cells the largest frame has: 8192 slots on each of 16 buses.
 const CELLS: usize = 131072;
 
-/// As a `Sender`, and beside it what was found in each cell of its slot table, a byte a cell: 0 where the cell was not
-/// looked up yet, 1 where it is empty, else the output's number and two. A plan whose outputs stand in the same cells
-/// keeps them, any other one forgets them all.
+/// A `Sender`, and what was found in each cell of its slot table. Each cell has a byte: 0 if it was not looked up yet,
+/// 1 if it is empty, otherwise the output's number plus two. A plan with the same outputs in the same cells keeps these
+/// bytes; any other plan sets all to 0.
 #[derive(Drop)]
 pub struct CachedSender {
     sender: Sender,
@@ -34,7 +34,7 @@ impl Model for CachedSender {
     ghost invariant = { λ s. AreCached s.sender.table s.cells.items };
 }
 
-/// What stands in a cell, as a byte.
+/// The output of a cell, or an empty cell, as a byte.
 fn byte_of(output: Option<OutputId>) -> u8
     requires { IfSome output (λ o. o < 128) }
     ensures { result ≡ cached output }
@@ -58,7 +58,7 @@ fn output_of(byte: u8) -> Option<OutputId>
     }
 }
 
-/// The output in a cell of a slot table, which is looked up where it was not before.
+/// The output in a cell of a slot table, which is looked up if it was not looked up before.
 #[tactic(auto, using(crate::proofs::Cells::cell_known))]
 #[inline(always)]
 fn look_up(cells: &mut Vec<u8>, plan: &GroupPlan<OUTPUTS>, bus: u32, slot: u64) -> Option<OutputId>
@@ -84,7 +84,7 @@ fn look_up(cells: &mut Vec<u8>, plan: &GroupPlan<OUTPUTS>, bus: u32, slot: u64) 
     output_of(byte)
 }
 
-/// So many cells, of which nothing is known.
+/// This number of cells, of which nothing is known. Error: an allocation failed.
 #[tactic(auto, using(crate::proofs::Columns::zeros))]
 fn empty_cells(alloc: Global, many: usize) -> Result<Vec<u8>, AllocError>
     ensures { IfOk result (λ cells. IsForgotten cells.items) }
@@ -92,7 +92,7 @@ fn empty_cells(alloc: Global, many: usize) -> Result<Vec<u8>, AllocError>
     vec![in alloc; 0; many]
 }
 
-/// Forgets what stands in any cell.
+/// Forgets what is known of each cell.
 fn forget(cells: &mut Vec<u8>)
     ensures { IsForgotten cells.new.items }
 {
@@ -102,7 +102,8 @@ fn forget(cells: &mut Vec<u8>)
 }
 
 impl CachedSender {
-    /// A group before its first cell, by the opening plan. All the memory that is ever needed is taken here.
+    /// A group before its first cell, by the opening plan. All the memory that is ever needed is allocated here. Error:
+    /// an allocation failed.
     pub fn open(
         alloc: Global,
         plan: GroupPlan<OUTPUTS>,
@@ -139,7 +140,7 @@ impl CachedSender {
         self.sender.is_mid_frame()
     }
 
-    /// The output that stands on a bus in a slot of the frame.
+    /// The output of a bus in a slot of the frame; `None`: an empty cell.
     #[inline(always)]
     pub fn output_in(&mut self, bus: u32, slot: u64) -> Option<Due>
         ensures output { result ≡ option_map due_of (output_in self.old.table bus slot) }
@@ -151,7 +152,8 @@ impl CachedSender {
         Some(sender.due(output))
     }
 
-    /// The bus and the slot in the frame of the next cell, which then counts as sent.
+    /// The bus and the slot in the frame of the next cell, which then counts as sent; `None` if all cells of the frame
+    /// were sent.
     #[inline(always)]
     pub fn cell(&mut self) -> Option<(u32, u64)>
         ensures due { result ≡ next_cell self.old }
@@ -161,7 +163,8 @@ impl CachedSender {
         self.sender.cell()
     }
 
-    /// Goes on to the next frame by this plan, unless its slots cannot be counted in 64 bits.
+    /// Goes on to the next frame by this plan. The answer is `false`, and nothing changes, if the frame's slots cannot
+    /// be counted in 64 bits.
     pub fn turn(&mut self, newest: &GroupPlan<OUTPUTS>) -> bool
         ensures room { result ≡ fits_next self.old newest.now }
         ensures after { self.new ≡ turned self.old newest.now }

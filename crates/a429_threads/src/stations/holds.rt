@@ -1,7 +1,8 @@
-//! A gate that holds workers back until others have come to their points.
+//! A gate that holds workers back until others have reached their points.
 
 use a429_station::{Control, Station};
-use a429_workers::{Gate, GateFault, Point};
+use a429_values::Accept;
+use a429_workers::{Gate, GateFault, Point, ReceiveTotals};
 use std::alloc::AllocError;
 use std::sync::Wait;
 use std::sync::atomic::{AtomicU64, Ordering};
@@ -18,6 +19,8 @@ pub enum Held {
     UntilAll,
     /// The first cell, until the control has its first answer.
     UntilAnswered,
+    /// Nothing.
+    Nothing,
 }
 
 const CELL: u64 = 1;
@@ -70,16 +73,18 @@ fn bits(held: Held, point: Point) -> (u64, u64) {
         Held::InTurn => bits_in_turn(point),
         Held::UntilAll => bits_until_all(point),
         Held::UntilAnswered => bits_until_answered(point),
+        Held::Nothing => (0, 0),
     }
 }
 
-/// How many turns a gate waits where other threads run, and where no other thread does: then no further turn would
-/// change what is waited for.
+/// How many turns a gate waits if other threads run. On one thread alone it waits `TURNS_ALONE`: a further turn would
+/// not change what is waited for.
 pub const TURNS: u64 = 10000;
 
 pub const TURNS_ALONE: u64 = 50;
 
-/// Holds back each point until the marks that it waits for were made, for at most so many turns of a millisecond.
+/// Holds back each point until the marks that it waits for were made, for at most this number of turns of a
+/// millisecond.
 #[derive(Drop)]
 pub struct Holds<'a, R: Clock> {
     rt: &'a R,
@@ -98,7 +103,7 @@ pub fn gate<'a, R: Clock>(rt: &'a R, held: Held, turns: u64) -> Holds<'a, R> {
     }
 }
 
-/// Whether these marks are made within so many turns.
+/// Whether these marks are made within this number of turns.
 fn are_made<R: Clock>(rt: &R, made: &AtomicU64, awaited: u64, turns: u64) -> bool {
     for _ in 0..turns {
         if made.load(Ordering::SeqCst) & awaited == awaited {
@@ -110,7 +115,7 @@ fn are_made<R: Clock>(rt: &R, made: &AtomicU64, awaited: u64, turns: u64) -> boo
 }
 
 impl<'a, R: Clock> Gate for Holds<'a, R> {
-    fn pass(&self, point: Point) -> Result<(), GateFault> {
+    fn pass<S>(&self, point: Point, _shown: &S) -> Result<(), GateFault> {
         let (own, awaited) = bits(self.held, point);
         self.made.fetch_or(own, Ordering::SeqCst);
         if are_made(self.rt, &self.made, awaited, self.turns) {
@@ -118,6 +123,8 @@ impl<'a, R: Clock> Gate for Holds<'a, R> {
         }
         Err(GateFault)
     }
+
+    fn tell_counted(&self, _answer: Accept, _totals: &ReceiveTotals) {}
 }
 
 /// Makes the mark of the control, and publishes nothing.

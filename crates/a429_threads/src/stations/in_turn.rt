@@ -15,18 +15,25 @@ use std::time::Clock;
 fn is_ended<R: Clock>(rt: &R, point: Point) -> bool {
     let gate = gate(rt, Held::UntilAll, TURNS_ALONE);
     gate.made.store(CONTROL, Ordering::SeqCst);
-    gate.pass(point).is_err()
+    gate.pass(point, &()).is_err()
 }
+
+/// The points at which the workers of two receivers and of two groups begin.
+const BEGINNINGS: [Point; 4] = [
+    Point::BeforeAccept(0, 0),
+    Point::BeforeAccept(1, 0),
+    Point::BeforeCell(0, 0),
+    Point::BeforeCell(1, 0),
+];
 
 #[test]
 fn a_gate_ends_whichever_worker_comes_first(rt: HostRuntime) {
-    let receivers = is_ended(&rt, Point::BeforeAccept(0, 0))
-        && is_ended(&rt, Point::BeforeAccept(1, 0));
-    let groups = is_ended(&rt, Point::BeforeCell(0, 0)) && is_ended(&rt, Point::BeforeCell(1, 0));
-    assert!(rt; receivers && groups);
+    for point in BEGINNINGS {
+        assert!(rt; is_ended(&rt, point));
+    }
 }
 
-/// Whether the loops of a receiver and of a group come to their ends in turn, at the gate that holds each for the other.
+/// Whether the loops of a receiver and of a group both end, at the gate that holds each for the other.
 fn loops_end_held<R: Wait + Clock + Abort>(rt: &R, alloc: Global) -> (bool, bool) {
     let gate = gate(rt, Held::InTurn, TURNS_ALONE);
     let ends = loops_end_in_turn(rt, alloc, &gate);

@@ -4,7 +4,8 @@ ghost use Rattle.a429_station.specs.Resubmitting.{GoesOn};
 use super::{Outcome, run, setup_of};
 use crate::support::{SPACED, SPACED_FASTER, let_go};
 use a429_station::{Control, Station};
-use a429_workers::{Gate, GateFault, Point, Sent};
+use a429_values::Accept;
+use a429_workers::{Gate, GateFault, Point, ReceiveTotals, Sent};
 use std::alloc::{AllocError, Global};
 use std::process::Abort;
 use std::sync::Wait;
@@ -16,7 +17,7 @@ use std::time::{Clock, Duration};
 /// A word of label 003.
 const WORD: u32 = 0x800000c0;
 
-/// The mark of the word, which was taken. Those of the four plans stand above it.
+/// The mark of the word, which was taken. Those of the four plans are above it.
 const TAKEN: u64 = 1;
 
 /// How many cells go out by a plan before the next is published, at least.
@@ -41,7 +42,7 @@ fn comes<R: Clock>(rt: &R, number: &AtomicU64, least: u64) -> bool {
     false
 }
 
-/// The marks that a cell waits for: of the word, and of a plan for every so many cells. As marks are made in order, they
+/// The marks that a cell waits for: of the word, and of a plan for each `CELLS` cells. As marks are made in order, they
 /// are a number that grows.
 fn marks_before(cell: u64) -> u64 {
     match cell / CELLS {
@@ -53,7 +54,7 @@ fn marks_before(cell: u64) -> u64 {
 }
 
 impl<'a, R: Clock> Gate for Course<'a, R> {
-    fn pass(&self, point: Point) -> Result<(), GateFault> {
+    fn pass<S>(&self, point: Point, _shown: &S) -> Result<(), GateFault> {
         let goes_on = match point {
             Point::AfterAccept(_, _) => {
                 self.made.fetch_or(TAKEN, Ordering::SeqCst);
@@ -68,23 +69,25 @@ impl<'a, R: Clock> Gate for Course<'a, R> {
         };
         if goes_on { Ok(()) } else { Err(GateFault) }
     }
+
+    fn tell_counted(&self, _answer: Accept, _totals: &ReceiveTotals) {}
 }
 
-/// Resubmits two tables in turn, four times in all, each when so many cells went out by the one before.
+/// Resubmits two tables alternately, four times in all. Each waits until enough cells went out by the one before.
 #[derive(Drop)]
 struct Alternates<'a, R: Clock> {
     course: &'a Course<'a, R>,
     published: bool,
 }
 
-/// Tells by its mark that a plan was published, once the word was taken, and waits until so many cells went out.
+/// Sets the mark of a published plan, once the word was taken, and waits until this number of cells went out.
 fn mark<R: Clock>(course: &Course<'_, R>, mark: u64, cells: u64) {
     comes(course.rt, &course.made, TAKEN);
     course.made.fetch_or(mark, Ordering::SeqCst);
     comes(course.rt, &course.cells, cells);
 }
 
-/// Resubmits a table, makes its mark, and waits until so many cells went out.
+/// Resubmits a table, makes its mark, and waits until this number of cells went out.
 fn publish<R: Wait, C: Clock>(
     station: &mut Station<'_, R>,
     course: &Course<'_, C>,
@@ -123,10 +126,10 @@ impl<'a, R: Wait, C: Clock> Control<R> for Alternates<'a, C> {
     }
 }
 
-/// How many cells have a word, where those are two slots apart; else 0.
+/// How many cells have a word, if those are two slots apart; otherwise 0.
 pub fn count_spaced_words(sent: &[Sent]) -> usize {
     let mut words: usize = 0;
-    // The first slot in which the next word may stand.
+    // The first slot in which the next word may be.
     let mut next: u64 = 0;
     for cell in sent {
         if cell.word.is_none() {

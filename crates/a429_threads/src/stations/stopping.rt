@@ -1,4 +1,4 @@
-//! Stations that stop: which fault is told where several workers have one.
+//! Stations that stop: which fault is reported if several workers have one.
 
 use super::{ONE_WORD, Setup, run, setup_of};
 use crate::devices::ShutGate;
@@ -25,7 +25,7 @@ fn a_shut_gate_ends_the_run(rt: HostRuntime) {
     assert!(rt; outcome.fault == Some(LiveFault::Gate));
 }
 
-/// Answers at once that memory was refused.
+/// Answers at once that an allocation failed.
 #[derive(Clone, Copy)]
 struct Refused;
 
@@ -35,8 +35,8 @@ impl<R: Wait> Control<R> for Refused {
     }
 }
 
-/// Why the station of two receivers stops where the first line gives these words, the second line fails if it is said
-/// so, and both sinks fail.
+/// Why the station of two receivers stops if the first line gives these words and both sinks fail. The second line
+/// fails if `line_fails` says so.
 fn fault_of_run<R: Threads + Wait + Abort, K: Control<R>>(
     rt: &R,
     alloc: Global,
@@ -55,7 +55,7 @@ fn fault_of_run<R: Threads + Wait + Abort, K: Control<R>>(
     run(rt, alloc, &setup, &OpenGate, control).fault
 }
 
-/// Why it stops where the first line gives one word: with a line that fails, and without.
+/// Why it stops if the first line gives one word: with a line that fails, and without.
 fn faults<R: Threads + Wait + Abort, K: Control<R>>(
     rt: &R,
     alloc: Global,

@@ -42,7 +42,8 @@ fn load_known(transmitter: &mut Transmitter) -> (bool, u64)
     }
 }
 
-/// Loads the source so often. Whether each load was none or one of the two words, and none went back in their order.
+/// Loads the source this number of times. Whether each load was none or one of the two words, and none went back in
+/// their order.
 fn load_many(mut transmitter: Transmitter, times: u32) -> (Transmitter, bool)
     requires { 0 < length transmitter.at.station.sources }
     ensures { result.0.at ≡ transmitter.at }
@@ -57,8 +58,8 @@ fn load_many(mut transmitter: Transmitter, times: u32) -> (Transmitter, bool)
     (transmitter, rises)
 }
 
-/// A receiver takes the words of a line beside a hundred loads. What it answers, whether the loads never went back, and
-/// the last load.
+/// A receiver takes the words of a line at the same time as a hundred loads. What it answers, whether the loads never
+/// went back, and the last load.
 fn take_beside_loads<R: Threads>(
     rt: &R,
     ends: Ends,
@@ -174,7 +175,7 @@ fn a_line_goes_on_after_a_million_words(rt: HostRuntime) {
     assert!(rt; taken);
 }
 
-/// What two frames of the group come to, which sends a, b and c to a sink that fails in this call; and how many cells
+/// The answer to two frames of the group, which sends a, b and c to a sink that fails in this call; and how many cells
 /// the sink took.
 fn two_frames<R: Wait + Abort, G: Gate>(
     rt: &R,
@@ -191,28 +192,20 @@ fn two_frames<R: Wait + Abort, G: Gate>(
     (answer, took)
 }
 
-/// Whether a sink that fails in this call took all cells before it.
-fn takes_until<R: Wait + Abort>(rt: &R, alloc: Global, call: u64) -> bool {
-    let (answer, took) = two_frames(rt, alloc, call, &OpenGate);
-    answer == Err(SendFault::Sink) && took == call.saturating_sub(1)
-}
+/// All cells of two frames.
+const TWO_FRAMES: SendTotals = SendTotals {
+    cells: 8,
+    words: 0,
+    plan: 0,
+};
 
 #[test]
 fn a_sink_takes_all_cells_before_it_fails(rt: HostRuntime) {
-    for call in 1u64..9 {
-        assert!(rt; takes_until(&rt, rt.alloc(), call));
+    for call in 1..9 {
+        let (answer, took) = two_frames(&rt, rt.alloc(), call, &OpenGate);
+        assert!(rt; answer == Err(SendFault::Sink) && took == call.saturating_sub(1));
     }
-}
-
-#[test]
-fn a_sink_that_does_not_fail_takes_all_cells(rt: HostRuntime) {
-    let (answer, took) = two_frames(&rt, rt.alloc(), 0, &OpenGate);
-    let totals = SendTotals {
-        cells: 8,
-        words: 0,
-        plan: 0,
-    };
-    assert!(rt; answer == Ok(totals) && took == 8);
+    assert!(rt; two_frames(&rt, rt.alloc(), 0, &OpenGate) == (Ok(TWO_FRAMES), 8));
 }
 
 #[test]
@@ -222,23 +215,6 @@ fn a_shut_gate_ends_a_group(rt: HostRuntime) {
     };
     let (answer, took) = two_frames(&rt, rt.alloc(), 0, &gate);
     assert!(rt; answer == Err(SendFault::Gate) && took == 3);
-}
-
-/// How many cells three frames of the group come to, by the loop and by its sink.
-fn count_cells<R: Wait + Abort>(rt: &R, alloc: Global) -> (u64, u64) {
-    let mut workers = open_workers(rt, alloc, THREE, 0);
-    let mut sink = CountSink::new();
-    let cells = match send_frames(&mut workers.transmit, &mut sink, 0, 3, &OpenGate) {
-        Ok(totals) => totals.cells,
-        Err(_) => 0,
-    };
-    workers.close(rt);
-    (cells, sink.count())
-}
-
-#[test]
-fn a_count_sink_counts(rt: HostRuntime) {
-    assert!(rt; count_cells(&rt, rt.alloc()) == (12, 12));
 }
 
 /// Whether the loop of a receiver comes to the end of a line of one word.
@@ -251,7 +227,7 @@ fn hears_one<R: Abort, G: Gate>(rt: &R, alloc: Global, receiver: &mut Receiver, 
     heard
 }
 
-/// Whether the loops of a receiver and of a group come to their ends, one after the other on the calling thread.
+/// Whether the loops of a receiver and of a group both end, one after the other on the calling thread.
 pub fn loops_end_in_turn<R: Wait + Abort, G: Gate>(
     rt: &R,
     alloc: Global,
@@ -262,5 +238,5 @@ pub fn loops_end_in_turn<R: Wait + Abort, G: Gate>(
     let mut sink = CountSink::new();
     let sent = send_frames(&mut workers.transmit, &mut sink, 0, 1, gate).is_ok();
     workers.close(rt);
-    (heard, sent)
+    (heard, sent && sink.count() == 1)
 }

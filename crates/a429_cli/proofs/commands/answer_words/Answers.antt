@@ -1,16 +1,17 @@
-use Rattle.std.proofs.Common.{◌≡◌, ◌∙◌, ap, inr, refl, subst, sym}
+use Rattle.std.proofs.Common.{◌≡◌, ◌≤◌, ◌∙◌, ap, arith, inr, refl, subst, sym}
 use Rattle.std.specs.Prelude.{IfOk}
 use Rattle.std.proofs.lemmas.Result.{IfOk-weaker}
 use Rattle.clap.specs.Words.{Kinds}
 use Rattle.a429_console.specs.Ends.{EndsOrFails, writing}
-use Rattle.a429_console.specs.Outputs.{IsPut}
+use Rattle.a429_console.specs.Outputs.{IsMemoryReply, IsPut}
 use Rattle.a429_console.specs.Readings.{HasReadFrom}
-use Rattle.a429_cli.specs.Replies.{IsReplyOrMemory, TakesEach}
+use Rattle.a429_cli.specs.Replies.{IsReplyOrMemory, TakesEach, trouble_of}
 use Rattle.a429_console.specs.Files.{texts_of}
 use Rattle.a429_console.specs.Requests.{AskedBytes}
 use Rattle.a429_console.specs.Usage.{is_run, kinds_of_words}
 use Rattle.a429_console.proofs.CallEnds.{explained_ends}
 use Rattle.a429_console.proofs.ReadingParts.{read_none}
+use Rattle.a429_cli.proofs.WholeAnswers.{least_trouble}
 use Rattle.a429_cli.proofs.commands.answer_words.Goals as goal
 
 pub returns-in-Ok-clause-read : goal.returns-in-Ok-clause-read
@@ -21,7 +22,16 @@ returns-in-Ok-clause-read g c = λ r other asks.
     (c.answer_here.ensures.read (ap (λ (a : AskedBytes). is_run a.verb) same ∙ other))
 
 pub returns-in-Ok-clause-asked : goal.returns-in-Ok-clause-asked
-returns-in-Ok-clause-asked g c = λ r other asks. c.answer_here.ensures.asked (ap (λ (a : AskedBytes). is_run a.verb) (c.in-Ok.ensures.asked r asks) ∙ other)
+returns-in-Ok-clause-asked g c = λ r other asks.
+    let same = c.in-Ok.ensures.asked r asks in
+    subst (λ (a : AskedBytes). IfOk c.answer_here.result (λ status. status ≤ trouble_of a.verb)) same (c.answer_here.ensures.asked (ap (λ (a : AskedBytes). is_run a.verb) same ∙ other))
+
+pub returns-in-Err-clause-asked : goal.returns-in-Err-clause-asked
+returns-in-Err-clause-asked g c = λ r other asks.
+    let spent = c.in-Err.ensures.asked r asks in
+    IfOk-weaker c.explain.result _ _ (λ status put.
+    let told : IsMemoryReply status put.0 = rw spent at put.1 in
+    least_trouble r.verb status (omega (arith, told.0))) c.explain.ensures.replied
 
 pub returns-in-Ok-clause-ends : goal.returns-in-Ok-clause-ends
 returns-in-Ok-clause-ends g c =

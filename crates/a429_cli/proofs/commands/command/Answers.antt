@@ -7,6 +7,7 @@ use Rattle.a429_console.proofs.CallEnds.{done_ends, failed_ends}
 use Rattle.a429_console.proofs.Endings.{failure_shows}
 use Rattle.a429_console.proofs.ReadingParts.{known_read, read_weaker}
 use Rattle.a429_cli.specs.Replies.{IsReplyOrMemory}
+use Rattle.a429_cli.proofs.WholeAnswers.{least_trouble}
 use Rattle.a429_cli.proofs.commands.command.Goals as goal
 
 pub returns-in-Ok-clause-replied : goal.returns-in-Ok-clause-replied
@@ -28,6 +29,9 @@ returns-in-Err-clause-replied g c = λ r other asks tells none. absurd (failure_
 
 pub returns-in-Err-clause-read : goal.returns-in-Err-clause-read
 returns-in-Err-clause-read g c = λ r other asks none. absurd (failure_shows c.in-Err.fault (g.O.Output.failures c.args.out.now) (g.O.Output.failures c.answer_words.new.out) c.in-Err.ensures.ends.faults none)
+
+pub returns-in-Err-clause-asked : goal.returns-in-Err-clause-asked
+returns-in-Err-clause-asked g c = λ r other asks. least_trouble r.verb 1 (omega arith)
 
 pub returns-in-Err-clause-ends : goal.returns-in-Err-clause-ends
 returns-in-Err-clause-ends g c =

@@ -51,7 +51,7 @@ returns c =
     record {
       words = start.0;
       simulated = record { proposed = proposed; words_are = subst (λ (n : Naming). log_words n i.log ≡ Ok start.0) names start.1 };
-      csv = c.in_ok-setting.ensures.2;
+      csv = c.in_ok-setting.ensures.2 ∙ c.is_csv.ensures;
       begin = start.2.0;
       ready = record { names = names; playable = start.2.1 };
     }

@@ -22,13 +22,10 @@ returns-in-Ok-prepare-clause-simulated g c =
     let P = c.in-Ok-prepare.ensures in
     let q = c.in-Ok-prepare.simulation.setting.proposal in
     let form = c.args.form in
-    let written : (status : ℕ) (bytes : List ℕ) → OrNoMemory (IsWritten q P.words (end_of q P.words form.until) form.summary c.in-Ok-prepare.simulation.setting.csv) status bytes
-    → OrNoMemory (IsWritten q P.words (end_of q P.words form.until) form.summary form.csv) status bytes =
-    λ status bytes is. subst (λ (csv : Bool). OrNoMemory (IsWritten q P.words (end_of q P.words form.until) form.summary csv) status bytes) P.csv is in
     let i = files_of c.in-Ok.input in
     read_weaker c.in-Ok.ensures (λ file read. IfOk-weaker c.print_simulation.result _ _ (λ status put. (
       put.0,
-      simulated_reply file c.args.table.now c.args.log.now c.args.form i q P.words read P.simulated status put.0 (written status put.0 put.1),
+      simulated_reply file c.args.table.now c.args.log.now c.args.form i q P.words read P.simulated status put.0 put.1,
       put.2,
     ))
     (c.print_simulation.ensures.printed P.words (end_of q P.words c.args.form.until) P.begin))

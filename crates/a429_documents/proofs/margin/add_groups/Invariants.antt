@@ -4,7 +4,7 @@ use Rattle.a429_slots.specs.Tables.{groups_of}
 use Rattle.a429_documents.specs.Margins.{AreMargins, IsMargin}
 use Rattle.a429_documents.proofs.margin.add_groups.Given as goal
 
--- whatever margins the groups that are left have, all rows are those of a margin
+-- for any margins of the groups that are left, all rows are those of a margin
 abbrev pub invariant-loop-number : goal.invariant-loop-number
 invariant-loop-number l =
     (rest : List (List Field)) → AreMargins l.fn.proposal.station.sources (drop l.number l.fn.proposal.station.groups) (drop l.number l.fn.proposal.station.outputs) (drop l.number (groups_of l.fn.proposal.plan)) rest

@@ -5,7 +5,7 @@ use Rattle.std.proofs.lemmas.Option.{none-some}
 use Rattle.a429_slots.specs.History.{AnsweredCell, accepted_by, answered_cells, is_held, is_too_close, latest_by, times_sent}
 use Rattle.a429_slots.proofs.laws.holds_are_kept.Goals as goal
 
--- where a word goes out it is not held
+-- a word that goes out is not held
 not_held : (held close : Bool) (latest : Option ℕ) (word : ℕ) → (if held || close then None else latest) ≡ Some word → held ≡ false
 not_held true close latest word sent = absurd (none-some word sent)
 not_held false close latest word sent = refl

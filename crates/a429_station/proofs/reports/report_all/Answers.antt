@@ -35,7 +35,7 @@ returns-in_err-check_all_ends-clause-fault g c =
 pub returns-in_err-heard-clause-reported : goal.returns-in_err-heard-clause-reported
 returns-in_err-heard-clause-reported g c = early_ok _ _ c.from_residual-in_err-heard.result c.from_residual-in_err-heard.ensures.1
 
--- of workers that ended well there is no report for want of memory alone
+-- if all workers ended well, only `NoMemory` prevents the report
 pub returns-in_err-heard-clause-fault : goal.returns-in_err-heard-clause-fault
 returns-in_err-heard-clause-fault g c =
     early_err _ c.from_residual-in_err-heard.result c.from_residual-in_err-heard.ensures.1

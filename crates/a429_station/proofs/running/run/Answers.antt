@@ -115,7 +115,7 @@ returns-clause-ran g c =
     ) in
     IfOk-weaker c.report_all.result _ _ by c.report_all.ensures.reported
 
--- the first fault of a worker, or else of the control
+-- the first fault of a worker; otherwise that of the control
 pub returns-clause-fault : goal.returns-clause-fault
 returns-clause-fault g c =
     let ask = asked c.args.hub.now.station c.args.frames (map (λ w. w.line) c.args.receiving.items) c.args.sinks.items in

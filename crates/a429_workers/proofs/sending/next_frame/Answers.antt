@@ -8,7 +8,7 @@ use Rattle.a429_workers.specs.declared.cells.ChangeFault.TheVariants.{MidFrame, 
 use Rattle.a429_workers.specs.declared.sending.SendFault.TheVariants.{Change}
 use Rattle.a429_workers.proofs.sending.next_frame.Goals as goal
 
--- a frame that is over is not taken for want of slots alone
+-- only a lack of slots prevents the next frame after one that is over
 not_taken : (old new : Transmitting) (fault : ChangeFault) → old.frame.sent ≡ cells_of old.frame.table → (IsErrOf {T = ℕ} (Err fault) MidFrame ↔ (old.frame.sent < cells_of old.frame.table))
     → GoesOnByCalls old (change_call (Err fault) new.watcher.list ∷ []) new → IsSameGroup old new → IsTurn old new (Err Change)
 not_taken old new MidFrame over mid stands same = absurd (let low = mid.0 refl in omega (arith, low, over))

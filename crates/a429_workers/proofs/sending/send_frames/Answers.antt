@@ -4,7 +4,9 @@ use Rattle.std.proofs.lemmas.Result.{err_from_is_err_and}
 use Rattle.a429_workers.specs.declared.sending.SendFault.{SendFault}
 use Rattle.a429_workers.specs.declared.sending.SendTotals.{SendTotals}
 use Rattle.a429_workers.specs.Sends.{AreSent, sending}
+use Rattle.a429_workers.specs.GateOrder.{IsLoopInOrder}
 use Rattle.a429_workers.specs.Gates.{points_of}
+use Rattle.a429_workers.proofs.AtGate.{frames_order_cut, frames_order_end, frames_order_on}
 use Rattle.std.proofs.lemmas.Bool.Decides.{nat_tests}
 use Rattle.a429_workers.proofs.Stretching.{frame_first, frames_end, frames_go_on, frames_stop, none_sent, same_trans}
 use Rattle.a429_workers.proofs.sending.send_frames.Goals as goal
@@ -40,5 +42,30 @@ loop-preserved g c = record {
   frames = frames_go_on _ _ c.next_frame.new.transmit _ _ _ _ _ _ _ _ c.loop.invariant.frames c.in_ok-next_frame.ensures.turn c.in_ok-send_frame-2.ensures.done c.in_ok-send_frame-2.ensures.few;
   failed = c.in_ok-send_frame-2.ensures.failed ∙ c.loop.invariant.failed;
   same = same_trans _ _ _ c.loop.invariant.same (same_trans _ _ _ c.next_frame.ensures.same c.send_frame-in-loop.ensures.same);
+  order = frames_order_on (points_of g.G.Gate c.args.gate.now) g.B.BusSink c.args.group _ _ _ _ _ c.loop.invariant.order c.in_ok-send_frame-2.ensures.order;
   passed = c.in_ok-send_frame-2.ensures.gate;
 }
+
+pub returns-in_err-send_frame-clause-order : goal.returns-in_err-send_frame-clause-order
+returns-in_err-send_frame-clause-order g c =
+    let p = err_from_is_err_and c.from_residual.result c.from_residual.ensures.1 in
+    let fault = c.in_err-send_frame.field-0.0 in
+    subst (λ (r : Result SendTotals SendFault). IsLoopInOrder (points_of g.G.Gate c.args.gate.now) g.B.BusSink c.args.group c.args.sink.now c.send_frame.new.sink r)
+    (sym (p.1 ∙ ap (λ (f : SendFault). Err f) p.2))
+    (frames_order_cut (points_of g.G.Gate c.args.gate.now) g.B.BusSink c.args.group 0 _ _ _ _ fault refl c.in_err-send_frame.ensures.order)
+
+pub returns-in_err-next_frame-clause-order : goal.returns-in_err-next_frame-clause-order
+returns-in_err-next_frame-clause-order g c =
+    let p = err_from_is_err_and c.from_residual-in_err-next_frame.result c.from_residual-in_err-next_frame.ensures.1 in
+    let fault = c.in_err-next_frame.field-0.0 in
+    subst (λ (r : Result SendTotals SendFault). IsLoopInOrder (points_of g.G.Gate c.args.gate.now) g.B.BusSink c.args.group c.args.sink.now c.loop.sink r)
+    (sym (p.1 ∙ ap (λ (f : SendFault). Err f) p.2))
+    (frames_order_end (points_of g.G.Gate c.args.gate.now) g.B.BusSink c.args.group _ _ _ fault c.in_err-next_frame.ensures.change c.loop.invariant.order)
+
+pub returns-in_err-send_frame-2-clause-order : goal.returns-in_err-send_frame-2-clause-order
+returns-in_err-send_frame-2-clause-order g c =
+    let p = err_from_is_err_and c.from_residual-in_err-send_frame-2.result c.from_residual-in_err-send_frame-2.ensures.1 in
+    let fault = c.in_err-send_frame-2.field-0.0 in
+    subst (λ (r : Result SendTotals SendFault). IsLoopInOrder (points_of g.G.Gate c.args.gate.now) g.B.BusSink c.args.group c.args.sink.now c.send_frame-in-loop.new.sink r)
+    (sym (p.1 ∙ ap (λ (f : SendFault). Err f) p.2))
+    (frames_order_cut (points_of g.G.Gate c.args.gate.now) g.B.BusSink c.args.group _ _ _ _ _ fault c.loop.invariant.order c.in_err-send_frame-2.ensures.order)

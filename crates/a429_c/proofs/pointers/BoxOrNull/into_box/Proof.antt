@@ -1,4 +1,4 @@
--- `into_box` tells null from a block, of which `Box::from_raw` makes the box again.
+-- `into_box` distinguishes null from a block, of which `Box::from_raw` makes the box again.
 use Rattle.std.proofs.Common.{◌≡◌, List, [], ◌∷◌, ◌++◌, refl, sym, ap, ◌∙◌, subst, lit<, T as Holds}
 use mir.Syntax.{a_type, dnil, impl, tcons, tnil}
 use mir.Raw.{raw as bare}

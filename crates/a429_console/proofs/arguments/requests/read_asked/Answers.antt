@@ -16,5 +16,5 @@ returns-clause-asked c = λ r same wide is.
     c.number_in.ensures r.number
     (subst (λ (x : CommandRow). MatchOption {T = Text × ℕ} x.number (r.number ≡ 0) (λ n. number_of 0 n.1 (one_of n.0 rows) ≡ Some (Some r.number))) row is.number) in
     let more = c.in_ok-names_in.ensures r.more (subst (λ (x : CommandRow). MatchOption x.more (r.more ≡ []) (λ id. values_of id rows ≡ r.more)) row is.more) in
-    let options = c.options_in.ensures r.options wide is.options in
+    let options = c.options_in.ensures r.options wide (row_of r.verb).name is.options in
     asked_is r c.args.form.now.verb _ _ _ _ _ (sym same) first second number more options

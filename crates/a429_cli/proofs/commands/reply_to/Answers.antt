@@ -1,0 +1,42 @@
+use Rattle.std.proofs.Common.{refl}
+use Rattle.a429_console.proofs.ReadingParts.{read_none}
+use Rattle.a429_console.specs.Requests.{asked_of}
+use Rattle.a429_console.specs.declared.arguments.forms.Verb.TheVariants as verb
+use Rattle.a429_cli.proofs.WholeAnswers.{given_by}
+use Rattle.a429_cli.proofs.commands.reply_to.Goals as goal
+
+pub returns-in-Word : goal.returns-in-Word
+returns-in-Word g c =
+    given_by g.F.FileReader.answers c.args.files.now c.args.files.now (asked_of c.args.asked.now) c.word_reply.result c.args.asked.now.verb verb.Word c.in-Word.is (read_none refl (λ file. c.word_reply.ensures))
+
+pub returns-in-Import : goal.returns-in-Import
+returns-in-Import g c =
+    given_by g.F.FileReader.answers c.args.files.now c.import_reply.new.files (asked_of c.args.asked.now) c.import_reply.result c.args.asked.now.verb verb.Import c.in-Import.is c.import_reply.ensures
+
+pub returns-in-Plan : goal.returns-in-Plan
+returns-in-Plan g c =
+    given_by g.F.FileReader.answers c.args.files.now c.plan_reply.new.files (asked_of c.args.asked.now) c.plan_reply.result c.args.asked.now.verb verb.Plan c.in-Plan.is c.plan_reply.ensures
+
+pub returns-in-Check : goal.returns-in-Check
+returns-in-Check g c =
+    given_by g.F.FileReader.answers c.args.files.now c.check_reply.new.files (asked_of c.args.asked.now) c.check_reply.result c.args.asked.now.verb verb.Check c.in-Check.is c.check_reply.ensures
+
+pub returns-in-Icd : goal.returns-in-Icd
+returns-in-Icd g c =
+    given_by g.F.FileReader.answers c.args.files.now c.plan_reply-in-Icd.new.files (asked_of c.args.asked.now) c.plan_reply-in-Icd.result c.args.asked.now.verb verb.Icd c.in-Icd.is c.plan_reply-in-Icd.ensures
+
+pub returns-in-Margin : goal.returns-in-Margin
+returns-in-Margin g c =
+    given_by g.F.FileReader.answers c.args.files.now c.plan_reply-in-Margin.new.files (asked_of c.args.asked.now) c.plan_reply-in-Margin.result c.args.asked.now.verb verb.Margin c.in-Margin.is c.plan_reply-in-Margin.ensures
+
+pub returns-in-Lint : goal.returns-in-Lint
+returns-in-Lint g c =
+    given_by g.F.FileReader.answers c.args.files.now c.lint_reply.new.files (asked_of c.args.asked.now) c.lint_reply.result c.args.asked.now.verb verb.Lint c.in-Lint.is c.lint_reply.ensures
+
+pub returns-in-Diff : goal.returns-in-Diff
+returns-in-Diff g c =
+    given_by g.F.FileReader.answers c.args.files.now c.diff_reply.new.files (asked_of c.args.asked.now) c.diff_reply.result c.args.asked.now.verb verb.Diff c.in-Diff.is c.diff_reply.ensures
+
+pub returns-in-Draw : goal.returns-in-Draw
+returns-in-Draw g c =
+    given_by g.F.FileReader.answers c.args.files.now c.drawing_reply.new.files (asked_of c.args.asked.now) c.drawing_reply.result c.args.asked.now.verb verb.Draw c.in-Draw.is (rw c.of-picture.ensures at c.drawing_reply.ensures)

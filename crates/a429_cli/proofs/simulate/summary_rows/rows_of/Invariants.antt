@@ -1,8 +1,0 @@
-use Rattle.std.proofs.Common.{◌≡◌, ◌∷◌}
-use Rattle.std.specs.List.{flat_map, range_with_len}
-use Rattle.a429_cli.specs.Summary.{summary_columns}
-use Rattle.a429_cli.specs.SummaryRuns.{kept_group}
-use Rattle.a429_cli.proofs.simulate.summary_rows.rows_of.Given as goal
-
-abbrev pub invariant-loop-group : goal.invariant-loop-group
-invariant-loop-group l = l.rows.items ≡ summary_columns ∷ flat_map (kept_group l.proposal l.summary) (range_with_len 0 l.group)

@@ -1,0 +1,34 @@
+//! Commands that print nothing before they have their whole answer: how that is put.
+ghost use Rattle.std.specs.Prelude.{◌≡◌, ◌≤◌, IfOk, IsTrue, OnOk};
+ghost use Rattle.a429_console.specs.Outputs.{CountsFault, IsPut};
+ghost use Rattle.a429_cli.specs.WholeReplies.{IsReplyPut};
+
+pub mod reply;
+
+use crate::replies::reply::Reply;
+use a429_console::hints::Seen;
+use a429_console::output::endings::put_answer;
+use a429_console::output::{Output, OutputFault};
+use a429_console::refusals::{CommandRefusal, refuse_as};
+use std::alloc::Global;
+
+/// Puts what a command answers, or the line of its refusal, which is kept in `seen`. If an allocation for that line fails,
+/// the line is `refused memory`. The status is that of the reply, or after a refusal that of trouble.
+pub fn put_reply<O: Output>(
+    alloc: Global,
+    reply: Result<Reply, CommandRefusal>,
+    trouble: u8,
+    seen: &mut Seen,
+    out: &mut O,
+) -> Result<u8, OutputFault>
+    requires { 1 ≤ trouble }
+    ensures put { IfOk result (IsPut (IsReplyPut trouble reply) (O.contents out.old) (O.contents out.new)) }
+    ensures status { IfOk result (λ status. status ≤ trouble) }
+    ensures flushed { OnOk result (IsTrue (O.is_flushed out.new)) }
+    ensures faults { CountsFault result (O.failures out.old) (O.failures out.new) }
+{
+    match reply {
+        Ok(reply) => put_answer(&reply.bytes, reply.status, out),
+        Err(refusal) => refuse_as(alloc, refusal, trouble, seen, out),
+    }
+}
