@@ -1,7 +1,7 @@
 /* The machine of an ARINC 429 data concentrator, for programs in C and C++.
  *
- * What each call answers and changes is proved: the contracts are in crates/a429_c/src (events.rt and naming.rt), and
- * docs/C.md has them in a table. The proof holds if the caller does what follows; no call can check it.
+ * What each call answers and changes is proved: the contracts are in crates/a429_c/src (events.rt, naming.rt and
+ * words.rt), and docs/C.md has them in a table. The proof holds if the caller does what follows; no call can check it.
  *   - Each pointer is not null. It points to memory of its type and size, which no other pointer of the same call
  *     reaches. For a text or a room of 0 bytes any address but null will do.
  *   - A station begins as A429_STATION. Only these calls change it. It is not copied, and not moved by its bytes.
@@ -42,7 +42,7 @@ typedef struct a429_station {
  * changes. */
 enum a429_status {
     A429_OK = 0,
-    A429_NO_SUCH = 1,         /* the station has no receiver, group, source or name like this */
+    A429_NO_SUCH = 1,         /* the station has no receiver, group, output, source or name like this */
     A429_PARITY = 2,          /* an even number of the word's bits are ones */
     A429_FILTERED = 3,        /* the word's label passes no filter of the receiver */
     A429_NO_SOURCE = 4,       /* no source of the receiver has the word's label and SDI */
@@ -57,7 +57,8 @@ enum a429_status {
     A429_UNFIT = 13,          /* the interval of an output allows no period of slots */
     A429_TOO_MANY_BUSES = 14, /* a group needs more than 16 buses */
     A429_TOO_LARGE = 15,      /* the table has more than 16 MiB (16,777,216 bytes) */
-    A429_NO_ROOM = 16         /* the text is longer than the room */
+    A429_NO_ROOM = 16,        /* the text is longer than the room */
+    A429_FIELD = 17           /* a field of a word has too many bits */
 };
 
 /* A cell that was sent. */
@@ -67,6 +68,23 @@ typedef struct a429_sent {
     uint32_t filled; /* 1 if the cell has a word, otherwise 0 */
     uint32_t word;   /* the 32 bits of the word; 0 if there is none */
 } a429_sent;
+
+/* The place of an output: in each frame of its group it has the slots `offset`, `offset + period`,
+ * `offset + 2 * period` .. of one bus. Slots are counted from 0 at the frame's start. */
+typedef struct a429_place {
+    uint32_t bus;    /* of the group, from 0 */
+    uint32_t offset; /* the first of its slots, less than the period */
+    uint32_t period; /* in slots: a power of two, 1 to 8192 */
+} a429_place;
+
+/* The fields of a word. */
+typedef struct a429_fields {
+    uint32_t data;  /* bits 11 to 29: 0 to 524287 */
+    uint8_t label;  /* bits 1 to 8, bit 1 the highest: 0203 is the label that is written 203 */
+    uint8_t sdi;    /* bits 9 and 10: 0 to 3 */
+    uint8_t ssm;    /* bits 30 and 31: 0 to 3 */
+    uint8_t parity; /* bit 32: 0 or 1 */
+} a429_fields;
 
 /* ---- a station and its events */
 
@@ -118,6 +136,20 @@ uint32_t a429_groups(a429_station *station, size_t *count);
  * for the group. A429_CLOSED, A429_NO_SUCH. */
 uint32_t a429_buses(a429_station *station, size_t group, uint32_t *buses);
 uint32_t a429_frame_slots(a429_station *station, size_t group, uint32_t *slots);
+
+/* Gives the place of an output of a group (both from 0, in table order) by the plan that is in force for the group: the
+ * plan of the frame that the group is in. A newer plan comes into force for a group at its next `a429_frame`. No call
+ * gives the number of outputs: a loop over them ends with A429_NO_SUCH. A429_CLOSED, A429_NO_SUCH. */
+uint32_t a429_places(a429_station *station, size_t group, size_t output, a429_place *place);
+
+/* ---- words, without a station */
+
+/* Gives the word of these fields, with the parity bit that makes the number of its ones odd.
+ * A429_FIELD if the SDI or the SSM is above 3, or the data above 524287. */
+uint32_t a429_encode(uint8_t label, uint8_t sdi, uint32_t data, uint8_t ssm, uint32_t *word);
+
+/* Gives the fields of a word. A429_PARITY if an even number of its 32 bits are ones. */
+uint32_t a429_decode(uint32_t word, a429_fields *fields);
 
 /* ---- why */
 

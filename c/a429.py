@@ -5,15 +5,18 @@
         for sent in station.cells(station.group("g")):
             print(sent)
 
+`encode` and `decode` are for words, without a station.
+
 The library is liba429.so.0: that of the archive or prefix that this file is in; without it, the one that the loader finds. The
 variable A429_LIBRARY names another file. A call that is refused raises `Refused`. One thread at a time uses a station.
 """
 import ctypes
+import functools
 import os
-from typing import Iterator, NamedTuple, Optional
+from typing import Iterator, List, NamedTuple, Optional
 
 (OK, NO_SUCH, PARITY, FILTERED, NO_SOURCE, COUNT_SPENT, FRAME_END, MID_FRAME, SLOTS_SPENT, STATION_DIFFERS, CLOSED, MEMORY,
- TABLE, UNFIT, TOO_MANY_BUSES, TOO_LARGE, NO_ROOM) = range(17)
+ TABLE, UNFIT, TOO_MANY_BUSES, TOO_LARGE, NO_ROOM, FIELD) = range(18)
 
 NAME_ROOM = 16
 REFUSAL_ROOM = 92
@@ -27,11 +30,35 @@ class _Sent(ctypes.Structure):
     _fields_ = [("slot", ctypes.c_uint64), ("bus", ctypes.c_uint32), ("filled", ctypes.c_uint32), ("word", ctypes.c_uint32)]
 
 
+class _Place(ctypes.Structure):
+    _fields_ = [("bus", ctypes.c_uint32), ("offset", ctypes.c_uint32), ("period", ctypes.c_uint32)]
+
+
+class _Fields(ctypes.Structure):
+    _fields_ = [("data", ctypes.c_uint32), ("label", ctypes.c_uint8), ("sdi", ctypes.c_uint8), ("ssm", ctypes.c_uint8),
+                ("parity", ctypes.c_uint8)]
+
+
 class Sent(NamedTuple):
     """A cell that was sent. The slot is absolute: the first cell of each group is in the first slot that the station was opened with. The word is None if no word was sent in the cell."""
     bus: int
     slot: int
     word: Optional[int]
+
+
+class Place(NamedTuple):
+    """The place of an output: in each frame of its group it has the slots offset, offset + period, offset + 2 * period .. of one bus. The period is in slots."""
+    bus: int
+    offset: int
+    period: int
+
+
+class Fields(NamedTuple):
+    """The fields of a word: label 0 to 255, SDI 0 to 3, data 0 to 524287, SSM 0 to 3. 0o203 is the label that is written 203."""
+    label: int
+    sdi: int
+    data: int
+    ssm: int
 
 
 class Refused(Exception):
@@ -60,7 +87,13 @@ _CALLS = {
     "groups": [_SIZE],
     "buses": [ctypes.c_size_t, ctypes.POINTER(ctypes.c_uint32)],
     "frame_slots": [ctypes.c_size_t, ctypes.POINTER(ctypes.c_uint32)],
+    "places": [ctypes.c_size_t, ctypes.c_size_t, ctypes.POINTER(_Place)],
     "refusal": _ROOM,
+}
+# These take no station.
+_WORD_CALLS = {
+    "encode": [ctypes.c_uint8, ctypes.c_uint8, ctypes.c_uint32, ctypes.c_uint8, ctypes.POINTER(ctypes.c_uint32)],
+    "decode": [ctypes.c_uint32, ctypes.POINTER(_Fields)],
 }
 
 
@@ -70,20 +103,49 @@ def _library_file():
     return os.environ.get("A429_LIBRARY") or (near if os.path.exists(near) else "liba429.so.0")
 
 
-def _load():
-    library = ctypes.CDLL(_library_file())
-    for name, arguments in _CALLS.items():
-        call = getattr(library, "a429_" + name)
-        call.argtypes, call.restype = [ctypes.POINTER(_Station)] + arguments, ctypes.c_uint32
+@functools.lru_cache(maxsize=None)
+def _load(file):
+    library = ctypes.CDLL(file)
+    for calls, first in ((_CALLS, [ctypes.POINTER(_Station)]), (_WORD_CALLS, [])):
+        for name, arguments in calls.items():
+            call = getattr(library, "a429_" + name)
+            call.argtypes, call.restype = first + arguments, ctypes.c_uint32
     library.a429_close.argtypes, library.a429_close.restype = [ctypes.POINTER(_Station)], None
     return library
+
+
+def _check_range(name, words, kinds):
+    # ctypes would cut a number that is out of range
+    for word, kind in zip(words, kinds):
+        if isinstance(word, int) and not 0 <= word < 256 ** ctypes.sizeof(kind):
+            raise OverflowError(f"{name}: {word} is out of range")
+
+
+def encode(label: int, sdi: int, data: int, ssm: int) -> int:
+    """The word of these fields, with the parity bit that makes the number of its ones odd. If the SDI or the SSM is above 3, or the data above 524287, it is refused with FIELD."""
+    word = ctypes.c_uint32()
+    _check_range("encode", (label, sdi, data, ssm), _WORD_CALLS["encode"])
+    status = _load(_library_file()).a429_encode(label, sdi, data, ssm, word)
+    if status:
+        raise Refused(status, "refused field")
+    return word.value
+
+
+def decode(word: int) -> Fields:
+    """The fields of a word. If an even number of its 32 bits are ones, it is refused with PARITY."""
+    fields = _Fields()
+    _check_range("decode", (word,), _WORD_CALLS["decode"])
+    status = _load(_library_file()).a429_decode(word, fields)
+    if status:
+        raise Refused(status, "refused parity")
+    return Fields(fields.label, fields.sdi, fields.data, fields.ssm)
 
 
 class Station:
     """A station in operation. Receivers, groups and sources are numbered from 0 in table order."""
 
     def __init__(self, table: bytes, first_slot: int = 0):
-        self._library, self._own = _load(), _Station()
+        self._library, self._own = _load(_library_file()), _Station()
         self._call("open", table, len(table), first_slot)
 
     def __enter__(self):
@@ -160,11 +222,25 @@ class Station:
         """How many slots a group's frame has by the plan in force."""
         return self._give("frame_slots", ctypes.c_uint32, group).value
 
+    def place(self, group: int, output: int) -> Place:
+        """The place of an output of a group by the plan in force. Outputs are numbered from 0 in table order."""
+        place = self._give("places", _Place, group, output)
+        return Place(place.bus, place.offset, place.period)
+
+    def places(self, group: int) -> List[Place]:
+        """The place of each output of a group, in table order, by the plan in force."""
+        self.buses(group)  # refused if there is no such group
+        places = []
+        while True:
+            try:
+                places.append(self.place(group, len(places)))
+            except Refused as refused:
+                if refused.status != NO_SUCH:
+                    raise
+                return places
+
     def _call(self, name, *words):
-        for word, kind in zip(words, _CALLS[name]):
-            # ctypes would cut a number that is out of range
-            if isinstance(word, int) and not 0 <= word < 256 ** ctypes.sizeof(kind):
-                raise OverflowError(f"{name}: {word} is out of range")
+        _check_range(name, words, _CALLS[name])
         status = getattr(self._library, "a429_" + name)(self._own, *words)
         if status:
             raise Refused(status, self._refusal())

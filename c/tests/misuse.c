@@ -47,6 +47,7 @@ static void closed(a429_station *s, const uint8_t *table, size_t length, const u
     uint32_t size = 3;
     uint8_t room[4] = "abc";
     a429_sent sent = {1, 2, 3, 4};
+    a429_place place = {1, 2, 3};
     CHECK(a429_arrive(s, SIZE_MAX, 1, &number) == A429_CLOSED && number == 7);
     CHECK(a429_arrive(s, 0, 0x600000c1, &number) == A429_CLOSED && number == 7);
     CHECK(a429_cell(s, SIZE_MAX, &sent) == A429_CLOSED && sent.slot == 1 && sent.bus == 2 && sent.filled == 3 && sent.word == 4);
@@ -63,6 +64,7 @@ static void closed(a429_station *s, const uint8_t *table, size_t length, const u
     CHECK(a429_groups(s, &number) == A429_CLOSED && number == 7);
     CHECK(a429_buses(s, SIZE_MAX, &size) == A429_CLOSED && size == 3);
     CHECK(a429_frame_slots(s, 0, &size) == A429_CLOSED && size == 3);
+    CHECK(a429_places(s, SIZE_MAX, SIZE_MAX, &place) == A429_CLOSED && place.bus == 1 && place.offset == 2 && place.period == 3);
     CHECK(says(s, "refused closed"));
 }
 
@@ -87,6 +89,7 @@ static void out_of_range(a429_station *s)
     uint64_t plan = 5;
     uint32_t size = 3;
     a429_sent sent = {1, 2, 3, 4};
+    a429_place place = {1, 2, 3};
     CHECK(a429_receivers(s, &receivers) == A429_OK && receivers > 0);
     CHECK(a429_groups(s, &groups) == A429_OK && groups > 0);
     CHECK(a429_arrive(s, receivers, 1, &number) == A429_NO_SUCH && number == 7);
@@ -96,6 +99,8 @@ static void out_of_range(a429_station *s)
     CHECK(a429_frame(s, groups, &plan) == A429_NO_SUCH && a429_frame(s, SIZE_MAX, &plan) == A429_NO_SUCH && plan == 5);
     CHECK(a429_buses(s, groups, &size) == A429_NO_SUCH && a429_buses(s, SIZE_MAX, &size) == A429_NO_SUCH && size == 3);
     CHECK(a429_frame_slots(s, groups, &size) == A429_NO_SUCH && a429_frame_slots(s, SIZE_MAX, &size) == A429_NO_SUCH && size == 3);
+    CHECK(a429_places(s, groups, 0, &place) == A429_NO_SUCH && a429_places(s, SIZE_MAX, 0, &place) == A429_NO_SUCH);
+    CHECK(a429_places(s, 0, SIZE_MAX, &place) == A429_NO_SUCH && place.bus == 1 && place.offset == 2 && place.period == 3);
     CHECK(a429_receiver(s, BYTES("none such"), &number) == A429_NO_SUCH && number == 7);
     CHECK(a429_receiver(s, BYTES(""), &number) == A429_NO_SUCH && number == 7);
     CHECK(a429_group(s, BYTES("none such"), &number) == A429_NO_SUCH && number == 7);

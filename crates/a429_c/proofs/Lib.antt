@@ -1,5 +1,5 @@
 pub mod Histories
-pub mod KeptSizes
+pub mod KeptTables
 pub mod Moving
 pub mod Numbers
 pub mod OnePointer

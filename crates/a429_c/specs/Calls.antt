@@ -1,5 +1,5 @@
 -- What a call from C is answered, and what it leaves. Each call has an outcome: what it gives, or the status by which it is refused.
-use Rattle.std.specs.Prelude.{◌++◌, ℕ, List, Option, Some, None, Result, Ok, Err, if◌then◌else◌, nat_le, length, take, drop, option_map, slice_get}
+use Rattle.std.specs.Prelude.{◌++◌, ℕ, List, Option, Some, None, Result, Ok, Err, if◌then◌else◌, nat_le, length, take, drop, option_and_then, option_map, slice_get}
 use Rattle.std.specs.Option.{option_map_or}
 use Rattle.a429_equipment.specs.Limits.{count_bits}
 use Rattle.a429_slots.specs.Tables.{SlotTable}
@@ -8,11 +8,13 @@ use Rattle.a429_slots.specs.declared.answers.Answer.TheVariants.{Accepted, Sent,
 use Rattle.a429_core.specs.MachineStates.{MachineState}
 use Rattle.a429_core.specs.MachineSteps.{arrived}
 use Rattle.a429_console.specs.Names.{Naming, number_named}
+use Rattle.a429_c.specs.SlotTables.{place_in}
 use Rattle.a429_c.specs.Stations.{Held}
 use Rattle.a429_c.specs.Statuses.{code_of, line_of, status_for}
 use Rattle.a429_c.specs.declared.statuses.Status.{Status}
 use Rattle.a429_c.specs.declared.statuses.Status.TheVariants.{NoSuch, Closed, NoRoom}
 use Rattle.a429_c.specs.declared.answers.CellAnswer.{CellAnswer}
+use Rattle.a429_c.specs.declared.answers.PlaceAnswer.{PlaceAnswer}
 use Rattle.a429_c.specs.declared.refusal_text.RefusalText.{RefusalText}
 
 -- ---- what a call gives back
@@ -119,7 +121,7 @@ abbrev pub length_or : Result (List ℕ) Status → ℕ → ℕ
 length_or (Ok text) before = length text
 length_or (Err status) before = before
 
--- ---- sizes
+-- ---- sizes and places
 
 -- how many of a kind the station has
 abbrev pub counted : (Naming → List (List ℕ)) → Option Held → Result ℕ Status
@@ -130,3 +132,8 @@ counted names (Some m) = Ok (length (names m.names))
 abbrev pub sized : (SlotTable → ℕ) → ℕ → Option Held → Result ℕ Status
 sized size group None = Err Closed
 sized size group (Some m) = or_no_such (option_map (λ s. size s.table) (slice_get m.state.groups group))
+
+-- the place of an output by the slot table that is in force for its group
+abbrev pub placed : ℕ → ℕ → Option Held → Result PlaceAnswer Status
+placed group output None = Err Closed
+placed group output (Some m) = or_no_such (option_and_then (λ s. place_in s.table output) (slice_get m.state.groups group))

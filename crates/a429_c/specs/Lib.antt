@@ -3,6 +3,7 @@ pub mod Held
 pub mod Histories
 pub mod Openings
 pub mod Places
-pub mod Sizes
+pub mod SlotTables
 pub mod Stations
 pub mod Statuses
+pub mod Words

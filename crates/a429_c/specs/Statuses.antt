@@ -5,7 +5,7 @@ use Rattle.a429_slots.specs.declared.answers.Refusal.TheVariants as why
 use Rattle.a429_console.specs.declared.refusals.CommandRefusal.{CommandRefusal}
 use Rattle.a429_console.specs.declared.refusals.CommandRefusal.TheVariants as refused
 use Rattle.a429_c.specs.declared.statuses.Status.{Status}
-use Rattle.a429_c.specs.declared.statuses.Status.TheVariants.{NoSuch, Parity, Filtered, NoSource, CountSpent, FrameEnd, MidFrame, SlotsSpent, StationDiffers, Closed, Memory, TooLarge, NoRoom}
+use Rattle.a429_c.specs.declared.statuses.Status.TheVariants.{NoSuch, Parity, Filtered, NoSource, CountSpent, FrameEnd, MidFrame, SlotsSpent, StationDiffers, Closed, Memory, TooLarge, NoRoom, Field}
 
 -- the numbers of the header; 0 is success, 12 to 14 are for tables
 abbrev pub code_of : Status → ℕ
@@ -22,8 +22,9 @@ code_of Closed = 10
 code_of Memory = 11
 code_of TooLarge = 15
 code_of NoRoom = 16
+code_of Field = 17
 
--- as the program prints refusals of events, and of memory (profile: output); the last two, and that of a closed station, are the library's
+-- as the program prints refusals of events, and of memory (profile: output); the last three, and that of a closed station, are the library's
 abbrev pub line_of : Status → List ℕ
 line_of NoSuch = codes "refused no-such"
 line_of Parity = codes "refused parity"
@@ -38,6 +39,7 @@ line_of Closed = codes "refused closed"
 line_of Memory = codes "refused memory"
 line_of TooLarge = codes "refused too-large"
 line_of NoRoom = codes "refused no-room"
+line_of Field = codes "refused field"
 
 abbrev pub status_for : Refusal → Status
 status_for why.NoSuch = NoSuch

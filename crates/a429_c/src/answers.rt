@@ -16,7 +16,16 @@ pub struct CellAnswer {
     pub word: u32,
 }
 
-/// The source for which a word is accepted.
+/// The place of an output: its bus, its first slot counted from the frame's start, and its period in slots.
+#[repr(C)]
+#[derive(Clone, Copy)]
+pub struct PlaceAnswer {
+    pub bus: u32,
+    pub offset: u32,
+    pub period: u32,
+}
+
+/// The source for which a word is accepted. Error: the status of the refusal.
 pub(crate) fn source_of(answer: Answer) -> Result<usize, Status>
     ensures { result ≡ source_of answer }
 {
@@ -27,7 +36,7 @@ pub(crate) fn source_of(answer: Answer) -> Result<usize, Status>
     }
 }
 
-/// The cell that is sent.
+/// The cell that is sent. Error: the status of the refusal.
 pub(crate) fn cell_of(answer: Answer) -> Result<CellAnswer, Status>
     ensures { result ≡ cell_of answer }
 {
@@ -57,7 +66,7 @@ pub(crate) fn cell_of(answer: Answer) -> Result<CellAnswer, Status>
     }
 }
 
-/// The number of a plan.
+/// The number of a plan. Error: the status of the refusal.
 pub(crate) fn plan_of(answer: Answer) -> Result<u64, Status>
     ensures { result ≡ plan_of answer }
 {

@@ -7,7 +7,7 @@ ghost use Rattle.a429_c.specs.Places.{KeepsText, found_in};
 
 use crate::answers::{CellAnswer, cell_of, plan_of, source_of};
 use crate::machine::{Machine, build};
-use crate::sizes::sizes_of;
+use crate::slot_tables::slot_tables_of;
 use crate::station::StationHandle;
 use crate::statuses::Status;
 use crate::tables::{TableRefusal, read_proposal, refuse_table};
@@ -148,8 +148,8 @@ fn publish(
     ensures kept { OnErr result (machine.new ≡ machine.old) }
 {
     let proposal = read_proposal(alloc, table)?;
-    let Ok(sizes) = sizes_of(alloc, proposal.plan()) else {
+    let Ok(tables) = slot_tables_of(alloc, proposal.plan()) else {
         return Err(TableRefusal::Call(Status::Memory));
     };
-    Ok(plan_of(machine.publish(proposal, sizes)))
+    Ok(plan_of(machine.publish(proposal, tables)))
 }

@@ -41,7 +41,7 @@ impl Handle {
         }
     }
 
-    /// Takes out the station that is held.
+    /// Takes out the station that is held. `None` if none is held.
     pub(crate) fn take(&mut self, alloc: Global) -> Option<Box<Machine>>
         ensures taken { option_map (λ b. b.value) result ≡ self.old.held }
         ensures left { self.new.held ≡ None }

@@ -14,12 +14,14 @@ mod machine;
 mod naming;
 mod pointers;
 mod refusal_text;
-mod sizes;
+mod slot_tables;
 mod station;
 mod statuses;
 mod tables;
+mod words;
 
-pub use answers::CellAnswer;
+pub use answers::{CellAnswer, PlaceAnswer};
 pub use handle::Handle;
 pub use refusal_text::RefusalText;
 pub use station::StationHandle;
+pub use words::WordFields;

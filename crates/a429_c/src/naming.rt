@@ -1,16 +1,18 @@
-//! Calls that ask a station for names, numbers and sizes, and for the text of the last refusal. They leave it as it is.
+//! Calls that ask a station for names, numbers, sizes and places, and for the text of the last refusal. They leave it as
+//! it is.
 ghost use Rattle.std.specs.Prelude.{◌≡◌, length, option_map};
 ghost use Rattle.a429_slots.specs.Tables.{buses_of, frame_of};
 ghost use Rattle.a429_c.specs.Places.{KeepsText};
-ghost use Rattle.a429_c.specs.Calls.{counted, fitting, given_or, length_or, name_in, named, numbered, or_no_such, refusal_of, room_after, sized, status_of, text_in};
+ghost use Rattle.a429_c.specs.Calls.{counted, fitting, given_or, length_or, name_in, named, numbered, or_no_such, placed, refusal_of, room_after, sized, status_of, text_in};
 
+use crate::answers::PlaceAnswer;
 use crate::machine::{group_number, receiver_number};
 use crate::refusal_text::put_text;
 use crate::station::StationHandle;
 use crate::statuses::Status;
 use std::alloc::Global;
 
-/// Gives the number of the receiver with this name.
+/// Gives the number of the receiver with this name. Error: the station is closed, or has no such receiver.
 #[unsafe(no_mangle)]
 pub extern "C" fn a429_receiver(
     alloc: Global,
@@ -31,7 +33,7 @@ pub extern "C" fn a429_receiver(
     station.refusal_text.give(or_no_such(found), receiver)
 }
 
-/// Gives the number of the group with this name.
+/// Gives the number of the group with this name. Error: the station is closed, or has no such group.
 #[unsafe(no_mangle)]
 pub extern "C" fn a429_group(
     alloc: Global,
@@ -52,7 +54,8 @@ pub extern "C" fn a429_group(
     station.refusal_text.give(or_no_such(found), group)
 }
 
-/// Puts the name of a receiver at the start of the caller's room, and gives its length.
+/// Puts the name of a receiver at the start of the caller's room, and gives its length in bytes. Error: the station is
+/// closed, it has no such receiver, or the name is longer than the room.
 #[unsafe(no_mangle)]
 pub extern "C" fn a429_receiver_name(
     alloc: Global,
@@ -75,7 +78,8 @@ pub extern "C" fn a429_receiver_name(
     station.refusal_text.end(refused)
 }
 
-/// Puts the name of a group at the start of the caller's room, and gives its length.
+/// Puts the name of a group at the start of the caller's room, and gives its length in bytes. Error: the station is
+/// closed, it has no such group, or the name is longer than the room.
 #[unsafe(no_mangle)]
 pub extern "C" fn a429_group_name(
     alloc: Global,
@@ -98,7 +102,8 @@ pub extern "C" fn a429_group_name(
     station.refusal_text.end(refused)
 }
 
-/// Puts the name of a source at the start of the caller's room, and gives its length.
+/// Puts the name of a source at the start of the caller's room, and gives its length in bytes. Error: the station is
+/// closed, it has no such source, or the name is longer than the room.
 #[unsafe(no_mangle)]
 pub extern "C" fn a429_source_name(
     alloc: Global,
@@ -121,7 +126,7 @@ pub extern "C" fn a429_source_name(
     station.refusal_text.end(refused)
 }
 
-/// Gives how many receivers the station has, numbered from 0.
+/// Gives how many receivers the station has, numbered from 0. Error: the station is closed.
 #[unsafe(no_mangle)]
 pub extern "C" fn a429_receivers(
     alloc: Global,
@@ -141,7 +146,7 @@ pub extern "C" fn a429_receivers(
     station.refusal_text.give(Ok(all), count)
 }
 
-/// Gives how many groups the station has, numbered from 0.
+/// Gives how many groups the station has, numbered from 0. Error: the station is closed.
 #[unsafe(no_mangle)]
 pub extern "C" fn a429_groups(alloc: Global, station: &mut StationHandle, count: &mut usize) -> u32
     ensures status { result ≡ status_of (counted (λ n. n.groups) station.old.handle.held) }
@@ -157,7 +162,8 @@ pub extern "C" fn a429_groups(alloc: Global, station: &mut StationHandle, count:
     station.refusal_text.give(Ok(all), count)
 }
 
-/// Gives how many buses a group has by the plan that is in force for it.
+/// Gives how many buses a group has by the plan that is in force for it. Error: the station is closed, or has no such
+/// group.
 #[unsafe(no_mangle)]
 pub extern "C" fn a429_buses(
     alloc: Global,
@@ -178,7 +184,8 @@ pub extern "C" fn a429_buses(
     station.refusal_text.give(or_no_such(found), buses)
 }
 
-/// Gives how many slots a group's frame has by the plan that is in force for it.
+/// Gives how many slots a group's frame has by the plan that is in force for it. Error: the station is closed, or has
+/// no such group.
 #[unsafe(no_mangle)]
 pub extern "C" fn a429_frame_slots(
     alloc: Global,
@@ -199,9 +206,31 @@ pub extern "C" fn a429_frame_slots(
     station.refusal_text.give(or_no_such(found), slots)
 }
 
+/// Gives the place of an output by the plan that is in force for its group.
+#[unsafe(no_mangle)]
+pub extern "C" fn a429_places(
+    alloc: Global,
+    station: &mut StationHandle,
+    group: usize,
+    output: usize,
+    place: &mut PlaceAnswer,
+) -> u32
+    ensures status { result ≡ status_of (placed group output station.old.handle.held) }
+    ensures place { place.new ≡ given_or (placed group output station.old.handle.held) place.old }
+    ensures same { station.new.handle.held ≡ station.old.handle.held }
+    ensures refusal_text { KeepsText (placed group output station.old.handle.held) station.old station.new }
+{
+    let Some(machine) = station.handle.take(alloc) else {
+        return station.refusal_text.refuse(Status::Closed);
+    };
+    let found = machine.place(group, output);
+    station.handle.put(alloc, machine);
+    station.refusal_text.give(or_no_such(found), place)
+}
+
 /// Puts the text of the last refusal at the start of the caller's room, and gives its length; 0 if every call so far
-/// succeeded. It answers for a closed station too, so that the reason of a refused opening can be read. If this call is
-/// refused, the text stays.
+/// succeeded. It answers for a closed station too, so that the reason of a refused opening can be read. Error: the text
+/// is longer than the room; then the text of the refusal stays.
 #[unsafe(no_mangle)]
 pub extern "C" fn a429_refusal(
     station: &mut StationHandle,
@@ -219,7 +248,7 @@ pub extern "C" fn a429_refusal(
     }
 }
 
-/// What is found, or that there is nothing like it.
+/// What is found. Error: `NoSuch` if nothing is found.
 fn or_no_such<X: Drop>(found: Option<X>) -> Result<X, Status>
     ensures { result ≡ or_no_such found }
 {

@@ -8,7 +8,7 @@ use a429_core::Refusal;
 /// Why a call is refused, apart from the faults of a table.
 #[derive(Clone, Copy)]
 pub enum Status {
-    /// The station has no receiver, group, source or name like this.
+    /// The station has no receiver, group, output, source or name like this.
     NoSuch,
     /// An even number of the word's bits are ones.
     Parity,
@@ -34,6 +34,8 @@ pub enum Status {
     TooLarge,
     /// The text is longer than the caller's room.
     NoRoom,
+    /// A field of a word has too many bits.
+    Field,
 }
 
 impl Status {
@@ -55,6 +57,7 @@ impl Status {
             Status::Memory => 11,
             Status::TooLarge => 15,
             Status::NoRoom => 16,
+            Status::Field => 17,
         }
     }
 
@@ -76,6 +79,7 @@ impl Status {
             Status::Memory => b"refused memory",
             Status::TooLarge => b"refused too-large",
             Status::NoRoom => b"refused no-room",
+            Status::Field => b"refused field",
         }
     }
 }

@@ -28,7 +28,8 @@ pub enum TableRefusal {
     Table(CommandRefusal),
 }
 
-/// The proposal of a table's bytes.
+/// The proposal of a table's bytes. Error: it has more than 16 MiB, it or its plan has a fault, or an allocation
+/// failed.
 pub(crate) fn read_proposal(alloc: Global, table: &[u8]) -> Result<Proposal<OUTPUTS>, TableRefusal>
     ensures { MatchResult result (λ q. IsProposedBy table.now q × (length table.now ≤ table_limit)) (IsNoProposal table.now) }
 {
@@ -42,7 +43,8 @@ pub(crate) fn read_proposal(alloc: Global, table: &[u8]) -> Result<Proposal<OUTP
     }
 }
 
-/// Keeps the text of a refusal, and gives its number. If memory for the text is refused, they are those of memory.
+/// Keeps the text of a refusal, and gives its number. If an allocation for the text fails, they are those of `refused
+/// memory`.
 pub(crate) fn refuse_table(
     alloc: Global,
     refusal: TableRefusal,

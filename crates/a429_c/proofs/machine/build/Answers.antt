@@ -1,4 +1,4 @@
-use Rattle.std.proofs.Common.{◌∙◌, [], ap, sym, subst, inl, inr, map}
+use Rattle.std.proofs.Common.{◌∙◌, [], ap, sym, subst, inl, inr}
 use Rattle.std.specs.Prelude.{Result, Ok, Err}
 use Rattle.std.proofs.lemmas.Bool.{cases_Bool}
 use Rattle.a429_equipment.specs.Limits.{count_bits}
@@ -8,8 +8,7 @@ use Rattle.a429_slots.specs.History.{Opening}
 use Rattle.a429_core.specs.MachineStates.{StandsForHistory}
 use Rattle.a429_console.specs.Names.{naming_of}
 use Rattle.a429_c.specs.Stations.{Held}
-use Rattle.a429_c.specs.Sizes.{size_of}
-use Rattle.a429_c.proofs.KeptSizes.{opened_newest, opened_sizes}
+use Rattle.a429_c.proofs.KeptTables.{opened_newest, opened_tables}
 use Rattle.a429_c.proofs.machine.build.Goals as goal
 
 abbrev is_ok : {X E : Type 0} → Result X E → Type 0
@@ -19,8 +18,8 @@ is_ok (Err e) = ⊥
 pub invariant_of-machine : goal.invariant_of-machine
 invariant_of-machine c =
     let o : Opening = record { proposal = c.in_ok-proposal.proposal; first = c.args.first } in let S = c.in-Ok-open.ensures.stands in (
-      c.in-Ok.ensures ∙ (ap (λ (p : PlanTable). map size_of (groups_of p)) c.plan.ensures.plan ∙ opened_sizes o c.in-Ok-open.state S),
-      c.in-Ok-sizes_of.ensures ∙ (ap (λ (p : PlanTable). map size_of (groups_of p)) c.plan-2.ensures.plan ∙ opened_newest o c.in-Ok-open.state S),
+      c.in-Ok.ensures ∙ (ap (λ (p : PlanTable). groups_of p) c.plan.ensures.plan ∙ opened_tables o c.in-Ok-open.state S),
+      c.in-Ok-slot_tables_of.ensures ∙ (ap (λ (p : PlanTable). groups_of p) c.plan-2.ensures.plan ∙ opened_newest o c.in-Ok-open.state S),
     )
 
 pub returns-in-Ok-new : goal.returns-in-Ok-new

@@ -1,4 +1,4 @@
--- What a step of the machine does to the sizes of the plans.
+-- What a step of the machine does to the slot tables.
 use Rattle.std.proofs.Common.{◌≡◌, ◌∙◌, ◌+◌, ◌-◌, ◌^◌, ℕ, zero, suc, List, [], ◌∷◌, refl, sym, ap, arith}
 use Rattle.std.specs.Prelude.{Bool, true, false, Option, Some, None, Result, Ok, Err, if◌then◌else◌, nat_lt, nat_le, length, map, get_or, slice_get, slice_set, option_map}
 use Rattle.std.specs.Option.{option_map_or}
@@ -9,7 +9,7 @@ use Rattle.a429_equipment.specs.Limits.{count_bits}
 use Rattle.a429_equipment.specs.declared.arrivals.ArrivalRefusal.{ArrivalRefusal}
 use Rattle.a429_equipment.specs.Arrivals.{sorted}
 use Rattle.a429_equipment.specs.SameStation.{same_station}
-use Rattle.a429_slots.specs.Tables.{SlotTable, groups_of, cells_of, frame_of}
+use Rattle.a429_slots.specs.Tables.{SlotTable, groups_of, cells_of, frame_of, no_table}
 use Rattle.a429_slots.specs.Proposed.{Proposed}
 use Rattle.a429_slots.specs.declared.senders.Due.{Due}
 use Rattle.a429_slots.specs.declared.answers.Answer.{Answer}
@@ -21,16 +21,15 @@ use Rattle.a429_slots.specs.FrameStates.{frame_state_of, FrameState, after_cell,
 use Rattle.a429_core.specs.declared.sources.Kept.{Kept}
 use Rattle.a429_core.specs.MachineStates.{MachineState, StandsForHistory}
 use Rattle.a429_core.specs.MachineSteps.{kept_at, count_at, put_word, send_last, send_kept, sent_due, sent_in, asked_cell, after_asked, frame_of_both, frame_at, arrived, cell_asked, frame_asked, publish_asked}
-use Rattle.a429_c.specs.declared.sizes.GroupSize.{GroupSize}
-use Rattle.a429_c.specs.Sizes.{size_of, no_size, sizes_in_force, newest_sizes, followed}
+use Rattle.a429_c.specs.SlotTables.{tables_in_force, newest_tables, followed}
 
 -- the tables in force and the newest plan are as they were
 pub record Same (v w : MachineState) : Type 0 where
-  pub groups : sizes_in_force w ≡ sizes_in_force v
+  pub groups : tables_in_force w ≡ tables_in_force v
   pub newest : w.newest ≡ v.newest
 
-abbrev f : FrameState → GroupSize
-f s = size_of s.table
+abbrev f : FrameState → SlotTable
+f s = s.table
 
 same : (v : MachineState) → Same v v
 same v = record { groups = refl; newest = refl }
@@ -48,11 +47,11 @@ put_same C v raw (Ok i) =
 pub arrive_same : (C : ℕ) (v : MachineState) (r raw : ℕ) → Same v (arrived C v r raw).1
 arrive_same C v r raw = either (λ (x : Answer × MachineState). Same v x.1) (nat_le (length v.station.receivers) r) (Refused NoSuch, v) (put_word C v raw (sorted v.station r raw)) (same v) (put_same C v raw (sorted v.station r raw))
 
--- a group that keeps its table keeps its size
+-- the tables stay if one is set to itself
 set_same : (ss : List FrameState) (g : ℕ) (s t : FrameState) → slice_get ss g ≡ Some s → f t ≡ f s → map f (slice_set ss g t) ≡ map f ss
 set_same [] g s t h e = absurd (none-some s h)
-set_same (x ∷ ss) zero s t h e = ap (λ (y : GroupSize). y ∷ map f ss) (e ∙ ap f (sym (same_Some x s h)))
-set_same (x ∷ ss) (suc g) s t h e = ap (λ (ys : List GroupSize). f x ∷ ys) (set_same ss g s t h e)
+set_same (x ∷ ss) zero s t h e = ap (λ (y : SlotTable). y ∷ map f ss) (e ∙ ap f (sym (same_Some x s h)))
+set_same (x ∷ ss) (suc g) s t h e = ap (λ (ys : List SlotTable). f x ∷ ys) (set_same ss g s t h e)
 
 after_same : (ss : List FrameState) (g : ℕ) (x : Option FrameState) → slice_get ss g ≡ x → map f (option_map_or (λ s. slice_set ss g (after_cell s)) x ss) ≡ map f ss
 after_same ss g None h = refl
@@ -80,45 +79,45 @@ cell_same v g =
     either (λ (x : Answer × MachineState). Same v x.1) (nat_lt g (length v.groups)) (sent_in w g (asked_cell v.groups g)) (Refused NoSuch, v)
     (record { groups = S.groups ∙ after_same v.groups g (slice_get v.groups g) refl; newest = S.newest }) (same v)
 
--- the sizes in force after an answer to a frame
-abbrev pub sizes_by : Answer → List GroupSize → List GroupSize → ℕ → List GroupSize
-sizes_by (Changed n) sizes newest g = followed sizes newest g
-sizes_by _ sizes newest g = sizes
+-- the tables in force after an answer to a frame
+abbrev pub tables_by : Answer → List SlotTable → List SlotTable → ℕ → List SlotTable
+tables_by (Changed n) tables newest g = followed tables newest g
+tables_by _ tables newest g = tables
 
-get_size : (ts : List SlotTable) (g : ℕ) (p : SlotTable) → slice_get ts g ≡ Some p → get_or (map size_of ts) g no_size ≡ size_of p
-get_size [] g p h = absurd (none-some p h)
-get_size (t ∷ ts) zero p h = ap size_of (same_Some t p h)
-get_size (t ∷ ts) (suc g) p h = get_size ts g p h
+get_table : (ts : List SlotTable) (g : ℕ) (p : SlotTable) → slice_get ts g ≡ Some p → get_or ts g no_table ≡ p
+get_table [] g p h = absurd (none-some p h)
+get_table (t ∷ ts) zero p h = same_Some t p h
+get_table (t ∷ ts) (suc g) p h = get_table ts g p h
 
-set_map : (ss : List FrameState) (g : ℕ) (t : FrameState) (z : GroupSize) → z ≡ f t → slice_set (map f ss) g z ≡ map f (slice_set ss g t)
+set_map : (ss : List FrameState) (g : ℕ) (t : FrameState) (z : SlotTable) → z ≡ f t → slice_set (map f ss) g z ≡ map f (slice_set ss g t)
 set_map [] g t z e = refl
-set_map (x ∷ ss) zero t z e = ap (λ (y : GroupSize). y ∷ map f ss) e
-set_map (x ∷ ss) (suc g) t z e = ap (λ (ys : List GroupSize). f x ∷ ys) (set_map ss g t z e)
+set_map (x ∷ ss) zero t z e = ap (λ (y : SlotTable). y ∷ map f ss) e
+set_map (x ∷ ss) (suc g) t z e = ap (λ (ys : List SlotTable). f x ∷ ys) (set_map ss g t z e)
 
 inside : {X Y : Type 0} (k : X → Y) (xs : List X) (g : ℕ) (x : X) → slice_get xs g ≡ Some x → nat_lt g (length (map k xs)) ≡ true
 inside k xs g x h = lt-ltb g (length (map k xs)) (omega (arith, slice_get_within xs g x h, length-map xs k))
 
-followed_is : (ss : List FrameState) (ts : List SlotTable) (g : ℕ) (s t : FrameState) (p : SlotTable) → slice_get ss g ≡ Some s → slice_get ts g ≡ Some p → size_of p ≡ f t
-    → followed (map f ss) (map size_of ts) g ≡ map f (slice_set ss g t)
-followed_is ss ts g s t p h there e = rw (inside f ss g s h, inside size_of ts g p there) (set_map ss g t (get_or (map size_of ts) g no_size) (get_size ts g p there ∙ e))
+followed_is : (ss : List FrameState) (ts : List SlotTable) (g : ℕ) (s t : FrameState) (p : SlotTable) → slice_get ss g ≡ Some s → slice_get ts g ≡ Some p → p ≡ f t
+    → followed (map f ss) ts g ≡ map f (slice_set ss g t)
+followed_is ss ts g s t p h there e = rw (inside f ss g s h, lt-ltb g (length ts) (slice_get_within ts g p there)) (set_map ss g t (get_or ts g no_table) (get_table ts g p there ∙ e))
 
-turned_is : (ss : List FrameState) (ts : List SlotTable) (number g : ℕ) (s t : FrameState) (p : SlotTable) (b : Bool) → slice_get ss g ≡ Some s → slice_get ts g ≡ Some p → size_of p ≡ f t
-    → sizes_by (if b then Changed number else Refused SlotsSpent) (map f ss) (map size_of ts) g ≡ map f (slice_set ss g (if b then t else s))
+turned_is : (ss : List FrameState) (ts : List SlotTable) (number g : ℕ) (s t : FrameState) (p : SlotTable) (b : Bool) → slice_get ss g ≡ Some s → slice_get ts g ≡ Some p → p ≡ f t
+    → tables_by (if b then Changed number else Refused SlotsSpent) (map f ss) ts g ≡ map f (slice_set ss g (if b then t else s))
 turned_is ss ts number g s t p true h there e = followed_is ss ts g s t p h there e
 turned_is ss ts number g s t p false h there e = sym (set_same ss g s s h refl)
 
 framed_is : (ss : List FrameState) (ts : List SlotTable) (number g : ℕ) (x : Option FrameState) (y : Option SlotTable) → slice_get ss g ≡ x → slice_get ts g ≡ y
-    → sizes_by (frame_of_both ss number g x y).0 (map f ss) (map size_of ts) g ≡ map f (frame_of_both ss number g x y).1
+    → tables_by (frame_of_both ss number g x y).0 (map f ss) ts g ≡ map f (frame_of_both ss number g x y).1
 framed_is ss ts number g None y h there = refl
 framed_is ss ts number g (Some s) None h there = refl
 framed_is ss ts number g (Some s) (Some p) h there =
-    either (λ (x : Answer × FrameState). sizes_by x.0 (map f ss) (map size_of ts) g ≡ map f (slice_set ss g x.1)) (nat_lt s.sent (cells_of s.table))
+    either (λ (x : Answer × FrameState). tables_by x.0 (map f ss) ts g ≡ map f (slice_set ss g x.1)) (nat_lt s.sent (cells_of s.table))
     (Refused MidFrame, s) ((if fits_next s p then Changed number else Refused SlotsSpent), turned s p)
     (sym (set_same ss g s s h refl)) (turned_is ss ts number g s (record { table = p; first = s.first + frame_of s.table; sent = 0 }) p (fits_next s p) h there refl)
 
-frame_is : (v : MachineState) (g : ℕ) → sizes_by (frame_asked v g).0 (sizes_in_force v) (newest_sizes v) g ≡ sizes_in_force (frame_asked v g).1
+frame_is : (v : MachineState) (g : ℕ) → tables_by (frame_asked v g).0 (tables_in_force v) (newest_tables v) g ≡ tables_in_force (frame_asked v g).1
 frame_is v g =
-    either (λ (x : Answer × MachineState). sizes_by x.0 (sizes_in_force v) (newest_sizes v) g ≡ sizes_in_force x.1) (nat_lt g (length v.groups))
+    either (λ (x : Answer × MachineState). tables_by x.0 (tables_in_force v) (newest_tables v) g ≡ tables_in_force x.1) (nat_lt g (length v.groups))
     ((frame_at v.groups v.newest g).0, record v { groups = (frame_at v.groups v.newest g).1 }) (Refused NoSuch, v)
     (framed_is v.groups (groups_of v.newest) v.newest.number g (slice_get v.groups g) (slice_get (groups_of v.newest) g) refl refl) refl
 
@@ -127,67 +126,67 @@ frame_newest v g =
     either (λ (x : Answer × MachineState). x.1.newest ≡ v.newest) (nat_lt g (length v.groups))
     ((frame_at v.groups v.newest g).0, record v { groups = (frame_at v.groups v.newest g).1 }) (Refused NoSuch, v) refl refl
 
-pub frame_changed : (v : MachineState) (g n : ℕ) (a : Answer) → a ≡ Changed n → a ≡ (frame_asked v g).0 → followed (sizes_in_force v) (newest_sizes v) g ≡ sizes_in_force (frame_asked v g).1
-frame_changed v g n a changed is = ap (λ (b : Answer). sizes_by b (sizes_in_force v) (newest_sizes v) g) (sym changed ∙ is) ∙ frame_is v g
+pub frame_changed : (v : MachineState) (g n : ℕ) (a : Answer) → a ≡ Changed n → a ≡ (frame_asked v g).0 → followed (tables_in_force v) (newest_tables v) g ≡ tables_in_force (frame_asked v g).1
+frame_changed v g n a changed is = ap (λ (b : Answer). tables_by b (tables_in_force v) (newest_tables v) g) (sym changed ∙ is) ∙ frame_is v g
 
-unchanged : (a : Answer) (sizes newest : List GroupSize) (g : ℕ) → ((n : ℕ) → a ≡ Changed n → ⊥) → sizes ≡ sizes_by a sizes newest g
-unchanged (Accepted source) sizes newest g other = refl
-unchanged (Sent bus slot word) sizes newest g other = refl
-unchanged (Changed n) sizes newest g other = absurd (other n refl)
-unchanged (Published n) sizes newest g other = refl
-unchanged (Refused why) sizes newest g other = refl
+unchanged : (a : Answer) (tables newest : List SlotTable) (g : ℕ) → ((n : ℕ) → a ≡ Changed n → ⊥) → tables ≡ tables_by a tables newest g
+unchanged (Accepted source) tables newest g other = refl
+unchanged (Sent bus slot word) tables newest g other = refl
+unchanged (Changed n) tables newest g other = absurd (other n refl)
+unchanged (Published n) tables newest g other = refl
+unchanged (Refused why) tables newest g other = refl
 
-pub frame_stays : (v : MachineState) (g : ℕ) (a : Answer) → ((n : ℕ) → a ≡ Changed n → ⊥) → a ≡ (frame_asked v g).0 → sizes_in_force v ≡ sizes_in_force (frame_asked v g).1
+pub frame_stays : (v : MachineState) (g : ℕ) (a : Answer) → ((n : ℕ) → a ≡ Changed n → ⊥) → a ≡ (frame_asked v g).0 → tables_in_force v ≡ tables_in_force (frame_asked v g).1
 frame_stays v g a other is =
-    unchanged a (sizes_in_force v) (newest_sizes v) g other ∙ (ap (λ (b : Answer). sizes_by b (sizes_in_force v) (newest_sizes v) g) is ∙ frame_is v g)
+    unchanged a (tables_in_force v) (newest_tables v) g other ∙ (ap (λ (b : Answer). tables_by b (tables_in_force v) (newest_tables v) g) is ∙ frame_is v g)
 
--- the newest sizes after an answer to a publication
-abbrev newest_by : Answer → List GroupSize → List GroupSize → List GroupSize
+-- the newest tables after an answer to a publication
+abbrev newest_by : Answer → List SlotTable → List SlotTable → List SlotTable
 newest_by (Published n) old new = new
 newest_by _ old new = old
 
-publish_is : (v : MachineState) (q : Proposed) → newest_by (publish_asked v q).0 (newest_sizes v) (map size_of (groups_of q.plan)) ≡ newest_sizes (publish_asked v q).1
+publish_is : (v : MachineState) (q : Proposed) → newest_by (publish_asked v q).0 (newest_tables v) (groups_of q.plan) ≡ newest_tables (publish_asked v q).1
 publish_is v q =
-    let P : Answer × MachineState → Type 0 = λ x. newest_by x.0 (newest_sizes v) (map size_of (groups_of q.plan)) ≡ newest_sizes x.1 in
+    let P : Answer × MachineState → Type 0 = λ x. newest_by x.0 (newest_tables v) (groups_of q.plan) ≡ newest_tables x.1 in
     let done : Answer × MachineState = (Published (v.newest.number + 1), record v { newest = record q.plan { number = v.newest.number + 1 } }) in
     either P (same_station v.station q.station) (if nat_lt v.newest.number (2 ^ 64 - 1) then done else (Refused CountSpent, v)) (Refused StationDiffers, v)
     (either P (nat_lt v.newest.number (2 ^ 64 - 1)) done (Refused CountSpent, v) refl refl) refl
 
-pub publish_groups : (v : MachineState) (q : Proposed) → sizes_in_force (publish_asked v q).1 ≡ sizes_in_force v
+pub publish_groups : (v : MachineState) (q : Proposed) → tables_in_force (publish_asked v q).1 ≡ tables_in_force v
 publish_groups v q =
-    let P : Answer × MachineState → Type 0 = λ x. sizes_in_force x.1 ≡ sizes_in_force v in
+    let P : Answer × MachineState → Type 0 = λ x. tables_in_force x.1 ≡ tables_in_force v in
     let done : Answer × MachineState = (Published (v.newest.number + 1), record v { newest = record q.plan { number = v.newest.number + 1 } }) in
     either P (same_station v.station q.station) (if nat_lt v.newest.number (2 ^ 64 - 1) then done else (Refused CountSpent, v)) (Refused StationDiffers, v)
     (either P (nat_lt v.newest.number (2 ^ 64 - 1)) done (Refused CountSpent, v) refl refl) refl
 
-pub publish_taken : (v : MachineState) (q : Proposed) (n : ℕ) (a : Answer) → a ≡ Published n → a ≡ (publish_asked v q).0 → map size_of (groups_of q.plan) ≡ newest_sizes (publish_asked v q).1
-publish_taken v q n a taken is = ap (λ (b : Answer). newest_by b (newest_sizes v) (map size_of (groups_of q.plan))) (sym taken ∙ is) ∙ publish_is v q
+pub publish_taken : (v : MachineState) (q : Proposed) (n : ℕ) (a : Answer) → a ≡ Published n → a ≡ (publish_asked v q).0 → groups_of q.plan ≡ newest_tables (publish_asked v q).1
+publish_taken v q n a taken is = ap (λ (b : Answer). newest_by b (newest_tables v) (groups_of q.plan)) (sym taken ∙ is) ∙ publish_is v q
 
-untaken : (a : Answer) (old new : List GroupSize) → ((n : ℕ) → a ≡ Published n → ⊥) → old ≡ newest_by a old new
+untaken : (a : Answer) (old new : List SlotTable) → ((n : ℕ) → a ≡ Published n → ⊥) → old ≡ newest_by a old new
 untaken (Accepted source) old new other = refl
 untaken (Sent bus slot word) old new other = refl
 untaken (Changed n) old new other = refl
 untaken (Published n) old new other = absurd (other n refl)
 untaken (Refused why) old new other = refl
 
-pub publish_left : (v : MachineState) (q : Proposed) (a : Answer) → ((n : ℕ) → a ≡ Published n → ⊥) → a ≡ (publish_asked v q).0 → newest_sizes v ≡ newest_sizes (publish_asked v q).1
+pub publish_left : (v : MachineState) (q : Proposed) (a : Answer) → ((n : ℕ) → a ≡ Published n → ⊥) → a ≡ (publish_asked v q).0 → newest_tables v ≡ newest_tables (publish_asked v q).1
 publish_left v q a other is =
-    untaken a (newest_sizes v) (map size_of (groups_of q.plan)) other ∙ (ap (λ (b : Answer). newest_by b (newest_sizes v) (map size_of (groups_of q.plan))) is ∙ publish_is v q)
+    untaken a (newest_tables v) (groups_of q.plan) other ∙ (ap (λ (b : Answer). newest_by b (newest_tables v) (groups_of q.plan)) is ∙ publish_is v q)
 
--- if each frame begins by the table of its group, the sizes in force are those of the tables
+-- if each frame begins by the table of its group, the tables in force are these
 same_tables : (ss : List FrameState) (ts : List SlotTable) (k : ℕ → SlotTable → FrameState) → ((g : ℕ) (p : SlotTable) → (k g p).table ≡ p)
-    → ((g : ℕ) → slice_get ss g ≡ option_map (k g) (slice_get ts g)) → map f ss ≡ map size_of ts
+    → ((g : ℕ) → slice_get ss g ≡ option_map (k g) (slice_get ts g)) → map f ss ≡ ts
 same_tables [] [] k e h = refl
 same_tables [] (t ∷ ts) k e h = absurd (none-some (k 0 t) (h 0))
 same_tables (s ∷ ss) [] k e h = absurd (none-some s (sym (h 0)))
 same_tables (s ∷ ss) (t ∷ ts) k e h =
-    ap (λ (z : GroupSize). z ∷ map f ss) (ap f (same_Some s (k 0 t) (h 0)) ∙ ap size_of (e 0 t))
-    ∙ ap (λ (zs : List GroupSize). size_of t ∷ zs) (same_tables ss ts (λ g. k (suc g)) (λ g. e (suc g)) (λ g. h (suc g)))
+    ap (λ (z : SlotTable). z ∷ map f ss) (ap f (same_Some s (k 0 t) (h 0)) ∙ e 0 t)
+    ∙ ap (λ (zs : List SlotTable). t ∷ zs) (same_tables ss ts (λ g. k (suc g)) (λ g. e (suc g)) (λ g. h (suc g)))
 
-pub opened_sizes : (o : Opening) (v : MachineState) → StandsForHistory count_bits o [] v → map size_of (groups_of o.proposal.plan) ≡ sizes_in_force v
-opened_sizes o v S = sym (same_tables v.groups (groups_of o.proposal.plan) (λ g p. frame_state_of g (current o g p [])) (λ g p. refl) S.groups)
+pub opened_tables : (o : Opening) (v : MachineState) → StandsForHistory count_bits o [] v → groups_of o.proposal.plan ≡ tables_in_force v
+opened_tables o v S = sym (same_tables v.groups (groups_of o.proposal.plan) (λ g p. frame_state_of g (current o g p [])) (λ g p. refl) S.groups)
 
-pub opened_newest : (o : Opening) (v : MachineState) → StandsForHistory count_bits o [] v → map size_of (groups_of o.proposal.plan) ≡ newest_sizes v
+pub opened_newest : (o : Opening) (v : MachineState) → StandsForHistory count_bits o [] v → groups_of o.proposal.plan ≡ newest_tables v
 opened_newest o v S =
     let none = sym (ap (λ (ps : List Proposed). groups_of (option_map_or (λ q. q.plan) (last_of ps) o.proposal.plan)) (none_cut (numbers_left o))) in
-    ap (map size_of) (none ∙ sym S.newest)
+    none ∙ sym S.newest
