@@ -1,10 +1,10 @@
-//! Plans a table as `a429 plan` does, tells of its plan as `a429 icd`, `margin` and `draw` do, or checks its text as
+//! Plans a table as `a429 plan` does, tells of its plan as `a429 icd`, `margin`, `load`, `slots` and `draw` do, or checks its text as
 //! `a429 check` does, in plain Rust that is written to be fast where tables are read, planned and printed: what bench/plan
 //! and bench/ratios compare the program with, in time and in every byte. It shares no code with the program, reads tables of version 1 line by line in the form that bench/plan writes, where the
 //! program reads any TOML document, and asks of a table and of a text what the program asks of them.
 //!
-//! Words: `plan`, `icd`, `margin` or `draw` and the table; or `icd`, the table and `--csv`; or `check`, the table and
-//! the text.
+//! Words: `plan`, `icd`, `margin`, `load`, `slots` or `draw` and the table; or `icd`, the table and `--csv`; or `slots`,
+//! the table and `--c`; or `check`, the table and the text.
 
 use std::collections::HashMap;
 use std::error::Error;
@@ -387,8 +387,8 @@ fn choice(outputs: &[Placed], frame: u64, needed: u64) -> Option<Vec<bool>> {
     Some(chosen)
 }
 
-const MARGIN_COLUMNS: [&str; 13] = [
-    "group", "frame", "buses", "cells", "free", "excess", "bound", "source", "period", "next", "less", "max_us", "choose",
+const MARGIN_COLUMNS: [&str; 11] = [
+    "group", "frame", "buses", "excess", "bound", "source", "period", "next", "less", "max_us", "choose",
 ];
 
 fn margin_text(table: &Table) -> Result<String, Fault> {
@@ -396,12 +396,11 @@ fn margin_text(table: &Table) -> Result<String, Fault> {
     for group in &table.groups {
         let mut plan = plan(table, group)?;
         plan.placed.sort_unstable_by_key(|placed| placed.output);
-        let free = plan.buses * plan.frame - plan.demand;
         let excess = plan.demand - (plan.buses - 1) * plan.frame;
         let chosen = if plan.buses > 1 { choice(&plan.placed, plan.frame, excess) } else { None };
         let windows = plan.placed.iter().map(|placed| group.outputs[placed.output].max_us * table.rate / 36_000_000);
         let bound = windows.map(|window| (1 << 32) / window).sum::<u64>().div_ceil(1 << 32);
-        let numbers = [plan.frame, plan.buses, plan.demand, free, excess, bound];
+        let numbers = [plan.frame, plan.buses, excess, bound];
         let mut row = vec![group.name.clone()];
         row.extend(numbers.map(|number| number.to_string()));
         row.resize(MARGIN_COLUMNS.len(), String::new());
@@ -410,7 +409,7 @@ fn margin_text(table: &Table) -> Result<String, Fault> {
             let (from, to) = (placed.period, 2 * placed.period);
             let numbers = [from, to, plan.frame / to, slots_us(table.rate, to)];
             let mut row = vec![group.name.clone()];
-            row.resize(7, String::new());
+            row.resize(5, String::new());
             row.push(table.sources[group.outputs[placed.output].source].name.clone());
             row.extend(numbers.map(|number| number.to_string()));
             row.push(if chosen.as_ref().is_some_and(|it| it[placed.output]) { "yes" } else { "no" }.into());
@@ -418,6 +417,124 @@ fn margin_text(table: &Table) -> Result<String, Fault> {
         }
     }
     columns_text(&rows)
+}
+
+/// The outputs of the cells of a plan, bus by bus.
+fn cells_of(plan: &Plan) -> Vec<Option<usize>> {
+    let mut cells = vec![None; (plan.buses * plan.frame) as usize];
+    for placed in &plan.placed {
+        for slot in (placed.offset..plan.frame).step_by(placed.period as usize) {
+            cells[(placed.bus * plan.frame + slot) as usize] = Some(placed.output);
+        }
+    }
+    cells
+}
+
+/// The row of some buses, by the cells of each that have an output.
+fn load_row(table: &Table, group: &Group, frame: u64, bus: String, loads: &[u64], longest: u64) -> Vec<String> {
+    let (cells, all) = (loads.iter().sum::<u64>(), loads.len() as u64 * frame);
+    let tenths = (1000 * cells).div_ceil(all);
+    let words = (cells * table.rate).div_ceil(36 * frame);
+    let mut row = vec![group.name.clone()];
+    row.extend([table.rate.to_string(), bus, frame.to_string(), cells.to_string(), (all - cells).to_string()]);
+    row.extend([format!("{}.{}", tenths / 10, tenths % 10), words.to_string(), String::new()]);
+    let mut period = 2;
+    while period <= longest {
+        let room = || loads.iter().map(|load| (frame - load) * period / frame).sum::<u64>();
+        row.push(if period > frame { String::new() } else { room().to_string() });
+        period *= 2;
+    }
+    row
+}
+
+fn load_text(table: &Table) -> Result<String, Fault> {
+    let plans = table.groups.iter().map(|group| plan(table, group)).collect::<Result<Vec<_>, _>>()?;
+    let longest = plans.iter().map(|plan| plan.frame).max().unwrap_or(0);
+    let names = ["group", "rate", "bus", "frame", "cells", "free", "percent", "words_s", "needed"];
+    let mut heading = names.map(String::from).to_vec();
+    heading.extend((1..14).map(|digits| 1 << digits).filter(|period| *period <= longest).map(|period| format!("room_{period}")));
+    let mut rows = vec![heading];
+    for (group, plan) in table.groups.iter().zip(&plans) {
+        let mut loads = vec![0; plan.buses as usize];
+        for placed in &plan.placed {
+            loads[placed.bus as usize] += plan.frame / placed.period;
+        }
+        for (bus, load) in loads.iter().enumerate() {
+            rows.push(load_row(table, group, plan.frame, bus.to_string(), &[*load], longest));
+        }
+        rows.push(load_row(table, group, plan.frame, String::new(), &loads, longest));
+    }
+    columns_text(&rows)
+}
+
+fn slots_text(table: &Table) -> Result<String, Fault> {
+    let names = ["group", "slot", "time_us", "bus", "label", "sdi", "source", "period"];
+    let mut rows = vec![names.map(String::from).to_vec()];
+    for group in &table.groups {
+        let mut plan = plan(table, group)?;
+        plan.placed.sort_unstable_by_key(|placed| placed.output);
+        let cells = cells_of(&plan);
+        for slot in 0..plan.frame {
+            for bus in 0..plan.buses {
+                let Some(output) = cells[(bus * plan.frame + slot) as usize] else { continue };
+                let source = &table.sources[group.outputs[output].source];
+                rows.push(vec![
+                    group.name.clone(),
+                    slot.to_string(),
+                    slots_us(table.rate, slot).to_string(),
+                    bus.to_string(),
+                    format!("{:03o}", source.label),
+                    source.sdi.map_or("any".into(), |sdi| sdi.to_string()),
+                    source.name.clone(),
+                    plan.placed[output].period.to_string(),
+                ]);
+            }
+        }
+    }
+    columns_text(&rows)
+}
+
+const HEADER_START: &str = "/* Slot tables, by `a429 slots --c`. Element [bus * A429_GROUP_0_FRAME + slot] of an array
+   is the number of the output in that cell, or A429_EMPTY. Outputs are numbered from 0. */
+#ifndef A429_SLOTS_H
+#define A429_SLOTS_H
+
+#include <stdint.h>
+
+#define A429_EMPTY 0xFFFF
+
+";
+
+fn header_text(table: &Table) -> Result<String, Fault> {
+    let mut text = String::from(HEADER_START);
+    for (number, group) in table.groups.iter().enumerate() {
+        let mut plan = plan(table, group)?;
+        plan.placed.sort_unstable_by_key(|placed| placed.output);
+        write!(text, "/* group {}", group.name)?;
+        for placed in &plan.placed {
+            let source = &table.sources[group.outputs[placed.output].source];
+            let sdi = source.sdi.map_or("any".into(), |sdi| sdi.to_string());
+            write!(text, "\n   {}: label {:03o} sdi {sdi} period {} source {}", placed.output, source.label, placed.period, source.name)?;
+        }
+        text.push_str(" */\n");
+        writeln!(text, "#define A429_GROUP_{number}_NAME \"{}\"", group.name)?;
+        let sizes = [("RATE", table.rate), ("FRAME", plan.frame), ("BUSES", plan.buses), ("OUTPUTS", group.outputs.len() as u64)];
+        for (size, value) in sizes {
+            writeln!(text, "#define A429_GROUP_{number}_{size} {value}")?;
+        }
+        write!(text, "static const uint16_t a429_group_{number}_slots[A429_GROUP_{number}_BUSES * A429_GROUP_{number}_FRAME] = {{")?;
+        for (place, cell) in cells_of(&plan).iter().enumerate() {
+            text.push_str(if place as u64 % plan.frame % 16 == 0 { "\n    " } else { " " });
+            match cell {
+                Some(output) => push_number(&mut text, "", *output as u64),
+                None => text.push_str("0xFFFF"),
+            }
+            text.push(',');
+        }
+        text.push_str("\n};\n\n");
+    }
+    text.push_str("#endif\n");
+    Ok(text)
 }
 
 /// The number of a text: decimal, without sign or leading zeros, of at most ten digits.
@@ -617,6 +734,11 @@ fn main() -> Result<(), Fault> {
             csv_text(&document(&table(&fs::read_to_string(name)?)?)?)
         }
         [command, name] if command == "margin" => margin_text(&table(&fs::read_to_string(name)?)?)?,
+        [command, name] if command == "load" => load_text(&table(&fs::read_to_string(name)?)?)?,
+        [command, name] if command == "slots" => slots_text(&table(&fs::read_to_string(name)?)?)?,
+        [command, name, option] if command == "slots" && option == "--c" => {
+            header_text(&table(&fs::read_to_string(name)?)?)?
+        }
         [command, name] if command == "draw" => drawing_text(&table(&fs::read_to_string(name)?)?)?,
         [command, name, text] if command == "check" => {
             let table = table(&fs::read_to_string(name)?)?;
@@ -625,7 +747,7 @@ fn main() -> Result<(), Fault> {
                 Some((reason, line)) => format!("no {reason} {line}\n"),
             }
         }
-        _ => return Err("words: plan, icd, margin or draw TABLE, or icd TABLE --csv, or check TABLE TEXT".into()),
+        _ => return Err("words: plan, icd, margin, load, slots or draw TABLE, or icd TABLE --csv, or slots TABLE --c, or check TABLE TEXT".into()),
     };
     io::stdout().write_all(told.as_bytes())?;
     Ok(())

@@ -37,3 +37,8 @@ pub mod LastAccepted
 pub mod LateWords
 pub mod LateRows
 pub mod LiveAnswers
+pub mod DataBits
+pub mod BnrData
+pub mod BcdData
+pub mod HexData
+pub mod HexRead

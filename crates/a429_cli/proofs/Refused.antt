@@ -13,6 +13,8 @@ pub table_fault_unjudged : (table : List ℕ) (r : CommandRefusal) → IsTableFa
 table_fault_unjudged table (refused.File name) f = absurd f
 table_fault_unjudged table refused.WordText f = absurd f
 table_fault_unjudged table refused.Parity f = absurd f
+table_fault_unjudged table refused.LabelText f = absurd f
+table_fault_unjudged table refused.DataText f = absurd f
 table_fault_unjudged table (refused.LineByte place) f = absurd f
 table_fault_unjudged table (refused.Filter number) f = absurd f
 table_fault_unjudged table (refused.Table kind place) f = f
@@ -33,6 +35,8 @@ pub unfit_unjudged : (table : List ℕ) (t : TableRecord) (g o : ℕ) → readin
 unfit_unjudged table t g o is first (refused.File name) named = absurd named
 unfit_unjudged table t g o is first refused.WordText named = absurd named
 unfit_unjudged table t g o is first refused.Parity named = absurd named
+unfit_unjudged table t g o is first refused.LabelText named = absurd named
+unfit_unjudged table t g o is first refused.DataText named = absurd named
 unfit_unjudged table t g o is first (refused.LineByte place) named = absurd named
 unfit_unjudged table t g o is first (refused.Filter number) named = absurd named
 unfit_unjudged table t g o is first (refused.Table kind place) named = absurd named

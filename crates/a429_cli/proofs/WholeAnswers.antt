@@ -43,6 +43,7 @@ whole_reply _ file r status bytes whole is = is
 
 -- a status of at most 1 is at most that of trouble
 pub least_trouble : (v : Verb) (status : ℕ) → status ≤ 1 → status ≤ trouble_of v
+least_trouble verb.Load status few = omega (arith, few)
 least_trouble verb.Lint status few = omega (arith, few)
 least_trouble verb.Diff status few = omega (arith, few)
 least_trouble _ status few = few

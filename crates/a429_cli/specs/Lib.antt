@@ -1,5 +1,6 @@
 pub mod WholeReplies
 pub mod WordLines
+pub mod Encoding
 pub mod Script
 pub mod NameLists
 pub mod Kept
@@ -10,6 +11,8 @@ pub mod LineReports
 pub mod LineReplies
 pub mod PlanReplies
 pub mod Drawings
+pub mod SlotReplies
+pub mod Loads
 pub mod Findings
 pub mod Importing
 pub mod Replies

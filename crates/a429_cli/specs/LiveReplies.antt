@@ -71,7 +71,7 @@ IsNoLiveStart i refusal = IsTableRefusal i.table refusal ⊎ IsWordsRefusal i re
 abbrev pub HasTooMuch : TableRecord → List Arrival → Type 0
 HasTooMuch t arrivals = (r : ℕ) × (r < length t.receivers) × (1000000 < length (words_for arrivals r))
 
--- Why a run of the station with these words for this number of frames did not come to its end: a thread could not be started or taken in; or more
+-- Why a run of the station with these words for this number of frames failed: a thread could not be started or joined; or more
 -- than a million frames were asked for, or a receiver gets more than a million words. Lines in memory, sinks that count and a gate that is always
 -- open have no fault, so no refusal is for one.
 abbrev pub IsRunRefusal : TableRecord → List Arrival → ℕ → CommandRefusal → Type 0
@@ -79,7 +79,7 @@ IsRunRefusal t arrivals frames refused.Join = frames ≤ 1000000
 IsRunRefusal t arrivals frames refused.TooMuch = (1000000 < frames) ⊎ HasTooMuch t arrivals
 IsRunRefusal t arrivals frames _ = ⊥
 
--- from these bytes a run began, and did not come to its end
+-- from these bytes a run began, and failed
 abbrev pub IsLiveRunFault : LiveFiles → ℕ → CommandRefusal → Type 0
 IsLiveRunFault i frames refusal = (q : Proposed) × (arrivals : List Arrival) × IsLiveStart i q arrivals × IsRunRefusal q.station arrivals frames refusal
 
@@ -212,7 +212,7 @@ IsPreparedLive i p = IsLiveStart i p.proposal p.arrivals.items
 abbrev pub IsAppended : Running → Running → List ℕ → List ℕ → List ℕ → Type 0
 IsAppended v w table old new = (line : List ℕ) × IsResubmitLine v.station v.planner.last.number table w.planner.last.number line × (new ≡ old ++ line)
 
--- the same, if the number of the next plan can be counted and memory suffices
+-- the same, if the number of the next plan can be counted and no allocation fails
 abbrev pub AppendsLine : {A E : Type 0} → Running → Running → List ℕ → List ℕ → List ℕ → Result A E → Type 0
 AppendsLine v w table old new result = v.planner.last.number + 1 < 2 ^ 64 → OnOk result (IsAppended v w table old new)
 

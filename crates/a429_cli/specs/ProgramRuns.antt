@@ -13,7 +13,7 @@ pub record Reader : Type 0 where
   pub tells : Bool
   pub file : List ℕ → Option (List ℕ)
 
--- the first word is `live`
+-- the first argument is `live`
 abbrev pub is_live : List (List ℕ) → Bool
 is_live [] = false
 is_live (word ∷ words) = bytes_eq word (codes "live")

@@ -1,4 +1,4 @@
--- The line on a terminal that says how far a run is.
+-- The line on a terminal that shows the progress of a run.
 use Rattle.std.specs.Prelude.{ℕ, List, ◌++◌, codes}
 use Rattle.std.specs.Fmt.{decimal}
 

@@ -11,6 +11,9 @@ use Rattle.a429_cli.specs.WordLines.{IsNoWord, IsWordOf}
 use Rattle.a429_cli.specs.LineReplies.{IsLinesReply}
 use Rattle.a429_cli.specs.PlanReplies.{IsCheckOf, IsNoCheck, IsNoPlan, IsPlanTextOf}
 use Rattle.a429_cli.specs.Drawings.{IsImageOf, IsNoImage, picture_of}
+use Rattle.a429_cli.specs.Encoding.{IsEncoded, IsNotEncoded}
+use Rattle.a429_cli.specs.Loads.{IsLoadOf}
+use Rattle.a429_cli.specs.SlotReplies.{IsNoSlots, IsSlotsOf, slots_form}
 use Rattle.a429_cli.specs.Findings.{IsDiffOf, IsLinted, IsNoDiff, IsNoLint}
 use Rattle.a429_cli.specs.Importing.{IsImported, IsNoImport}
 use Rattle.a429_cli.specs.LiveReplies.{IsLiveReply, TakesLive}
@@ -27,8 +30,9 @@ is_whole verb.Simulate = false
 is_whole verb.Live = false
 is_whole _ = true
 
--- the status of a refusal: `lint` and `diff` keep 1 for what they find
+-- the status of a refusal: `load`, `lint` and `diff` keep 1 for what they find
 abbrev pub trouble_of : Verb → ℕ
+trouble_of verb.Load = 2
 trouble_of verb.Lint = 2
 trouble_of verb.Diff = 2
 trouble_of _ = 1
@@ -36,11 +40,14 @@ trouble_of _ = 1
 -- the status and the bytes of such an answer, by these files and by what the command is given
 abbrev pub IsAnswerOf : Verb → (List ℕ → Option (List ℕ)) → AskedBytes → ℕ → List ℕ → Type 0
 IsAnswerOf verb.Word file r = IsWordOf r.first
+IsAnswerOf verb.Encode file r = IsEncoded r.first r.options.fields
 IsAnswerOf verb.Import file r = IsImported file r.first
 IsAnswerOf verb.Plan file r = IsPlanTextOf file told.Plan r.first
 IsAnswerOf verb.Check file r = IsCheckOf file r.first r.second
 IsAnswerOf verb.Icd file r = IsPlanTextOf file (told.Document r.options.form) r.first
 IsAnswerOf verb.Margin file r = IsPlanTextOf file (told.Margin r.options.form) r.first
+IsAnswerOf verb.Load file r = IsLoadOf file r.options.limit r.options.form r.first
+IsAnswerOf verb.Slots file r = IsSlotsOf file (slots_form r.options) r.first r.options.group
 IsAnswerOf verb.Lint file r = IsLinted file r.options.form r.first
 IsAnswerOf verb.Diff file r = IsDiffOf file r.options.all r.options.form r.first r.second
 IsAnswerOf verb.Draw file r = IsImageOf file r.first r.options.group (picture_of r.options)
@@ -49,8 +56,10 @@ IsAnswerOf _ file r = λ status bytes. ⊥
 -- why there is none
 abbrev pub IsNoAnswer : Verb → (List ℕ → Option (List ℕ)) → AskedBytes → CommandRefusal → Type 0
 IsNoAnswer verb.Word file r = IsNoWord r.first
+IsNoAnswer verb.Encode file r = IsNotEncoded r.first r.options.fields
 IsNoAnswer verb.Import file r = IsNoImport file r.first
 IsNoAnswer verb.Check file r = IsNoCheck file r.first r.second
+IsNoAnswer verb.Slots file r = IsNoSlots file r.first r.options.group
 IsNoAnswer verb.Lint file r = IsNoLint file r.first
 IsNoAnswer verb.Diff file r = IsNoDiff file r.first r.second
 IsNoAnswer verb.Draw file r = IsNoImage file r.first r.options.group (picture_of r.options)
@@ -85,7 +94,7 @@ RepliesToCommand = RepliesToWords false IsReplyOrMemory
 abbrev pub RepliesToCommandByReader : {S X : Type 0} → (S → List ℕ → Result (List ℕ) FileFault → S → Type 0) → (X → Option (List ℕ)) → (X → FailedCalls) → List (List ℕ) → S → X → X → ℕ → Type 0
 RepliesToCommandByReader = RepliesByReader false IsReplyOrMemory
 
--- the same of `command_live`, whose words ask for a run
+-- the same of `command_live`, whose arguments ask for a run
 abbrev pub RepliesToLive : {S X : Type 0} → (S → Bool) → (S → List ℕ → Option (List ℕ)) → (X → Option (List ℕ)) → (X → FailedCalls) → List (List ℕ) → S → X → X → ℕ → Type 0
 RepliesToLive = RepliesToWords true IsReplyOrMemory
 

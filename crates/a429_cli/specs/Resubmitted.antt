@@ -35,7 +35,7 @@ is_refused _ = false
 abbrev pub AnswersFault : {E : Type 0} → TableRecord → ReplanFault → Result SubmitAnswer E → Type 0
 AnswersFault t fault result = (v : Running) (table : List ℕ) → reading table ≡ Ok t → IsReplanFault v table fault → IfOk result (λ answer. IsAnswer v table answer v)
 
--- the line of a table that was answered so is appended to a text, if memory suffices
+-- the line of a table that was answered so is appended to a text, unless an allocation fails
 abbrev pub AppendsAnswer : {A E : Type 0} → SubmitAnswer → List ℕ → List ℕ → Result A E → Type 0
 AppendsAnswer given old new result = (v w : Running) (table : List ℕ) → IsAnswer v table given w → AppendsLine v w table old new result
 
@@ -45,7 +45,7 @@ AreAnswers v [] [] w = w ≡ v
 AreAnswers v (table ∷ tables) (given ∷ answers) w = (u : Running) × IsAnswer v table given u × AreAnswers u tables answers w
 AreAnswers v _ _ w = ⊥
 
--- after a text come the lines of these tables, which were answered so by a station for which no plan was published, if memory suffices
+-- after a text come the lines of these tables, which were answered so by a station for which no plan was published, unless an allocation fails
 abbrev pub AppendsAll : {A E : Type 0} → List (List ℕ) → List SubmitAnswer → List ℕ → List ℕ → Result A E → Type 0
 AppendsAll tables answers old new result =
     (begin end : Running) → begin.planner.last.number ≡ 0 → AreAnswers begin tables answers end → OnOk result (AreAppended begin.station tables old new)

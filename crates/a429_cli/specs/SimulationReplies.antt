@@ -83,7 +83,7 @@ IsPrinting q words last csv status bytes =
     (IsPrinted q words last csv bytes × (status ≡ 0))
     ⊎ ((lines : List ℕ) × IsPrintedInPart q words last csv lines × (status ≡ 1) × (bytes ≡ lines ++ memory_refused ++ 10 ∷ []))
 
--- what a simulation that began writes in place of its lines, and its status: the summary of the whole timeline
+-- what a simulation that began writes instead of its lines, and its status: the summary of the whole timeline
 abbrev pub IsSummary : Proposed → List LogWord → ℕ → SheetForm → ℕ → List ℕ → Type 0
 IsSummary q words last form status bytes =
     (moments : List Moment) × IsTimeline q words last moments × (bytes ≡ summary_text q (happenings_of q (steps_of q moments)) form) × (status ≡ 0)

@@ -73,7 +73,7 @@ abbrev pub number_field : Option ℕ → Field
 number_field None = Absent
 number_field (Some n) = Number n
 
--- how many words were sent, the least and the greatest time between two, and the greatest lateness of a word when it first went out
+-- how many words were sent, the minimum and the maximum time between two, and the greatest lateness of a word when it first went out
 abbrev pub send_fields : ℕ → List OutputSend → List Field
 send_fields rate sends =
     Number (length sends) ∷ number_field (least_in (times_between rate sends)) ∷ number_field (greatest_in (times_between rate sends))

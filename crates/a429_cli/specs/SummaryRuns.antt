@@ -65,7 +65,7 @@ nothing_sent = record { sent = 0; last = None; least = None; greatest = None; la
 
 -- ---- all sources of all groups
 
--- where the figures of a source in a group are, if a station can have both
+-- the place of the figures of a source in a group, if a station can have both
 abbrev pub place_of : ℕ → ℕ → Option ℕ
 place_of g source = if nat_lt g 8 && nat_lt source 256 then Some (g * 256 + source) else None
 

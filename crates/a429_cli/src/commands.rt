@@ -11,15 +11,18 @@ ghost use Rattle.a429_cli.specs.WholeReplies.{Replies};
 ghost use Rattle.a429_console.specs.Usage.{elsewhere, is_run, kinds_of_words};
 
 use crate::drawings::{Picture, drawing_reply};
+use crate::encode::encode_reply;
 use crate::findings::{diff_reply, lint_reply};
 use crate::import::import_reply;
 use crate::lines::tell_lines;
+use crate::loads::load_reply;
 use crate::plan_texts::{PlanText, check_reply, plan_reply};
 use crate::replay::replay;
 use crate::replies::put_reply;
 use crate::replies::reply::Reply;
 use crate::runs::{is_run, is_whole, trouble_of};
 use crate::simulate::{SimulationForm, simulate};
+use crate::slots::{SlotsForm, slots_reply};
 use crate::word::word_reply;
 use a429_console::arguments::forms::Verb;
 use a429_console::arguments::replies::explain;
@@ -31,10 +34,10 @@ use a429_console::output::{Output, OutputFault};
 use a429_console::refusals::CommandRefusal;
 use std::alloc::Global;
 
-/// Does a command: `words` are the arguments without the program's name. Answers, refusals and help that is asked for
+/// Runs a command: `words` are the arguments without the program's name. Answers, refusals and help that is asked for
 /// go to `out`. The text of a usage error, and what `hints` says about a refusal, go to `err`. The status is 0 if the
 /// command was done, 1 if it was refused, and 2 after a usage error. The command `live` is a usage error here. The
-/// status of `lint` and `diff` is 1 if something was found, and 2 after a refusal. If the output or `err` fails, the
+/// status of `load`, `lint` and `diff` is 1 if something was found, and 2 after a refusal. If the output or `err` fails, the
 /// status is 1 and nothing more is written there.
 pub fn command<'a, H: Hints, F: FileReader, O: Output, V: Output>(
     alloc: Global,
@@ -44,16 +47,16 @@ pub fn command<'a, H: Hints, F: FileReader, O: Output, V: Output>(
     out: &mut O,
     err: &mut V,
 ) -> u8
-    // If the words ask for something and no call of the output failed, the bytes put are those of the answer, and so is the status.
+    // If the arguments ask for something and no call of the output failed, the bytes put are those of the answer, and so is the status.
     ensures replied { RepliesToCommand F.tells F.file O.contents O.failures (texts_of words.entry.now) files.old out.old out.new result }
     // The same of a reader of any files: the answer is that of files which give what the reader answered in this call.
     ensures read { RepliesToCommandByReader F.answers O.contents O.failures (texts_of words.entry.now) files.old out.old out.new result }
-    // With status 0 nothing is written to the other output, if each further table was taken: that of any files which give what the reader answered.
+    // With status 0 nothing is written to `err`, if each further table was taken: that of any files which give what the reader answered.
     ensures quiet { (r : AskedBytes) → is_run r.verb ≡ false → AsksFor (texts_of words.entry.now) r
         → HasReadFrom F.answers (λ file. TakesEach file r → result ≡ 0 → err.new ≡ err.old) files.old }
     // The status is at most 1, or at most 2 of a command whose status 1 says that it found something.
     ensures asked { (r : AskedBytes) → is_run r.verb ≡ false → AsksFor (texts_of words.entry.now) r → result ≤ trouble_of r.verb }
-    // How it ends: help, mistakes, failures of either output, and what was passed on.
+    // How it ends: help, usage errors, failures of `out` or `err`, and what was passed on.
     ensures ends { EndsBy (kinds_of_words (texts_of words.entry.now)) (writing O.contents O.failures O.is_flushed out.old out.new)
         (writing V.contents V.failures V.is_flushed err.old err.new) result }
 {
@@ -185,11 +188,17 @@ fn reply_to<F: FileReader>(
     let form = options.form;
     match asked.verb {
         Verb::Word => word_reply(alloc, first),
+        Verb::Encode => encode_reply(alloc, first, &options.fields),
         Verb::Import => import_reply(alloc, files, first, seen),
         Verb::Plan => plan_reply(alloc, files, first, PlanText::Plan, seen),
         Verb::Check => check_reply(alloc, files, first, second, seen),
         Verb::Icd => plan_reply(alloc, files, first, PlanText::Document(form), seen),
         Verb::Margin => plan_reply(alloc, files, first, PlanText::Margin(form), seen),
+        Verb::Load => load_reply(alloc, files, first, options.limit, form, seen),
+        Verb::Slots => {
+            let form = SlotsForm::of(options);
+            slots_reply(alloc, files, first, options.group, form, seen)
+        }
         Verb::Lint => lint_reply(alloc, files, first, form, seen),
         Verb::Diff => diff_reply(alloc, files, first, second, options.all, form, seen),
         Verb::Draw => {

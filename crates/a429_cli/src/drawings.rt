@@ -31,7 +31,7 @@ impl Picture {
     ghost use Rattle.a429_console.specs.Requests.{given_of};
     ghost use Rattle.a429_cli.specs.Drawings.{picture_of};
 
-    /// What is asked for.
+    /// The picture that these options ask for.
     pub fn of(options: &Options) -> Picture
         ensures { result ≡ picture_of (given_of options.now) }
     {
@@ -55,8 +55,8 @@ fn group_numbered(groups: &[GroupRow], name: &str) -> Option<usize>
     groups.iter().position(|group| group.name.as_str() == name)
 }
 
-/// The number of the group that is drawn, or `None` for all if no name was given. A name that no group has is refused.
-fn group_asked(
+/// The number of the group that is asked for, or `None` for all if no name was given. A name that no group has is refused.
+pub fn group_asked(
     alloc: Global,
     groups: &[GroupRow],
     group: Option<&str>,

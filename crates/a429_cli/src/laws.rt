@@ -1,4 +1,5 @@
 //! What follows from the definitions of commands.
+ghost use Rattle.a429_cli.specs.Encoding.{EncodedWordsAreRead};
 ghost use Rattle.a429_cli.specs.SummaryLaws.{WordsAreWithinBounds};
 
 use a429_core::laws::accepted_words_go_out_in_time;
@@ -12,3 +13,8 @@ pub fn words_are_within_bounds()
     plans_in_force_are_spaced();
     accepted_words_go_out_in_time();
 }
+
+/// What `encode` prints is read as the word of its label and fields: by `word`, and in a script, a log or a file of words.
+pub fn encoded_words_are_read()
+    ensures { EncodedWordsAreRead }
+{}

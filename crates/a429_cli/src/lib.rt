@@ -1,24 +1,31 @@
 //! Commands of the program `a429`: from arguments and files to output bytes and a status. `command` does all but
 //! `live`, which `command_live` does.
 //!
-//! `run_program` is the whole program: it is given what has the words, hints, files, both outputs and threads, and
-//! answers the status. So tests run it over files in memory. A folder of `src/` is a command.
+//! `run_program` is the whole program: it takes what gives the arguments, hints, files, standard output, standard error
+//! and threads, and answers the status. So tests run it over files in memory. A folder of `src/` is a command.
 //!
 //! ```text
 //! let mut files = DiskFiles::new(&rt);
 //! let mut out = CountedWriter::new(rt.stdout());
+//! ..
 //! let mut err = CountedWriter::new(rt.stderr());
-//! let status = run_program(&rt, &rt, &hints, &mut files, &mut out, &mut err, &NoProgress);
+//! ..
+//! let line = ProgressLine::new(rt.alloc(), rt.stderr());
+//! run_program(&rt, &rt, &HintLines, &mut files, &mut out, &mut err, &line)
+//! ..
+//! ExitCode::from(status)
 //! ```
 #![tactic(auto)]
 
 mod commands;
 mod drawings;
+mod encode;
 mod findings;
 mod import;
 pub mod laws;
 mod lines;
 mod live;
+mod loads;
 mod names;
 mod opening;
 mod pending;
@@ -28,6 +35,7 @@ mod replay;
 mod replies;
 mod runs;
 mod simulate;
+mod slots;
 mod word;
 
 pub use a429_console::arguments::given::{Arguments, given_words};

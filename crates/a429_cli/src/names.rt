@@ -80,7 +80,7 @@ impl Model for Names {
 }
 
 impl Names {
-    /// Gathers the names of an equipment.
+    /// Gathers the names of an equipment. Error: an allocation failed.
     pub fn of(alloc: Global, equipment: &Equipment) -> Result<Names, AllocError>
         ensures { IfOk result (λ names. names ≡ naming_of equipment.now) }
     {
@@ -129,14 +129,14 @@ impl Names {
         push_names(alloc, &mut line.groups, self.groups.names())
     }
 
-    /// The number of the receiver with this name.
+    /// The number of the receiver with this name. `None` if there is none.
     pub fn receiver(&self, name: &[u8]) -> Option<u8>
         ensures { result ≡ number_named self.now.receivers name.now }
     {
         self.receivers.number(name)
     }
 
-    /// The number of the group with this name.
+    /// The number of the group with this name. `None` if there is none.
     pub fn group(&self, name: &[u8]) -> Option<u8>
         ensures { result ≡ number_named self.now.groups name.now }
     {

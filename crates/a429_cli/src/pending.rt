@@ -28,7 +28,7 @@ pub struct Pending {
 }
 
 impl Pending {
-    /// No lines.
+    /// An empty list of lines.
     pub fn new(alloc: Global) -> Pending
         ensures { result.text.items ≡ [] }
     {
@@ -76,7 +76,7 @@ impl Pending {
     }
 }
 
-/// Puts lines out if they have become many, and goes on with none then.
+/// Puts lines out if they have become many, and goes on with none then. Error: the output failed.
 pub fn put_if_full<O: Output>(text: &mut Vec<u8>, out: &mut O) -> Result<(), OutputFault>
     ensures put { OnOk result (AppendsPending (O.contents out.old) text.old.items (O.contents out.new) text.new.items []) }
     ensures few { OnOk result (length text.new.items < 65536) }

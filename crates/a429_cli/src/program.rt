@@ -31,7 +31,7 @@ fn texts(alloc: Global, words: &[String]) -> Result<Vec<&str>, AllocError>
     Ok(texts)
 }
 
-/// Whether the first word is `live`.
+/// Whether the first argument is `live`.
 fn is_live(words: &[&str]) -> bool
     ensures { result ≡ is_live (texts_of words.now) }
 {
@@ -96,8 +96,8 @@ fn answer<'a, H: Hints, F: FileReader, O: Output, V: Output>(
     command(alloc, words, hints, files, out, err)
 }
 
-/// Does what the words ask for. The status is the one that `command` answers, or `command_live` if the first word is
-/// `live`.
+/// Does what the arguments ask for. The status is the one that `command` answers, or `command_live` if the first
+/// argument is `live`.
 fn run_words<
     H: Hints,
     R: AllocGlobal + Threads + Wait,
@@ -120,9 +120,9 @@ fn run_words<
     }
 }
 
-/// Runs the program: does the command that its words ask for, `live` too. Answers and refusals go to `out`, the text of
-/// a usage error and hints to `err`; arguments that are not all UTF-8 are a usage error. While a station runs,
-/// `progress` gets reports of how far it is. The status is the program's: 0 if the command was done; 1 if it was
+/// Runs the program: does the command that its arguments ask for, `live` too. Answers and refusals go to `out`, the
+/// text of a usage error and hints to `err`; arguments that are not all UTF-8 are a usage error. While a station runs,
+/// `progress` gets reports of its progress. The status is the program's: 0 if the command was done; 1 if it was
 /// refused, if something was found, or if an output failed; 2 after a usage error, and after a refusal of `lint` or
 /// `diff`. It may wait for the threads of a station.
 pub fn run_program<

@@ -12,8 +12,9 @@ use a429_console::output::{Output, OutputFault};
 use a429_console::refusals::{CommandRefusal, refuse_as};
 use std::alloc::Global;
 
-/// Puts what a command answers, or the line of its refusal, which is kept in `seen`. If an allocation for that line fails,
-/// the line is `refused memory`. The status is that of the reply, or after a refusal that of trouble.
+/// Puts what a command answers, or the line of its refusal, which is kept in `seen`. If an allocation for that line
+/// fails, the line is `refused memory`. The status is that of the reply, or `trouble` after a refusal. Error: the
+/// output failed.
 pub fn put_reply<O: Output>(
     alloc: Global,
     reply: Result<Reply, CommandRefusal>,

@@ -49,7 +49,7 @@ pub struct SimulationForm {
 impl SimulationForm {
     ghost use Rattle.std.specs.Prelude.{◌≡◌};
 
-    /// What is asked for.
+    /// The form that these options ask for.
     pub fn of(options: &Options) -> SimulationForm
         ensures { result ≡ record { until = options.now.until; summary = options.now.summary; form = options.now.form } }
     {

@@ -35,6 +35,8 @@ replay_has_words table script a b = record {
   more = tt;
   options = can_give_nothing;
   summarized = λ _ json. absurd (false≢true json);
+  coded = λ code. absurd (false≢true code);
+  encoded = λ made. absurd (cc made);
   others = λ name none. nothing_given name;
 }
 

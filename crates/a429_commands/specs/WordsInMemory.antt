@@ -13,7 +13,7 @@ IsWordAt words place bytes = slice_get words place ≡ Some bytes
 abbrev pub HasNoWordAt : List (List ℕ) → ℕ → Type 0
 HasNoWordAt words place = slice_get words place ≡ None
 
--- the words that follow the path of the program, in order
+-- the arguments after the path of the program, in order
 abbrev pub after_path : List (List ℕ) → List (List ℕ)
 after_path words = drop 1 words
 

@@ -85,7 +85,7 @@ pub struct Ended<'a> {
     pub err: Failing<'a>,
 }
 
-/// Does a command with these files and these two writers.
+/// Runs a command with these files and these two writers.
 pub fn run_on<'a>(
     words: &[&str],
     files: TextFiles<'_>,

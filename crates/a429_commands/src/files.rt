@@ -58,22 +58,25 @@ fn a_reader_may_refuse_any_file(rt: HostRuntime) {
 }
 
 /// Commands, and how many files each has.
-static COMMANDS: [(&[&str], usize); 12] = [
+static COMMANDS: [(&[&str], usize); 15] = [
     (&["word", "600000c1"], 0),
+    (&["encode", "203", "--data", "0"], 0),
     (&["lines", "t"], 1),
     (&["import", "t"], 1),
     (&["plan", "t"], 1),
     (&["check", "t", "u"], 2),
     (&["icd", "t"], 1),
-    (&["draw", "t"], 1),
     (&["margin", "t"], 1),
+    (&["load", "t"], 1),
+    (&["slots", "t"], 1),
     (&["lint", "t"], 1),
     (&["diff", "t", "u"], 2),
+    (&["draw", "t"], 1),
     (&["replay", "t", "s", "u", "u"], 4),
     (&["simulate", "t", "s"], 2),
 ];
 
-/// How many files a command reads, if it is no mistake: a mistake writes nothing to standard output.
+/// How many files a command reads, unless it is a usage error, which writes nothing to standard output.
 fn count_reads(alloc: Global, words: &[&str]) -> Option<usize> {
     let any = Failing::new(b"", true);
     let ended = run_on(words, TextFiles::new(alloc, "", 0), any, any);

@@ -12,7 +12,7 @@ use std::thread::Threads;
 type ProgramRow = (&'static [&'static [u8]], u8, &'static [u8], &'static [u8]);
 
 static RUNS: [ProgramRow; 2] = [
-    // A word that is no text is a mistake.
+    // An argument that is not text is a usage error.
     (&[b"a429", b"word", b"600000c1", b"\xff"], 2, b"", b""),
     // A word of any length is read.
     (

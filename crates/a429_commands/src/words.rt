@@ -10,7 +10,7 @@ use std::env::FillError;
 use std::sync::Wait;
 use std::thread::Threads;
 
-/// Words as a system has them, which need not be text. The first is the path of the program.
+/// Arguments as a system gives them, which need not be text. The first is the path of the program.
 #[derive(Clone, Copy)]
 pub struct MemoryWords<'a, 'w> {
     pub words: &'a [&'w [u8]],
@@ -37,7 +37,7 @@ impl Arguments for MemoryWords<'_, '_> {
     }
 }
 
-/// Runs the program on words in memory. The words that follow the path reach their command unaltered.
+/// Runs the program on arguments in memory. Those after the path reach their command unaltered.
 pub fn run_on_words<
     R: AllocGlobal + Threads + Wait,
     H: Hints,

@@ -1,7 +1,7 @@
 -- The plain form of a request asks for it.
-use Rattle.std.proofs.Common.{◌≡◌, ◌∙◌, ap, refl, inl, inr, subst, sym, true, false, codes, Bool, List, [], ◌∷◌, ◌++◌, map, append-nil, append_assoc, arith}
-use Rattle.std.specs.Prelude.{◌^◌, ◌<◌, ◌≤◌, ◌+◌, ◌&&◌, ◌||◌, ℕ, Option, min, Some, None, IfSome, MatchOption, ⊤, if◌then◌else◌, not, option_map}
-use Rattle.std.specs.Fmt.{decimal, digits}
+use Rattle.std.proofs.Common.{◌≡◌, ◌∙◌, ap, refl, subst, sym, true, false, codes, Bool, List, [], ◌∷◌, ◌++◌, map, append-nil, append_assoc, arith}
+use Rattle.std.specs.Prelude.{◌^◌, ◌<◌, ◌≤◌, ◌+◌, ◌&&◌, ◌||◌, ℕ, Option, min, Some, None, IfSome, MatchOption, ⊤, if◌then◌else◌, is_some, not, option_map}
+use Rattle.std.specs.Fmt.{decimal}
 use Rattle.std.specs.List.{AllByRecursion, list_all}
 use Rattle.std.specs.Str.{bytes_eq}
 use Rattle.std.specs.Str.Parse.{digits_value, without_leading_plus}
@@ -14,18 +14,19 @@ use Rattle.clap.specs.Words.{Row, Rule, Shape, Text, first_of, one_of}
 use Rattle.clap.specs.Takes.{value_passes}
 use Rattle.clap.specs.Walk.{Held, finished, has_row, idle, nothing_held, settled, walk_from}
 use Rattle.a429_equipment.specs.Limits.{most_frames}
-use Rattle.a429_console.specs.CommandLine.{All, CommandRow, Csv, Group, Html, Json, OptionName, Slots, Summary, Until, Width, last_time, most_slots, options_of, row_of}
-use Rattle.a429_console.specs.Requests.{AskedBytes, CanBeGiven, HasWords, IsName, IsWidth, OptionBytes, flag_word, has_option, is_csv, is_flag, is_json, word_given, words_if, words_of, words_of_options, words_with}
-use Rattle.a429_console.specs.RequestRows.{AreOptions, AsksFor, IsAskedBy, form_given, form_of, is_set, number_of, values_of, width_given}
+use Rattle.a429_console.specs.CommandLine.{All, Bcd, Bits, Bnr, Code, CommandRow, Csv, Data, Group, Html, Json, Limit, OptionName, Sdi, Slots, Ssm, Summary, Until, Width, last_time, most_bits, most_pair, most_percent, most_slots, options_of, row_of}
+use Rattle.a429_console.specs.Requests.{AskedBytes, HasWords, IsName, OptionBytes, flag_word, has_one_value, has_option, is_csv, is_flag, is_json, word_given, words_if, words_of, words_of_options, words_with}
+use Rattle.a429_console.specs.RequestRows.{AreFields, AreOptions, AsksFor, IsAskedBy, form_given, form_of, is_set, is_value_given, number_of, values_of, width_given}
 use Rattle.a429_text.specs.declared.sheets.SheetForm.{SheetForm}
 use Rattle.a429_text.specs.declared.sheets.SheetForm.TheVariants as form
 use Rattle.a429_console.specs.declared.arguments.forms.Verb.{Verb}
 use Rattle.a429_console.specs.declared.arguments.forms.Verb.TheVariants as verb
 use Rattle.a429_console.proofs.CommandFacts.{AreAt, Facts, IsAtIf, all_options, new, others, plain_leaf, required, facts, ids_after, ids_if, many_at, many_is_many, name_at, name_is_single, next_if, number_at, number_is_single, position_after, shape, use_if, uses}
 use Rattle.a429_console.proofs.CommandWords.{asks_for, ends_well, row, row_of_words}
-use Rattle.a429_console.proofs.Decimals.{decimal_is_name, decimal_passes, number_of_decimal}
+use Rattle.a429_console.proofs.Decimals.{decimal_is_name, number_of_decimal}
 use Rattle.a429_console.proofs.FoundRows.{flag_unset, option_found, option_missing, required_given, still_found, still_missing, use_id, use_row, uses_found, uses_still_found, with_defaults}
 use Rattle.a429_console.proofs.OptionWords.{AreFound, WordPasses, id_of, options_read, rows_of_options, rows_of_word, same_option}
+use Rattle.a429_console.proofs.PassingOptions.{from_zero, width_of_decimal, words_pass}
 use Rattle.a429_console.proofs.PlainWords.{IsPlainWord, at_word, for_none, name_is_plain}
 use Rattle.a429_console.proofs.SettledWords.{IsSingle, Reads, Settles, all_settles, held_with, many_read, rows_of_many, single_read, value_settles}
 use Rattle.a429_console.proofs.UsedRows.{Within, all_new, not_so, found_before, found_behind, has_id, is_new, missing_in_both, none_found, rest_is_new, row_at, same_text, within_more, within_passed}
@@ -103,66 +104,26 @@ more_read s o names (Some id) more i ids h rows passes found (at, by) words new 
     many_read s (many_at i id) i rows [] more (words_of_options o names) h idle end (many_is_many i id) at by none for_none (subst (Settles s h) (sym (append-nil rows)) settles) words
     (λ g w takes settled. options_read s o passes i names (id ∷ ids) g w (rows ++ rows_of_many id more) found (rest_is_new ids id (map id_of names) new) (within_many id more rows ids within) takes settled)
 
--- ---- what is given of the options passes
-
-word_passes : (word : Option Text) → IfSome word IsName → IfSome word (λ w. IsPlainWord w × (true ≡ true))
-word_passes None name = tt
-word_passes (Some w) name = (name_is_plain w name, refl)
-
-number_passes : (least most : ℕ) (number : Option ℕ) → most < 2 ^ 64 → IfSome number (λ n. (least ≤ n) × (n ≤ most)) → IfSome (option_map decimal number) (λ w. IsPlainWord w × (is_unsigned_in least most w ≡ true))
-number_passes least most None few plain = tt
-number_passes least most (Some n) few plain =
-    let small : n < 2 ^ 64 = omega (arith, plain.1, few) in
-    (name_is_plain (decimal n) (decimal_is_name n small), decimal_passes least most n plain.0 plain.1 small)
-
-width_is_small : (w : ℕ) → IsWidth w → w < 2 ^ 64
-width_is_small w (inl is) = omega (arith, is)
-width_is_small w (inr (inl is)) = omega (arith, is)
-width_is_small w (inr (inr is)) = omega (arith, is)
-
-width_passes : (width : Option ℕ) → IfSome width IsWidth → IfSome (option_map decimal width) (λ w. IsPlainWord w × (true ≡ true))
-width_passes None is = tt
-width_passes (Some w) is = (name_is_plain (decimal w) (decimal_is_name w (width_is_small w is)), refl)
-
-flag_passes : (b : Bool) → IfSome (flag_word b) (λ w. IsPlainWord w × (bytes_eq w (codes "true") || bytes_eq w (codes "false") ≡ true))
-flag_passes true = (record { no_end = refl; no_long = refl; no_short = refl }, refl)
-flag_passes false = tt
-
-from_zero : (until : Option ℕ) → IfSome until (λ n. n ≤ last_time) → IfSome until (λ n. (0 ≤ n) × (n ≤ last_time))
-from_zero None few = tt
-from_zero (Some n) few = (omega arith, few)
-
-pub words_pass : (o : OptionBytes) → ((name : OptionName) → CanBeGiven o name) → (name : OptionName) → WordPasses name (word_given o name)
-words_pass o can Csv = flag_passes (is_csv o.form)
-words_pass o can Json = flag_passes (is_json o.form)
-words_pass o can All = flag_passes o.all
-words_pass o can Group = word_passes o.group (can Group)
-words_pass o can Slots = number_passes 1 most_slots o.slots (omega arith) (can Slots)
-words_pass o can Width = width_passes o.width (can Width)
-words_pass o can Html = flag_passes o.html
-words_pass o can Until = number_passes 0 last_time o.until (omega arith) (from_zero o.until (can Until))
-words_pass o can Summary = flag_passes o.summary
-
--- a width that there is, in decimal digits, is read as it
-width_of_decimal : (width : Option ℕ) → IfSome width IsWidth → width_given (option_map decimal width) ≡ Some width
-unfolding digits
-width_of_decimal None c = refl
-width_of_decimal (Some w) (inl is) = rw is refl
-width_of_decimal (Some w) (inr (inl is)) = rw is refl
-width_of_decimal (Some w) (inr (inr is)) = rw is refl
-
 -- ---- what is found at the end
 
 at_option : (Q : OptionName → Type 0) → AllByRecursion Q all_options → (name : OptionName) → Q name
-at_option Q (a, (b, (c, (d, (e, (f, (g, (h, (i, _))))))))) Csv = a
-at_option Q (a, (b, (c, (d, (e, (f, (g, (h, (i, _))))))))) Json = b
-at_option Q (a, (b, (c, (d, (e, (f, (g, (h, (i, _))))))))) All = c
-at_option Q (a, (b, (c, (d, (e, (f, (g, (h, (i, _))))))))) Group = d
-at_option Q (a, (b, (c, (d, (e, (f, (g, (h, (i, _))))))))) Slots = e
-at_option Q (a, (b, (c, (d, (e, (f, (g, (h, (i, _))))))))) Width = f
-at_option Q (a, (b, (c, (d, (e, (f, (g, (h, (i, _))))))))) Html = g
-at_option Q (a, (b, (c, (d, (e, (f, (g, (h, (i, _))))))))) Until = h
-at_option Q (a, (b, (c, (d, (e, (f, (g, (h, (i, _))))))))) Summary = i
+at_option Q (a, (b, (c, (d, (e, (f, (g, (h, (i, (j, (k, (l, (m, (n, (o, (p, (q, _))))))))))))))))) Csv = a
+at_option Q (a, (b, (c, (d, (e, (f, (g, (h, (i, (j, (k, (l, (m, (n, (o, (p, (q, _))))))))))))))))) Json = b
+at_option Q (a, (b, (c, (d, (e, (f, (g, (h, (i, (j, (k, (l, (m, (n, (o, (p, (q, _))))))))))))))))) All = c
+at_option Q (a, (b, (c, (d, (e, (f, (g, (h, (i, (j, (k, (l, (m, (n, (o, (p, (q, _))))))))))))))))) Group = d
+at_option Q (a, (b, (c, (d, (e, (f, (g, (h, (i, (j, (k, (l, (m, (n, (o, (p, (q, _))))))))))))))))) Slots = e
+at_option Q (a, (b, (c, (d, (e, (f, (g, (h, (i, (j, (k, (l, (m, (n, (o, (p, (q, _))))))))))))))))) Width = f
+at_option Q (a, (b, (c, (d, (e, (f, (g, (h, (i, (j, (k, (l, (m, (n, (o, (p, (q, _))))))))))))))))) Html = g
+at_option Q (a, (b, (c, (d, (e, (f, (g, (h, (i, (j, (k, (l, (m, (n, (o, (p, (q, _))))))))))))))))) Until = h
+at_option Q (a, (b, (c, (d, (e, (f, (g, (h, (i, (j, (k, (l, (m, (n, (o, (p, (q, _))))))))))))))))) Summary = i
+at_option Q (a, (b, (c, (d, (e, (f, (g, (h, (i, (j, (k, (l, (m, (n, (o, (p, (q, _))))))))))))))))) Code = j
+at_option Q (a, (b, (c, (d, (e, (f, (g, (h, (i, (j, (k, (l, (m, (n, (o, (p, (q, _))))))))))))))))) Limit = k
+at_option Q (a, (b, (c, (d, (e, (f, (g, (h, (i, (j, (k, (l, (m, (n, (o, (p, (q, _))))))))))))))))) Sdi = l
+at_option Q (a, (b, (c, (d, (e, (f, (g, (h, (i, (j, (k, (l, (m, (n, (o, (p, (q, _))))))))))))))))) Ssm = m
+at_option Q (a, (b, (c, (d, (e, (f, (g, (h, (i, (j, (k, (l, (m, (n, (o, (p, (q, _))))))))))))))))) Data = n
+at_option Q (a, (b, (c, (d, (e, (f, (g, (h, (i, (j, (k, (l, (m, (n, (o, (p, (q, _))))))))))))))))) Bnr = o
+at_option Q (a, (b, (c, (d, (e, (f, (g, (h, (i, (j, (k, (l, (m, (n, (o, (p, (q, _))))))))))))))))) Bits = p
+at_option Q (a, (b, (c, (d, (e, (f, (g, (h, (i, (j, (k, (l, (m, (n, (o, (p, (q, _))))))))))))))))) Bcd = q
 
 each_of : (P : OptionName → Bool) (names : List OptionName) → list_all P names ≡ true → AllByRecursion (λ (name : OptionName). P name ≡ true) names
 each_of P [] all = tt
@@ -185,16 +146,27 @@ all_parts : (P : Rule × Text → Type 0) (us vs : List (Rule × Text)) → AllB
 all_parts P [] vs all = (tt, all)
 all_parts P (u ∷ us) vs all = let parts = all_parts P us vs all.1 in ((all.0, parts.0), parts.1)
 
--- a form is the one that its two options ask for, if they do not ask for lines as JSON
-form_is : (f : SheetForm) (lines : Bool) → (is_json f ≡ true → lines ≡ false) → (if is_json f && lines then None else form_of (is_csv f) (is_json f)) ≡ Some f
-form_is form.Columns lines none = refl
-form_is form.Csv lines none = refl
-form_is form.Json lines none = rw (none refl) refl
+-- a form is the one that its options ask for, if they do not ask for lines as JSON, nor for a header in another form
+form_is : (f : SheetForm) (lines code : Bool) → (is_json f ≡ true → lines ≡ false) → (code ≡ true → f ≡ form.Columns) → (if is_json f && lines then None else form_of code (is_csv f) (is_json f)) ≡ Some f
+form_is form.Columns lines code none plain = refl
+form_is form.Csv lines false none plain = refl
+form_is form.Csv lines true none plain = absurd (cc (plain refl))
+form_is form.Json lines false none plain = rw (none refl) refl
+form_is form.Json lines true none plain = absurd (cc (plain refl))
 
 -- no command but `simulate` prints lines, nor does that if its summary is asked for
 lines_of : (v : Verb) (summary : Bool) → (v ≡ verb.Simulate → summary ≡ true) → (bytes_eq (row_of v).name (codes "simulate") && not summary) ≡ false
 lines_of verb.Simulate summary all = rw (all refl) refl
 lines_of _ summary all = refl
+
+-- no command but `encode` needs a value
+made_of : (v : Verb) (given : Bool) → (v ≡ verb.Encode → given ≡ true) → (bytes_eq (row_of v).name (codes "encode") && not given) ≡ false
+made_of verb.Encode given all = rw (all refl) refl
+made_of _ given all = refl
+
+some_mapped : {A B : Type 0} (f : A → B) (x : Option A) → is_some (option_map f x) ≡ is_some x
+some_mapped f None = refl
+some_mapped f (Some x) = refl
 
 -- the values of a command, and the rows of them
 module _ (r : AskedBytes) (us : List (Rule × Text)) (f : Facts r.verb us) (has : HasWords r) where
@@ -271,12 +243,39 @@ module _ (r : AskedBytes) (us : List (Rule × Text)) (f : Facts r.verb us) (has 
   one_field name None value is = rw (value_row name None value is) refl
   one_field name (Some word) value is = rw (value_row name (Some word) value is) refl
 
+  pair_field : (name : OptionName) (number : Option ℕ) → is_flag name ≡ false → word_given r.options name ≡ option_map decimal number → IfSome number (λ n. n ≤ most_pair)
+      → number_of 0 most_pair (one_of (id_of name) end_rows) ≡ Some number
+  pair_field name number value is few =
+      ap (number_of 0 most_pair) (one_field name (option_map decimal number) value is) ∙ number_of_decimal 0 most_pair number (omega arith) (from_zero most_pair number few)
+
+  fields_are_read : AreFields end_rows r.options.fields
+  fields_are_read = record {
+    sdi = pair_field Sdi r.options.fields.sdi refl refl (has.options Sdi);
+    ssm = pair_field Ssm r.options.fields.ssm refl refl (has.options Ssm);
+    hex = first_field Data r.options.fields.hex refl refl;
+    bnr = first_field Bnr r.options.fields.bnr refl refl;
+    bits =
+        ap (number_of 1 most_bits) (one_field Bits (option_map decimal r.options.fields.bits) refl refl)
+        ∙ number_of_decimal 1 most_bits r.options.fields.bits (omega arith) (has.options Bits);
+    bcd = first_field Bcd r.options.fields.bcd refl refl;
+  }
+
+  value_is : is_value_given end_rows ≡ has_one_value r.options.fields
+  value_is =
+      rw (
+        first_field Data r.options.fields.hex refl refl,
+        first_field Bnr r.options.fields.bnr refl refl,
+        first_field Bcd r.options.fields.bcd refl refl,
+        first_field Bits (option_map decimal r.options.fields.bits) refl refl,
+        some_mapped decimal r.options.fields.bits,
+      ) refl
+
   pub options_are_read : AreOptions (row_of v).name end_rows r.options
   options_are_read = record {
     form =
-        rw (flag_field Csv (is_csv r.options.form) refl, flag_field Json (is_json r.options.form) refl)
-        (form_is r.options.form (bytes_eq (row_of v).name (codes "simulate") && not (is_set (one_of (codes "summary") end_rows)))
-        (λ json. lines_of v (is_set (one_of (codes "summary") end_rows)) (λ simulates. flag_field Summary r.options.summary refl ∙ has.summarized simulates json)));
+        rw (flag_field Csv (is_csv r.options.form) refl, flag_field Json (is_json r.options.form) refl, flag_field Code r.options.code refl)
+        (form_is r.options.form (bytes_eq (row_of v).name (codes "simulate") && not (is_set (one_of (codes "summary") end_rows))) r.options.code
+        (λ json. lines_of v (is_set (one_of (codes "summary") end_rows)) (λ simulates. flag_field Summary r.options.summary refl ∙ has.summarized simulates json)) has.coded);
     all = flag_field All r.options.all refl;
     group = first_field Group r.options.group refl refl;
     slots = ap (number_of 1 most_slots) (one_field Slots (option_map decimal r.options.slots) refl refl) ∙ number_of_decimal 1 most_slots r.options.slots (omega arith) (has.options Slots);
@@ -284,8 +283,14 @@ module _ (r : AskedBytes) (us : List (Rule × Text)) (f : Facts r.verb us) (has 
     html = flag_field Html r.options.html refl;
     until =
         ap (number_of 0 last_time) (one_field Until (option_map decimal r.options.until) refl refl)
-        ∙ number_of_decimal 0 last_time r.options.until (omega arith) (from_zero r.options.until (has.options Until));
+        ∙ number_of_decimal 0 last_time r.options.until (omega arith) (from_zero last_time r.options.until (has.options Until));
     summary = flag_field Summary r.options.summary refl;
+    code = flag_field Code r.options.code refl;
+    limit =
+        ap (number_of 1 most_percent) (one_field Limit (option_map decimal r.options.limit) refl refl)
+        ∙ number_of_decimal 1 most_percent r.options.limit (omega arith) (has.options Limit);
+    fields = fields_are_read;
+    value = made_of v (is_value_given end_rows) (λ made. value_is ∙ has.encoded made);
   }
 
   -- ---- the other values

@@ -14,7 +14,7 @@ use Rattle.clap.specs.declared.builder.command.Command.TheViews.{out-Command}
 use Rattle.clap.proofs.ValueTestLemmas.{accepts-Accepts}
 use Rattle.a429_console.specs.CommandLine.{CommandRow, many_rule, number_rule, required_rule, row_app, with_any}
 use Rattle.a429_console.specs.RequestRows.{is_set, number_of}
-use Rattle.a429_console.specs.Requests.{AskedBytes, OptionBytes}
+use Rattle.a429_console.specs.Requests.{AskedBytes, FieldBytes, OptionBytes}
 use Rattle.a429_console.specs.declared.arguments.forms.Verb.{Verb}
 use Rattle.a429_text.specs.declared.sheets.SheetForm.{SheetForm}
 use Rattle.std.specs.Borrow.{Bor}
@@ -83,10 +83,15 @@ name_is None default text is = absurd (cc is)
 name_is (Some t) default text is = same_Some t.now text is
 
 -- what is given of the options is read as it
-pub options_are : (o : OptionBytes) (f : SheetForm) (all html summary : Bool) (group : Option Text) (slots width until : Option ℕ) → f ≡ o.form → all ≡ o.all → group ≡ o.group → slots ≡ o.slots
-    → width ≡ o.width → html ≡ o.html → until ≡ o.until → summary ≡ o.summary
-    → record { form = f; all = all; group = group; slots = slots; width = width; html = html; until = until; summary = summary } ≡ o
-options_are o f all html summary group slots width until a b c d e g h i = rw (a, b, c, d, e, g, h, i) refl
+pub options_are : (o : OptionBytes) (f : SheetForm) (all html summary code : Bool) (group : Option Text) (slots width until limit : Option ℕ) (fields : FieldBytes) → f ≡ o.form → all ≡ o.all
+    → group ≡ o.group → slots ≡ o.slots → width ≡ o.width → html ≡ o.html → until ≡ o.until → summary ≡ o.summary → code ≡ o.code → limit ≡ o.limit → fields ≡ o.fields
+    → record { form = f; all = all; group = group; slots = slots; width = width; html = html; until = until; summary = summary; code = code; limit = limit; fields = fields } ≡ o
+options_are o f all html summary code group slots width until limit fields a b c d e g h i j k l = rw (a, b, c, d, e, g, h, i, j, k, l) refl
+
+-- and of the fields of a word
+pub fields_are : (f : FieldBytes) (sdi ssm bits : Option ℕ) (hex bnr bcd : Option Text) → sdi ≡ f.sdi → ssm ≡ f.ssm → hex ≡ f.hex → bnr ≡ f.bnr → bits ≡ f.bits → bcd ≡ f.bcd
+    → record { sdi = sdi; ssm = ssm; hex = hex; bnr = bnr; bits = bits; bcd = bcd } ≡ f
+fields_are f sdi ssm bits hex bnr bcd a b c d e g = rw (a, b, c, d, e, g) refl
 
 -- and so is all that is asked for
 pub asked_is : (r : AskedBytes) (v : Verb) (first second : Text) (number : ℕ) (more : List Text) (options : OptionBytes) → v ≡ r.verb → first ≡ r.first → second ≡ r.second → number ≡ r.number → more ≡ r.more

@@ -21,5 +21,6 @@ pub mod CallEnds
 pub mod OptionWords
 pub mod FoundRows
 pub mod CommandFacts
+pub mod PassingOptions
 pub mod AskedWords
 pub mod NoOptions

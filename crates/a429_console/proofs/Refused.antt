@@ -10,6 +10,8 @@ pub or_memory_weaker : (P Q : CommandRefusal → Type 0) (r : CommandRefusal) �
 or_memory_weaker P Q (refused.File name) more p = more p
 or_memory_weaker P Q refused.WordText more p = more p
 or_memory_weaker P Q refused.Parity more p = more p
+or_memory_weaker P Q refused.LabelText more p = more p
+or_memory_weaker P Q refused.DataText more p = more p
 or_memory_weaker P Q (refused.LineByte place) more p = more p
 or_memory_weaker P Q (refused.Filter number) more p = more p
 or_memory_weaker P Q (refused.Table kind place) more p = more p
@@ -42,6 +44,8 @@ pub table_fault_refuses : (table : List ℕ) (r : CommandRefusal) → IsTableFau
 table_fault_refuses table (refused.File name) f = absurd f
 table_fault_refuses table refused.WordText f = absurd f
 table_fault_refuses table refused.Parity f = absurd f
+table_fault_refuses table refused.LabelText f = absurd f
+table_fault_refuses table refused.DataText f = absurd f
 table_fault_refuses table (refused.LineByte place) f = absurd f
 table_fault_refuses table (refused.Filter number) f = absurd f
 table_fault_refuses table (refused.Table kind place) f = f

@@ -43,6 +43,18 @@ number_value_rule name least most = record (value_rule name) { parser = Some (re
 abbrev pub most_slots : ℕ
 most_slots = 8192
 
+-- a limit of the load of a bus, in per cent
+abbrev pub most_percent : ℕ
+most_percent = 100
+
+-- the greatest SDI, and the greatest SSM (ARINC 429 Part 1: two bits each)
+abbrev pub most_pair : ℕ
+most_pair = 3
+
+-- the most bits of a BNR number below its sign (ARINC 429 Part 1)
+abbrev pub most_bits : ℕ
+most_bits = 18
+
 -- the last microsecond until which cells can be asked for: fourteen digits
 abbrev pub last_time : ℕ
 last_time = 99999999999999
@@ -57,6 +69,14 @@ pub data OptionName : Type 0 where
   Html : OptionName
   Until : OptionName
   Summary : OptionName
+  Code : OptionName
+  Limit : OptionName
+  Sdi : OptionName
+  Ssm : OptionName
+  Data : OptionName
+  Bnr : OptionName
+  Bits : OptionName
+  Bcd : OptionName
 
 abbrev pub option_rule : OptionName → Rule
 option_rule Csv = flag_rule (codes "csv")
@@ -68,13 +88,24 @@ option_rule Width = value_rule (codes "width")
 option_rule Html = flag_rule (codes "html")
 option_rule Until = number_value_rule (codes "until") 0 last_time
 option_rule Summary = flag_rule (codes "summary")
+option_rule Code = flag_rule (codes "c")
+option_rule Limit = number_value_rule (codes "limit") 1 most_percent
+option_rule Sdi = number_value_rule (codes "sdi") 0 most_pair
+option_rule Ssm = number_value_rule (codes "ssm") 0 most_pair
+option_rule Data = value_rule (codes "data")
+option_rule Bnr = value_rule (codes "bnr")
+option_rule Bits = number_value_rule (codes "bits") 1 most_bits
+option_rule Bcd = value_rule (codes "bcd")
 
 -- ---- the commands
 
 -- the options of a command, in the order in which help lists them
 abbrev pub options_of : Verb → List OptionName
+options_of verb.Encode = Sdi ∷ Ssm ∷ Data ∷ Bnr ∷ Bits ∷ Bcd ∷ []
 options_of verb.Icd = Csv ∷ Json ∷ []
 options_of verb.Margin = Csv ∷ Json ∷ []
+options_of verb.Load = Limit ∷ Csv ∷ Json ∷ []
+options_of verb.Slots = Group ∷ All ∷ Code ∷ Csv ∷ Json ∷ []
 options_of verb.Lint = Csv ∷ Json ∷ []
 options_of verb.Diff = All ∷ Csv ∷ Json ∷ []
 options_of verb.Draw = Group ∷ Slots ∷ Width ∷ Html ∷ []
@@ -100,12 +131,15 @@ with_table v name = with_one v name (codes "TABLE")
 
 abbrev pub row_of : Verb → CommandRow
 row_of verb.Word = with_one verb.Word (codes "word") (codes "HEX")
+row_of verb.Encode = with_one verb.Encode (codes "encode") (codes "LABEL")
 row_of verb.Lines = record (with_one verb.Lines (codes "lines") (codes "FILE")) { more = Some (codes "FILTER") }
 row_of verb.Import = with_one verb.Import (codes "import") (codes "FILE")
 row_of verb.Plan = with_table verb.Plan (codes "plan")
 row_of verb.Check = record (with_table verb.Check (codes "check")) { second = Some (codes "PLAN") }
 row_of verb.Icd = with_table verb.Icd (codes "icd")
 row_of verb.Margin = with_table verb.Margin (codes "margin")
+row_of verb.Load = with_table verb.Load (codes "load")
+row_of verb.Slots = with_table verb.Slots (codes "slots")
 row_of verb.Lint = with_table verb.Lint (codes "lint")
 row_of verb.Diff = record (with_table verb.Diff (codes "diff")) { second = Some (codes "OTHER") }
 row_of verb.Draw = with_table verb.Draw (codes "draw")
@@ -117,8 +151,8 @@ row_of verb.Live =
 -- all of them, in the order in which help lists them
 abbrev pub verbs : List Verb
 verbs =
-    verb.Word ∷ verb.Lines ∷ verb.Import ∷ verb.Plan ∷ verb.Check ∷ verb.Icd ∷ verb.Margin ∷ verb.Lint ∷ verb.Diff ∷ verb.Draw ∷ verb.Replay ∷ verb.Simulate
-    ∷ verb.Live ∷ []
+    verb.Word ∷ verb.Encode ∷ verb.Lines ∷ verb.Import ∷ verb.Plan ∷ verb.Check ∷ verb.Icd ∷ verb.Margin ∷ verb.Load ∷ verb.Slots ∷ verb.Lint ∷ verb.Diff ∷ verb.Draw
+    ∷ verb.Replay ∷ verb.Simulate ∷ verb.Live ∷ []
 
 -- ---- the command line
 

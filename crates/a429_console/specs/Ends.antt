@@ -1,4 +1,4 @@
--- How a call ends: what became of the output and of the other one, and the status (profile: output).
+-- How a call ends: what happened to `out` and `err`, and the status (profile: output).
 use Rattle.std.specs.Prelude.{◌≡◌, ◌≢◌, ◌≤◌, ◌+◌, [], ◌⊎◌, ℕ, List, Bool, true, false, Option, IsTrue, Result, IfOk, OnErr, OnOk}
 use Rattle.std.specs.Io.KnownBytes.{Appends}
 use Rattle.clap.specs.Words.{Kinds}
@@ -42,11 +42,11 @@ FailsOnce w = (w.failures w.new).count ≤ (w.failures w.old).count + 1
 abbrev pub IsPutTo : {X : Type 0} → (ℕ → List ℕ → Type 0) → Writing X → ℕ → Type 0
 IsPutTo Says w status = IsPut Says (w.contents w.old) (w.contents w.new) status
 
--- a mistake was reported, and nothing was put
+-- a usage error was reported, and nothing was put
 abbrev pub IsMistakeTold : {X Y : Type 0} → Writing X → Writing Y → ℕ → Type 0
 IsMistakeTold out err status = IsPutTo (IsUsageReply (err.failures err.old) (err.failures err.new)) out status
 
--- how a failure of the output is reported on the other one
+-- how a failure of the output is reported on `err`
 pub record TellsFailure {X Y : Type 0} (out : Writing X) (err : Writing Y) : Type 0 where
   -- one line says it
   pub announced : HasFailedBy false (out.failures out.old) (out.failures out.new) → IsWhole err → Appends (err.contents err.old) (err.contents err.new) failed_line
@@ -61,40 +61,40 @@ pub record IsMemoryRefused {X Y : Type 0} (out : Writing X) (err : Writing Y) (s
   pub put : IsWhole out → IsPutTo IsMemoryReply out status
   -- the line was passed on
   pub told : IsWhole out → IsPassedOn out
-  -- a failure of the output is reported on the other one
+  -- a failure of the output is reported on `err`
   pub failure : TellsFailure out err
 
--- how a command ends on words of one of these kinds. Without a kind the words ask for something.
+-- how a command ends on arguments of one of these kinds. Without a kind the arguments ask for something.
 pub record EndsBy {X Y : Type 0} (kinds : Kinds) (out : Writing X) (err : Writing Y) (status : ℕ) : Type 0 where
   -- the status is 0, 1 or 2
   pub few : status ≤ 2
   -- a call for help gets a text, with status 0, unless an allocation fails
   pub helped : AreHelp kinds → IsWhole out → IsPutTo (OrNoMemory IsHelpReply) out status
-  -- of a mistake nothing is put, with status 2, or 1 if a call of the other output failed, unless an allocation fails
+  -- after a usage error nothing is put, with status 2, or 1 if a call of `err` failed, unless an allocation fails
   pub mistaken : AreMistakes kinds → IsWhole out → IsPutTo (OrNoMemory (IsUsageReply (err.failures err.old) (err.failures err.new))) out status
-  -- after a mistake the status is not 0
+  -- after a usage error the status is not 0
   pub usage : AreMistakes kinds → status ≢ 0
   -- if a call of the output failed, the status is 1
   pub failed : (status ≡ 1) ⊎ (out.failures out.new ≡ out.failures out.old)
-  -- so it is of the other output, unless the words ask for a command: a hint that cannot be written changes no status
+  -- so it is of `err`, unless the arguments ask for a command: a hint that cannot be written changes no status
   pub failed_told : kinds ≢ [] → (status ≡ 1) ⊎ (err.failures err.new ≡ err.failures err.old)
   -- at most one call of the output failed
   pub once : FailsOnce out
-  -- at most one call of the other output failed
+  -- at most one call of `err` failed
   pub once_told : FailsOnce err
-  -- a failure of the output is reported on the other one
+  -- a failure of the output is reported on `err`
   pub failure : TellsFailure out err
-  -- with status 0 nothing is written to the other output, unless the words ask for a command: see its clause `quiet`
+  -- with status 0 nothing is written to `err`, unless the arguments ask for a command: see its clause `quiet`
   pub quiet : kinds ≢ [] → status ≡ 0 → IsLeft err
-  -- with status 2 nothing is put, unless the words ask for a command
+  -- with status 2 nothing is put, unless the arguments ask for a command
   pub silent : kinds ≢ [] → status ≡ 2 → IsLeft out
-  -- and the text of the mistake was passed on
+  -- and the text of the usage error was passed on
   pub warned : kinds ≢ [] → status ≡ 2 → IsPassedOn err
-  -- if the words ask for a command, all that was put was passed on, unless a call of the output failed
+  -- if the arguments ask for a command, all that was put was passed on, unless a call of the output failed
   pub passed : kinds ≡ [] → IsWhole out → IsPassedOn out
   -- with status 0 all that was put was passed on
   pub flushed : status ≡ 0 → IsPassedOn out
-  -- with status 1 a refusal was passed on, unless a call failed: of the output, or of the other one, which was to get the text of a mistake
+  -- with status 1 a refusal was passed on, unless a call failed: of the output, or of `err`, which was to get the text of a usage error
   pub told : status ≡ 1 → IsWhole out → IsPassedOn out ⊎ ((kinds ≢ []) × IsFailed err)
 
 -- the same of a call that stops at a failure of the output, which is reported later

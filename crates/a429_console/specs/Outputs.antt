@@ -37,7 +37,7 @@ HasFailed old new = (fault : OutputFault) × FailureIsCounted fault old new
 abbrev pub HasFailedBy : Bool → FailedCalls → FailedCalls → Type 0
 HasFailedBy closed old new = (old.count < new.count) × (new.is_closed ≡ closed)
 
--- the line on the other output after an output failed
+-- the line on standard error after an output failed
 abbrev pub failed_line : List ℕ
 failed_line = codes "a429: standard output failed" ++ 10 ∷ []
 

@@ -19,6 +19,8 @@ abbrev pub refusal_line : CommandRefusal → List ℕ
 refusal_line (refused.File name) = codes "refused file " ++ string_bytes name
 refusal_line refused.WordText = codes "refused word-text"
 refusal_line refused.Parity = codes "refused parity"
+refusal_line refused.LabelText = codes "refused label-text"
+refusal_line refused.DataText = codes "refused data-text"
 refusal_line (refused.LineByte place) = codes "refused line byte " ++ decimal place
 refusal_line (refused.Filter number) = codes "refused filter " ++ decimal number
 refusal_line (refused.Table kind place) = codes "refused table " ++ kind_text kind ++ codes " " ++ place_text place

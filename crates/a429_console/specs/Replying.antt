@@ -12,7 +12,7 @@ use Rattle.a429_console.specs.declared.output.OutputFault.{OutputFault}
 abbrev pub HasReplied : {S X : Type 0} → (S → List ℕ → Result (List ℕ) FileFault → S → Type 0) → (X → Option (List ℕ)) → ((List ℕ → Option (List ℕ)) → ℕ → List ℕ → Type 0) → S → S → X → X → Result ℕ OutputFault → Type 0
 HasReplied Answers contents Says files files' out out' result = HasRead Answers (λ file. IfOk result (IsPut (Says file) (contents out) (contents out'))) files files'
 
--- of each request of this call for which words ask, `command_live` or the other: the status and the bytes put are as Says has it, if the files of the
+-- of each request of this call for which arguments ask, `command_live` or the other: the status and the bytes put are as Says has it, if the files of the
 -- reader are known and no call of the output failed
 abbrev pub RepliesToWords : {S X : Type 0} → Bool → ((List ℕ → Option (List ℕ)) → AskedBytes → ℕ → List ℕ → Type 0) → (S → Bool) → (S → List ℕ → Option (List ℕ)) → (X → Option (List ℕ)) → (X → FailedCalls) → List (List ℕ) → S → X → X → ℕ → Type 0
 RepliesToWords live Says tells file contents failures words files out out' status =

@@ -1,12 +1,12 @@
 -- What is asked for by the values that were read of a command's words.
-use Rattle.std.specs.Prelude.{◌≡◌, [], ◌∷◌, ℕ, Bool, List, Option, Some, None, true, false, MatchOption, ◌&&◌, not, codes, if◌then◌else◌, option_and_then, option_map, unwrap_or}
+use Rattle.std.specs.Prelude.{◌≡◌, [], ◌∷◌, ℕ, Bool, List, Option, Some, None, true, false, MatchOption, ◌&&◌, ◌||◌, not, codes, if◌then◌else◌, is_some, option_and_then, option_map, unwrap_or}
 use Rattle.std.specs.Str.{bytes_eq}
 use Rattle.std.specs.Str.Parse.{digits_value, without_leading_plus}
 use Rattle.clap.specs.ValueTests.{is_unsigned_in}
 use Rattle.clap.specs.Words.{Row, Text, first_of, one_of, all_of, subcommand_of, takes}
 use Rattle.a429_equipment.specs.Limits.{most_frames}
-use Rattle.a429_console.specs.CommandLine.{command_line, last_time, most_slots, row_of}
-use Rattle.a429_console.specs.Requests.{AskedBytes, HasWords, IsName, OptionBytes, words_of, words_with}
+use Rattle.a429_console.specs.CommandLine.{command_line, last_time, most_bits, most_pair, most_percent, most_slots, row_of}
+use Rattle.a429_console.specs.Requests.{AskedBytes, FieldBytes, HasWords, IsName, OptionBytes, is_one_alone, words_of, words_with}
 use Rattle.a429_console.specs.declared.arguments.choices.Choices.{Choices}
 use Rattle.a429_console.specs.declared.arguments.forms.Verb.TheVariants as verb
 use Rattle.a429_text.specs.declared.sheets.SheetForm.{SheetForm}
@@ -31,12 +31,12 @@ width_given (Some text) =
     if bytes_eq text (codes "64") then Some (Some 64)
     else (if bytes_eq text (codes "128") then Some (Some 128) else (if bytes_eq text (codes "256") then Some (Some 256) else None))
 
--- the form of what is printed, by whether `--csv` and `--json` are given; nothing if both are
-abbrev pub form_of : Bool → Bool → Option SheetForm
-form_of false false = Some form.Columns
-form_of true false = Some form.Csv
-form_of false true = Some form.Json
-form_of true true = None
+-- the form of what is printed, by whether `--c`, `--csv` and `--json` are given; nothing if two of them are
+abbrev pub form_of : Bool → Bool → Bool → Option SheetForm
+form_of code false false = Some form.Columns
+form_of false true false = Some form.Csv
+form_of false false true = Some form.Json
+form_of _ _ _ = None
 
 -- the command prints lines one by one, which have no form as JSON
 abbrev pub prints_lines : Text → List Row → Bool
@@ -46,16 +46,36 @@ prints_lines name rows = bytes_eq name (codes "simulate") && not (is_set (one_of
 abbrev pub form_given : Text → List Row → Option SheetForm
 form_given name rows =
     if is_set (one_of (codes "json") rows) && prints_lines name rows then None
-    else form_of (is_set (one_of (codes "csv") rows)) (is_set (one_of (codes "json") rows))
+    else form_of (is_set (one_of (codes "c") rows)) (is_set (one_of (codes "csv") rows)) (is_set (one_of (codes "json") rows))
+
+-- the data of a word are given in one way, and a number of bits only with a BNR number
+abbrev pub is_value_given : List Row → Bool
+is_value_given rows =
+    is_one_alone (is_some (first_of (codes "data") rows)) (is_some (first_of (codes "bnr") rows)) (is_some (first_of (codes "bcd") rows))
+    && (is_some (first_of (codes "bnr") rows) || not (is_some (first_of (codes "bits") rows)))
+
+-- a command of this name lacks the data of a word, or is given them in two ways
+abbrev pub lacks_value : Text → List Row → Bool
+lacks_value name rows = bytes_eq name (codes "encode") && not (is_value_given rows)
 
 -- all choices that the rules of the command line do not state; nothing if one of them is none
 abbrev pub choices_given : Text → List Row → Option Choices
 choices_given name rows =
-    option_and_then (λ width. option_map (λ form. record { width = width; form = form }) (form_given name rows)) (width_given (first_of (codes "width") rows))
+    if lacks_value name rows then None
+    else option_and_then (λ width. option_map (λ form. record { width = width; form = form }) (form_given name rows)) (width_given (first_of (codes "width") rows))
 
 -- an options' record has these choices
 abbrev pub IsChosen : Choices → OptionBytes → Type 0
 IsChosen choices o = (o.width ≡ choices.width) × (o.form ≡ choices.form)
+
+-- these are the fields of a word, by what was found of the words
+pub record AreFields (rows : List Row) (f : FieldBytes) : Type 0 where
+  pub sdi : number_of 0 most_pair (one_of (codes "sdi") rows) ≡ Some f.sdi
+  pub ssm : number_of 0 most_pair (one_of (codes "ssm") rows) ≡ Some f.ssm
+  pub hex : first_of (codes "data") rows ≡ f.hex
+  pub bnr : first_of (codes "bnr") rows ≡ f.bnr
+  pub bits : number_of 1 most_bits (one_of (codes "bits") rows) ≡ Some f.bits
+  pub bcd : first_of (codes "bcd") rows ≡ f.bcd
 
 -- these are the options of a command of this name, by what was found of the words; one that the command has not is found nowhere
 pub record AreOptions (name : Text) (rows : List Row) (o : OptionBytes) : Type 0 where
@@ -67,6 +87,10 @@ pub record AreOptions (name : Text) (rows : List Row) (o : OptionBytes) : Type 0
   pub html : is_set (one_of (codes "html") rows) ≡ o.html
   pub until : number_of 0 last_time (one_of (codes "until") rows) ≡ Some o.until
   pub summary : is_set (one_of (codes "summary") rows) ≡ o.summary
+  pub code : is_set (one_of (codes "c") rows) ≡ o.code
+  pub limit : number_of 1 most_percent (one_of (codes "limit") rows) ≡ Some o.limit
+  pub fields : AreFields rows o.fields
+  pub value : lacks_value name rows ≡ false
 
 -- ---- all that is asked for
 

@@ -1,5 +1,5 @@
 -- What arguments ask for.
-use Rattle.std.specs.Prelude.{◌≡◌, ◌≤◌, ◌≢◌, ◌∷◌, ◌++◌, ◌⊎◌, [], ℕ, Bool, true, false, List, Option, Some, None, IfSome, MatchOption, Result, MatchResult, codes, if◌then◌else◌, option_map, ⊤}
+use Rattle.std.specs.Prelude.{◌≡◌, ◌≤◌, ◌≢◌, ◌∷◌, ◌++◌, ◌⊎◌, ◌&&◌, ◌||◌, not, [], ℕ, Bool, true, false, List, Option, Some, None, IfSome, MatchOption, Result, MatchResult, codes, if◌then◌else◌, is_some, option_map, ⊤}
 use Rattle.std.specs.Fmt.{decimal}
 use Rattle.std.specs.List.{AllByRecursion, list_any}
 use Rattle.std.specs.Str.{bytes_eq}
@@ -8,32 +8,48 @@ use Rattle.clap.specs.declared.builder.action.ArgAction.{ArgAction}
 use Rattle.clap.specs.declared.builder.action.ArgAction.TheVariants.{SetTrue}
 use Rattle.clap.specs.declared.error.Error.{Error}
 use Rattle.clap.specs.declared.error.kind.ErrorKind.TheVariants.{OutOfMemory}
-use Rattle.a429_console.specs.CommandLine.{All, Csv, Group, Html, Json, OptionName, Slots, Summary, Until, Width, last_time, most_slots, option_rule, options_of, row_of}
+use Rattle.a429_console.specs.CommandLine.{All, Bcd, Bits, Bnr, Code, Csv, Data, Group, Html, Json, Limit, OptionName, Sdi, Slots, Ssm, Summary, Until, Width, last_time, most_bits, most_pair, most_percent, most_slots, option_rule, options_of, row_of}
 use Rattle.a429_console.specs.Files.{texts_of}
 use Rattle.a429_text.specs.declared.sheets.SheetForm.{SheetForm}
 use Rattle.a429_text.specs.declared.sheets.SheetForm.TheVariants as form
 use Rattle.a429_console.specs.declared.arguments.forms.Verb.{Verb}
 use Rattle.a429_console.specs.declared.arguments.forms.Verb.TheVariants as verb
 use Rattle.a429_console.specs.declared.arguments.requests.Asked.{Asked}
+use Rattle.a429_console.specs.declared.arguments.requests.FieldOptions.{FieldOptions}
 use Rattle.a429_console.specs.declared.arguments.requests.Options.{Options}
+
+-- what is given of the fields of a word that is made: an SDI and an SSM, and the data: in hexadecimal, as a BNR number with its bits below the sign, or as
+-- BCD digits
+pub record FieldBytes : Type 0 where
+  pub sdi : Option ℕ
+  pub ssm : Option ℕ
+  pub hex : Option Text
+  pub bnr : Option Text
+  pub bits : Option ℕ
+  pub bcd : Option Text
 
 -- what is given of the options of all commands, by the bytes of their texts; a command has some of them
 pub record OptionBytes : Type 0 where
   -- the form of what is printed
   pub form : SheetForm
-  -- rows of all that changes
+  -- a row for each output that only changes its slots (`diff`), or for each empty cell (`slots`)
   pub all : Bool
-  -- the group that is drawn, where one alone is
+  -- the group that is asked for, if only one is
   pub group : Option Text
   -- how many slots of each bus are drawn, and how many of them side by side
   pub slots : Option ℕ
   pub width : Option ℕ
-  -- a page, in place of an image
+  -- a page, instead of an image
   pub html : Bool
   -- until when cells are asked for, in microseconds
   pub until : Option ℕ
-  -- one line for each output, in place of one for each word
+  -- one line for each output, instead of one for each word
   pub summary : Bool
+  -- a header for C, instead of rows
+  pub code : Bool
+  -- the greatest load of a bus, in per cent
+  pub limit : Option ℕ
+  pub fields : FieldBytes
 
 -- What is asked for, by the bytes of its texts: what contracts see of an `Asked`. A command that is given one name has no second one, and so with the
 -- number (of frames) and further names.
@@ -45,9 +61,24 @@ pub record AskedBytes : Type 0 where
   pub more : List Text
   pub options : OptionBytes
 
+abbrev pub no_fields : FieldBytes
+no_fields = record { sdi = None; ssm = None; hex = None; bnr = None; bits = None; bcd = None }
+
 -- no option is given
 abbrev pub no_options : OptionBytes
-no_options = record { form = form.Columns; all = false; group = None; slots = None; width = None; html = false; until = None; summary = false }
+no_options = record {
+  form = form.Columns;
+  all = false;
+  group = None;
+  slots = None;
+  width = None;
+  html = false;
+  until = None;
+  summary = false;
+  code = false;
+  limit = None;
+  fields = no_fields;
+}
 
 -- a command with these names, and without a number or options
 abbrev pub asked_by_names : Verb → Text → Text → List Text → AskedBytes
@@ -79,6 +110,14 @@ word_given o Width = option_map decimal o.width
 word_given o Html = flag_word o.html
 word_given o Until = option_map decimal o.until
 word_given o Summary = flag_word o.summary
+word_given o Code = flag_word o.code
+word_given o Limit = option_map decimal o.limit
+word_given o Sdi = option_map decimal o.fields.sdi
+word_given o Ssm = option_map decimal o.fields.ssm
+word_given o Data = o.fields.hex
+word_given o Bnr = o.fields.bnr
+word_given o Bits = option_map decimal o.fields.bits
+word_given o Bcd = o.fields.bcd
 
 abbrev pub is_switch : Option ArgAction → Bool
 is_switch (Some SetTrue) = true
@@ -127,12 +166,30 @@ IsPlainSlots n = (1 ≤ n) × (n ≤ most_slots)
 abbrev pub IsWidth : ℕ → Type 0
 IsWidth n = (n ≡ 64) ⊎ ((n ≡ 128) ⊎ (n ≡ 256))
 
+-- one of three, and no other
+abbrev pub is_one_alone : Bool → Bool → Bool → Bool
+is_one_alone true false false = true
+is_one_alone false true false = true
+is_one_alone false false true = true
+is_one_alone _ _ _ = false
+
+-- the data of a word are given in one way, and a number of bits only with a BNR number
+abbrev pub has_one_value : FieldBytes → Bool
+has_one_value f = is_one_alone (is_some f.hex) (is_some f.bnr) (is_some f.bcd) && (is_some f.bnr || not (is_some f.bits))
+
 -- what is given of an option can be asked for
 abbrev pub CanBeGiven : OptionBytes → OptionName → Type 0
 CanBeGiven o Group = IfSome o.group IsName
 CanBeGiven o Slots = IfSome o.slots IsPlainSlots
 CanBeGiven o Width = IfSome o.width IsWidth
 CanBeGiven o Until = IfSome o.until (λ n. n ≤ last_time)
+CanBeGiven o Limit = IfSome o.limit (λ n. (1 ≤ n) × (n ≤ most_percent))
+CanBeGiven o Sdi = IfSome o.fields.sdi (λ n. n ≤ most_pair)
+CanBeGiven o Ssm = IfSome o.fields.ssm (λ n. n ≤ most_pair)
+CanBeGiven o Data = IfSome o.fields.hex IsName
+CanBeGiven o Bnr = IfSome o.fields.bnr IsName
+CanBeGiven o Bits = IfSome o.fields.bits (λ n. (1 ≤ n) × (n ≤ most_bits))
+CanBeGiven o Bcd = IfSome o.fields.bcd IsName
 CanBeGiven o _ = ⊤
 
 abbrev pub has_option : List OptionName → OptionName → Bool
@@ -147,9 +204,23 @@ pub record HasWords (r : AskedBytes) : Type 0 where
   pub options : (name : OptionName) → CanBeGiven r.options name
   -- the lines of `simulate` have no form as JSON
   pub summarized : r.verb ≡ verb.Simulate → is_json r.options.form ≡ true → r.options.summary ≡ true
+  -- a header for C has no other form
+  pub coded : r.options.code ≡ true → r.options.form ≡ form.Columns
+  -- `encode` is given the data of the word
+  pub encoded : r.verb ≡ verb.Encode → has_one_value r.options.fields ≡ true
   pub others : (name : OptionName) → has_option (options_of r.verb) name ≡ false → word_given r.options name ≡ None
 
 -- ---- the bytes of what was read of the words
+
+abbrev pub fields_of : FieldOptions → FieldBytes
+fields_of f = record {
+  sdi = f.sdi;
+  ssm = f.ssm;
+  hex = option_map (λ t. t.now) f.hex;
+  bnr = option_map (λ t. t.now) f.bnr;
+  bits = f.bits;
+  bcd = option_map (λ t. t.now) f.bcd;
+}
 
 abbrev pub given_of : Options → OptionBytes
 given_of o = record {
@@ -161,6 +232,9 @@ given_of o = record {
   html = o.html;
   until = o.until;
   summary = o.summary;
+  code = o.code;
+  limit = o.limit;
+  fields = fields_of o.fields;
 }
 
 abbrev pub asked_of : Asked → AskedBytes

@@ -1,4 +1,4 @@
--- Arguments other than a request: calls for help or for the version, and mistakes (profile: status 0, 1 and 2).
+-- Arguments other than a request: calls for help or for the version, and usage errors (profile: status 0, 1 and 2).
 use Rattle.std.specs.Prelude.{◌≡◌, ◌≢◌, ◌∷◌, [], ◌⊎◌, ℕ, Bool, true, false, not, List, Option, Some, None, Result, IfOk, IsTrue, MatchResult, codes, if◌then◌else◌, is_some}
 use Rattle.std.specs.List.{list_all, list_any}
 use Rattle.std.specs.Str.{bytes_eq}
@@ -50,7 +50,7 @@ abbrev pub is_run : Verb → Bool
 is_run verb.Live = true
 is_run _ = false
 
--- the kinds that words come to for a call: an error has one of them, and a request means that there is none, or that another call does it
+-- the kinds that arguments have for a call: an error has one of them, and a request means that there is none, or that another call does it
 abbrev pub ComesTo : Kinds → (Verb → Bool) → Result Asked Error → Type 0
 ComesTo kinds is_another result = MatchResult result (λ asked. kinds ≡ elsewhere (is_another asked.verb)) (HasKind kinds)
 
@@ -60,7 +60,7 @@ is_help DisplayHelp = true
 is_help DisplayVersion = true
 is_help _ = false
 
--- the words ask for no command
+-- the arguments ask for no command
 abbrev pub IsNoRequest : List (List ℕ) → Type 0
 IsNoRequest words = kinds_of_words words ≢ []
 
@@ -76,7 +76,7 @@ AreMistakes kinds = (kinds ≢ []) × (list_any is_help kinds ≡ false)
 abbrev pub AsksForHelp : List (List ℕ) → Type 0
 AsksForHelp words = AreHelp (kinds_of_words words)
 
--- a mistake: no request, and no call for help
+-- a usage error: no request, and no call for help
 abbrev pub IsUsageFault : List (List ℕ) → Type 0
 IsUsageFault words = AreMistakes (kinds_of_words words)
 
@@ -88,7 +88,7 @@ IsNoLive words = live_kinds_of_words words ≢ []
 abbrev pub AsksForLiveHelp : List (List ℕ) → Type 0
 AsksForLiveHelp words = AreHelp (live_kinds_of_words words)
 
--- a mistake: no run of a station, and no call for help
+-- a usage error: no run of a station, and no call for help
 abbrev pub IsLiveMistake : List (List ℕ) → Type 0
 IsLiveMistake words = AreMistakes (live_kinds_of_words words)
 
@@ -96,26 +96,26 @@ IsLiveMistake words = AreMistakes (live_kinds_of_words words)
 abbrev pub IsHelpReply : ℕ → List ℕ → Type 0
 IsHelpReply status bytes = status ≡ 0
 
--- the other output took what was written to it, with status 2; or a call of it failed, with status 1
+-- `err` took what was written to it, with status 2; or a call of it failed, with status 1
 abbrev pub IsWarned : FailedCalls → FailedCalls → ℕ → Type 0
 IsWarned old new status = ((status ≡ 2) × (new ≡ old)) ⊎ ((status ≡ 1) × HasFailed old new)
 
--- nothing was put, and the mistake was written to the other output, or a call of that failed
+-- nothing was put, and the text of the usage error was written to `err`, or a call of that failed
 abbrev pub IsUsageReply : FailedCalls → FailedCalls → ℕ → List ℕ → Type 0
 IsUsageReply old new status bytes = (bytes ≡ []) × IsWarned old new status
 
--- what is put in place of an answer, by what the words are, and by the calls of the other output that failed before and after it
+-- what is put instead of an answer, by what the arguments are, and by the calls of `err` that failed before and after it
 abbrev pub IsReplyOfKind : FailedCalls → FailedCalls → ErrorKind → ℕ → List ℕ → Type 0
 IsReplyOfKind old new OutOfMemory = IsMemoryReply
 IsReplyOfKind old new DisplayHelp = OrNoMemory IsHelpReply
 IsReplyOfKind old new DisplayVersion = OrNoMemory IsHelpReply
 IsReplyOfKind old new _ = OrNoMemory (IsUsageReply old new)
 
--- this is put in place of an answer, by the kind of the parser's error and by what the calls of the other output count
+-- this is put instead of an answer, by the kind of the parser's error and by what the calls of `err` count
 abbrev pub ExplainsKind : {X Y : Type 0} → (X → Option (List ℕ)) → (Y → FailedCalls) → ErrorKind → X → X → Y → Y → Result ℕ OutputFault → Type 0
 ExplainsKind contents failures kind out out' err err' result = IfOk result (IsPut (IsReplyOfKind (failures err) (failures err') kind) (contents out) (contents out'))
 
--- the same of a mistake
+-- the same of a usage error
 abbrev pub TellsMistake : {X Y : Type 0} → (X → Option (List ℕ)) → (Y → FailedCalls) → X → X → Y → Y → Result ℕ OutputFault → Type 0
 TellsMistake contents failures out out' err err' result = IfOk result (IsPut (OrNoMemory (IsUsageReply (failures err) (failures err'))) (contents out) (contents out'))
 
@@ -123,6 +123,6 @@ TellsMistake contents failures out out' err err' result = IfOk result (IsPut (Or
 abbrev pub IsPassedOnUnless : Type 0 → Bool → Result ℕ OutputFault → Type 0
 IsPassedOnUnless Failed flushed result = IfOk result (λ status. status ≡ 1 → IsTrue flushed ⊎ Failed)
 
--- a mistake could not be reported: a call of the other output failed
+-- a usage error could not be reported: a call of `err` failed
 abbrev pub IsMistakeUntold : {Y : Type 0} → (Y → FailedCalls) → ErrorKind → Y → Y → Type 0
 IsMistakeUntold failures kind old new = (kind ≢ OutOfMemory) × HasFailed (failures old) (failures new)

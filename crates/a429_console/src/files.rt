@@ -13,7 +13,7 @@ use thiserror::Error;
 /// How many bytes a file may have: 16 MiB (profile).
 pub const LARGEST_FILE: usize = 16_777_216;
 
-/// Why a file's bytes are not given.
+/// Why the bytes of a file cannot be read.
 #[derive(Clone, Copy, Debug, PartialEq, Eq, Error)]
 pub enum FileFault {
     /// There is no such file, or it cannot be read.

@@ -119,7 +119,7 @@ pub struct SeenTable {
 }
 
 impl SeenTable {
-    /// Nothing yet.
+    /// What is kept of a table before it is read.
     pub fn nothing() -> SeenTable {
         SeenTable {
             looks: TableLook::Other,
@@ -203,7 +203,7 @@ pub struct FurtherFault {
 }
 
 impl FurtherFault {
-    /// Notes a further table whose plan cannot be published, if memory suffices.
+    /// Notes a further table whose plan cannot be published, unless an allocation fails.
     pub fn note(
         faults: &mut Vec<FurtherFault>,
         number: usize,
@@ -251,7 +251,7 @@ pub struct Seen {
 }
 
 impl Seen {
-    /// Nothing yet.
+    /// What is kept before anything was read or refused.
     pub fn nothing(alloc: Global) -> Seen {
         Seen {
             refusal: None,
@@ -283,7 +283,7 @@ pub trait Hints {
         err: &mut V,
     ) -> io::Result<()>;
 
-    /// Writes what may have been meant by words that are a mistake, if anything. Error: the writer's, or an allocation
+    /// Writes what may have been meant instead of a usage error, if anything. Error: the writer's, or an allocation
     /// fails.
     fn tell_mistake<V: Write>(&self, alloc: Global, words: &[&str], err: &mut V) -> io::Result<()>;
 

@@ -6,8 +6,8 @@
 //! that embeds the libraries does not need it.
 //!
 //! ```text
-//! let proposal = propose(alloc, &bytes, &mut seen)?;
-//! // the error is the refusal: table, unfit or too many buses
+//! let table = read_file(alloc, files, name, seen)?;
+//! let proposal = propose(alloc, &table, &mut seen.table)?;
 //! ```
 #![tactic(auto)]
 

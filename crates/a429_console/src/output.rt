@@ -1,4 +1,4 @@
-//! Where the lines of a command go.
+//! What takes the lines of a command.
 ghost use Rattle.std.specs.Prelude.{◌≡◌, ◌<◌, List, ℕ, Bool, Option, Err, OnOk, IsErr, IsTrue};
 ghost use Rattle.std.specs.Io.KnownBytes.{Appends, Keeps};
 ghost use Rattle.a429_console.specs.Outputs.{CountsFault, FailedCalls, FailureIsCounted, calls_of};

@@ -51,6 +51,10 @@ pub enum CommandRefusal {
     WordText,
     /// An even number of the word's 32 bits are ones.
     Parity,
+    /// The text of a label is not three octal digits, 000 to 377.
+    LabelText,
+    /// The data of a word are not of the form that was asked for, or do not fit.
+    DataText,
     /// The byte at this place of a line file, from 0, is the first that stands for nothing.
     LineByte(usize),
     /// The filter of this number, from 1, is the first that is none, or the 33rd.
@@ -72,7 +76,7 @@ pub enum CommandRefusal {
     /// The row at the line of this number, from 1, of a file of comma-separated values is the first with a fault, and this is
     /// wrong with it.
     Csv { line: u64, kind: CsvKind },
-    /// A thread could not be started or taken in.
+    /// A thread could not be started or joined.
     Join,
     /// The gate ended a worker.
     Gate,
@@ -98,6 +102,8 @@ impl fmt::Display for CommandRefusal {
             CommandRefusal::File(name) => write!(f, "refused file {name}"),
             CommandRefusal::WordText => f.write_str("refused word-text"),
             CommandRefusal::Parity => f.write_str("refused parity"),
+            CommandRefusal::LabelText => f.write_str("refused label-text"),
+            CommandRefusal::DataText => f.write_str("refused data-text"),
             CommandRefusal::LineByte(place) => write!(f, "refused line byte {place}"),
             CommandRefusal::Filter(number) => write!(f, "refused filter {number}"),
             CommandRefusal::Table(kind, place) => write!(f, "refused table {kind} {place}"),
@@ -146,7 +152,7 @@ impl<T: Drop> From<AllocFailed<T>> for CommandRefusal {
 }
 
 /// Puts the line of a refusal, which is kept in `seen`, or the line `refused memory` if an allocation for it fails. The
-/// status is this one.
+/// status is this one. Error: the output failed.
 pub fn refuse_as<O: Output>(
     alloc: Global,
     refusal: CommandRefusal,
@@ -168,7 +174,7 @@ pub fn refuse_as<O: Output>(
     }
 }
 
-/// The same with status 1.
+/// The same with status 1. Error: the output failed.
 pub fn refuse<O: Output>(
     alloc: Global,
     refusal: CommandRefusal,

@@ -1,5 +1,5 @@
 -- A row that is compared with only three earlier rows: the first of its source, of its receiver and of its group.
-use Rattle.std.proofs.Common.{◌≡◌, ◌∙◌, ℕ, suc, ◌+◌, ◌≤◌, ◌<◌, ◌&&◌, Bool, true, false, not, cond, List, [], ◌∷◌, ◌++◌, Option, None, Some, option_map, Result, Ok, Err, ap, ap₂, arith, refl, subst, sym, true≢false}
+use Rattle.std.proofs.Common.{◌≡◌, ◌∙◌, ℕ, suc, ◌+◌, ◌≤◌, ◌<◌, ◌&&◌, Bool, true, false, not, cond, List, [], ◌∷◌, ◌++◌, Option, None, Some, option_map, Ok, ap, ap₂, arith, refl, subst, sym, true≢false}
 use Rattle.std.specs.Prelude.{IfSome, nat_lt, slice_get}
 use Rattle.std.specs.List.{AllByRecursion}
 use Rattle.std.specs.Option.{option_and_then, option_or}
@@ -11,17 +11,14 @@ use Rattle.a429_equipment.specs.SameStation.{same_sdi}
 use Rattle.a429_documents.specs.declared.import.clashes.RowClash.{RowClash}
 use Rattle.a429_documents.specs.declared.import.fault.ImportColumn.{ImportColumn}
 use Rattle.a429_documents.specs.declared.import.fault.ImportColumn.TheVariants.{Filters, Label, Rate, Receiver, Sdi}
-use Rattle.a429_documents.specs.declared.import.fault.ImportFault.{ImportFault}
-use Rattle.a429_documents.specs.declared.import.fault.ImportFault.TheVariants.{NoMemory, Csv, Table}
 use Rattle.a429_documents.specs.declared.import.firsts.Part.{Part}
 use Rattle.a429_documents.specs.declared.import.firsts.Part.TheVariants.{Receivers, Sources, Groups}
 use Rattle.a429_documents.specs.declared.import.lines.CsvLine.{CsvLine}
 use Rattle.a429_documents.specs.declared.import.rows.ImportRow.{ImportRow}
 use Rattle.a429_documents.specs.FirstRows.{first_from}
 use Rattle.a429_documents.specs.ImportClashes.{Agree, clash_at, earlier_clash, first_part_clash, numbered, part_clash}
-use Rattle.a429_documents.specs.ImportRows.{◌>>=◌, CsvFault, agreed, clash, first_clash, next_row, row_of, rows_after}
+use Rattle.a429_documents.specs.ImportRows.{agreed, clash, first_clash, next_row, row_of}
 use Rattle.a429_documents.specs.ImportTables.{name_in}
-use Rattle.a429_documents.specs.Imports.{States}
 use Rattle.a429_documents.proofs.ImportRanges.{bound, same_ok}
 
 -- ---- two rows
@@ -271,21 +268,3 @@ next_agrees heading earlier line row h =
     let by_itself = bound (row_of heading line) (λ r. agreed line.number r (first_clash earlier r)) row h in
     let (same, none) = taken line.number by_itself.value (first_clash earlier by_itself.value) row by_itself.gives in
     subst (λ (r : ImportRow). first_clash earlier r ≡ None) same none
-
--- ---- an added line
-
-pub row_taken : (heading : List (List ℕ)) (earlier : List ImportRow) (line : CsvLine) (lines : List CsvLine) (row : ImportRow) → next_row heading earlier line ≡ Ok row
-    → rows_after heading earlier (line ∷ lines) ≡ rows_after heading (earlier ++ row ∷ []) lines
-row_taken heading earlier line lines row h = ap (λ (r : Result ImportRow CsvFault). r >>= λ next. rows_after heading (earlier ++ next ∷ []) lines) h
-
-pub row_refused : {X : Type 0} (view : X → List ImportRow) (heading : List (List ℕ)) (earlier : List ImportRow) (line : CsvLine) (lines : List CsvLine) (e : ImportFault)
-    → States {X = ImportRow} (λ row. row) (Err e) (next_row heading earlier line) → States view (Err e) (rows_after heading earlier (line ∷ lines))
-row_refused view heading earlier line lines NoMemory h = tt
-row_refused view heading earlier line lines (Csv number kind column) h = ap (λ (r : Result ImportRow CsvFault). r >>= λ next. rows_after heading (earlier ++ next ∷ []) lines) h
-row_refused view heading earlier line lines (Table f) h = absurd h
-
--- a refusal is the same for results of any kind
-pub same_refusal : {X Y : Type 0} (view : X → List ImportRow) (other : Y → List ImportRow) (e : ImportFault) (stated : Result (List ImportRow) CsvFault) → States view (Err e) stated → States other (Err e) stated
-same_refusal view other NoMemory stated h = tt
-same_refusal view other (Csv line kind column) stated h = h
-same_refusal view other (Table fault) stated h = absurd h

@@ -87,13 +87,13 @@ receiver_is row =
 -- ---- the root
 
 -- the values at the keys of the root
-record IsRoot (root : Data) (rows : List ImportRow) : Type 0 where
-  version : version_of root ≡ Two
-  receivers : rows_at (codes "receiver") root ≡ part_trees Receivers rows
-  sources : rows_at (codes "source") root ≡ part_trees Sources rows
-  groups : rows_at (codes "group") root ≡ part_trees Groups rows
+pub record IsRoot (root : Data) (rows : List ImportRow) : Type 0 where
+  pub version : version_of root ≡ Two
+  pub receivers : rows_at (codes "receiver") root ≡ part_trees Receivers rows
+  pub sources : rows_at (codes "source") root ≡ part_trees Sources rows
+  pub groups : rows_at (codes "group") root ≡ part_trees Groups rows
 
-is_root : (rows : List ImportRow) → IsRoot (table (root_members rows)) rows
+pub is_root : (rows : List ImportRow) → IsRoot (table (root_members rows)) rows
 unfolding root_members rows_at version_of integer_at
 is_root rows = record {
   version = refl;

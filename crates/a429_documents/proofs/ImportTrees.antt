@@ -116,7 +116,23 @@ filters_put (w ∷ ws) values old new same some put = put ∙ ap (λ (ds : List 
 
 -- ---- receivers, sources and groups
 
+-- the rows that are left, without the next one
+firsts_next : (part : Part) (rows : List ImportRow) (k : ℕ) (row : ImportRow) → slice_get rows k ≡ Some row
+    → firsts_after part (take k rows) (drop k rows) ≡ unless_known part (take k rows) row ++ firsts_after part (take (k + 1) rows) (drop (k + 1) rows)
+firsts_next part rows k row there =
+    ap (firsts_after part (take k rows)) (drop_at rows k row there)
+    ∙ ap (λ (earlier : List ImportRow). unless_known part (take k rows) row ++ firsts_after part earlier (drop (k + 1) rows)) (sym (take_next rows k row there))
+
 -- one more row, which may be the first of its part
+pub firsts_more : (part : Part) (rows : List ImportRow) (k : ℕ) (row : ImportRow) (old new whole : List ImportRow) → slice_get rows k ≡ Some row
+    → old ++ firsts_after part (take k rows) (drop k rows) ≡ whole → new ≡ old ++ unless_known part (take k rows) row
+    → new ++ firsts_after part (take (k + 1) rows) (drop (k + 1) rows) ≡ whole
+firsts_more part rows k row old new whole there so now =
+    let first : List ImportRow = unless_known part (take k rows) row in
+    let others : List ImportRow = firsts_after part (take (k + 1) rows) (drop (k + 1) rows) in
+    ap (λ (rs : List ImportRow). rs ++ others) now ∙ append_assoc old first others ∙ ap (λ (rs : List ImportRow). old ++ rs) (sym (firsts_next part rows k row there)) ∙ so
+
+-- the same for their tables
 pub trees_more : (part : Part) (rows : List ImportRow) (k : ℕ) (row : ImportRow) (old new whole : List Data) → slice_get rows k ≡ Some row
     → old ++ map (part_tree part rows) (firsts_after part (take k rows) (drop k rows)) ≡ whole → new ≡ old ++ map (part_tree part rows) (unless_known part (take k rows) row)
     → new ++ map (part_tree part rows) (firsts_after part (take (k + 1) rows) (drop (k + 1) rows)) ≡ whole
@@ -125,6 +141,5 @@ trees_more part rows k row old new whole there so now =
     let first : List ImportRow = unless_known part (take k rows) row in
     let others : List ImportRow = firsts_after part (take (k + 1) rows) (drop (k + 1) rows) in
     let left : map tree (firsts_after part (take k rows) (drop k rows)) ≡ map tree first ++ map tree others =
-    ap (λ (rest : List ImportRow). map tree (firsts_after part (take k rows) rest)) (drop_at rows k row there)
-    ∙ ap (λ (earlier : List ImportRow). map tree (first ++ firsts_after part earlier (drop (k + 1) rows))) (sym (take_next rows k row there)) ∙ map-append tree first others in
+    ap (map tree) (firsts_next part rows k row there) ∙ map-append tree first others in
     ap (λ (ds : List Data). ds ++ map tree others) now ∙ append_assoc old (map tree first) (map tree others) ∙ ap (λ (ds : List Data). old ++ ds) (sym left) ∙ so

@@ -19,7 +19,7 @@ use Rattle.a429_documents.specs.declared.import.rows.ImportRow.{ImportRow}
 use Rattle.a429_documents.specs.ImportFaults.{of_table}
 use Rattle.a429_documents.specs.ImportRows.{rows_stated}
 use Rattle.a429_documents.specs.ImportTables.{record_stated, root_members}
-use Rattle.a429_documents.specs.Imports.{AreLines, IsImport, IsImportOf, States}
+use Rattle.a429_documents.specs.Imports.{AreLines, IsImport, IsImportOf}
 use Rattle.a429_documents.proofs.ImportRanges.{stated_in_range}
 use Rattle.a429_documents.proofs.ImportRecords.{tree_states}
 
@@ -59,12 +59,6 @@ module _ (lines : List CsvLine) (rows : List ImportRow) (are : rows_stated lines
   -- a table that is refused
   pub table_refused : (f : TableFault) (e : ImportFault) → GivesUnlessMemory (λ (t : TableRecord). t) bytes (Err f) (reading bytes) → e ≡ of_table f → IsImportOf lines (Err e)
   table_refused f e h is = subst (λ (x : ImportFault). IsImportOf lines (Err x)) (sym is) (refused f h)
-
--- rows with a fault
-pub rows_refused : {X : Type 0} (view : X → List ImportRow) (lines : List CsvLine) (e : ImportFault) → States view (Err e) (rows_stated lines) → IsImportOf lines (Err e)
-rows_refused view lines NoMemory h = tt
-rows_refused view lines (Csv line kind column) h = h
-rows_refused view lines (Table f) h = absurd h
 
 -- ---- of a text
 

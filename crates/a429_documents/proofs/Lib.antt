@@ -25,3 +25,14 @@ pub mod RowsInRecord
 pub mod FirstRows
 pub mod ImportClashes
 pub mod NextRows
+pub mod Among
+pub mod SlotCells
+pub mod Loads
+pub mod Spreading
+pub mod BusLoads
+pub mod Rooms
+pub mod FilledCells
+pub mod RoomsOfPlans
+pub mod SharesOfPlans
+pub mod ImportLimits
+pub mod ImportReading

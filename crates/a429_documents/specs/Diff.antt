@@ -65,7 +65,7 @@ number_rows change subject first second = unless (same_number first second) (cha
 
 -- ---- the tables
 
--- Only if neither table has a group. If there are groups, their rates are compared; but a plan text of version 1 has the rate even without groups.
+-- Only if neither table has a group. If there are groups, their bit rates are compared; but a plan text of version 1 has the bit rate even without groups.
 abbrev pub table_rates : TableRecord → TableRecord → List (List Field)
 table_rates a b = if length a.groups == 0 && length b.groups == 0 then number_rows (codes "rate") the_table a.rate b.rate else []
 

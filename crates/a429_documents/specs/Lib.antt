@@ -15,4 +15,10 @@ pub mod Imports
 pub mod ImportedRows
 pub mod FirstRows
 pub mod ImportClashes
+pub mod ImportLimits
+pub mod ImportReading
 pub mod NextRows
+pub mod SlotRows
+pub mod SlotHeader
+pub mod Limits
+pub mod Load

@@ -9,7 +9,7 @@ use Rattle.a429_equipment.specs.declared.rows.SourceRow.{SourceRow}
 use Rattle.a429_grid.specs.Grid.{IsGridPeriod, IsPeriod, slot_time}
 use Rattle.a429_pack.specs.Widening.{IsLeastSaving, NoneSaves}
 use Rattle.a429_pack.specs.Windows.{raw_bound}
-use Rattle.a429_slots.specs.Tables.{SlotTable, PlanTable, placed_at, outputs_of, demands_of, frame_of, buses_of, cells_of, groups_of}
+use Rattle.a429_slots.specs.Tables.{SlotTable, PlanTable, placed_at, outputs_of, demands_of, frame_of, buses_of, groups_of}
 use Rattle.a429_cert.specs.PlanText.{source_name}
 use Rattle.a429_documents.specs.Document.{slots_us}
 
@@ -37,18 +37,18 @@ is_chosen (Some marks) o = slice_index_or marks o false
 
 abbrev pub margin_columns : List (List ℕ)
 margin_columns =
-    codes "group" ∷ codes "frame" ∷ codes "buses" ∷ codes "cells" ∷ codes "free" ∷ codes "excess" ∷ codes "bound" ∷ codes "source" ∷ codes "period" ∷ codes "next" ∷ codes "less"
-    ∷ codes "max_us" ∷ codes "choose" ∷ []
+    codes "group" ∷ codes "frame" ∷ codes "buses" ∷ codes "excess" ∷ codes "bound" ∷ codes "source" ∷ codes "period" ∷ codes "next" ∷ codes "less" ∷ codes "max_us"
+    ∷ codes "choose" ∷ []
 
 -- a number of empty columns
 abbrev pub nothing : ℕ → List Field
 nothing count = replicate count Absent
 
--- The row of a group: its frame in slots, its buses, the cells of a frame that are filled, and the free ones. Then the cells that are too many for one bus
--- less: those for which the other buses have no room. Last the number of buses that any schedule needs at least for the intervals themselves.
+-- The row of a group: its frame in slots, and its buses. Then the cells that are too many for one bus less: those for which the other buses have no
+-- room. Last the number of buses that any schedule needs at least for the intervals themselves.
 abbrev pub group_row_of : GroupRow → SlotTable → ℕ → List Field
 group_row_of g t bound =
-    Text g.name ∷ Number (frame_of t) ∷ Number (buses_of t) ∷ Number (sum (demands_of t)) ∷ Number (cells_of t - sum (demands_of t))
+    Text g.name ∷ Number (frame_of t) ∷ Number (buses_of t)
     ∷ Number (sum (demands_of t) - (buses_of t - 1) * frame_of t) ∷ Number bound ∷ nothing 6
 
 abbrev pub group_row : GroupRow → List OutputRow → SlotTable → List Field
@@ -62,7 +62,7 @@ yes_or_no false = Text (codes "no")
 -- maximum interval that it needs, and whether it is chosen.
 abbrev pub wider_row : GroupRow → ℕ → Bool → List ℕ → ℕ → List Field
 wider_row g frame chosen name period =
-    Text g.name ∷ nothing 6
+    Text g.name ∷ nothing 4
     ++ (Text name ∷ Number (2 ^ period) ∷ Number (2 * 2 ^ period) ∷ Number (frame / (2 * 2 ^ period)) ∷ Number (slots_us g.rate (2 * 2 ^ period)) ∷ yes_or_no chosen ∷ [])
 
 -- the row of an output whose period is shorter than the frame; other outputs have no row

@@ -32,14 +32,14 @@ const COLUMNS: &[&str] = &[
     "latency_us",
 ];
 
-/// A number.
+/// The cell of a number.
 pub fn number(value: u32) -> Cell<'static>
     ensures { field_of result ≡ Number value }
 {
     Cell::Number(u64::from(value))
 }
 
-/// An SDI, or `any`.
+/// The cell of an SDI: `any` for `None`.
 pub fn sdi_cell(sdi: Option<Sdi>) -> Cell<'static>
     ensures { field_of result ≡ sdi_field sdi }
 {
@@ -49,7 +49,7 @@ pub fn sdi_cell(sdi: Option<Sdi>) -> Cell<'static>
     }
 }
 
-/// A limit, if there is one.
+/// The cell of a limit, which says nothing if there is none.
 pub fn limit_cell(limit: Option<u32>) -> Cell<'static>
     ensures { field_of result ≡ limit_field limit }
 {

@@ -1,4 +1,9 @@
 //! An equipment table from rows of comma-separated values.
+ghost use Rattle.std.specs.Prelude.{◌≡◌, List, Ok};
+ghost use Rattle.a429_documents.specs.declared.import.lines.CsvLine.{CsvLine};
+ghost use Rattle.a429_documents.specs.FirstRows.{AreFirstRows};
+ghost use Rattle.a429_documents.specs.ImportReading.{HaveRows, StandsFor};
+ghost use Rattle.a429_documents.specs.ImportRows.{rows_stated};
 ghost use Rattle.a429_documents.specs.Imports.{IsImport, IsImportOf};
 
 mod building;
@@ -7,6 +12,7 @@ mod columns;
 mod fault;
 mod fields;
 mod firsts;
+mod limits;
 mod lines;
 mod reading;
 mod row_index;
@@ -14,23 +20,55 @@ mod rows;
 mod tables;
 mod words;
 
-use crate::import::reading::import_rows;
+use crate::import::firsts::FirstRows;
+use crate::import::limits::limit_fault;
+use crate::import::reading::{LinesRead, read_lines, wrong_heading};
+use crate::import::rows::ImportRow;
 use crate::import::tables::table_text;
-use a429_table::read_equipment;
+use a429_table::{TableFault, read_equipment};
 pub use columns::COLUMNS as IMPORT_COLUMNS;
 pub use fault::{CsvFaultKind, ImportColumn, ImportFault};
 pub use lines::{CsvLine, LineCount, csv_lines};
 use std::alloc::Global;
 
-/// The table that lines describe. The first line is the heading.
-fn import_lines(alloc: Global, lines: &[CsvLine]) -> Result<Vec<u8>, ImportFault>
-    ensures { IsImportOf lines.now result }
+/// The table that rows describe.
+fn table_of_rows(
+    alloc: Global,
+    rows: &[ImportRow],
+    firsts: &FirstRows,
+) -> Result<Vec<u8>, ImportFault>
+    requires { AreFirstRows firsts.now rows.now }
+    ensures { (lines : List CsvLine) → rows_stated lines ≡ Ok rows.now → IsImportOf lines result }
 {
-    let rows = import_rows(alloc, lines)?;
-    let text = table_text(alloc, &rows)?;
+    if let Some((kind, place)) = limit_fault(alloc, rows, firsts)? {
+        return Err(ImportFault::Table(TableFault::At(kind, place)));
+    }
+    let text = table_text(alloc, rows)?;
     match read_equipment(alloc, text.as_str().as_bytes()) {
         Ok(_) => Ok(text.into_bytes()),
         Err(fault) => Err(ImportFault::from(fault)),
+    }
+}
+
+/// The table that lines without a fault describe.
+fn table_below_heading(alloc: Global, read: &LinesRead) -> Result<Vec<u8>, ImportFault>
+    requires { (lines : List CsvLine) × HaveRows read.now.heading read.now lines }
+    ensures { (lines : List CsvLine) → HaveRows read.now.heading read.now lines → IsImportOf lines result }
+{
+    match &read.heading {
+        None => Err(wrong_heading(ImportColumn::Group)),
+        Some(_) => table_of_rows(alloc, &read.rows, &read.firsts),
+    }
+}
+
+/// The table that lines describe.
+fn table_of_lines(alloc: Global, read: &mut LinesRead) -> Result<Vec<u8>, ImportFault>
+    requires { (lines : List CsvLine) × StandsFor read.old lines }
+    ensures { (lines : List CsvLine) → StandsFor read.old lines → IsImportOf lines result }
+{
+    match read.fault.take() {
+        Some(fault) => Err(fault),
+        None => table_below_heading(alloc, read),
     }
 }
 
@@ -41,6 +79,7 @@ fn import_lines(alloc: Global, lines: &[CsvLine]) -> Result<Vec<u8>, ImportFault
 pub fn import_table(alloc: Global, bytes: &[u8]) -> Result<Vec<u8>, ImportFault>
     ensures { IsImport bytes.now result }
 {
-    let lines = csv_lines(alloc, bytes)?;
-    import_lines(alloc, &lines)
+    let mut read = LinesRead::new(alloc);
+    read_lines(alloc, bytes, &mut read)?;
+    table_of_lines(alloc, &mut read)
 }

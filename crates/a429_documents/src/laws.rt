@@ -1,11 +1,14 @@
 //! What is true of the definitions that the contracts cite.
 ghost use Rattle.a429_documents.specs.Drawing.{MarksAreCells};
 ghost use Rattle.a429_documents.specs.ImportedRows.{RowsAreInRecord};
+ghost use Rattle.a429_documents.specs.Load.{NeededBusesAreFewest, RoomsAreExact};
 ghost use Rattle.a429_documents.specs.Losses.{BusCountsAreFewest, NoLossIsAllServed};
 ghost use Rattle.a429_documents.specs.Margins.{WiderIntervalsAreNext};
+ghost use Rattle.a429_documents.specs.SlotRows.{SlotRowsAreCells};
 ghost use Rattle.a429_documents.specs.Unchanged.{NoRowIsOnePlan, NoStationRowIsOneStation};
 
-use a429_pack::laws::fewest_by_demand;
+use a429_grid::laws::blocks_are_periodic;
+use a429_pack::laws::{fewest_by_demand, orders_name_each_once, stretches_are_apart};
 
 /// If an output's maximum interval becomes the duration of twice its grid period, rounded up to a whole microsecond, twice
 /// the period is its new grid period. This needs a grid period of that length.
@@ -17,6 +20,12 @@ pub fn wider_intervals_are_next()
 /// group, and a slot that the form asks for.
 pub fn marks_are_cells()
     ensures { MarksAreCells }
+{}
+
+/// Without the empty cells, a row of `slots` is listed if and only if it is that of a cell with an output: a slot of the
+/// frame, on a bus of a group that is asked for.
+pub fn slot_rows_are_cells()
+    ensures { SlotRowsAreCells }
 {}
 
 /// `lint` has no row `unfit`, `unheard` or `unsent` if and only if each source can be accepted, each source is sent, and
@@ -50,4 +59,22 @@ pub fn no_row_is_one_plan()
 /// interval and hold. The output's source has the row's name, label and SDI; its receiver has the row's name and filters.
 pub fn imported_rows_are_in_record()
     ensures { RowsAreInRecord }
+{}
+
+/// The number of more outputs of a period that `load` computes from the free cells of a bus is exact. It is how many
+/// offsets below the period have only empty cells: each output takes all cells of one offset. No more fit, since each has
+/// the same number of cells. As many fit: the layout fills a bus from its first place on, and leaves whole offsets empty.
+pub fn rooms_are_exact()
+    ensures { RoomsAreExact }
+{
+    blocks_are_periodic();
+    orders_name_each_once();
+    stretches_are_apart();
+}
+
+/// The number of buses that `load` computes within a limit is the fewest over which the outputs of a group can be spread.
+/// Each output is on one bus, and no bus has more cells with an output than its capacity. There is no number if and only if
+/// one output alone is above the capacity.
+pub fn needed_buses_are_fewest()
+    ensures { NeededBusesAreFewest }
 {}

@@ -3,19 +3,23 @@
 //! describe.
 //!
 //! `icd_sheet` has a row for each output: bus, offset, period, intervals and latency. `margin_sheet` says which maximum
-//! intervals would have to be longer to save a bus. `Drawing::of` has the marks of an image, of one group or of all;
-//! `draw_text` writes it as an image (SVG), and `page_text` as a page (HTML) with that image and the other documents.
-//! `diff_sheet` takes two proposals, and says what changes from the first to the second. `lint_sheet` takes an equipment,
-//! and says which words never arrive and what is unused. `import_table` takes rows of comma-separated values, and gives an
-//! equipment table. The others take a proposal. `Sheet::render` of `a429_text` renders a sheet.
+//! intervals would have to be longer to save a bus. `load_sheet` says how many cells of each bus have an output, how many
+//! more outputs there is room for, and how many buses a group needs within a limit. `slot_sheet` has a row for each cell of
+//! a frame, and `slot_header` gives the slot tables as a header of C. `Drawing::of` has the marks of an image, of one group
+//! or of all; `draw_text` writes it as an image (SVG), and `page_text` as a page (HTML) with that image and the other
+//! documents. `diff_sheet` takes two proposals, and says what changes from the first to the second. `lint_sheet` takes an
+//! equipment, and says which words never arrive and what is unused. `import_table` takes rows of comma-separated values,
+//! and gives an equipment table. The others take a proposal. `Sheet::render` of `a429_text` renders a sheet.
 //!
 //! Errors: each call fails if an allocation fails. `Drawing::of` also fails if the image is too high, and `import_table`
 //! if the rows or their table have a fault.
 //!
 //! ```text
-//! let proposal: Proposal<OUTPUTS> = Proposal::of(alloc, equipment)?;
-//! let rows = icd_sheet(alloc, &proposal).render(alloc, SheetForm::Csv)?;
-//! let margin = margin_sheet(alloc, &proposal)?.render(alloc, SheetForm::Columns)?;
+//! match kind {
+//!     ..
+//!     PlanText::Document(form) => icd_sheet(alloc, proposal).render(alloc, form),
+//!     PlanText::Margin(form) => margin_sheet(alloc, proposal)?.render(alloc, form),
+//! }
 //! ```
 #![tactic(auto)]
 
@@ -25,8 +29,10 @@ mod drawing;
 mod import;
 pub mod laws;
 mod lint;
+mod load;
 mod margin;
 mod page;
+mod slots;
 
 pub use diff::diff_sheet;
 pub use document::{icd_sheet, latency_us};
@@ -36,5 +42,7 @@ pub use import::{
     import_table,
 };
 pub use lint::lint_sheet;
+pub use load::{Load, load_sheet};
 pub use margin::margin_sheet;
 pub use page::page_text;
+pub use slots::{slot_header, slot_sheet};

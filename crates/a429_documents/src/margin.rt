@@ -7,7 +7,7 @@ ghost use Rattle.a429_equipment.specs.Sound.{IsInterval, IsRate};
 ghost use Rattle.a429_pack.specs.Demanded.{IsBusCount};
 ghost use Rattle.a429_pack.specs.Windows.{raw_bound};
 ghost use Rattle.a429_slots.specs.Planned.{HaveSources, IsPlannedFor};
-ghost use Rattle.a429_slots.specs.Tables.{buses_of, cells_of, demands_of, frame_of, outputs_of, source_of};
+ghost use Rattle.a429_slots.specs.Tables.{buses_of, demands_of, frame_of, outputs_of, source_of};
 ghost use Rattle.a429_documents.specs.Margins.{AddsSuch, AreChoiceRows, IsChoice, IsGroupMargin, IsMargin, group_row_of, is_chosen, margin_columns, output_margin, outputs_margin, periods_of, wider_row, window_of, yes_or_no};
 ghost use Rattle.a429_cert.specs.PlanText.{HasSources};
 
@@ -22,8 +22,8 @@ use std::alloc::{AllocError, Global};
 
 /// The names of the columns.
 const COLUMNS: &[&str] = &[
-    "group", "frame", "buses", "cells", "free", "excess", "bound", "source", "period", "next",
-    "less", "max_us", "choose",
+    "group", "frame", "buses", "excess", "bound", "source", "period", "next", "less", "max_us",
+    "choose",
 ];
 
 /// The number of whole slots in the maximum interval of an output, at a bit rate in bit/s.
@@ -107,8 +107,6 @@ fn add_wider<'a>(
     let to = 2 * from;
     rows.add(&[
         Cell::Text(group.name.as_str()),
-        Cell::Absent,
-        Cell::Absent,
         Cell::Absent,
         Cell::Absent,
         Cell::Absent,
@@ -200,8 +198,7 @@ fn bound_of(alloc: Global, rate: u32, outputs: &[OutputRow]) -> Result<usize, Al
 
 /// Adds the row of a group, with this raw bound.
 fn add_group_row(rows: &mut Rows, group: &GroupRow, table: &GroupPlan<OUTPUTS>, bound: usize)
-    requires within { sum (demands_of table.now) ≤ cells_of table.now }
-    requires above { (buses_of table.now - 1) * frame_of table.now ≤ sum (demands_of table.now) }
+    requires { (buses_of table.now - 1) * frame_of table.now ≤ sum (demands_of table.now) }
     ensures { rows.new ≡ rows.old ++ group_row_of group.now table.now bound ∷ [] }
 {
     let frame = table.frame();
@@ -211,8 +208,6 @@ fn add_group_row(rows: &mut Rows, group: &GroupRow, table: &GroupPlan<OUTPUTS>, 
         Cell::Text(group.name.as_str()),
         number(frame),
         number(buses),
-        number(demand),
-        number(buses * frame - demand),
         number(demand - buses.saturating_sub(1) * frame),
         Cell::Number(bound as u64),
         Cell::Absent,
@@ -266,7 +261,7 @@ fn add_groups(
 }
 
 /// What would save a bus in each group of a proposal's plan, in table order (profile: margin). The row of a group has its
-/// frame in slots, its buses, its cells, its free cells, its excess cells for one bus less, and the raw bound. If the group
+/// frame in slots, its buses, its excess cells for one bus less, and the raw bound. If the group
 /// has more than one bus, a row follows for each output whose maximum interval could be longer. The chosen outputs save a
 /// bus and free the fewest cells. Error: an allocation failed.
 pub fn margin_sheet(alloc: Global, proposal: &Proposal<OUTPUTS>) -> Result<Sheet, AllocError>

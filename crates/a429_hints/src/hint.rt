@@ -7,7 +7,7 @@ use std::fmt::Display;
 use std::io;
 use std::io::Write;
 
-/// The most lines of the hints of one run: a terminal shows them at once. One last line counts the others.
+/// The maximum number of lines of the hints of one run: a terminal shows them at once. One last line counts the others.
 pub const LINES: usize = 20;
 
 /// The lines of a hint, in memory. If an allocation fails, none of them is written. A control character is written as its

@@ -62,7 +62,7 @@ fn takes(shape: Shape, value: &Value) -> bool {
     }
 }
 
-/// The most rows at a key.
+/// The maximum number of rows at a key.
 fn most(key: &str) -> usize {
     match key {
         "receiver" => RECEIVERS,

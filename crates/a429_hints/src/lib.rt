@@ -4,7 +4,8 @@
 //! is about hints. `run_program` of `a429_cli` takes them as `HintLines`.
 //!
 //! ```text
-//! let status = run_program(&rt, &rt, &HintLines, &mut files, &mut out, &mut err, &NoProgress);
+//! let line = ProgressLine::new(rt.alloc(), rt.stderr());
+//! run_program(&rt, &rt, &HintLines, &mut files, &mut out, &mut err, &line)
 //! ```
 #![tactic(auto)]
 

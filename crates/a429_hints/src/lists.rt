@@ -4,7 +4,7 @@ use crate::hint::HintText;
 use crate::nearest::Nearest;
 use crate::rows::short_text;
 
-/// The most names that a hint lists.
+/// The maximum number of names that a hint lists.
 pub const LISTED: usize = 16;
 
 /// Whether a name is one of these.

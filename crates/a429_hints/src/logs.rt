@@ -8,7 +8,7 @@ use a429_console::hints::SeenLine;
 /// The form of a log's lines.
 const FORM: &str = "TIME RECEIVER HEX";
 
-/// The most digits of a time.
+/// The maximum number of digits of a time.
 const TIME_DIGITS: usize = 14;
 
 /// Says what is wrong with a line of a log.

@@ -25,14 +25,14 @@ pub fn tell_nearest_word(words: &[&str], hint: &mut HintText) {
     }
 }
 
-/// The names of the commands, separated by spaces. If two are equally near, the hint names the first. So `word` and
-/// `lines`, the first two commands, come last: they are meant least often.
+/// The names of the commands, separated by spaces. If two are equally near, the hint names the first. So `word`,
+/// `encode` and `lines`, the first three commands, come last: they are meant least often.
 fn command_names(alloc: Global) -> Result<String, AllocError> {
     let mut names = String::new(alloc);
-    for form in commands().iter().skip(2) {
+    for form in commands().iter().skip(3) {
         add_name("", form.name, &mut names)?;
     }
-    for form in commands().iter().take(2) {
+    for form in commands().iter().take(3) {
         add_name("", form.name, &mut names)?;
     }
     names.push_str("help")?;

@@ -11,7 +11,7 @@ pub struct Nearest<'a> {
 }
 
 impl<'a> Nearest<'a> {
-    /// Nothing compared yet.
+    /// The name nearest to a text, before any name was compared.
     pub fn to(text: &'a str) -> Nearest<'a> {
         Nearest { text, best: None }
     }

@@ -64,7 +64,7 @@ impl<'a> Sheet<'a> {
         None
     }
 
-    /// The row of an output, by the name of its group and its number in the group, from 0.
+    /// The row of an output, by the name of its group and its number in the group, from 0. `None` if there is none.
     pub fn output_row(self, group: &[u8], number: usize) -> Option<&'a CsvLine> {
         let mut left = number;
         for row in self.rows {

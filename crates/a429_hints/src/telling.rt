@@ -11,7 +11,9 @@ use crate::logs::{tell_log_line, tell_too_long};
 use crate::mistakes::tell_nearest_word;
 use crate::plans::{tell_all_unfit, tell_fewer_buses, tell_groups};
 use crate::scripts::{tell_script_line, tell_words_line};
-use crate::words::{tell_even_word, tell_filter, tell_line_byte, tell_word_text};
+use crate::words::{
+    tell_data_text, tell_even_word, tell_filter, tell_label_text, tell_line_byte, tell_word_text,
+};
 use a429_console::arguments::forms::{CommandForm, Verb, command_of};
 use a429_console::arguments::requests::Asked;
 use a429_console::hints::{FurtherCause, FurtherFault, Hints, Seen, SeenTable, TableLook};
@@ -106,9 +108,11 @@ fn tell_refusal(asked: &Asked, refusal: &CommandRefusal, seen: &Seen, hint: &mut
     }
     match refusal {
         CommandRefusal::File(name) => tell_trouble(seen.trouble, name.as_str(), hint),
-        CommandRefusal::WordText | CommandRefusal::Parity | CommandRefusal::Filter(_) => {
-            tell_of_words(asked, refusal, hint);
-        }
+        CommandRefusal::WordText
+        | CommandRefusal::Parity
+        | CommandRefusal::LabelText
+        | CommandRefusal::DataText
+        | CommandRefusal::Filter(_) => tell_of_words(asked, refusal, hint),
         CommandRefusal::LineByte(_) | CommandRefusal::Script(_) | CommandRefusal::LogLine { .. } =>
             { tell_of_line(asked, seen, hint) }
         CommandRefusal::TooMuch => tell_of_length(asked, hint),
@@ -121,6 +125,8 @@ fn tell_of_words(asked: &Asked, refusal: &CommandRefusal, hint: &mut HintText) {
     match refusal {
         CommandRefusal::WordText => tell_word_text(asked.first, hint),
         CommandRefusal::Parity => tell_even_word(asked.first, hint),
+        CommandRefusal::LabelText => tell_label_text(asked.first, hint),
+        CommandRefusal::DataText => tell_data_text(&asked.options.fields, hint),
         CommandRefusal::Filter(number) => tell_filter(*number, nth(&asked.more, *number), hint),
         _ => {}
     }

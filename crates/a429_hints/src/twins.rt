@@ -4,7 +4,7 @@ use crate::rows::{TableRow, rows_at, text_at};
 use a429_table::{FaultKind, TablePlace};
 use toml::Value;
 
-/// The first earlier row of the same array with which a row clashes, for a fault of this kind.
+/// The first earlier row of the same array with which a row clashes, for a fault of this kind. `None` if there is none.
 pub fn twin_of<'a>(row: &TableRow<'a>, kind: FaultKind) -> Option<TableRow<'a>> {
     for number in 0..usize::MAX {
         let place = place_of_row(row.place, number);

@@ -1,6 +1,7 @@
 //! Hints about words, line files and filters.
 
 use crate::hint::HintText;
+use a429_console::arguments::requests::FieldOptions;
 use a429_console::hints::SeenLine;
 use a429_filter::FILTERS;
 use a429_word::{Label, Word, raw_word};
@@ -46,6 +47,37 @@ pub fn tell_even_word(text: &str, hint: &mut HintText) {
         let data = word.data();
         writeln!(hint, " data {data:05x}");
     }
+}
+
+/// Says what a label is.
+pub fn tell_label_text(text: &str, hint: &mut HintText) {
+    hint.say_quoted("a429: ", text);
+    hint.end(" is not a label: a label is three octal digits, 000 to 377");
+}
+
+/// Says which data a word can have, in the form in which they are given.
+pub fn tell_data_text(fields: &FieldOptions, hint: &mut HintText) {
+    let FieldOptions { hex, bnr, bcd, .. } = fields;
+    if let Some(text) = *hex {
+        hint.say_quoted("a429: --data ", text);
+        hint.end(" is not data: data are one to five hexadecimal digits, at most 7ffff");
+    }
+    if let Some(text) = *bnr {
+        tell_bnr_text(text, fields.bits.unwrap_or(18), hint);
+    }
+    if let Some(text) = *bcd {
+        hint.say_quoted("a429: --bcd ", text);
+        hint.end(" is not data: BCD data are five decimal digits, of which the first is at most 7");
+    }
+}
+
+/// Says which BNR numbers have at most this number of bits below their sign.
+fn tell_bnr_text(text: &str, bits: u32, hint: &mut HintText) {
+    let most: u64 = 1 << bits.min(18);
+    hint.say_quoted("a429: --bnr ", text);
+    hint.say_number(" is not a whole number from -", most);
+    hint.say_number(" to ", most - 1);
+    hint.end("");
 }
 
 /// Says what is wrong with a filter. Filters are numbered from 1.

@@ -2,10 +2,13 @@
 use Rattle.std.specs.Prelude.{ℕ, ◌+◌, ◌/◌, ◌%◌, ◌==◌, ◌||◌, List, [], ◌∷◌, ◌++◌, codes, if◌then◌else◌, map, nat_lt}
 use Rattle.std.specs.Fmt.{decimal}
 use Rattle.std.specs.List.{flat_map}
+use Rattle.a429_text.specs.Texts.{tenths}
 
 pub data Field : Type 0 where
   Text : List ℕ → Field
   Number : ℕ → Field
+  -- a number of tenths
+  Tenths : ℕ → Field
   -- nothing is said
   Absent : Field
 
@@ -13,6 +16,7 @@ pub data Field : Type 0 where
 abbrev pub field_text : List ℕ → Field → List ℕ
 field_text absent (Text text) = text
 field_text absent (Number number) = decimal number
+field_text absent (Tenths number) = tenths number
 field_text absent Absent = absent
 
 -- the names of the columns, and then each row
@@ -38,6 +42,7 @@ quoted text = codes "\"" ++ (flat_map escaped text ++ codes "\"")
 abbrev pub field_json : Field → List ℕ
 field_json (Text text) = quoted text
 field_json (Number number) = decimal number
+field_json (Tenths number) = tenths number
 field_json Absent = codes "null"
 
 -- the members of a row, each after the mark that comes before it

@@ -1,5 +1,5 @@
 -- What was written of a text.
-use Rattle.std.specs.Prelude.{ℕ, ◌+◌, ◌/◌, ◌%◌, ◌∷◌, [], ◌++◌, List, Option, None, Some}
+use Rattle.std.specs.Prelude.{ℕ, ◌+◌, ◌/◌, ◌%◌, ◌∷◌, [], ◌++◌, List, Option, None, Some, codes}
 use Rattle.std.specs.Fmt.{decimal}
 use Rattle.a429_text.specs.declared.said.Said.{Said}
 use Rattle.a429_text.specs.Said.{bytes_of}
@@ -18,3 +18,7 @@ filled (w ∷ ws) (n ∷ ns) = w ++ (decimal n ++ filled ws ns)
 -- a number below 512 in three octal digits
 abbrev pub octal : ℕ → List ℕ
 octal value = (48 + value / 64) ∷ (48 + value / 8 % 8) ∷ (48 + value % 8) ∷ []
+
+-- a number of tenths in decimal, with one digit after the point
+abbrev pub tenths : ℕ → List ℕ
+tenths number = decimal (number / 10) ++ (codes "." ++ decimal (number % 10))

@@ -12,6 +12,8 @@ use std::marker::Model;
 pub enum Cell<'a> {
     Text(&'a str),
     Number(u64),
+    /// A number of tenths, as a number with one decimal: 37 is `3.7`.
+    Tenths(u64),
     /// Three octal digits, as labels are written: a text.
     Octal(u8),
     /// There is nothing to say in this column: `-`, as comma-separated values nothing, in JSON `null`.
@@ -23,6 +25,7 @@ pub enum Cell<'a> {
 pub enum KeptCell {
     Text(Text),
     Number(u64),
+    Tenths(u64),
     Absent,
 }
 
@@ -37,6 +40,7 @@ impl KeptCell {
                 KeptCell::Text(text)
             }
             Cell::Number(number) => KeptCell::Number(*number),
+            Cell::Tenths(tenths) => KeptCell::Tenths(*tenths),
             Cell::Octal(value) => {
                 let mut text = Text::new(alloc);
                 text.put_octal(*value);

@@ -6,9 +6,11 @@ ghost use Rattle.a429_text.specs.Aligned.{field_in};
 ghost use Rattle.a429_text.specs.CsvLines.{HasGained, IsWhole};
 ghost use Rattle.a429_text.specs.Fields.{field_text, texts_of};
 ghost use Rattle.a429_text.specs.Sheets.{kept_field};
+ghost use Rattle.a429_text.specs.Texts.{tenths};
 
 use crate::cells::{KeptCell, Row};
 use crate::rows::Rows;
+use crate::text::Text;
 use csv::ByteRecord;
 use itoa::Buffer;
 use std::alloc::{AllocError, Global};
@@ -72,14 +74,30 @@ fn push_number(fields: &mut ByteRecord, number: u64) -> Result<(), AllocError>
     push(fields, room.format(number).as_bytes())
 }
 
+/// Adds a number of tenths in decimal, with one digit after the point.
+fn push_tenths(alloc: Global, fields: &mut ByteRecord, number: u64) -> Result<(), AllocError>
+    requires { IsWhole fields.old }
+    ensures { OnOk result (HasGained fields.old fields.new (tenths number)) }
+{
+    let mut text = Text::new(alloc);
+    text.put_tenths(number);
+    push(fields, text.as_bytes()?)
+}
+
 /// Adds the text of a cell, this one if nothing is said.
-fn push_cell(fields: &mut ByteRecord, absent: &str, cell: &KeptCell) -> Result<(), AllocError>
+fn push_cell(
+    alloc: Global,
+    fields: &mut ByteRecord,
+    absent: &str,
+    cell: &KeptCell,
+) -> Result<(), AllocError>
     requires { IsWhole fields.old }
     ensures { OnOk result (HasGained fields.old fields.new (field_text absent.now (kept_field cell.now))) }
 {
     match cell {
         KeptCell::Text(text) => push(fields, text.as_bytes()?),
         KeptCell::Number(number) => push_number(fields, *number),
+        KeptCell::Tenths(number) => push_tenths(alloc, fields, *number),
         KeptCell::Absent => push(fields, absent.as_bytes()),
     }
 }
@@ -101,7 +119,7 @@ fn texts_of_row(alloc: Global, absent: &str, row: &Row) -> Result<TextRow, Alloc
 {
     let mut fields = ByteRecord::new(alloc);
     for cell in row.cells()? {
-        push_cell(&mut fields, absent, cell)?;
+        push_cell(alloc, &mut fields, absent, cell)?;
     }
     Ok(TextRow { fields })
 }

@@ -25,7 +25,7 @@ impl<T: Drop> Model for Gathered<T> {
 }
 
 impl<T: Drop> Gathered<T> {
-    /// Nothing yet.
+    /// An empty list.
     pub fn new(alloc: Global) -> Gathered<T>
         ensures { result ≡ [] }
     {

@@ -5,10 +5,25 @@
 //! `Sheet::render` gives it in columns for people, as comma-separated values, or as JSON.
 //!
 //! ```text
+//! rows.add(&[
+//!     Cell::Text(group),
+//!     Cell::Text(source),
+//!     Cell::Number(figures.sent),
+//!     ..
+//! ]);
+//! ..
 //! let mut rows = Rows::new(alloc);
-//! rows.add(&[Cell::Text("displays"), Cell::Number(12500), Cell::Absent]);
-//! let sheet = Sheet { columns: &["group", "rate", "hold"], rows };
-//! let bytes = sheet.render(alloc, SheetForm::Csv)?;
+//! add_groups(&mut rows, proposal, summary);
+//! Sheet {
+//!     columns: COLUMNS,
+//!     rows,
+//! }
+//! ```
+//!
+//! Rendered in a form, a sheet is bytes:
+//!
+//! ```text
+//! let bytes = load.sheet.render(alloc, form)?;
 //! ```
 #![tactic(auto)]
 

@@ -25,7 +25,7 @@ impl Model for Rows {
 }
 
 impl Rows {
-    /// No rows.
+    /// An empty list of rows.
     pub fn new(alloc: Global) -> Rows
         ensures { result ≡ [] }
     {

@@ -1,7 +1,7 @@
 //! A text that is written at its end.
 ghost use Rattle.std.specs.Prelude.{◌≡◌, ◌++◌, [], IfOk, map, replicate};
 ghost use Rattle.std.specs.Fmt.{decimal};
-ghost use Rattle.a429_text.specs.Texts.{filled, octal};
+ghost use Rattle.a429_text.specs.Texts.{filled, octal, tenths};
 
 use crate::said::Said;
 use itoa::Buffer;
@@ -27,7 +27,7 @@ impl Model for Text {
 }
 
 impl Text {
-    /// Nothing written.
+    /// An empty text.
     pub fn new(alloc: Global) -> Text
         ensures { result ≡ [] }
     {
@@ -67,6 +67,15 @@ impl Text {
         let mut room = Buffer::new();
         let digits = room.format(number);
         self.put(digits);
+    }
+
+    /// Writes a number of tenths in decimal, with one digit after the point.
+    pub fn put_tenths(&mut self, number: u64)
+        ensures { self.new ≡ self.old ++ tenths number }
+    {
+        self.put_number(number / 10);
+        self.put(".");
+        self.put_number(number % 10);
     }
 
     /// Writes a number in three octal digits.

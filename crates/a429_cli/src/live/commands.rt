@@ -24,7 +24,7 @@ use std::sync::Wait;
 use std::thread::Threads;
 
 /// Does the command `live`. Every other command is a usage error here. It starts threads, and may wait for them: when
-/// it returns all have ended. While the station runs, `progress` gets reports of how far it is.
+/// it returns all have ended. While the station runs, `progress` gets reports of its progress.
 pub fn command_live<
     'a,
     R: Threads + Wait,
@@ -43,15 +43,15 @@ pub fn command_live<
     err: &mut V,
     progress: &P,
 ) -> u8
-    // If the words ask for a run and no call of the output failed, the bytes put and the status are those of its report or of the one refusal.
+    // If the arguments ask for a run and no call of the output failed, the bytes put and the status are those of its report or of the one refusal.
     ensures replied { RepliesToLive F.tells F.file O.contents O.failures (texts_of words.entry.now) files.old out.old out.new result }
     // The same of a reader of any files: the answer is that of files which give what the reader answered in this call.
     ensures read { RepliesToLiveByReader F.answers O.contents O.failures (texts_of words.entry.now) files.old out.old out.new result }
-    // With status 0 nothing is written to the other output, if each further table was taken: that of any files which give what the reader answered.
+    // With status 0 nothing is written to `err`, if each further table was taken: that of any files which give what the reader answered.
     ensures quiet { (r : AskedBytes) → is_run r.verb ≡ true → AsksFor (texts_of words.entry.now) r
         → HasReadFrom F.answers (λ file. TakesEach file r → result ≡ 0 → err.new ≡ err.old) files.old }
     ensures asked { (r : AskedBytes) → is_run r.verb ≡ true → AsksFor (texts_of words.entry.now) r → result ≤ 1 }
-    // How it ends: help, mistakes, failures of either output, and what was passed on.
+    // How it ends: help, usage errors, failures of `out` or `err`, and what was passed on.
     ensures ends { EndsBy (live_kinds_of_words (texts_of words.entry.now)) (writing O.contents O.failures O.is_flushed out.old out.new)
         (writing V.contents V.failures V.is_flushed err.old err.new) result }
 {

@@ -64,7 +64,7 @@ fn push_line(text: &mut Vec<u8>, cells: u64, all: u64, words: u64) -> io::Result
 }
 
 impl<W: Write + Copy> ProgressLine<W> {
-    /// Nothing was sent yet.
+    /// A progress line with all counters at 0.
     pub fn new(alloc: Global, terminal: W) -> ProgressLine<W> {
         ProgressLine {
             alloc,
@@ -113,7 +113,7 @@ impl<W: Write + Copy> Progress for ProgressLine<W> {
     }
 }
 
-/// A gate that always lets pass, and reports how far the run is.
+/// A gate that lets every loop pass, and reports the progress of the run.
 #[derive(Drop)]
 pub struct ProgressGate<'a, P> {
     progress: &'a P,

@@ -162,7 +162,7 @@ fn threads_of(equipment: &Equipment) -> usize {
 
 /// The text of the report of a run. Error: a file, the table, its plan, the file of words, or the run is refused. The
 /// run is refused as `TooMuch` for more than a million frames or words of a receiver, and as `Join` if a thread could
-/// not be started or taken in.
+/// not be started or joined.
 fn run_report<R: Threads + Wait, F: FileReader, P: Progress + Sync>(
     rt: &R,
     alloc: Global,
@@ -191,8 +191,8 @@ fn run_report<R: Threads + Wait, F: FileReader, P: Progress + Sync>(
     result
 }
 
-/// Runs the station of a table on threads of its own, and puts the report of the run, or the one line of a refusal.
-/// The status is 0, or 1 after a refusal. While the station runs, `progress` gets reports of how far it is.
+/// Runs the station of a table on threads of its own, and puts the report of the run, or the one line of a refusal. The
+/// status is 0, or 1 after a refusal. While the station runs, `progress` gets reports of its progress.
 pub fn run_station<R: Threads + Wait, F: FileReader, O: Output, P: Progress + Sync>(
     rt: &R,
     alloc: Global,

@@ -95,7 +95,7 @@ fn words_for(alloc: Global, arrivals: &[Arrival], receiver: usize) -> Result<Vec
         .collect(alloc)
 }
 
-/// The lines of this number of receivers. Each gives the words for its receiver, in order.
+/// The lines of this number of receivers. Each gives the words for its receiver, in order. Error: an allocation failed.
 #[tactic(auto, using(crate::proofs::WordsLines::numbers_left))]
 pub fn line_sources(
     alloc: Global,

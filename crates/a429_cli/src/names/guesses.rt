@@ -19,7 +19,7 @@ const EACH: u64 = 0x0101_0101_0101_0101;
 /// The highest bit of each byte.
 const HIGHEST: u64 = 0x8080_8080_8080_8080;
 
-/// Numbers of names, each at the place that the name's first bytes come to.
+/// Numbers of names, each at the place that the first bytes of the name give.
 #[derive(Drop)]
 pub struct Guesses {
     multiplier: u64,
@@ -48,7 +48,7 @@ fn last_before(text: &[u8], end: u8) -> u64 {
     }
 }
 
-/// The place that a name's first bytes come to.
+/// The place that the first bytes of a name give.
 fn place_of(head: NameHead, multiplier: u64) -> usize
     ensures { result < 256 }
 {
@@ -66,7 +66,7 @@ fn head_of_name(name: &[u8], end: u8) -> Option<NameHead> {
     head_of(&text, end)
 }
 
-/// Puts each name's number to its place. `false` if two names come to one place.
+/// Puts each name's number to its place. `false` if two names have one place.
 fn put_numbers(names: &[String], end: u8, guesses: &mut Guesses) -> bool {
     let mut apart = true;
     for (number, name) in names.iter().enumerate() {

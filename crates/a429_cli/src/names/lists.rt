@@ -50,7 +50,7 @@ impl NameList {
         &self.names
     }
 
-    /// The number of the first name that is spelled so.
+    /// The number of the first name that is spelled so. `None` if there is none.
     pub fn number(&self, name: &[u8]) -> Option<u8>
         ensures { result ≡ number_named self.now name.now }
     {

@@ -107,7 +107,7 @@ fn plan_table(
     Ok(())
 }
 
-/// Reads and plans tables. What was read of each is kept in `seen`.
+/// Reads and plans tables. What was read of each is kept in `seen`. Error: an allocation failed.
 pub fn plan_tables(
     alloc: Global,
     tables: Vec<Vec<u8>>,

@@ -40,7 +40,7 @@ impl KeptEvent {
         }
     }
 
-    /// An arrival.
+    /// An arrival as it is kept.
     #[inline(always)]
     pub fn arrive(receiver: u8, raw: u32) -> KeptEvent
         ensures { event_of result ≡ Arrive receiver raw }
@@ -48,7 +48,7 @@ impl KeptEvent {
         KeptEvent::with(Verb::Arrive, receiver, raw)
     }
 
-    /// A cell.
+    /// A cell as it is kept.
     #[inline(always)]
     pub fn cell(group: u8) -> KeptEvent
         ensures { event_of result ≡ Cell group }
@@ -61,7 +61,7 @@ impl KeptEvent {
         }
     }
 
-    /// A frame.
+    /// A frame as it is kept.
     #[inline(always)]
     pub fn frame(group: u8) -> KeptEvent
         ensures { event_of result ≡ Frame group }

@@ -32,7 +32,7 @@ fn arrive(names: &Names, words: &[u8]) -> Option<ScriptEvent>
     Some(ScriptEvent::Arrive(receiver, raw_word(raw)?))
 }
 
-/// The publication of one of this number of further tables.
+/// The publication of one of this number of further tables. `None` if the text is the number of none of them.
 fn publish(further: usize, number: &[u8]) -> Option<ScriptEvent>
     ensures event { result ≡ publish_event further number.now }
     ensures fits { IfSome result (CanBeKept further) }

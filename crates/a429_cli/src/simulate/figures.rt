@@ -98,7 +98,7 @@ impl OutputSend {
 }
 
 impl OutputFigures {
-    /// Nothing was sent.
+    /// The figures of an output that sent nothing.
     pub fn nothing() -> OutputFigures
         ensures { result ≡ nothing_sent }
     {
@@ -140,7 +140,7 @@ pub struct Summary {
     figures: Vec<OutputFigures>,
 }
 
-/// Where the figures of a source in a group are. `None` if a station has no such group or no such source.
+/// The place of the figures of a source in a group. `None` if a station cannot have both.
 fn place_of(group: usize, source: usize) -> Option<usize>
     ensures { result ≡ place_of group source }
 {
@@ -166,7 +166,8 @@ fn note_send(figures: &mut Vec<OutputFigures>, sent: SentWord, rate: u32)
 }
 
 impl Summary {
-    /// That of a simulation in which nothing has happened. All the memory that is ever needed is taken here.
+    /// The summary of a simulation in which nothing has happened. It takes all memory that it ever needs. Error: an
+    /// allocation failed.
     pub fn open(alloc: Global) -> Result<Summary, AllocError>
         ensures { IfOk result (λ summary. (q : Proposed) → HasFigures q [] summary.figures.items) }
     {

@@ -47,7 +47,8 @@ pub struct PendingLines {
 }
 
 impl PendingLines {
-    /// The lines before those of what happens: with commas between fields the names of these.
+    /// The lines before those of what happens: with commas between fields the names of these. Error: an allocation
+    /// failed.
     pub fn open(alloc: Global, csv: bool) -> Result<PendingLines, AllocError>
         ensures { IfOk result (IsHeading csv) }
     {

@@ -54,8 +54,8 @@ impl Player {
         })
     }
 
-    /// The next cell with a word in the slot that is under way. `None` if it has no more: then it is over, and where it is the
-    /// last of a frame its group goes on to the next.
+    /// The next cell with a word in the slot that is under way. `None` if it has no more. Then the slot is over, and
+    /// after the last slot of a frame the group goes on to the next frame.
     #[inline(always)]
     fn next_cell(&mut self, proposal: &Proposal<OUTPUTS>) -> Option<Happening>
         requires { CanBePlayed proposal.now self.old }

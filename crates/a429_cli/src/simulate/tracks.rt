@@ -1,4 +1,4 @@
-//! Where each group is: which of its slots is next.
+//! The place of each group: which of its slots is next.
 ghost use Rattle.std.specs.Prelude.{◌≡◌, ◌<◌, ◌≤◌, ◌*◌, ◌↔◌, IsTrue, IfSome, length, Some, slice_get};
 ghost use Rattle.a429_equipment.specs.Sound.{OfEach};
 ghost use Rattle.a429_slots.specs.Tables.{groups_of};
@@ -20,7 +20,7 @@ use std::alloc::Global;
 /// How many frames a group sends at most.
 const MOST_FRAMES: u64 = 1_000_000;
 
-/// A group: the rate of its buses in bit/s, how many slots it sends in all, and which is next.
+/// A group: the bit rate of its buses, how many slots it sends in all, and which is next.
 #[derive(Clone, Copy)]
 pub struct Track {
     pub rate: u32,
@@ -96,7 +96,7 @@ pub fn take_slot(tracks: &mut Vec<Track>, group: usize) -> u64
     slot
 }
 
-/// The rate of a group in bit/s.
+/// The bit rate of a group.
 pub fn rate_of(proposal: &Proposal<OUTPUTS>, group: usize) -> u32
     requires known { HasPlannedGroup proposal.now group }
     ensures rate { result ≡ rate_of proposal.now group }

@@ -1,14 +1,18 @@
 //! Choices by the arguments, by rules that `clap` does not state.
-ghost use Rattle.std.specs.Prelude.{◌≡◌, None, Some, codes, IfErr, IfOk};
+ghost use Rattle.std.specs.Prelude.{◌≡◌, None, Some, codes, false, true, is_some, IfErr, IfOk};
+ghost use Rattle.a429_console.specs.Requests.{is_one_alone};
 ghost use Rattle.clap.specs.Words.{first_of, found_of, one_of, rows_of};
-ghost use Rattle.a429_console.specs.RequestRows.{choices_given, form_given, is_set, width_given};
+ghost use Rattle.a429_console.specs.RequestRows.{choices_given, form_given, form_of, is_set, is_value_given, lacks_value, width_given};
 
-use crate::arguments::forms::{CSV, JSON, SUMMARY, WIDTH};
+use crate::arguments::forms::{BCD, BITS, BNR, CODE, CSV, DATA, JSON, SUMMARY, WIDTH};
 use a429_text::SheetForm;
 use clap::ArgMatches;
 
 /// The command whose lines are written one by one, so that only its summary has a form as JSON.
 const SIMULATE: &str = "simulate";
+
+/// The command that makes a word.
+const ENCODE: &str = "encode";
 
 /// What is chosen.
 #[derive(Clone, Copy)]
@@ -57,20 +61,77 @@ fn form_given(name: &str, found: &ArgMatches<'_>) -> Result<SheetForm, &'static 
     ensures none { IfErr result (λ _. form_given name.now (rows_of (found_of found.now)) ≡ None) }
 {
     let is_csv = is_given(found, CSV.id);
-    if !is_given(found, JSON.id) {
-        return Ok(if is_csv {
-            SheetForm::Csv
-        } else {
-            SheetForm::Columns
-        });
-    }
-    if is_csv {
+    let is_json = is_given(found, JSON.id);
+    if is_csv && is_json {
         return Err("'--csv' and '--json' do not go together");
     }
-    if name == SIMULATE && !is_given(found, SUMMARY.id) {
+    if is_json && name == SIMULATE && !is_given(found, SUMMARY.id) {
         return Err("'--json' is given with '--summary'");
     }
-    Ok(SheetForm::Json)
+    one_form(is_given(found, CODE.id), is_csv, is_json)
+}
+
+/// The form by whether `--c` is given, or one of the other two.
+fn one_form(is_code: bool, is_csv: bool, is_json: bool) -> Result<SheetForm, &'static str>
+    requires { is_csv ≡ true → is_json ≡ false }
+    ensures given { IfOk result (λ form. form_of is_code is_csv is_json ≡ Some form) }
+    ensures none { IfErr result (λ _. form_of is_code is_csv is_json ≡ None) }
+{
+    if !is_csv && !is_json {
+        return Ok(SheetForm::Columns);
+    }
+    if is_code {
+        return Err("'--c' goes with neither '--csv' nor '--json'");
+    }
+    Ok(if is_csv {
+        SheetForm::Csv
+    } else {
+        SheetForm::Json
+    })
+}
+
+/// Whether an option is given that has a value.
+fn has_text(found: &ArgMatches<'_>, id: &str) -> bool
+    ensures { result ≡ is_some (first_of id.now (rows_of (found_of found.now))) }
+{
+    found.get_str(id).is_some()
+}
+
+/// Whether one of three is given, and no other.
+fn is_one_alone(first: bool, second: bool, third: bool) -> bool
+    ensures { result ≡ is_one_alone first second third }
+{
+    match (first, second, third) {
+        (true, false, false) | (false, true, false) | (false, false, true) => true,
+        _ => false,
+    }
+}
+
+/// Whether the data of a word are given in one way. The error says what is wrong.
+fn value_given(found: &ArgMatches<'_>) -> Result<(), &'static str>
+    ensures given { IfOk result (λ _. is_value_given (rows_of (found_of found.now)) ≡ true) }
+    ensures none { IfErr result (λ _. is_value_given (rows_of (found_of found.now)) ≡ false) }
+{
+    let is_bnr = has_text(found, BNR.id);
+    if !is_one_alone(has_text(found, DATA.id), is_bnr, has_text(found, BCD.id)) {
+        return Err("one of '--data', '--bnr' and '--bcd' is given");
+    }
+    if has_text(found, BITS.id) && !is_bnr {
+        return Err("'--bits' is given with '--bnr'");
+    }
+    Ok(())
+}
+
+/// The same, if the command of this name makes a word.
+fn value_if_made(name: &str, found: &ArgMatches<'_>) -> Result<(), &'static str>
+    ensures given { IfOk result (λ _. lacks_value name.now (rows_of (found_of found.now)) ≡ false) }
+    ensures none { IfErr result (λ _. lacks_value name.now (rows_of (found_of found.now)) ≡ true) }
+{
+    if name == ENCODE {
+        value_given(found)
+    } else {
+        Ok(())
+    }
 }
 
 /// What is chosen of the command of this name. The error says what is wrong.
@@ -78,6 +139,7 @@ pub fn choices_in(name: &str, found: &ArgMatches<'_>) -> Result<Choices, &'stati
     ensures chosen { IfOk result (λ choices. choices_given name.now (rows_of (found_of found.now)) ≡ Some choices) }
     ensures none { IfErr result (λ _. choices_given name.now (rows_of (found_of found.now)) ≡ None) }
 {
+    value_if_made(name, found)?;
     let Some(width) = width_given(found) else {
         return Err("'--width <N>' takes 64, 128 or 256");
     };

@@ -6,7 +6,7 @@ ghost use Rattle.a429_console.specs.CommandLine.{HasRule, bare_line, command_lin
 use crate::arguments::forms::{
     CommandForm, NameForm, NumberForm, OptionForm, OptionKind, commands,
 };
-use crate::arguments::help::{PROGRAM, PROGRAM_END, VERSION};
+use crate::arguments::help::{CommandHelp, PROGRAM, PROGRAM_END, VERSION, help_of};
 use clap::builder::ValueParser;
 use clap::error::ErrorKind;
 use clap::{Arg, ArgAction, Command, Error};
@@ -103,7 +103,8 @@ fn with_names<'a>(
 fn command_of<'a>(alloc: Global, form: &CommandForm) -> Result<Command<'a>, AllocError>
     ensures { IfOk result (λ c. app_of c ≡ row_app (form_row form.now)) }
 {
-    let command = named_command(alloc, form.name, form.about, form.end);
+    let CommandHelp { about, end } = help_of(form.verb);
+    let command = named_command(alloc, form.name, about, end);
     let mut command = with_names(alloc, command, form)?;
     for option in form.options {
         command = command.arg(option_argument(alloc, option))?;
@@ -131,7 +132,7 @@ fn with_command<'a>(
     match command_of(alloc, form) {
         Ok(command) => line.subcommand(command),
         Err(error) => {
-            // one call, in place of the drop of each part
+            // one call, instead of the drop of each part
             drop(line);
             Err(error)
         }
@@ -152,7 +153,7 @@ fn with_commands<'a>(
     Ok(line)
 }
 
-/// The command line of the program.
+/// The command line of the program. Error: an allocation failed.
 pub fn build_command<'a>(alloc: Global) -> Result<Command<'a>, AllocError>
     ensures { IfOk result (λ c. app_of c ≡ command_line) }
 {

@@ -13,16 +13,28 @@ const MOST_SLOTS: u64 = 8192;
 /// The last microsecond until which cells may be asked for: fourteen digits (profile).
 const LAST_TIME: u64 = 99_999_999_999_999;
 
+/// The greatest load of a bus that may be asked for, in per cent (profile).
+const MOST_PERCENT: u64 = 100;
+
+/// The greatest SDI and the greatest SSM (ARINC 429 Part 1: two bits each).
+const MOST_PAIR: u64 = 3;
+
+/// The most bits of a BNR number below its sign (ARINC 429 Part 1).
+const MOST_BITS: u64 = 18;
+
 /// A command of the program.
 #[derive(Clone, Copy, PartialEq, Eq)]
 pub enum Verb {
     Word,
+    Encode,
     Lines,
     Import,
     Plan,
     Check,
     Icd,
     Margin,
+    Load,
+    Slots,
     Lint,
     Diff,
     Draw,
@@ -38,7 +50,7 @@ pub struct NameForm {
     pub help: &'static str,
 }
 
-/// A whole number that a command is given, up to the most.
+/// A whole number that a command is given, up to a maximum.
 #[derive(Clone, Copy)]
 pub struct NumberForm {
     pub id: &'static str,
@@ -55,7 +67,7 @@ pub enum OptionKind {
     Text {
         value: &'static str,
     },
-    /// A whole number from the least to the most.
+    /// A whole number from `least` to `most`.
     Number {
         value: &'static str,
         least: u64,
@@ -71,8 +83,8 @@ pub struct OptionForm {
     pub help: &'static str,
 }
 
-/// A command: its name, what it is given, what its help begins with, and the example at the end of that. It is given a
-/// name or two, perhaps a number, perhaps as many names as one likes, and options.
+/// A command: its name, and what it is given: one or two names, perhaps a number, perhaps any number of further names, and
+/// options. `help_of` has its help.
 #[derive(Clone, Copy)]
 pub struct CommandForm {
     pub verb: Verb,
@@ -82,23 +94,24 @@ pub struct CommandForm {
     pub number: Option<NumberForm>,
     pub more: Option<NameForm>,
     pub options: &'static [OptionForm],
-    pub about: &'static str,
-    pub end: &'static str,
+}
+
+/// The form of an option without a value.
+macro_rules! flag {
+    ($id:literal, $help:expr) => {
+        OptionForm {
+            id: $id,
+            kind: OptionKind::Flag,
+            help: $help,
+        }
+    };
 }
 
 /// `--csv`
-pub const CSV: OptionForm = OptionForm {
-    id: "csv",
-    kind: OptionKind::Flag,
-    help: help::CSV,
-};
+pub const CSV: OptionForm = flag!("csv", help::CSV);
 
 /// `--json`
-pub const JSON: OptionForm = OptionForm {
-    id: "json",
-    kind: OptionKind::Flag,
-    help: help::JSON,
-};
+pub const JSON: OptionForm = flag!("json", help::JSON);
 
 /// `--json` of a command whose lines have no such form: only its summary has.
 const SUMMARY_JSON: OptionForm = OptionForm {
@@ -107,11 +120,7 @@ const SUMMARY_JSON: OptionForm = OptionForm {
 };
 
 /// `--all`
-pub const ALL: OptionForm = OptionForm {
-    id: "all",
-    kind: OptionKind::Flag,
-    help: help::ALL,
-};
+pub const ALL: OptionForm = flag!("all", help::ALL);
 
 /// `--group`
 pub const GROUP: OptionForm = OptionForm {
@@ -128,7 +137,7 @@ pub const SLOTS: OptionForm = OptionForm {
         least: 1,
         most: MOST_SLOTS,
     },
-    help: help::SLOTS,
+    help: help::DRAWN_SLOTS,
 };
 
 /// `--width`
@@ -139,11 +148,7 @@ pub const WIDTH: OptionForm = OptionForm {
 };
 
 /// `--html`
-pub const HTML: OptionForm = OptionForm {
-    id: "html",
-    kind: OptionKind::Flag,
-    help: help::HTML,
-};
+pub const HTML: OptionForm = flag!("html", help::HTML);
 
 /// `--until`
 pub const UNTIL: OptionForm = OptionForm {
@@ -157,10 +162,80 @@ pub const UNTIL: OptionForm = OptionForm {
 };
 
 /// `--summary`
-pub const SUMMARY: OptionForm = OptionForm {
-    id: "summary",
-    kind: OptionKind::Flag,
-    help: help::SUMMARY,
+pub const SUMMARY: OptionForm = flag!("summary", help::SUMMARY);
+
+/// `--all` of a command that prints cells.
+const ALL_CELLS: OptionForm = OptionForm {
+    help: help::ALL_CELLS,
+    ..ALL
+};
+
+/// `--c`
+pub const CODE: OptionForm = flag!("c", help::CODE);
+
+/// `--limit`
+pub const LIMIT: OptionForm = OptionForm {
+    id: "limit",
+    kind: OptionKind::Number {
+        value: "PERCENT",
+        least: 1,
+        most: MOST_PERCENT,
+    },
+    help: help::LIMIT,
+};
+
+/// `--sdi`
+pub const SDI: OptionForm = OptionForm {
+    id: "sdi",
+    kind: OptionKind::Number {
+        value: "N",
+        least: 0,
+        most: MOST_PAIR,
+    },
+    help: help::SDI,
+};
+
+/// `--ssm`
+pub const SSM: OptionForm = OptionForm {
+    id: "ssm",
+    kind: OptionKind::Number {
+        value: "N",
+        least: 0,
+        most: MOST_PAIR,
+    },
+    help: help::SSM,
+};
+
+/// `--data`
+pub const DATA: OptionForm = OptionForm {
+    id: "data",
+    kind: OptionKind::Text { value: "HEX" },
+    help: help::DATA,
+};
+
+/// `--bnr`
+pub const BNR: OptionForm = OptionForm {
+    id: "bnr",
+    kind: OptionKind::Text { value: "N" },
+    help: help::BNR,
+};
+
+/// `--bits`
+pub const BITS: OptionForm = OptionForm {
+    id: "bits",
+    kind: OptionKind::Number {
+        value: "K",
+        least: 1,
+        most: MOST_BITS,
+    },
+    help: help::BITS,
+};
+
+/// `--bcd`
+pub const BCD: OptionForm = OptionForm {
+    id: "bcd",
+    kind: OptionKind::Text { value: "DIGITS" },
+    help: help::BCD,
 };
 
 /// The form of a name.
@@ -188,17 +263,20 @@ const OF_TABLE: CommandForm = CommandForm {
     number: None,
     more: None,
     options: &[],
-    about: help::PLAN,
-    end: help::PLAN_END,
 };
 
-static COMMANDS: [CommandForm; 13] = [
+static COMMANDS: [CommandForm; 16] = [
     CommandForm {
         verb: Verb::Word,
         name: "word",
         first: name!("HEX", help::HEX),
-        about: help::WORD,
-        end: help::WORD_END,
+        ..OF_TABLE
+    },
+    CommandForm {
+        verb: Verb::Encode,
+        name: "encode",
+        first: name!("LABEL", help::LABEL),
+        options: &[SDI, SSM, DATA, BNR, BITS, BCD],
         ..OF_TABLE
     },
     CommandForm {
@@ -206,55 +284,53 @@ static COMMANDS: [CommandForm; 13] = [
         name: "lines",
         first: name!("FILE", help::FILE),
         more: Some(name!("FILTER", help::FILTER)),
-        about: help::LINES,
-        end: help::LINES_END,
         ..OF_TABLE
     },
     CommandForm {
         verb: Verb::Import,
         name: "import",
         first: name!("FILE", help::ROWS),
-        about: help::IMPORT,
-        end: help::IMPORT_END,
         ..OF_TABLE
     },
     CommandForm {
         verb: Verb::Plan,
         name: "plan",
-        about: help::PLAN,
-        end: help::PLAN_END,
         ..OF_TABLE
     },
     CommandForm {
         verb: Verb::Check,
         name: "check",
         second: Some(name!("PLAN", help::TEXT)),
-        about: help::CHECK,
-        end: help::CHECK_END,
         ..OF_TABLE
     },
     CommandForm {
         verb: Verb::Icd,
         name: "icd",
         options: &[CSV, JSON],
-        about: help::ICD,
-        end: help::ICD_END,
         ..OF_TABLE
     },
     CommandForm {
         verb: Verb::Margin,
         name: "margin",
         options: &[CSV, JSON],
-        about: help::MARGIN,
-        end: help::MARGIN_END,
+        ..OF_TABLE
+    },
+    CommandForm {
+        verb: Verb::Load,
+        name: "load",
+        options: &[LIMIT, CSV, JSON],
+        ..OF_TABLE
+    },
+    CommandForm {
+        verb: Verb::Slots,
+        name: "slots",
+        options: &[GROUP, ALL_CELLS, CODE, CSV, JSON],
         ..OF_TABLE
     },
     CommandForm {
         verb: Verb::Lint,
         name: "lint",
         options: &[CSV, JSON],
-        about: help::LINT,
-        end: help::LINT_END,
         ..OF_TABLE
     },
     CommandForm {
@@ -262,16 +338,12 @@ static COMMANDS: [CommandForm; 13] = [
         name: "diff",
         second: Some(name!("OTHER", help::OTHER)),
         options: &[ALL, CSV, JSON],
-        about: help::DIFF,
-        end: help::DIFF_END,
         ..OF_TABLE
     },
     CommandForm {
         verb: Verb::Draw,
         name: "draw",
         options: &[GROUP, SLOTS, WIDTH, HTML],
-        about: help::DRAW,
-        end: help::DRAW_END,
         ..OF_TABLE
     },
     CommandForm {
@@ -279,8 +351,6 @@ static COMMANDS: [CommandForm; 13] = [
         name: "replay",
         second: Some(name!("SCRIPT", help::SCRIPT)),
         more: Some(name!("FURTHER", help::FURTHER)),
-        about: help::REPLAY,
-        end: help::REPLAY_END,
         ..OF_TABLE
     },
     CommandForm {
@@ -288,8 +358,6 @@ static COMMANDS: [CommandForm; 13] = [
         name: "simulate",
         second: Some(name!("LOG", help::LOG)),
         options: &[UNTIL, SUMMARY, CSV, SUMMARY_JSON],
-        about: help::SIMULATE,
-        end: help::SIMULATE_END,
         ..OF_TABLE
     },
     CommandForm {
@@ -298,8 +366,6 @@ static COMMANDS: [CommandForm; 13] = [
         second: Some(name!("WORDS", help::WORDS)),
         number: Some(FRAME_COUNT),
         more: Some(name!("FURTHER", help::RESUBMITTED)),
-        about: help::LIVE,
-        end: help::LIVE_END,
         ..OF_TABLE
     },
 ];
@@ -312,7 +378,7 @@ pub fn commands() -> &'static [CommandForm]
     &COMMANDS
 }
 
-/// The command of this name.
+/// The command of this name. `None` if there is none.
 pub fn command_named(name: &str) -> Option<&'static CommandForm>
     ensures { IfSome result (λ form. IsRow form.now × (form.now.name.now ≡ name.now)) }
 {

@@ -1,4 +1,4 @@
-//! The words that the program was given.
+//! The arguments that the program was given.
 ghost use Rattle.std.specs.Prelude.{◌≡◌, ℕ, List, IfOk, Err, Some, None, take, IfErr, ◌∷◌, [], map, string_bytes, IfSome};
 ghost use Rattle.std.specs.Io.{WritesAtMost};
 ghost use Rattle.std.specs.Str.{IsUtf8};
@@ -15,7 +15,7 @@ pub enum WordsFault {
     /// An allocation failed.
     #[error("out of memory")]
     NoMemory,
-    /// A word is no UTF-8.
+    /// An argument is not UTF-8.
     #[error("a word is no UTF-8")]
     NotText,
 }
@@ -72,7 +72,7 @@ fn argument_bytes<A: Arguments>(
     Err(AllocError)
 }
 
-/// The arguments, without the program's path.
+/// The arguments, without the program's path. Error: one is not UTF-8, or an allocation failed.
 pub fn given_words<A: Arguments>(alloc: Global, arguments: &A) -> Result<Vec<String>, WordsFault>
     ensures words { IfOk result (λ words. AreAllWords (A.gives arguments.now) (A.ends arguments.now) (map string_bytes words.items)) }
     ensures not_text { result ≡ Err WordsFault.NotText → HasNoText (A.gives arguments.now) }

@@ -1,4 +1,36 @@
-//! The texts of help: what each command and each of its words does, and an example.
+//! The texts of help: what each command and each of its arguments does, and an example.
+
+use crate::arguments::forms::Verb;
+
+/// The help of a command: its first line, and its end, which has an example.
+#[derive(Clone, Copy)]
+pub struct CommandHelp {
+    pub about: &'static str,
+    pub end: &'static str,
+}
+
+/// The help of a command.
+pub fn help_of(verb: Verb) -> CommandHelp {
+    let (about, end) = match verb {
+        Verb::Word => (WORD, WORD_END),
+        Verb::Encode => (ENCODE, ENCODE_END),
+        Verb::Lines => (LINES, LINES_END),
+        Verb::Import => (IMPORT, IMPORT_END),
+        Verb::Plan => (PLAN, PLAN_END),
+        Verb::Check => (CHECK, CHECK_END),
+        Verb::Icd => (ICD, ICD_END),
+        Verb::Margin => (MARGIN, MARGIN_END),
+        Verb::Load => (LOAD, LOAD_END),
+        Verb::Slots => (SLOTS, SLOTS_END),
+        Verb::Lint => (LINT, LINT_END),
+        Verb::Diff => (DIFF, DIFF_END),
+        Verb::Draw => (DRAW, DRAW_END),
+        Verb::Replay => (REPLAY, REPLAY_END),
+        Verb::Simulate => (SIMULATE, SIMULATE_END),
+        Verb::Live => (LIVE, LIVE_END),
+    };
+    CommandHelp { about, end }
+}
 
 pub const PROGRAM: &str =
     "ARINC 429 data concentrator: takes in words, and sends them on by planned slots";
@@ -24,6 +56,29 @@ pub const HEX: &str = "The word, as eight hexadecimal digits";
 pub const WORD_END: &str = "\
 Example:
   a429 word 600000c1";
+
+pub const ENCODE: &str = "Print the 32-bit word that has these fields";
+
+pub const LABEL: &str = "The label, as three octal digits";
+
+pub const SDI: &str = "The SDI, 0 to 3 [default: 0]";
+
+pub const SSM: &str = "The SSM, 0 to 3 [default: 3 with --bnr, otherwise 0]";
+
+pub const DATA: &str = "Data as one to five hexadecimal digits, at most 7ffff";
+
+pub const BNR: &str = "Data as a whole number in BNR; --bnr=-5 if it is negative";
+
+pub const BITS: &str = "Bits of that number below its sign, 1 to 18 [default: 18]";
+
+pub const BCD: &str = "Data as five decimal digits in BCD, the first at most 7";
+
+pub const ENCODE_END: &str = "\
+One of --data, --bnr and --bcd is given. The word has odd parity. `word` prints
+its fields.
+
+Example:
+  a429 encode 203 --bnr 5000";
 
 pub const LINES: &str = "Print what a reader of a line reports: words, faults, and the rest";
 
@@ -84,6 +139,31 @@ pub const MARGIN_END: &str = "\
 Example:
   a429 margin examples/air_data_and_inertial/station.toml";
 
+pub const LOAD: &str = "Print the load of each bus, and what its free cells would take";
+
+pub const LIMIT: &str = "Status 1 if a bus has a load above it, 1 to 100 per cent";
+
+pub const LOAD_END: &str = "\
+There is a row for each bus, and one for each group with all its buses. The
+columns room_2, room_4 .. have how many more outputs with this period in slots
+its free cells take. With a limit the row of a group that is above it has the
+fewest buses that it needs to stay below.
+
+Example:
+  a429 load --limit 80 examples/displays/table.toml";
+
+pub const SLOTS: &str = "Print the slot tables of a plan: each cell with its output";
+
+pub const ALL_CELLS: &str = "The empty cells too";
+
+pub const CODE: &str = "As a header for C (C99), with an array for each group";
+
+pub const SLOTS_END: &str = "\
+The cells are in the order in which each group sends them in one frame.
+
+Example:
+  a429 slots --group displays examples/displays/table.toml";
+
 pub const LINT: &str = "Print what a table does silently, such as words that never arrive";
 
 pub const LINT_END: &str = "\
@@ -119,7 +199,7 @@ pub const DRAW: &str = "Draw the slot tables of a plan as an image (SVG)";
 
 pub const GROUP: &str = "Only the group of this name";
 
-pub const SLOTS: &str = "Slots drawn, 1 to 8192 [default: a frame, at most 256]";
+pub const DRAWN_SLOTS: &str = "Slots drawn, 1 to 8192 [default: a frame, at most 256]";
 
 pub const WIDTH: &str = "Slots side by side, 64, 128 or 256 [default: 64]";
 

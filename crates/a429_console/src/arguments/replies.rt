@@ -1,4 +1,4 @@
-//! What is answered in place of a command: help, and the text of a mistake.
+//! What is answered instead of a command: help, and the text of a usage error.
 ghost use Rattle.std.specs.Prelude.{◌≡◌, ◌≤◌, ◌+◌, ◌⊎◌, IfOk, IsTrue, OnErr, OnOk};
 ghost use Rattle.clap.specs.Words.{kind_of};
 ghost use Rattle.a429_console.specs.Outputs.{CountsFault, HasFailed, IsPut, OrNoMemory};
@@ -14,8 +14,8 @@ use std::alloc::{AllocError, Global};
 use std::io;
 use std::io::Write;
 
-/// Answers words that are no request, by the error that their parser gave. Help that was asked for is put, with status
-/// 0. The text of a mistake, with what may have been meant, is written to `err`, with status 2, or 1 if `err` fails.
+/// Answers arguments that ask for no command, by the parser's error. Help that was asked for is put, with status 0. The
+/// text of a usage error, with what may have been meant, is written to `err`, with status 2, or 1 if `err` fails.
 pub fn explain<H: Hints, O: Output, V: Output>(
     alloc: Global,
     error: &Error,
@@ -46,7 +46,7 @@ pub fn explain<H: Hints, O: Output, V: Output>(
     }
 }
 
-/// Writes the text of a mistake to `err`. The status is 2, or 1 if `err` or an allocation for the text fails.
+/// Writes the text of a usage error to `err`. The status is 2, or 1 if `err` or an allocation for the text fails.
 fn tell_mistake<H: Hints, O: Output, V: Output>(
     alloc: Global,
     mistake: &Error,
@@ -74,7 +74,7 @@ fn tell_mistake<H: Hints, O: Output, V: Output>(
     }
 }
 
-/// The text of a mistake. Arguments may be in it.
+/// The text of a usage error. Arguments may be in it.
 fn mistake_text(alloc: Global, mistake: &Error) -> io::Result<Vec<u8>> {
     let mut text = Vec::new(alloc);
     write!(text, "{mistake}")?;
@@ -90,7 +90,7 @@ fn printable_text(alloc: Global, text: &str) -> Result<Vec<u8>, AllocError> {
     Ok(shown.into_bytes())
 }
 
-/// Appends what may have been meant by words that are a mistake, if memory suffices.
+/// Appends what may have been meant instead of a usage error, unless an allocation fails.
 fn add_suggestion<H: Hints>(alloc: Global, words: &[&str], hints: &H, text: &mut Vec<u8>) {
     let mut suggestion = Vec::new(alloc);
     // a part of it would end in a broken line
@@ -99,7 +99,7 @@ fn add_suggestion<H: Hints>(alloc: Global, words: &[&str], hints: &H, text: &mut
     }
 }
 
-/// Writes a text about words that are a mistake. The status is 2, or 1 if the output fails.
+/// Writes the text of a usage error. The status is 2, or 1 if the output fails.
 pub fn warn<V: Output>(text: &[u8], err: &mut V) -> u8
     ensures status { IsWarned (V.failures err.old) (V.failures err.new) result }
     ensures warned { result ≡ 2 → IsTrue (V.is_flushed err.new) }

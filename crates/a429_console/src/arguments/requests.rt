@@ -3,39 +3,62 @@ ghost use Rattle.std.specs.Prelude.{◌≡◌, ◌<◌, ◌^◌, [], ℕ, List, 
 ghost use Rattle.clap.specs.Words.{HasKind, Text, first_of, found_of, one_of, rows_of, subcommand_rows_of};
 ghost use Rattle.a429_console.specs.CommandLine.{IsRow};
 ghost use Rattle.a429_console.specs.Files.{texts_of};
-ghost use Rattle.a429_console.specs.Requests.{AskedBytes, IsRead, OptionBytes, asked_of, given_of};
-ghost use Rattle.a429_console.specs.RequestRows.{AreOptions, AsksFor, IsAskedBy, IsChosen, IsFound, number_of, values_of};
+ghost use Rattle.a429_console.specs.Requests.{AskedBytes, FieldBytes, IsRead, OptionBytes, asked_of, fields_of, given_of};
+ghost use Rattle.a429_console.specs.RequestRows.{AreFields, AreOptions, AsksFor, IsAskedBy, IsChosen, IsFound, number_of, values_of};
 ghost use Rattle.a429_console.specs.Usage.{ComesTo, elsewhere, found_kinds, is_live, is_run, kinds_of_words, live_kinds_of_words};
 
 use crate::arguments::choices::{Choices, choices_in, is_given};
 use crate::arguments::command_line::{build_command, words_error};
 use crate::arguments::forms::{
-    ALL, CommandForm, GROUP, HTML, NameForm, NumberForm, SLOTS, SUMMARY, UNTIL, Verb, command_named,
+    ALL, BCD, BITS, BNR, CODE, CommandForm, DATA, GROUP, HTML, LIMIT, NameForm, NumberForm, SDI,
+    SLOTS, SSM, SUMMARY, UNTIL, Verb, command_named,
 };
 use a429_text::SheetForm;
 use clap::error::ErrorKind;
 use clap::{ArgMatches, Error};
 use std::alloc::{AllocError, Global};
 
+/// What is given of the fields of a word that is made. The data are given in one of three ways.
+#[derive(Clone, Copy)]
+pub struct FieldOptions<'a> {
+    /// The SDI, 0 to 3.
+    pub sdi: Option<u32>,
+    /// The SSM, 0 to 3.
+    pub ssm: Option<u32>,
+    /// Data in hexadecimal.
+    pub hex: Option<&'a str>,
+    /// Data as a BNR number.
+    pub bnr: Option<&'a str>,
+    /// How many bits that number has below its sign, 1 to 18.
+    pub bits: Option<u32>,
+    /// Data as BCD digits.
+    pub bcd: Option<&'a str>,
+}
+
 /// What is given of the options of all commands. A command has some of them.
 #[derive(Clone, Copy)]
 pub struct Options<'a> {
-    /// The form of what is printed: in columns, if no other is asked for.
+    /// The form of what is printed: columns, unless `--csv` or `--json` is given.
     pub form: SheetForm,
-    /// Rows are asked for of all that changes, even of outputs that only change their places.
+    /// Each output that only changes its slots has a row of its own, or each empty cell has one (`--all`).
     pub all: bool,
-    /// The one group that is drawn.
+    /// The one group that is asked for (`--group`). `None`: all groups.
     pub group: Option<&'a str>,
     /// How many slots of each bus are drawn, from 1 to 8192. `None` draws a frame, of which 256 slots at most.
     pub slots: Option<u32>,
     /// How many slots are drawn side by side, 64, 128 or 256. `None` is 64.
     pub width: Option<u32>,
-    /// A page is asked for, with the image and the lines of the documents.
+    /// A page is drawn, with the image and the lines of the documents (`--html`).
     pub html: bool,
-    /// Until which microsecond cells are asked for. `None` is until all words can be out.
+    /// The last microsecond at which the slot of a cell may begin (`--until`). `None`: one frame after the last word.
     pub until: Option<u64>,
-    /// One line for each output is asked for, instead of one for each word.
+    /// There is one row for each output, instead of one line for each word (`--summary`).
     pub summary: bool,
+    /// A header for C is printed, instead of rows (`--c`).
+    pub code: bool,
+    /// The limit of the load of a bus, 1 to 100 per cent (`--limit`).
+    pub limit: Option<u32>,
+    pub fields: FieldOptions<'a>,
 }
 
 /// What is asked for: a command, and what it is given. Its row in `forms` says what its names are.
@@ -75,8 +98,8 @@ pub fn other_call_error(alloc: Global, message: &str) -> Error
     words_error(alloc, ErrorKind::InvalidSubcommand, message)
 }
 
-/// What the words ask for, by what was found of them. The error is that options are given which do not go together, or a
-/// width that no drawing has.
+/// What the arguments ask for, by what was found of them. Error: options that exclude each other, or a width other than
+/// 64, 128 and 256.
 fn read_matches<'a>(alloc: Global, matches: &ArgMatches<'a>) -> Result<Asked<'a>, Error>
     ensures asked { (r : AskedBytes) → IsFound (subcommand_rows_of matches.now) r → IsRead r result }
     ensures kinds { ComesTo (found_kinds (subcommand_rows_of matches.now) (is_live (subcommand_rows_of matches.now))) is_run result }
@@ -172,6 +195,23 @@ fn options_in<'a>(found: &ArgMatches<'a>, choices: Choices) -> Options<'a>
         html: is_given(found, HTML.id),
         until: asked_time(found, UNTIL.id),
         summary: is_given(found, SUMMARY.id),
+        code: is_given(found, CODE.id),
+        limit: asked_number(found, LIMIT.id),
+        fields: fields_in(found),
+    }
+}
+
+/// What is given of the fields of a word.
+fn fields_in<'a>(found: &ArgMatches<'a>) -> FieldOptions<'a>
+    ensures { (f : FieldBytes) → AreFields (rows_of (found_of found.now)) f → fields_of result ≡ f }
+{
+    FieldOptions {
+        sdi: asked_number(found, SDI.id),
+        ssm: asked_number(found, SSM.id),
+        hex: found.get_str(DATA.id),
+        bnr: found.get_str(BNR.id),
+        bits: asked_number(found, BITS.id),
+        bcd: found.get_str(BCD.id),
     }
 }
 

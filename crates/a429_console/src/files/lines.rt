@@ -23,7 +23,7 @@ pub trait LineForm {
         ensures fits { IfSome result (fits self.now) };
 }
 
-/// Why the lines of a file are not given.
+/// Why the lines of a file cannot be read.
 #[derive(Clone, Copy, Debug, PartialEq, Eq, Error)]
 pub enum LinesFault {
     /// The line of this number, from 1, is the first that does not have the form, or that no line feed ends.
@@ -45,7 +45,8 @@ impl<T: Drop> From<AllocFailed<T>> for LinesFault {
     }
 }
 
-/// What the first line of a text states, and the text after the line.
+/// What the first line of a text states, and the text after the line. `None` if the line is faulty, or no line feed
+/// ends it.
 pub fn first_entry<'a, F: LineForm>(form: &F, text: &'a [u8]) -> Option<(F::Entry, &'a [u8])>
     ensures entry { option_map (λ p. (p.0, p.1.now)) result ≡ first_entry (F.states form.now) text.entry.now }
     ensures shorter { IfSome result (λ p. length p.1.now < length text.entry.now) }
@@ -55,7 +56,7 @@ pub fn first_entry<'a, F: LineForm>(form: &F, text: &'a [u8]) -> Option<(F::Entr
     Some((form.entry(line)?, rest))
 }
 
-/// What the lines of a text state, in order.
+/// What the lines of a text state, in order. Error: the number of the first faulty line, or an allocation failed.
 pub fn read_lines<F: LineForm>(
     alloc: Global,
     form: &F,

@@ -4,7 +4,7 @@ ghost use Rattle.a429_console.specs.MemoryFile.{file_of};
 
 use crate::files::{FileFault, FileReader, FileTrouble, LARGEST_FILE};
 
-/// Files by name, of which the first of a name is the one that is read.
+/// Files by name. If two have one name, the first is read.
 #[derive(Drop)]
 pub struct MemoryFiles {
     pub files: Vec<(String, Vec<u8>)>,

@@ -42,7 +42,7 @@ fn bytes_of_answer(
     }
 }
 
-/// The bytes of a file, at most 16 MiB.
+/// The bytes of a file, at most 16 MiB. Error: the file cannot be read or is larger, or an allocation failed.
 pub fn read_file<F: FileReader>(
     alloc: Global,
     files: &mut F,
@@ -56,7 +56,7 @@ pub fn read_file<F: FileReader>(
     bytes_of_answer(alloc, name, answer)
 }
 
-/// The bytes of several files.
+/// The bytes of several files. Error: that of the first file that has one.
 pub fn read_files<F: FileReader>(
     alloc: Global,
     files: &mut F,

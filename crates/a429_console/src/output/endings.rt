@@ -21,7 +21,7 @@ const REFUSED_MEMORY_LINE: &str = refused_memory!("\n");
 /// The line for a person, if the output failed.
 const OUTPUT_FAILED: &[u8] = b"a429: standard output failed\n";
 
-/// Puts a text whole and passes it on.
+/// Puts a text whole and passes it on. Error: the output failed.
 pub fn put_whole<O: Output>(text: &[u8], out: &mut O) -> Result<(), OutputFault>
     ensures text { OnOk result (Appends (O.contents out.old) (O.contents out.new) text.now) }
     ensures flushed { OnOk result (IsTrue (O.is_flushed out.new)) }
@@ -31,7 +31,7 @@ pub fn put_whole<O: Output>(text: &[u8], out: &mut O) -> Result<(), OutputFault>
     out.flush()
 }
 
-/// Puts a text whole and passes it on. The status is this one.
+/// Puts a text whole and passes it on. The status is this one. Error: the output failed.
 pub fn put_answer<O: Output>(text: &[u8], status: u8, out: &mut O) -> Result<u8, OutputFault>
     ensures status { IfOk result (λ answered. answered ≡ status) }
     ensures text { OnOk result (Appends (O.contents out.old) (O.contents out.new) text.now) }
@@ -78,7 +78,7 @@ pub fn finish<O: Output>(left: &[u8], sufficed: bool, out: &mut O) -> Result<u8,
     Ok(0)
 }
 
-/// Reports on another output that an output failed. If its reader has closed it, nobody waits for more, and nothing is
+/// Reports on `err` that standard output failed. If its reader has closed it, nobody waits for more, and nothing is
 /// reported.
 pub fn tell_fault<V: Output>(fault: OutputFault, err: &mut V)
     ensures announced { is_closing fault ≡ false → NoneFailed (V.failures err.old) (V.failures err.new)

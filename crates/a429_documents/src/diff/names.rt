@@ -39,7 +39,7 @@ pub trait Named {
         ensures { rows.new ≡ rows.old ++ change_rows a.now.receivers b.now.receivers self.now other.now };
 }
 
-/// The number of the row with this name.
+/// The number of the row with this name. `None` if there is none.
 #[tactic(auto, unfolding(crate::specs::Diff::number_named))]
 pub fn number_named<T: Named>(list: &[T], name: &str) -> Option<usize>
     ensures number { result ≡ number_named T.name_of list.now name.now }

@@ -77,7 +77,7 @@ pub fn add_unless(
     }
 }
 
-/// A number, if there is one.
+/// The cell of a number, which says nothing for `None`.
 pub fn number_cell(number: Option<u64>) -> Cell<'static>
     ensures { field_of result ≡ number_field number }
 {

@@ -136,7 +136,7 @@ impl<'a> Side<'a> {
         source_name(self.sources, self.table.source(output))
     }
 
-    /// The output whose source has this name.
+    /// The output whose source has this name. `None` if there is none.
     pub fn output_named(&self, name: &str) -> Option<OutputId>
         ensures number { result ≡ output_named self.now name.now }
         ensures known { IfSome result (λ output. output < length (outputs_of self.now.table)) }

@@ -7,7 +7,7 @@ ghost use Rattle.a429_documents.specs.ImportTables.{number};
 use std::alloc::{AllocError, Global};
 use toml::{Table, Value};
 
-/// Puts a value at a key that comes before those of the table.
+/// Puts a value at a key that comes before those of the table. Error: an allocation failed.
 pub fn put(alloc: Global, table: &mut Table, key: &str, value: Value) -> Result<(), AllocError>
     ensures { Puts result (table_view table.old) (table_view table.new) key.now (view value) }
 {
@@ -18,7 +18,7 @@ pub fn put(alloc: Global, table: &mut Table, key: &str, value: Value) -> Result<
     }
 }
 
-/// Puts a text at a key that comes before those of the table.
+/// Puts a text at a key that comes before those of the table. Error: an allocation failed.
 pub fn put_text(alloc: Global, table: &mut Table, key: &str, text: &str) -> Result<(), AllocError>
     ensures { Puts result (table_view table.old) (table_view table.new) key.now (string text.now) }
 {
@@ -26,7 +26,7 @@ pub fn put_text(alloc: Global, table: &mut Table, key: &str, text: &str) -> Resu
     put(alloc, table, key, value)
 }
 
-/// Puts a number at a key that comes before those of the table.
+/// Puts a number at a key that comes before those of the table. Error: an allocation failed.
 pub fn put_number(alloc: Global, table: &mut Table, key: &str, value: u32) -> Result<(), AllocError>
     ensures { Puts result (table_view table.old) (table_view table.new) key.now (number value) }
 {

@@ -135,7 +135,8 @@ fn earlier_clash(a: Option<RowClash>, b: Option<RowClash>) -> Option<RowClash>
     }
 }
 
-/// The first column in which this row contradicts an earlier row, compared with the first such row.
+/// The first column in which this row contradicts an earlier row, compared with the first such row. `None` if there is
+/// none.
 pub fn first_clash(
     earlier: &[ImportRow],
     firsts: &FirstRows,

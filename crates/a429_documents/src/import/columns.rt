@@ -61,7 +61,7 @@ fn first_wrong(heading: &CsvLine, columns: &[ImportColumn]) -> Option<ImportColu
     None
 }
 
-/// The first column that is wrong: the heading lacks it, although it is needed, or has it twice.
+/// The first column that is wrong: the heading lacks it, although it is needed, or has it twice. `None` if none is.
 #[tactic(auto, unfolding(crate::specs::ImportRows::wrong_column))]
 pub fn wrong_column(heading: &CsvLine) -> Option<ImportColumn>
     ensures { result ≡ wrong_column (fields_of heading.now.fields) }

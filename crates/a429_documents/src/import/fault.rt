@@ -28,14 +28,15 @@ pub enum ImportColumn {
     MinUs,
     /// The maximum transmit interval, in microseconds.
     MaxUs,
-    /// The most times that one accepted word is sent; empty or `none` for no limit. The column may be absent.
+    /// The maximum number of times that one accepted word is sent; empty or `none` for no limit. The column may be
+    /// absent.
     Hold,
     /// The receiver's filters, separated by spaces; empty if it has none. The column may be absent.
     Filters,
 }
 
 impl ImportColumn {
-    /// Its name in the heading.
+    /// The name of the column in the heading.
     pub fn name(self) -> &'static str
         ensures { result.now ≡ column_name self }
     {

@@ -6,7 +6,7 @@ ghost use Rattle.a429_documents.specs.ImportFields.{are_filters, filters_in, hol
 use a429_filter::Filter;
 use a429_word::{Label, Sdi, decimal_number};
 
-/// The number in a field: one to ten decimal digits without leading zeros, below 2^32.
+/// The number in a field: one to ten decimal digits without leading zeros, below 2^32. `None` for any other field.
 #[tactic(auto, unfolding(crate::specs::ImportFields::number_in))]
 pub fn number_in(field: &[u8]) -> Option<u32>
     ensures { result ≡ number_in field.now }
@@ -19,7 +19,7 @@ pub fn number_in(field: &[u8]) -> Option<u32>
     }
 }
 
-/// The label in a field: three octal digits, 000 to 377. Leading zeros may be missing.
+/// The label in a field: three octal digits, 000 to 377. Leading zeros may be missing. `None` for any other field.
 #[tactic(auto, unfolding(crate::specs::ImportFields::label_in))]
 pub fn label_in(field: &[u8]) -> Option<Label>
     ensures { result ≡ label_in field.now }
@@ -64,7 +64,7 @@ pub fn hold_in(field: &[u8]) -> Option<Option<u32>>
     Some(Some(number_in(field)?))
 }
 
-/// The text in a field: any UTF-8 text.
+/// The text in a field: any UTF-8 text. `None` for any other field.
 #[tactic(auto, unfolding(crate::specs::ImportFields::text_in))]
 pub fn text_in(field: &[u8]) -> Option<&str>
     ensures { option_map (λ text. text.now) result ≡ text_in field.now }
@@ -93,7 +93,7 @@ fn are_filters(text: &str) -> bool
         .all(|part| part.is_empty() || is_filter(part))
 }
 
-/// The filters in a field, separated by spaces, as they are written.
+/// The filters in a field, separated by spaces, as they are written. `None` if one has not the form `LLL/MMM`.
 #[tactic(auto, unfolding(crate::specs::ImportFields::filters_in))]
 pub fn filters_in(field: &[u8]) -> Option<&str>
     ensures { option_map (λ text. text.now) result ≡ filters_in field.now }

@@ -35,8 +35,10 @@ pub struct FirstRows {
 }
 
 impl FirstRows {
-    ghost use Rattle.std.specs.Prelude.{[]};
+    ghost use Rattle.std.specs.Prelude.{[], List, Some, not, slice_get, take};
     ghost use Rattle.a429_documents.specs.FirstRows.{AreFirstRows, NotesRow, first_named};
+    ghost use Rattle.a429_documents.specs.ImportTables.{is_known};
+    ghost use Rattle.a429_documents.specs.declared.import.rows.ImportRow.{ImportRow};
 
     /// The numbers for no rows.
     pub fn new(alloc: Global) -> FirstRows
@@ -60,7 +62,7 @@ impl FirstRows {
         Ok(firsts)
     }
 
-    /// The number of the first row with the receiver, the source or the group of a row.
+    /// The number of the first row with the receiver, the source or the group of a row. `None` if there is none.
     pub fn number(&self, part: Part, row: &ImportRow) -> Option<usize>
         ensures { result ≡ first_named self.now part (name_in part row.now) }
     {
@@ -69,6 +71,17 @@ impl FirstRows {
             Part::Receivers => self.receivers.get(name).copied(),
             Part::Sources => self.sources.get(name).copied(),
             Part::Groups => self.groups.get(name).copied(),
+        }
+    }
+
+    /// Whether the row of a number is the first of its receiver, source or group.
+    pub fn is_first(&self, part: Part, number: usize, row: &ImportRow) -> bool
+        ensures { (rows : List ImportRow) → AreFirstRows self.now rows → slice_get rows number ≡ Some row.now
+            → result ≡ not (is_known part (take number rows) row.now) }
+    {
+        match self.number(part, row) {
+            Some(first) => first == number,
+            None => false,
         }
     }
 

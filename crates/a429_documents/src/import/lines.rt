@@ -91,7 +91,7 @@ impl LineCount {
 }
 
 /// A line, from what the library `csv` reads. The library refuses no row, so its only error is that an allocation failed.
-fn line_of(
+pub fn line_of(
     text: &[u8],
     count: &mut LineCount,
     row: Result<ByteRecord, Error>,

@@ -1,18 +1,46 @@
-//! The values of rows, one row after the other.
-ghost use Rattle.std.specs.Prelude.{◌≡◌, ◌++◌, [], ◌∷◌, OnOk, Some, length};
+//! What rows say, one line after the other. No line is kept.
+ghost use Rattle.std.specs.Prelude.{◌≡◌, ◌++◌, [], ◌∷◌, List, OnOk, Some, length};
 ghost use Rattle.csv.specs.Records.{fields_of};
+ghost use Rattle.a429_documents.specs.declared.import.lines.CsvLine.{CsvLine};
 ghost use Rattle.a429_documents.specs.FirstRows.{AreFirstRows, NotesRow};
 ghost use Rattle.a429_documents.specs.ImportClashes.{Agree};
-ghost use Rattle.a429_documents.specs.ImportRows.{below_heading, next_row, rows_after, rows_stated};
-ghost use Rattle.a429_documents.specs.Imports.{States};
+ghost use Rattle.a429_documents.specs.ImportReading.{AreRead, HaveRows, StandsFor, heading_fault, with_line};
+ghost use Rattle.a429_documents.specs.ImportRows.{next_row};
+ghost use Rattle.a429_documents.specs.Imports.{AreLines, States};
 
 use crate::import::clashes::first_clash;
 use crate::import::columns::wrong_column;
 use crate::import::fault::{CsvFaultKind, ImportColumn, ImportFault};
 use crate::import::firsts::FirstRows;
-use crate::import::lines::CsvLine;
+use crate::import::lines::{CsvLine, LineCount, line_of};
 use crate::import::rows::{ImportRow, row_of};
+use csv::ReaderBuilder;
 use std::alloc::{AllocError, Global};
+
+/// What is known of lines that were read.
+#[derive(Drop)]
+pub struct LinesRead {
+    pub heading: Option<CsvLine>,
+    /// What the rows below the heading say.
+    pub rows: Vec<ImportRow>,
+    pub firsts: FirstRows,
+    /// The first fault, after which lines are not looked at.
+    pub fault: Option<ImportFault>,
+}
+
+impl LinesRead {
+    /// Before the first line.
+    pub fn new(alloc: Global) -> LinesRead
+        ensures { StandsFor result [] }
+    {
+        LinesRead {
+            heading: None,
+            rows: Vec::new(alloc),
+            firsts: FirstRows::new(alloc),
+            fault: None,
+        }
+    }
+}
 
 /// What a row says, after these rows.
 fn next_row(
@@ -52,46 +80,27 @@ fn push_row(
     Ok(())
 }
 
-/// Adds what the rows below a heading say, to an empty list.
-fn push_rows(
+/// Adds what a line says.
+fn push_line(
     alloc: Global,
     rows: &mut Vec<ImportRow>,
     firsts: &mut FirstRows,
     heading: &CsvLine,
-    lines: &[CsvLine],
+    line: &CsvLine,
 ) -> Result<(), ImportFault>
-    requires rows { rows.old.items ≡ [] }
-    requires firsts { AreFirstRows firsts.old [] }
-    ensures { States (λ _. rows.new.items) result (rows_after (fields_of heading.now.fields) [] lines.now) }
+    requires agree { Agree rows.old.items }
+    requires firsts { AreFirstRows firsts.old rows.old.items }
+    ensures rows { States (λ _. rows.new.items) result (with_line (fields_of heading.now.fields) rows.old.items line.now) }
+    ensures agree { OnOk result (Agree rows.new.items) }
+    ensures firsts { OnOk result (AreFirstRows firsts.new rows.new.items) }
 {
-    for line in lines {
-        let row = next_row(alloc, heading, rows, firsts, line)?;
-        push_row(alloc, rows, firsts, row)?;
-    }
+    let row = next_row(alloc, heading, rows, firsts, line)?;
+    push_row(alloc, rows, firsts, row)?;
     Ok(())
 }
 
-/// What the rows below a heading say.
-fn rows_below(
-    alloc: Global,
-    heading: &CsvLine,
-    lines: &[CsvLine],
-) -> Result<Vec<ImportRow>, ImportFault>
-    ensures { States (λ rows. rows.items) result (rows_after (fields_of heading.now.fields) [] lines.now) }
-{
-    let mut rows = Vec::new(alloc);
-    let mut firsts = FirstRows::new(alloc);
-    let pushed = push_rows(alloc, &mut rows, &mut firsts, heading, lines);
-    // One call, instead of a drop of each of its parts at each return.
-    std::mem::drop(firsts);
-    match pushed {
-        Ok(()) => Ok(rows),
-        Err(fault) => Err(fault),
-    }
-}
-
 /// The fault of a heading that lacks a column, or has it twice.
-fn wrong_heading(column: ImportColumn) -> ImportFault
+pub fn wrong_heading(column: ImportColumn) -> ImportFault
     ensures { result ≡ ImportFault.Csv 1 CsvFaultKind.Column (Some column) }
 {
     ImportFault::Csv {
@@ -101,27 +110,55 @@ fn wrong_heading(column: ImportColumn) -> ImportFault
     }
 }
 
-/// What the rows below a heading say, if the heading has each column once.
-fn below_heading(
-    alloc: Global,
-    heading: &CsvLine,
-    lines: &[CsvLine],
-) -> Result<Vec<ImportRow>, ImportFault>
-    ensures { States (λ rows. rows.items) result (below_heading (fields_of heading.now.fields) lines.now) }
+/// The fault of a heading, if it lacks a column or has it twice.
+fn heading_fault(heading: &CsvLine) -> Option<ImportFault>
+    ensures { result ≡ heading_fault (fields_of heading.now.fields) }
 {
     match wrong_column(heading) {
-        Some(column) => Err(wrong_heading(column)),
-        None => rows_below(alloc, heading, lines),
+        Some(column) => Some(wrong_heading(column)),
+        None => None,
     }
 }
 
-/// What lines say. The first line is the heading. Error: the fault of the first line that has one.
-#[tactic(auto, unfolding(crate::specs::ImportRows::rows_stated))]
-pub fn import_rows(alloc: Global, lines: &[CsvLine]) -> Result<Vec<ImportRow>, ImportFault>
-    ensures { States (λ rows. rows.items) result (rows_stated lines.now) }
+/// Takes one more line, which is the heading if there is none yet. The answer is the fault that it has, if any.
+fn next_line(alloc: Global, read: &mut LinesRead, line: CsvLine) -> Option<ImportFault>
+    requires { (lines : List CsvLine) × HaveRows read.old.heading read.old lines }
+    ensures { (lines : List CsvLine) → HaveRows read.old.heading read.old lines → AreRead result read.new (lines ++ line ∷ []) }
 {
-    match lines {
-        [] => Err(wrong_heading(ImportColumn::Group)),
-        [heading, below @ ..] => below_heading(alloc, heading, below),
+    match &read.heading {
+        None => {
+            let fault = heading_fault(&line);
+            read.heading = Some(line);
+            fault
+        }
+        Some(heading) => push_line(alloc, &mut read.rows, &mut read.firsts, heading, &line).err(),
     }
+}
+
+/// Takes one more line, unless one before it has a fault.
+fn take_line(alloc: Global, read: &mut LinesRead, line: CsvLine)
+    requires { (lines : List CsvLine) × StandsFor read.old lines }
+    ensures { (lines : List CsvLine) → StandsFor read.old lines → StandsFor read.new (lines ++ line ∷ []) }
+{
+    if read.fault.is_none() {
+        let fault = next_line(alloc, read, line);
+        read.fault = fault;
+    }
+}
+
+/// Takes all lines of a text. The first line is the heading. Error: an allocation failed.
+pub fn read_lines(alloc: Global, text: &[u8], read: &mut LinesRead) -> Result<(), AllocError>
+    requires { StandsFor read.old [] }
+    ensures { OnOk result ((lines : List CsvLine) × AreLines text.now lines × StandsFor read.new lines) }
+{
+    let reader = ReaderBuilder::new()
+        .has_headers(false)
+        .flexible(true)
+        .from_reader(alloc, text);
+    let mut count = LineCount::new();
+    for row in reader.into_byte_records() {
+        let line = line_of(text, &mut count, row)?;
+        take_line(alloc, read, line);
+    }
+    Ok(())
 }

@@ -48,13 +48,10 @@ impl<'a> RowIndex<'a> {
         requires { slice_get self.now.rows.now number ≡ Some row.now }
         ensures { result ≡ not (is_known part (take number self.now.rows.now) row.now) }
     {
-        match self.firsts.number(part, row) {
-            Some(first) => first == number,
-            None => false,
-        }
+        self.firsts.is_first(part, number, row)
     }
 
-    /// The number of the next row of the group of a row.
+    /// The number of the next row of the group of a row. `None` if it is the last.
     pub fn next(&self, number: usize) -> Option<usize>
         ensures { result ≡ slice_index_or (next_rows 0 self.now.rows.now) number None }
     {

@@ -162,7 +162,8 @@ fn wrong_form(line: &CsvLine, column: Option<ImportColumn>) -> ImportFault
     }
 }
 
-/// What a row says by itself.
+/// What a row says, without the other rows. Error: the row or a field is not of its form, or an allocation
+/// failed.
 #[tactic(auto, unfolding(crate::specs::ImportRows::row_of))]
 pub fn row_of(alloc: Global, heading: &CsvLine, line: &CsvLine) -> Result<ImportRow, ImportFault>
     ensures { States (λ row. row) result (row_of (fields_of heading.now.fields) line.now) }

@@ -36,7 +36,7 @@ fn demands_of(
     Ok(demands)
 }
 
-/// The demands of each group's outputs, in table order.
+/// The demands of each group's outputs, in table order. Error: an allocation failed.
 pub fn demands_of_groups(
     alloc: Global,
     equipment: &Equipment,

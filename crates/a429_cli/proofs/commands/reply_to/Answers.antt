@@ -9,6 +9,10 @@ pub returns-in-Word : goal.returns-in-Word
 returns-in-Word g c =
     given_by g.F.FileReader.answers c.args.files.now c.args.files.now (asked_of c.args.asked.now) c.word_reply.result c.args.asked.now.verb verb.Word c.in-Word.is (read_none refl (λ file. c.word_reply.ensures))
 
+pub returns-in-Encode : goal.returns-in-Encode
+returns-in-Encode g c =
+    given_by g.F.FileReader.answers c.args.files.now c.args.files.now (asked_of c.args.asked.now) c.encode_reply.result c.args.asked.now.verb verb.Encode c.in-Encode.is (read_none refl (λ file. c.encode_reply.ensures))
+
 pub returns-in-Import : goal.returns-in-Import
 returns-in-Import g c =
     given_by g.F.FileReader.answers c.args.files.now c.import_reply.new.files (asked_of c.args.asked.now) c.import_reply.result c.args.asked.now.verb verb.Import c.in-Import.is c.import_reply.ensures
@@ -28,6 +32,14 @@ returns-in-Icd g c =
 pub returns-in-Margin : goal.returns-in-Margin
 returns-in-Margin g c =
     given_by g.F.FileReader.answers c.args.files.now c.plan_reply-in-Margin.new.files (asked_of c.args.asked.now) c.plan_reply-in-Margin.result c.args.asked.now.verb verb.Margin c.in-Margin.is c.plan_reply-in-Margin.ensures
+
+pub returns-in-Load : goal.returns-in-Load
+returns-in-Load g c =
+    given_by g.F.FileReader.answers c.args.files.now c.load_reply.new.files (asked_of c.args.asked.now) c.load_reply.result c.args.asked.now.verb verb.Load c.in-Load.is c.load_reply.ensures
+
+pub returns-in-Slots : goal.returns-in-Slots
+returns-in-Slots g c =
+    given_by g.F.FileReader.answers c.args.files.now c.slots_reply.new.files (asked_of c.args.asked.now) c.slots_reply.result c.args.asked.now.verb verb.Slots c.in-Slots.is (rw c.of-form.ensures at c.slots_reply.ensures)
 
 pub returns-in-Lint : goal.returns-in-Lint
 returns-in-Lint g c =

@@ -1,14 +1,11 @@
-use Rattle.a429_documents.proofs.MarginGroups.{above_others, buses_count, known_sources, windows_there, within_room}
+use Rattle.a429_documents.proofs.MarginGroups.{above_others, buses_count, known_sources, windows_there}
 use Rattle.a429_documents.proofs.margin.add_group.Goals as goal
 
 pub bound_of-requires-clause-windows : goal.bound_of-requires-clause-windows
 bound_of-requires-clause-windows c = windows_there c.args.group.now.rate c.args.sources.now c.args.outputs.now c.args.table.now c.requires.planned
 
-pub add_group_row-requires-clause-within : goal.add_group_row-requires-clause-within
-add_group_row-requires-clause-within c = within_room c.args.group.now.rate c.args.sources.now c.args.outputs.now c.args.table.now c.requires.planned c.fewest_by_demand.ensures.only c.requires.some
-
-pub add_group_row-requires-clause-above : goal.add_group_row-requires-clause-above
-add_group_row-requires-clause-above c = above_others c.args.group.now.rate c.args.sources.now c.args.outputs.now c.args.table.now c.requires.planned c.fewest_by_demand.ensures.only c.requires.some
+pub add_group_row-requires : goal.add_group_row-requires
+add_group_row-requires c = above_others c.args.group.now.rate c.args.sources.now c.args.outputs.now c.args.table.now c.requires.planned c.fewest_by_demand.ensures.only c.requires.some
 
 pub add_choice-requires-clause-known : goal.add_choice-requires-clause-known
 add_choice-requires-clause-known c = known_sources c.args.group.now.rate c.args.sources.now c.args.outputs.now c.args.table.now c.requires.planned c.requires.known

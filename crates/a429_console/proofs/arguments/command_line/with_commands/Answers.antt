@@ -20,8 +20,6 @@ none = record {
   number = None;
   more = None;
   options = record { ref_ptr = (0, 0); now = [] };
-  about = no_text;
-  end = no_text;
 }
 
 pub loop-form-preserved : goal.loop-form-preserved

@@ -1,16 +1,13 @@
-use Rattle.std.proofs.Common.{Bor, List, ℕ, ◌≡◌, ◌∙◌, sym, ap, refl, rules, inl, inr, true, map, Some, Result, Ok, Err, ◌∷◌, []}
-use Rattle.std.specs.Result.{is_ok, result_ok}
+use Rattle.std.proofs.Common.{Bor, List, ℕ, ◌≡◌, ◌∙◌, sym, refl, rules, inl, inr, true, map, Some, ◌∷◌, []}
+use Rattle.std.specs.Result.{is_ok}
 use Rattle.std.proofs.lemmas.List.{map-append}
 use Rattle.csv.specs.Reading.{Reached, default_config, strip_bom}
 use Rattle.csv.specs.Records.{fields_of}
 use Rattle.csv.specs.declared.parser.State.TheVariants as st
 use Rattle.csv.proofs.ReadFacts.{rows-end, rows-more}
 use Rattle.a429_documents.specs.declared.import.lines.CsvLine.{CsvLine}
+use Rattle.a429_documents.proofs.ImportReading.{ok_is}
 use Rattle.a429_documents.proofs.import.lines.csv_lines.Goals as goal
-
-ok_is : {A E : Type 0} (r : Result A E) (a : A) → Some a ≡ result_ok r → r ≡ Ok a
-ok_is (Ok x) a h = let same : x ≡ a = cc in ap (λ y. Ok y) same
-ok_is (Err e) a h = cc
 
 pub loop-row-init : goal.loop-row-init
 unfolding Reached

@@ -1,0 +1,28 @@
+-- The command `load`: what it writes, and its status (profile: output).
+use Rattle.std.specs.Prelude.{◌≡◌, ℕ, Bool, true, false, List, Option, Some, max, min, option_map}
+use Rattle.a429_text.specs.Sheets.{sheet_text}
+use Rattle.a429_text.specs.declared.sheets.SheetForm.{SheetForm}
+use Rattle.a429_slots.specs.Proposed.{Proposed}
+use Rattle.a429_documents.specs.Load.{any_above, load_columns, load_rows, shown_for}
+use Rattle.a429_console.specs.CommandLine.{most_percent}
+use Rattle.a429_console.specs.FileReadings.{readable}
+use Rattle.a429_console.specs.Tables.{IsProposedBy}
+
+-- the limit in per cent: the rules of the command line let only 1 to 100 through
+abbrev pub limit_of : Option ℕ → Option ℕ
+limit_of = option_map (λ limit. max 1 (min limit most_percent))
+
+-- 1 if a bus is above the limit
+abbrev pub above_status : Bool → ℕ
+above_status true = 1
+above_status false = 0
+
+-- the load of each bus of a proposal's plan, in a form
+abbrev pub IsLoad : Proposed → Option ℕ → SheetForm → ℕ → List ℕ → Type 0
+IsLoad q limit form status bytes =
+    (bytes ≡ sheet_text form (load_columns (shown_for q.plan)) (load_rows limit q.station q.plan)) × (status ≡ above_status (any_above limit q.plan))
+
+-- the same of the plan of the table in a file
+abbrev pub IsLoadOf : (List ℕ → Option (List ℕ)) → Option ℕ → SheetForm → List ℕ → ℕ → List ℕ → Type 0
+IsLoadOf file limit form name status bytes =
+    (table : List ℕ) × (q : Proposed) × (readable (file name) ≡ Some table) × IsProposedBy table q × IsLoad q (limit_of limit) form status bytes

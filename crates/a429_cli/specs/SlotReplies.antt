@@ -1,0 +1,45 @@
+-- The command `slots`: what it writes, its status, and when it is refused (profile: output).
+use Rattle.std.specs.Prelude.{◌≡◌, ◌⊎◌, ℕ, Bool, List, Option, Result, Some, if◌then◌else◌}
+use Rattle.a429_text.specs.Sheets.{sheet_text}
+use Rattle.a429_slots.specs.Proposed.{Proposed}
+use Rattle.a429_documents.specs.SlotHeader.{header_text}
+use Rattle.a429_documents.specs.SlotRows.{slot_columns, slot_rows}
+use Rattle.a429_console.specs.FileReadings.{readable}
+use Rattle.a429_console.specs.Requests.{OptionBytes}
+use Rattle.a429_console.specs.Tables.{IsProposedBy}
+use Rattle.a429_console.specs.declared.refusals.CommandRefusal.{CommandRefusal}
+use Rattle.a429_cli.specs.Drawings.{IsNoGroup, group_asked}
+use Rattle.a429_cli.specs.PlanReplies.{IsNoPlan}
+use Rattle.a429_cli.specs.WholeReplies.{Replies}
+use Rattle.a429_cli.specs.declared.replies.reply.Reply.{Reply}
+use Rattle.a429_cli.specs.declared.slots.SlotsForm.{SlotsForm}
+
+-- whether a header for C is asked for; otherwise whether the empty cells have rows too, and the form of the rows
+abbrev pub slots_form : OptionBytes → SlotsForm
+slots_form o = record { code = o.code; all = o.all; rows = o.form }
+
+-- the slot tables of a proposal's plan, of the group of this number or of all
+abbrev pub slots_text : SlotsForm → Proposed → Option ℕ → List ℕ
+slots_text form q group =
+    if form.code then header_text q.station q.plan group
+    else sheet_text form.rows slot_columns (slot_rows q.station q.plan group form.all)
+
+-- the same of the group of this name, with status 0
+abbrev pub HasSlots : SlotsForm → Proposed → Option (List ℕ) → ℕ → List ℕ → Type 0
+HasSlots form q group status bytes =
+    (number : Option ℕ) × (group_asked q.station.groups group ≡ Some number) × (bytes ≡ slots_text form q number) × (status ≡ 0)
+
+-- these, or that no group has the name
+abbrev pub GivesSlots : SlotsForm → Proposed → Option (List ℕ) → Result Reply CommandRefusal → Type 0
+GivesSlots form q group = Replies (HasSlots form q group) (IsNoGroup q.station.groups group)
+
+-- the same of the plan of the table in a file
+abbrev pub IsSlotsOf : (List ℕ → Option (List ℕ)) → SlotsForm → List ℕ → Option (List ℕ) → ℕ → List ℕ → Type 0
+IsSlotsOf file form name group status bytes =
+    (table : List ℕ) × (q : Proposed) × (readable (file name) ≡ Some table) × IsProposedBy table q × HasSlots form q group status bytes
+
+-- why there is nothing: the file, or its table, or the plan of that, or its groups
+abbrev pub IsNoSlots : (List ℕ → Option (List ℕ)) → List ℕ → Option (List ℕ) → CommandRefusal → Type 0
+IsNoSlots file name group refusal =
+    IsNoPlan file name refusal
+    ⊎ ((table : List ℕ) × (q : Proposed) × (readable (file name) ≡ Some table) × IsProposedBy table q × IsNoGroup q.station.groups group refusal)

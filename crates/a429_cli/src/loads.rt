@@ -1,0 +1,69 @@
+//! The command `load`: the status says whether a bus is above the limit.
+ghost use Rattle.std.specs.Prelude.{◌≡◌, ◌≤◌, IfOk, IfSome};
+ghost use Rattle.a429_console.specs.Readings.{HasRead};
+ghost use Rattle.a429_cli.specs.Loads.{IsLoad, IsLoadOf, above_status, limit_of};
+ghost use Rattle.a429_cli.specs.PlanReplies.{IsNoPlan};
+ghost use Rattle.a429_cli.specs.WholeReplies.{Replies};
+
+use crate::replies::reply::Reply;
+use a429_console::files::FileReader;
+use a429_console::files::reading::read_file;
+use a429_console::hints::Seen;
+use a429_console::refusals::CommandRefusal;
+use a429_console::refusals::tables::propose;
+use a429_documents::load_sheet;
+use a429_slots::{OUTPUTS, Proposal};
+use a429_text::SheetForm;
+use std::alloc::{AllocError, Global};
+
+/// The limit in per cent, 1 to 100.
+fn limit_of(limit: Option<u32>) -> Option<u32>
+    ensures limit { result ≡ limit_of limit }
+    ensures within { IfSome result (λ limit. (1 ≤ limit) × (limit ≤ 100)) }
+{
+    match limit {
+        Some(limit) => Some(limit.min(100).max(1)),
+        None => None,
+    }
+}
+
+/// 1 if a bus is above the limit, otherwise 0.
+fn above_status(above: bool) -> u8
+    ensures { result ≡ above_status above }
+{
+    if above { 1 } else { 0 }
+}
+
+/// The load of each bus of a proposal's plan, in a form. Error: an allocation failed.
+fn load_of(
+    alloc: Global,
+    proposal: &Proposal<OUTPUTS>,
+    limit: Option<u32>,
+    form: SheetForm,
+) -> Result<Reply, AllocError>
+    ensures { IfOk result (λ reply. IsLoad proposal.now (limit_of limit) form reply.status reply.bytes.items) }
+{
+    let load = load_sheet(alloc, proposal, limit_of(limit));
+    let bytes = load.sheet.render(alloc, form)?;
+    Ok(Reply {
+        bytes,
+        status: above_status(load.above),
+    })
+}
+
+/// The load of each bus of the plan of the table in a file, in a form. The status is 1 if a bus is above the limit in per
+/// cent, otherwise 0. The file is refused first, then the table, then its plan.
+pub fn load_reply<F: FileReader>(
+    alloc: Global,
+    files: &mut F,
+    name: &str,
+    limit: Option<u32>,
+    form: SheetForm,
+    seen: &mut Seen,
+) -> Result<Reply, CommandRefusal>
+    ensures { HasRead F.answers (λ file. Replies (IsLoadOf file limit form name.now) (IsNoPlan file name.now) result) files.old files.new }
+{
+    let table = read_file(alloc, files, name, seen)?;
+    let proposal = propose(alloc, &table, &mut seen.table)?;
+    Ok(load_of(alloc, &proposal, limit, form)?)
+}

@@ -1,0 +1,102 @@
+//! The command `slots`.
+ghost use Rattle.std.specs.Prelude.{◌≡◌, ◌<◌, IfOk, IfSome, length};
+ghost use Rattle.std.specs.Option.{option_copied};
+ghost use Rattle.a429_console.specs.Readings.{HasRead};
+ghost use Rattle.a429_slots.specs.Tables.{groups_of};
+ghost use Rattle.a429_cli.specs.SlotReplies.{GivesSlots, IsNoSlots, IsSlotsOf, slots_text};
+ghost use Rattle.a429_cli.specs.WholeReplies.{Replies};
+
+use crate::drawings::group_asked;
+use crate::replies::reply::Reply;
+use a429_console::arguments::requests::Options;
+use a429_console::files::FileReader;
+use a429_console::files::reading::read_file;
+use a429_console::hints::Seen;
+use a429_console::refusals::CommandRefusal;
+use a429_console::refusals::tables::propose;
+use a429_documents::{slot_header, slot_sheet};
+use a429_slots::{OUTPUTS, Proposal};
+use a429_text::SheetForm;
+use std::alloc::{AllocError, Global};
+
+/// What is printed of slot tables.
+#[derive(Clone, Copy)]
+pub struct SlotsForm {
+    /// A header for C, instead of rows.
+    pub code: bool,
+    /// Rows for the empty cells too.
+    pub all: bool,
+    /// The form of the rows.
+    pub rows: SheetForm,
+}
+
+impl SlotsForm {
+    ghost use Rattle.std.specs.Prelude.{◌≡◌};
+    ghost use Rattle.a429_console.specs.Requests.{given_of};
+    ghost use Rattle.a429_cli.specs.SlotReplies.{slots_form};
+
+    /// What is asked for.
+    pub fn of(options: &Options) -> SlotsForm
+        ensures { result ≡ slots_form (given_of options.now) }
+    {
+        SlotsForm {
+            code: options.code,
+            all: options.all,
+            rows: options.form,
+        }
+    }
+}
+
+/// The slot tables of a proposal's plan, of the group of this number or of all. Error: an allocation failed.
+fn slots_text(
+    alloc: Global,
+    proposal: &Proposal<OUTPUTS>,
+    group: Option<usize>,
+    form: SlotsForm,
+) -> Result<Vec<u8>, AllocError>
+    requires { IfSome group (λ group. group < length (groups_of proposal.now.plan)) }
+    ensures { IfOk result (λ text. text.items ≡ slots_text form proposal.now group) }
+{
+    if form.code {
+        slot_header(alloc, proposal, group).into_bytes()
+    } else {
+        slot_sheet(alloc, proposal, group, form.all).render(alloc, form.rows)
+    }
+}
+
+/// The same of the group of this name. A name that no group has is refused.
+fn slots_of(
+    alloc: Global,
+    proposal: &Proposal<OUTPUTS>,
+    group: Option<&str>,
+    form: SlotsForm,
+) -> Result<Reply, CommandRefusal>
+    ensures { GivesSlots form proposal.now (option_copied group.entry) result }
+{
+    let _plan = proposal.plan();
+    let number = group_asked(alloc, proposal.equipment().groups(), group)?;
+    let text = slots_text(alloc, proposal, number, form)?;
+    Ok(Reply::done(text))
+}
+
+/// The slot tables of the plan of the table in a file, of the group of this name or of all, with status 0. The file is
+/// refused first, then the table, then its plan, then the name.
+pub fn slots_reply<F: FileReader>(
+    alloc: Global,
+    files: &mut F,
+    name: &str,
+    group: Option<&str>,
+    form: SlotsForm,
+    seen: &mut Seen,
+) -> Result<Reply, CommandRefusal>
+    ensures { HasRead F.answers (λ file. Replies (IsSlotsOf file form name.now (option_copied group.entry))
+        (IsNoSlots file name.now (option_copied group.entry)) result) files.old files.new }
+{
+    let table = read_file(alloc, files, name, seen)?;
+    let proposal = propose(alloc, &table, &mut seen.table)?;
+    let reply = slots_of(alloc, &proposal, group, form);
+    if reply.is_err() {
+        seen.proposal = Some(proposal);
+    }
+    reply
+}

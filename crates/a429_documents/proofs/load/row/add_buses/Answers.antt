@@ -1,0 +1,14 @@
+use Rattle.std.proofs.Common.{subst, ◌<◌, ℕ}
+use Rattle.a429_documents.specs.Load.{cells_on}
+use Rattle.a429_documents.proofs.BusLoads.{bus_known, bus_load, bus_more}
+use Rattle.a429_documents.proofs.load.row.add_buses.Goals as goal
+
+pub bounds-loads-bus : goal.bounds-loads-bus
+bounds-loads-bus c =
+    bus_known (cells_on c.args.table.now) _ c.loop-bus.bus c.args.loads.now c.requires.loads (subst (λ (n : ℕ). c.loop-bus.bus < n) c.buses-bus-end.ensures.value c.loop-bus-test.true)
+
+pub loop-bus-preserved : goal.loop-bus-preserved
+loop-bus-preserved c =
+    bus_more c.args.shown c.args.group.now c.args.table.now c.frame.result _ _ c.loop-bus.bus c.args.rows.now c.loop-bus.rows c.add_row.new.rows c.frame.ensures.value c.number.ensures
+    (bus_load (cells_on c.args.table.now) _ c.loop-bus.bus c.args.loads.now c.requires.loads (subst (λ (n : ℕ). c.loop-bus.bus < n) c.buses-bus-end.ensures.value c.loop-bus-test.true))
+    c.loop-bus.invariant c.add_row.ensures
