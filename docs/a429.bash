@@ -3,12 +3,15 @@
 _a429_lines() {
     cat <<'END_OF_LINES'
 word      Print the fields of a 32-bit word, and its data as BNR and as BCD
+encode    Print the 32-bit word that has these fields
 lines     Print what a reader of a line reports: words, faults, and the rest
 import    Print an equipment table, made from a spreadsheet's rows
 plan      Plan a station on the fewest buses, with the bound that shows it
 check     Check whether a plan's text shows the fewest buses for a station
 icd       Print what an interface control document says of each output
 margin    Print how far each group is from one bus less, and what would help
+load      Print the load of each bus, and what its free cells would take
+slots     Print the slot tables of a plan: each cell with its output
 lint      Print what a table does silently, such as words that never arrive
 diff      Print what changes from the plan of a table to that of another
 draw      Draw the slot tables of a plan as an image (SVG)
@@ -34,6 +37,9 @@ _a429() {
     case $command in
         help) COMPREPLY=($(compgen -W "$commands" -- "$word")); return ;;
         word) COMPREPLY=($(compgen -W "$options" -- "$word")); return ;;
+        encode) options="--sdi --ssm --data --bnr --bits --bcd $options" ;;
+        load) options="--limit --csv --json $options" ;;
+        slots) options="--group --all --c --csv --json $options" ;;
         icd | margin | lint) options="--csv --json $options" ;;
         diff) options="--all --csv --json $options" ;;
         draw) options="--group --slots --width --html $options" ;;
@@ -41,11 +47,12 @@ _a429() {
     esac
     case ${COMP_WORDS[COMP_CWORD - 1]} in
         --width) COMPREPLY=($(compgen -W "64 128 256" -- "$word")); return ;;
-        --group | --slots | --until) COMPREPLY=(); return ;;
+        --sdi | --ssm) COMPREPLY=($(compgen -W "0 1 2 3" -- "$word")); return ;;
+        --group | --slots | --until | --limit | --data | --bnr | --bits | --bcd) COMPREPLY=(); return ;;
     esac
     case $word in
         -*) COMPREPLY=($(compgen -W "$options" -- "$word")) ;;
-        *) COMPREPLY=($(compgen -f -- "$word")) ;;
+        *) [ "$command" = encode ] || COMPREPLY=($(compgen -f -- "$word")) ;;
     esac
 }
 complete -o filenames -F _a429 a429 ./a429

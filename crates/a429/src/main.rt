@@ -9,7 +9,7 @@ use std::process::ExitCode;
 fn main(rt: HostRuntime) -> ExitCode {
     let mut files = DiskFiles::new(&rt);
     let mut out = CountedWriter::new(rt.stdout());
-    // on a terminal a run shows how far it is
+    // on a terminal a run shows its progress
     let is_terminal = rt.stderr().is_terminal();
     let mut err = CountedWriter::new(rt.stderr());
     let status = if is_terminal {

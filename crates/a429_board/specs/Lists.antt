@@ -38,8 +38,8 @@ numbered p n = record p { number = n }
 
 -- ---- the book that a board is kept in
 
--- Its first word counts the others. Each plan after the first brings home the next of them, so only who has the pen of the next word can
--- add a plan.
+-- Its head entry counts the others. Each plan after the first marks the next entry as home. So only the owner of the pen of the next entry
+-- can add a plan.
 pub record IsKept (cells : List Cell) (log : List PlanTable) : Type 0 where
   pub others : ℕ
   pub first : cell cells 0 ≡ (others, true)

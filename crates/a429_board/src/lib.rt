@@ -6,10 +6,19 @@
 //! board.
 //!
 //! ```text
-//! let (mut planner, mut watchers) = Board::open(rt, alloc, plan, 1)?;
-//! let number = planner.publish(rt, next)?;
-//! if let Some(mut watcher) = watchers.pop() { let (number, plan) = watcher.newest(); }
+//! let (planner, mut watchers) = Board::open(rt, alloc, plan, 1)?;
+//! ..
 //! planner.close(rt);
+//! ```
+//!
+//! While the board is open, a watcher reads on its thread, and the planner publishes:
+//!
+//! ```text
+//! let (number, plan) = watcher.newest();
+//! ..
+//! if planner.publish(rt, plan).is_ok() {
+//!     published = published.wrapping_add(1);
+//! }
 //! ```
 #![tactic(auto)]
 

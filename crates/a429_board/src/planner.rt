@@ -83,7 +83,8 @@ fn append_and_show<R: Wait>(
 }
 
 impl Planner {
-    /// The planner of a board that begins with this plan and has room for this number of watchers.
+    /// The planner of a board that begins with this plan and has room for this number of watchers. Error: an allocation
+    /// failed.
     pub(crate) fn begin<R: Wait>(
         rt: &R,
         alloc: Global,
@@ -130,7 +131,7 @@ impl Planner {
         })
     }
 
-    /// This number of watchers, each at the beginning.
+    /// This number of watchers, each at the beginning. Error: an allocation failed.
     pub(crate) fn watchers(&mut self, alloc: Global, count: u32) -> Result<Vec<Watcher>, AllocError>
         requires { self.old.list ≡ self.old.last ∷ [] }
         ensures planner { self.new ≡ self.old }

@@ -16,7 +16,7 @@ use Rattle.a429_callers.specs.NextSends.{HasThisOutput, IsLastSend, NoHoldEmptie
 abbrev pub source : SourceRow
 source = record { name = 115 ∷ []; receiver = 0; label = 131; sdi = None }
 
--- the station, which sends its source at this interval, in us
+-- the station, which sends its source at this interval, in µs
 abbrev pub station_at : ℕ → TableRecord
 station_at us = record {
   version = 2;
@@ -40,11 +40,11 @@ old = output_each 1 2
 abbrev pub new : Placed
 new = output_each 2 4
 
--- at 100000 bit/s, 720 us are two slots
+-- at 100000 bit/s, 720 µs are two slots
 abbrev pub opening : Opening
 opening = record { proposal = record { station = station_at 720; plan = record { groups = table_of 1 old ∷ []; number = 0 } }; first = 0 }
 
--- and 1440 us four
+-- and 1440 µs four
 abbrev pub next : Proposed
 next = record { station = station_at 1440; plan = record { groups = table_of 2 new ∷ []; number = 0 } }
 

@@ -30,7 +30,7 @@ frame_after made n = (led_to made.opening made.group made.table (take n made.cal
 abbrev pub next_after : GroupCalls → ℕ → ℕ → ℕ
 next_after made n bus = next_on (frame_after made n) bus
 
--- the slot table has an output of the source at this place, and each output of it may send, with a least spacing of q slots at most
+-- the slot table has an output of the source at this place, and each output of it may send, with a spacing of q slots at most
 pub record HasSpacedOutput (t : SlotTable) (source : ℕ) (at : SlotPlace) (q : ℕ) : Type 0 where
   pub output : HasOutput t source at
   pub may : (n : ℕ) (x : Placed) → slice_get (outputs_of t) n ≡ Some x → x.source ≡ source → MaySend q x

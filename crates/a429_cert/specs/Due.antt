@@ -10,7 +10,7 @@ use Rattle.a429_cert.specs.declared.due.DueOutput.{DueOutput}
 use Rattle.a429_cert.specs.declared.due.DueGroup.{DueGroup}
 use Rattle.a429_cert.specs.declared.due.DueTable.{DueTable}
 
--- an output is due with the name of its row's source, the grid period of the row's interval at the rate of its group, and the row's hold
+-- an output is due with the name of its row's source, the grid period of the row's interval at the bit rate of its group, and the row's hold
 pub record IsDueOutput (e : TableRecord) (rate : ℕ) (row : OutputRow) (o : DueOutput) : Type 0 where
   pub source : SourceRow
   pub there : slice_get e.sources row.source ≡ Some source
@@ -26,7 +26,7 @@ IsDueOfRow e rate row due = MatchOption due (HasNoGridPeriod row.min_us row.max_
 abbrev pub AreDueOfGroup : TableRecord → ℕ → ℕ → List DueOutput → Type 0
 AreDueOfGroup e rate g outputs = (rows : List OutputRow) × (slice_get e.outputs g ≡ Some rows) × AllZip (IsDueOutput e rate) rows outputs
 
--- a group with its rate, and each of its outputs in table order
+-- a group with its bit rate, and each of its outputs in table order
 pub record IsDueGroup (e : TableRecord) (rated : ℕ × List OutputRow) (g : DueGroup) : Type 0 where
   pub rate : g.rate ≡ rated.0
   pub outputs : AllZip (IsDueOutput e rated.0) rated.1 g.outputs.items

@@ -56,7 +56,7 @@ abbrev pub first_reason : List (Bool × Reason) → Option Reason
 first_reason [] = None
 first_reason (r ∷ rs) = if r.0 then Some r.1 else first_reason rs
 
--- the first reason against a line that says this; a line that says nothing isn't of its form
+-- the first reason against a line that says this; a line that is not read has a wrong form
 abbrev pub of_form : {A : Type 0} → Option A → (A → List (Bool × Reason)) → Option Reason
 of_form None reasons_of = Some reasons.Form
 of_form (Some said) reasons_of = first_reason (reasons_of said)

@@ -14,7 +14,7 @@ use Rattle.a429_cert.specs.Checked.{Stated, stated_text}
 abbrev pub source_name : List SourceRow → ℕ → List ℕ
 source_name sources n = option_map_or (λ s. s.name) (slice_get sources n) []
 
--- in version 2 its rate in bit/s, and the number of slots in a frame, and of buses
+-- in version 2 its bit rate, and the number of slots in a frame, and of buses
 abbrev pub heading_of : ℕ → GroupRow → SlotTable → Heading
 heading_of version g t = record { name = g.name; rate = said_in version g.rate; frame = frame_of t; buses = buses_of t }
 

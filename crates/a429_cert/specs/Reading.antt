@@ -72,7 +72,7 @@ said_rate bytes = do
   rate ← number_after (codes " rate ") bytes
   Some (Some rate.0, rate.1)
 
--- the rate at the front, and the bytes after it
+-- the bit rate at the front, and the bytes after it
 unfoldable pub rate_part : ℕ → List ℕ → Option (Option ℕ × List ℕ)
 rate_part version bytes = if says_more version then said_rate bytes else Some (None, bytes)
 

@@ -104,7 +104,8 @@ fn checked_bound(group: &DueGroup, buses: u64, line: &[u8]) -> Result<(), Reason
     }
 }
 
-/// Checks the lines of a group, the first of which has this number.
+/// Checks the lines of a group, the first of which has this number. Error: the first line that fails, with its reason,
+/// or an allocation failed.
 pub fn check_group(
     alloc: Global,
     version: u32,

@@ -17,7 +17,7 @@ pub fn plan_lines()
     ensures only { IsReadAs plan_line version_text IsShort }
 {}
 
-/// The same of the rate line of version 1.
+/// The same of the line `rate` of version 1.
 pub fn rate_lines()
     ensures found { IsReadOnlyAs rate_line rate_text IsShort }
     ensures only { IsReadAs rate_line rate_text IsShort }

@@ -5,10 +5,24 @@
 //! with an equipment that was read before.
 //!
 //! ```text
-//! let text = plan_text(alloc, &proposal)?;
-//! match check(alloc, table, &text)? {
-//!     Verdict::Fewest => ..,
-//!     Verdict::No(no) => ..,
+//! let Ok(proposal) = Proposal::of(alloc, equipment) else {
+//!     return None;
+//! };
+//! let Ok(text) = plan_text(alloc, &proposal) else {
+//!     return None;
+//! };
+//! Some(check(alloc, table, &text))
+//! ```
+//!
+//! If a text is wrong, the verdict has the line and the reason:
+//!
+//! ```text
+//! match verdict {
+//!     Verdict::Fewest => None,
+//!     Verdict::No(no) => Some(Objection {
+//!         line: no.line,
+//!         reason: no.reason.text(),
+//!     }),
 //! }
 //! ```
 #![tactic(auto)]

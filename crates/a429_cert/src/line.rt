@@ -161,7 +161,7 @@ pub fn rate_line(line: &[u8]) -> Option<u64>
     number_line(line, "rate ")
 }
 
-/// The rate at the front, which only a line of version 2 says, and the bytes after it.
+/// The bit rate at the front, which only a line of version 2 says, and the bytes after it.
 #[tactic(auto, unfolding(crate::specs::Reading::rate_part, crate::specs::Reading::said_rate))]
 fn rate_part(version: u32, bytes: &[u8]) -> Option<(Option<u64>, &[u8])>
     ensures { option_map (λ x. (x.0, x.1.now)) result ≡ rate_part version bytes.now }

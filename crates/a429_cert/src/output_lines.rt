@@ -107,7 +107,8 @@ fn checked_output<'a>(
     Ok(said)
 }
 
-/// Checks the lines of a group's outputs, the first of which has this number.
+/// Checks the lines of a group's outputs, the first of which has this number. Error: the first line that fails, with
+/// its reason, or an allocation failed.
 pub fn check_outputs(
     alloc: Global,
     version: u32,

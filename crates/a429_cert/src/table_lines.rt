@@ -34,7 +34,7 @@ fn checked_plan(version: u32, line: &[u8]) -> Result<(), Reason>
     }
 }
 
-/// Checks the line of the rate that all groups have.
+/// Checks the line of the bit rate that all groups have.
 #[tactic(auto, unfolding(crate::specs::Faults::rate_fault))]
 fn checked_rate(rate: u64, line: &[u8]) -> Result<(), Reason>
     ensures { GivesReason result (rate_fault rate line.now) }
@@ -67,7 +67,8 @@ fn check_groups(
     with_line_number(number, checked_end(lines))
 }
 
-/// Checks each line of a text against the table.
+/// Checks each line of a text against the table. Error: the first line that fails, with its reason, or an allocation
+/// failed.
 pub fn check_lines(alloc: Global, table: &DueTable, text: &[u8]) -> Result<(), CheckStop>
     requires modest { All IsModest table.now.groups.items }
     requires fits { due table.now.groups.items < 2 ^ 63 }

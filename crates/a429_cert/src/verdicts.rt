@@ -10,7 +10,7 @@ use std::fmt;
 pub enum Reason {
     /// The line is not of the form due here, lacks its line feed, is absent, or follows the last line due.
     Form,
-    /// The rate is not the table's, or not that of the group due.
+    /// The bit rate is not the table's, or not that of the group due.
     Rate,
     /// The name is not that of the group due.
     Group,

@@ -31,7 +31,7 @@ HasOpeningTable E = OpensWith E.opening E.group E.table
 abbrev pub HasOwnPlans : GroupHistory → Type 0
 HasOwnPlans E = HaveOwnPlans E.opening E.events
 
--- the slot table in force at place k keeps to the least spacings of its outputs
+-- the slot table in force at place k keeps to the spacings of its outputs
 abbrev pub IsSpacedAt : GroupHistory → ℕ → Type 0
 IsSpacedAt E k = HasSpacedTable E.opening E.group E.table E.events k
 

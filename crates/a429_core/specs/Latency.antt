@@ -72,12 +72,12 @@ abbrev pub EachOutput : GroupHistory → ℕ → ℕ → ℕ → (Placed → Typ
 EachOutput E i k source Is =
     (j : ℕ) → i ≤ j → j < k → (n : ℕ) (x : Placed) → slice_get (outputs_of (current_at E j).table) n ≡ Some x → x.source ≡ source → Is x
 
--- the output may send an accepted word once at least, and its least spacing has no more than q slots
+-- the output may send an accepted word once at least, and its spacing has no more than q slots
 pub record MaySend (q : ℕ) (x : Placed) : Type 0 where
   pub hold : (hold : ℕ) → x.limits.hold ≡ Some hold → 0 < hold
   pub spacing : x.limits.spacing ≤ q
 
--- the output has no hold, and its least spacing is at most q slots
+-- the output has no hold, and its spacing is at most q slots
 pub record IsUnheld (q : ℕ) (x : Placed) : Type 0 where
   pub hold : x.limits.hold ≡ None
   pub spacing : x.limits.spacing ≤ q
@@ -135,7 +135,7 @@ pub record SendsOne (C : ℕ) (E : GroupHistory) (i k source end : ℕ) : Type 0
   pub word : ℕ
   pub sent : CellIsAnswered C E cell.place cell.output cell.slot (Some word)
 
--- the cell that comes is without a word, as a word of the source was sent within the least spacing: it is the first of its source since the
+-- the cell that comes is without a word, as a word of the source was sent within the spacing: it is the first of its source since the
 -- plan came into force
 pub record IsEmptiedFirst (C : ℕ) (E : GroupHistory) (i k source end : ℕ) : Type 0 where
   pub cell : HasCell E i k source end
@@ -266,7 +266,7 @@ CellsRecurAcrossChanges =
 -- ---- laws of words
 
 -- A word that is accepted goes out, it or a later one of its source, in one period of slots of the source's output; if not, then a word of
--- the source went out within the least spacing before, and this cell is the first of the source since the plan came into force.
+-- the source went out within the spacing before, and this cell is the first of the source since the plan came into force.
 abbrev pub WordsGoOutOrAreFirst : Type 0
 WordsGoOutOrAreFirst =
     (C : ℕ) (E : GroupHistory) (i k source : ℕ) (at : SlotPlace) (q : ℕ)
@@ -301,7 +301,7 @@ OpeningWordsGoOutInTime =
     → EachOutput E i k source (MaySend q) → Passes E i k at (period_of at)
     → GoesOut C E i k source (next_slot_on E i at.bus + period_of at)
 
--- P is the period and q the least spacing. After any earlier sends, an accepted word goes out, or a later one of its
+-- P is the period and q the spacing. After any earlier sends, an accepted word goes out, or a later one of its
 -- source, in P + q - 1 slots.
 abbrev pub AcceptedWordsGoOutAnyway : Type 0
 AcceptedWordsGoOutAnyway =
@@ -311,7 +311,7 @@ AcceptedWordsGoOutAnyway =
     → GoesOut C E i k source (next_slot_on E i at.bus + n)
 
 -- One plan follows another, and both have an output of one source that holds no words. P and P' are the periods of the
--- first and the second output, and no least spacing is above q. A word of the source that was sent by the first plan is
+-- first and the second output, and no spacing is above q. A word of the source that was sent by the first plan is
 -- followed by another one within fewer than P' + max(P, q) slots.
 abbrev pub SendsRecurAcrossAChange : Type 0
 SendsRecurAcrossAChange =
@@ -343,7 +343,7 @@ LatencyIsBoundedAcrossAChange =
     → GoesOutWithin C E (wait_of source i k (next_slot_on E i old.bus + n)) clock ((n + 1) * clock.slot_time)
 
 -- Any plans follow one another, each with an output of the source that holds no words. The periods are at most P slots
--- and the least spacings at most q. A word of the source that was sent is followed by another one within fewer than q +
+-- and the spacings at most q. A word of the source that was sent is followed by another one within fewer than q +
 -- 2 P slots.
 abbrev pub SendsRecurAcrossChanges : Type 0
 SendsRecurAcrossChanges =

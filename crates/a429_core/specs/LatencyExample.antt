@@ -14,7 +14,7 @@ use Rattle.a429_core.specs.Latency.{Clock, EachOutput, IsAcceptedBefore, IsPlann
 abbrev pub source : SourceRow
 source = record { name = 115 ∷ []; receiver = 0; label = 131; sdi = None }
 
--- at 100000 bit/s, 720 us are two slots
+-- at 100000 bit/s, 720 µs are two slots
 abbrev pub station : TableRecord
 station = record {
   version = 2;

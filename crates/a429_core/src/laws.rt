@@ -69,7 +69,7 @@ fn spacing_is_kept()
     spacing_empties_first_cells_only();
 }
 
-/// Let q be the least spacing, in slots, of an output in the plan in force at its cell. If the cell sends a word, each
+/// Let q be the spacing, in slots, of an output in the plan in force at its cell. If the cell sends a word, each
 /// earlier word of the source was sent at least q slots before, even if plans changed between. A word that is accepted
 /// and not held is missing in its cell only in one case: a word of its source was sent fewer than q slots before, and
 /// the cell is the first of its output since the plan came into force.
@@ -107,9 +107,9 @@ pub fn outputs_come_round()
     spacing_is_kept();
 }
 
-/// P is the period of the source's output and q its least spacing, in slots. An output has settled if it was there from
-/// the opening on or had stayed for a period before. An accepted word goes out, it or a later one of its source, within
-/// a bound on the output's bus: P slots if the output has settled, otherwise P + q - 1 slots. If it does not go out
+/// P is the period of the source's output and q its spacing, in slots. An output has settled if it was there from the
+/// opening on or had stayed for a period before. An accepted word goes out, it or a later one of its source, within a
+/// bound on the output's bus: P slots if the output has settled, otherwise P + q - 1 slots. If it does not go out
 /// within P slots, its cell was emptied because of that spacing. The latency is from when the word is accepted until
 /// the slot of its cell ends. If the output had stayed for a period before, and no cell is asked for before its slot
 /// begins, the latency is at most P + 1 slots. Each accepted word may go out once, for any hold.
@@ -125,11 +125,11 @@ pub fn accepted_words_go_out_in_time()
 }
 
 /// A group goes on from one plan to another, and both have an output of one source: then the cells and words of that
-/// source go on. P and P' are the periods of the first and the second output, and no least spacing is above q, in
-/// slots. After a cell by the first plan the next one comes within fewer than P + P' slots. If the source's words are
-/// not held, the next word after a word that was sent is sent within fewer than P' + max(P, q) slots. Let the first
-/// output have stayed for a period. Then a word that is accepted before the change goes out, it or a later one, with a
-/// latency of at most P' + max(P, q) slots.
+/// source go on. P and P' are the periods of the first and the second output, and no spacing is above q, in slots.
+/// After a cell by the first plan the next one comes within fewer than P + P' slots. If the source's words are not
+/// held, the next word after a word that was sent is sent within fewer than P' + max(P, q) slots. Let the first output
+/// have stayed for a period. Then a word that is accepted before the change goes out, it or a later one, with a latency
+/// of at most P' + max(P, q) slots.
 pub fn words_go_on_across_a_change()
     ensures cells { CellsRecurAcrossAChange }
     ensures words { SendsRecurAcrossAChange }
@@ -141,9 +141,9 @@ pub fn words_go_on_across_a_change()
 }
 
 /// Any plans may follow one another: as long as each has an output of the source, its cells and words go on. The
-/// periods are at most P slots and the least spacings at most q slots. The next cell comes within fewer than 2 P slots.
-/// If no plan holds the source's words, the next word after a word that was sent is sent within fewer than q + 2 P
-/// slots. An accepted word goes out, it or a later one, with a latency of at most q + 2 P - 1 slots.
+/// periods are at most P slots and the spacings at most q slots. The next cell comes within fewer than 2 P slots. If no
+/// plan holds the source's words, the next word after a word that was sent is sent within fewer than q + 2 P slots. An
+/// accepted word goes out, it or a later one, with a latency of at most q + 2 P - 1 slots.
 pub fn words_go_on_across_changes()
     ensures cells { CellsRecurAcrossChanges }
     ensures words { SendsRecurAcrossChanges }

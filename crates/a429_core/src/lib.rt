@@ -6,9 +6,25 @@
 //! latency.
 //!
 //! ```text
-//! let mut state = StationState::open(alloc, proposal, 0)?;
-//! state.step(Event::Arrive { receiver: 0, raw })?;
-//! if let Answer::Sent { bus, slot, word } = state.step(Event::Cell { group: 0 })? { .. }
+//! let Ok(mut state) = StationState::open(alloc, proposal, 0) else {
+//!     return None;
+//! };
+//! let Ok(Answer::Accepted { source: one }) = state.step(Event::Arrive {
+//!     receiver,
+//!     raw: first,
+//! }) else {
+//!     return None;
+//! };
+//! ..
+//! let Ok(
+//!     Answer::Sent {
+//!         word: Some(word),
+//!         ..
+//!     },
+//! ) = state.step(Event::Cell { group: 0 })
+//! else {
+//!     return None;
+//! };
 //! ```
 #![tactic(auto)]
 

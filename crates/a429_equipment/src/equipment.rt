@@ -95,7 +95,7 @@ impl Equipment {
         self.rows.groups.as_slice()
     }
 
-    /// The rate of the buses of a group, in bit/s: 100000, or 12000 to 14500 (ARINC 429 Part 1, bit rates).
+    /// The bit rate of the buses of a group, in bit/s: 100000, or 12000 to 14500 (ARINC 429 Part 1, bit rates).
     pub fn group_rate(&self, group: usize) -> u32
         requires { group < length self.now.groups }
         ensures rate { option_map (λ row. row.rate) (slice_get self.now.groups group) ≡ Some result }
@@ -154,9 +154,8 @@ impl Equipment {
         self.index.source_of(receiver, word.label(), word.sdi())
     }
 
-    /// Whether two equipments are of one station: equal receivers with their filters as written, sources,
-    /// and names and rates of groups, each in order (profile). Outputs may differ, and the versions of the
-    /// tables.
+    /// Whether two equipments are of one station: equal receivers with their filters as written, sources, and names and
+    /// bit rates of groups, each in order (profile). Outputs may differ, and the versions of the tables.
     #[tactic(auto, unfolding(crate::specs::SameStation::same_station))]
     pub fn same_station(&self, other: &Equipment) -> bool
         ensures { result ≡ same_station self.now other.now }

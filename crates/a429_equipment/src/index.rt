@@ -22,7 +22,7 @@ impl fmt::Debug for Index {
 }
 
 impl Index {
-    /// Numbers the sources of these receivers.
+    /// Numbers the sources of these receivers. Error: an allocation failed.
     pub fn of(
         alloc: Global,
         receivers: &[ReceiverRow],
@@ -48,7 +48,7 @@ impl Index {
         Ok(Index { places })
     }
 
-    /// The number of the first source of a receiver with this label and SDI.
+    /// The number of the first source of a receiver with this label and SDI. `None` if there is none.
     pub fn source_of(&self, receiver: usize, label: Label, sdi: Sdi) -> Option<usize>
         requires few { receiver < 16 }
         requires known { 1024 * receiver + 1024 ≤ length self.now.places.items }

@@ -2,15 +2,26 @@
 //!
 //! `Equipment` is made by `read_equipment` of `a429_table`. `receivers`, `sources`, `groups` and `outputs` are its
 //! rows, in table order, which number them from 0. `source_for` says for which source a word of a receiver is, or why
-//! for none. `same_station` compares two equipments as a change of plan does. The limits of tables and runs are constants
-//! here.
+//! for none. `same_station` compares two equipments as a change of plan does. Most limits of tables and runs are
+//! constants here; those of filters and of buses are in `a429_filter` and `a429_pack`.
 //!
 //! ```text
-//! let equipment = read_equipment(alloc, table)?;
-//! for row in equipment.sources() { println!(rt; "{}", row.name.as_str())?; }
-//! match equipment.source_for(receiver, raw) {
-//!     Ok((source, word)) => ..,
-//!     Err(refusal) => ..,
+//! let equipment = read_equipment(rt.alloc(), &request.table)?;
+//! let (receivers, groups) = (equipment.receivers().len(), equipment.groups().len());
+//! ```
+//!
+//! `source_for` says for which source a word is that comes in at a receiver:
+//!
+//! ```text
+//! match self.equipment.source_for(receiver, raw) {
+//!     Err(refusal) => Answer::Refused(Refusal::from(refusal)),
+//!     Ok((source, word)) => {
+//!         if keep(&mut self.sources, self.limit, source, word) {
+//!             Answer::Accepted { source }
+//!         } else {
+//!             Answer::Refused(Refusal::CountSpent)
+//!         }
+//!     }
 //! }
 //! ```
 #![tactic(auto)]

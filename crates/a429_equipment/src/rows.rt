@@ -63,16 +63,16 @@ pub struct SourceRow {
     pub sdi: Option<Sdi>,
 }
 
-/// A group of outputs, which is one set of destinations, and the rate of its buses.
+/// A group of outputs, which is one set of destinations, and the bit rate of its buses.
 #[derive(Debug, Drop)]
 pub struct GroupRow {
     pub name: Name,
-    /// In bit/s: 100000, or 12000 to 14500 (ARINC 429 Part 1, bit rates). In version 1 the root's rate.
+    /// In bit/s: 100000, or 12000 to 14500 (ARINC 429 Part 1, bit rates). In version 1 the root's bit rate.
     pub rate: u32,
 }
 
-/// An output of a group: the number of its source, and the least and the greatest time from one
-/// transmission to the next, in microseconds.
+/// An output of a group: the number of its source, and the minimum and the maximum time from one transmission to the
+/// next, in microseconds.
 #[derive(Clone, Copy, Debug, PartialEq, Eq)]
 pub struct OutputRow {
     /// The number of its source.

@@ -129,7 +129,7 @@ impl FilterSet {
         Ok(())
     }
 
-    /// The same set, a second time.
+    /// A copy of the set.
     pub fn copied(&self) -> Self
         ensures { result ≡ self.now }
     {

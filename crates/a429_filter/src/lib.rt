@@ -5,10 +5,21 @@
 //! have odd parity and pass its filters.
 //!
 //! ```text
-//! let mut filters = FilterSet::none();
-//! filters.add(Filter::parse("203/377")?)?;
-//! let mut socket = Socket::new(MemoryLine::from_words(words), filters);
-//! while let Some(word) = socket.recv()? { .. }
+//! let mut filters = FilterSet::all();
+//! let exact = Filter {
+//!     label: Label::new(0o203),
+//!     mask: 0o377,
+//! };
+//! filters.add(exact).expect(rt, "room");
+//! ..
+//! let words = vec![in alloc; 0x8000_0021, WORD, 0x0000_00c1].expect(rt, "memory");
+//! Socket::new(MemoryLine::from_words(words), exact_filter(rt))
+//! ```
+//!
+//! `recv` gives the next word of that socket:
+//!
+//! ```text
+//! assert!(rt; raw(socket.recv()) == stated);
 //! ```
 #![tactic(auto)]
 

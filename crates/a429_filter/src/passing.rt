@@ -17,7 +17,7 @@ pub struct Passing {
 impl Passing {
     ghost use Rattle.a429_filter.specs.Passing.{PassesMore};
 
-    /// Each label passes, or none.
+    /// A table in which each label passes, or none.
     pub fn each(passes: bool) -> Passing
         ensures { (label : ℕ) → label < 256 → slice_index_or result.labels label false ≡ passes }
     {

@@ -10,8 +10,7 @@ pub fn blocks_are_periodic()
     ensures { (digits : ℕ) → HasPeriodicBlocks digits }
 {}
 
-/// The least spacing of an interval is a quotient, and no grid period is less: within one plan every output keeps
-/// to it.
+/// The spacing of an interval is a quotient, and no grid period is less: within one plan every output keeps to it.
 pub fn spacings_are_least()
     ensures least { (min_us rate : ℕ) → IsLeastSpacing min_us rate (least_spacing min_us rate) }
     ensures period { (min_us max_us rate p : ℕ) → IsGridPeriod min_us max_us rate p → least_spacing min_us rate ≤ p }

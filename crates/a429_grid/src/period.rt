@@ -45,7 +45,7 @@ impl Period {
         1 << self.exponent
     }
 
-    /// How many binary digits count the slots of the period from 0: it has two to that power.
+    /// The binary logarithm of the period: 2 to this power is its number of slots.
     pub fn digits(self) -> u32
         ensures value { result ≡ self }
         ensures few { result ≤ 13 }
@@ -54,8 +54,8 @@ impl Period {
     }
 }
 
-/// Whether a word that is sent once a period keeps to its interval, `min_us` to `max_us` microseconds,
-/// at this rate in bit/s.
+/// Whether a word that is sent once a period keeps to its interval, `min_us` to `max_us` microseconds, at this bit
+/// rate.
 pub fn fits(period: Period, min_us: u32, max_us: u32, rate: u32) -> bool
     ensures { IsTrue result ↔ IsWithin min_us max_us rate (2 ^ period) }
 {
@@ -78,9 +78,9 @@ pub fn grid_period(min_us: u32, max_us: u32, rate: u32) -> Option<Period>
     None
 }
 
-/// The least spacing: the smallest number of slots that last at least `min_us` microseconds at this bit rate in bit/s.
-/// Words at least this number of slots apart, start to start, keep to the least interval. No grid period of the
-/// interval is less.
+/// The spacing: the smallest number of slots that last at least `min_us` microseconds at this bit rate in bit/s. Words
+/// at least this number of slots apart, start to start, keep their minimum interval. No grid period of the interval is
+/// less.
 pub fn spacing(min_us: u32, rate: u32) -> u32
     requires interval { (1 ≤ min_us) × (min_us ≤ 30000000) }
     requires rate { (1 ≤ rate) × (rate ≤ 100000) }

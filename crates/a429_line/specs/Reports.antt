@@ -24,7 +24,7 @@ later_pieces (Null ∷ x) = first_piece x ∷ later_pieces x
 later_pieces (Hi ∷ x) = later_pieces x
 later_pieces (Lo ∷ x) = later_pieces x
 
--- A run is a stretch of ones and zeros that cannot be made longer. It has: the number of Nulls before it, since the run
+-- A run is a maximal sequence of ones and zeros. It has: the number of Nulls before it, since the run
 -- before or the line's start; its symbols; whether a Null ends it. (laws: this is the one way to cut a line)
 pub record Run : Type 0 where
   pub gap : ℕ

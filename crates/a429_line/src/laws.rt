@@ -4,7 +4,7 @@ ghost use Rattle.a429_line.specs.Cuts.{IsCut};
 ghost use Rattle.a429_line.specs.Reports.{Run, runs};
 ghost use Rattle.a429_line.specs.declared.found.Symbol.{Symbol};
 
-/// A line is its runs, each after its gap, and then Nulls; no run can be made longer.
+/// A line is its runs, each after its gap, and then Nulls. Every run is maximal.
 pub fn runs_cut_the_line()
     ensures { (x : List Symbol) → (nulls : ℕ) × IsCut x (runs x) nulls }
 {}

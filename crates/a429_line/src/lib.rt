@@ -7,9 +7,13 @@
 //! ```text
 //! let mut reader = LineReader::new();
 //! let mut found = Vec::new(alloc);
-//! reader.feed(&write_slot(Some(word)), &mut found)?;
-//! reader.feed(&[Symbol::Null], &mut found)?;
-//! // found has Found::Word(word)
+//! ..
+//! reader.feed(&[Null], &mut found).expect(rt, "memory");
+//! ..
+//! [Found::Word(word)] => word.raw() == 0x6000_00c1,
+//! ..
+//! assert!(rt; write_slot(Some(word(&rt))) == SENT_SLOT);
+//! assert!(rt; write_slot(None) == [Null; SLOT]);
 //! ```
 #![tactic(auto)]
 

@@ -34,7 +34,7 @@ fn whole(raw: u32) -> Found
 }
 
 impl Stage {
-    /// Takes one symbol, and gives the report that is due at it.
+    /// Takes one symbol, and gives the report that is due at it. `None` if none is due.
     pub fn take(&mut self, symbol: Symbol) -> Option<Found>
         ensures due { result ≡ due self.old symbol }
         ensures after { self.new ≡ after self.old symbol }

@@ -12,7 +12,7 @@ pub record Schedule : Type 0 where
 abbrev pub NamesBelow : ℕ → Schedule → Type 0
 NamesBelow n s = (row slot output : ℕ) → row < s.rows → slot < s.slots → s.cell row slot ≡ Some output → output < n
 
--- any `period` slots in a row have the output on some bus (ARINC 429 Part 1: greatest transmit interval)
+-- any `period` slots in a row have the output on some bus (ARINC 429 Part 1: maximum transmit interval)
 abbrev pub RecursWithin : ℕ → ℕ → Schedule → Type 0
 RecursWithin period output s =
     (from : ℕ) → from + period ≤ s.slots

@@ -12,7 +12,7 @@ pub record Endless : Type 0 where
 abbrev pub begun : ℕ → Endless → Schedule
 begun slots e = record { rows = e.rows; slots = slots; cell = e.cell }
 
--- each output recurs within its own window of slots, without end (ARINC 429 Part 1: greatest transmit interval)
+-- each output recurs within its own window of slots, without end (ARINC 429 Part 1: maximum transmit interval)
 abbrev pub ServesEndlessly : List ℕ → Endless → Type 0
 ServesEndlessly windows e = (slots : ℕ) → Serves slots windows (begun slots e)
 

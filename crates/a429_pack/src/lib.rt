@@ -5,9 +5,26 @@
 //! `raw_bound` and `widening_saves` say how few buses other intervals would need.
 //!
 //! ```text
-//! let packed = pack::<128>(alloc, &demands)?;
-//! let (frame, buses) = (packed.frame().slots(), packed.buses());
-//! let first = packed.input(0);
+//! demands.push(Demand {
+//!     period,
+//!     label: source.label,
+//!     sdi: source.sdi,
+//! })?;
+//! ..
+//! let packed = pack(alloc, &demands)?;
+//! ```
+//!
+//! The answer has the outputs in the order in which they are laid out:
+//!
+//! ```text
+//! let frame = packed.frame();
+//! ..
+//! for place in 0..packed.len() {
+//!     let start = packed.sums().start(place);
+//!     let output = packed.input(place);
+//!     buses[output] = start / frame.slots();
+//!     offsets[output] = offset_at(start, frame);
+//! }
 //! ```
 #![tactic(auto)]
 

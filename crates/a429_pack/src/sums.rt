@@ -36,7 +36,7 @@ impl<const N: usize> Model for SumTable<N> {
 }
 
 impl<const N: usize> SumTable<N> {
-    /// The table without demands.
+    /// An empty table.
     pub fn new() -> SumTable<N>
         ensures { result ≡ [] }
     {

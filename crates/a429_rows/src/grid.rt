@@ -4,7 +4,7 @@ use crate::support::row_holds;
 use a429_grid::{Period, fits, grid_period, reverse, spacing};
 use std::process::Abort;
 
-/// Least and greatest intervals in microseconds, rates in bit/s, and the slots of the grid period.
+/// Minimum and maximum intervals in microseconds, bit rates, and the slots of the grid period.
 static INTERVALS: [(u32, u32, u32, Option<u32>); 12] = [
     (46080, 46080, 100000, Some(128)),
     (46081, 90000, 100000, None),

@@ -87,7 +87,7 @@ fn gives_rates_of_version_1(rt: HostRuntime) {
     drop(equipment);
 }
 
-/// The rate of the first group.
+/// The bit rate of the first group.
 fn first_rate(equipment: &Equipment) -> u32 {
     if equipment.groups().is_empty() {
         return 0;

@@ -21,7 +21,7 @@ pub record IsAsked (rate : ℕ) (sources : List SourceRow) (row : OutputRow) (d 
   pub label : d.label ≡ source.label
   pub sdi : d.sdi ≡ source.sdi
 
--- what limits the sends of the row's output: its hold, and the least spacing of its interval
+-- what limits the sends of the row's output: its hold, and the spacing of its interval
 abbrev pub limits_at : ℕ → OutputRow → SendLimits
 limits_at rate row = record { hold = row.hold; spacing = least_spacing row.min_us rate }
 

@@ -18,7 +18,7 @@ abbrev pub HasPeriod : ℕ → OutputRow → ℕ → Type 0
 HasPeriod rate row k = IsGridPeriod row.min_us row.max_us rate (2 ^ k)
 
 -- The output has the source of its row. Its period is the grid period of the row's interval. Its sends are limited by
--- the row's hold and by the least spacing of the interval.
+-- the row's hold and by the spacing of the interval.
 abbrev pub IsServed : ℕ → OutputRow → Placed → Type 0
 IsServed rate row o =
     (o.source ≡ row.source) × HasPeriod rate row o.place.period × (o.limits.hold ≡ row.hold) × IsLeastSpacing row.min_us rate o.limits.spacing

@@ -33,7 +33,7 @@ pub record Sends (C : ℕ) (o : Opening) (g : ℕ) (p : SlotTable) (E : List Eve
   pub cell : IsOutputCell o g p E k output slot
   pub sent : (answered_at C o g p E k output slot).word ≡ Some word
 
--- the cell is empty because of the least spacing
+-- the cell is empty because of the spacing
 abbrev pub IsTooClose : ℕ → Opening → ℕ → SlotTable → List Event → ℕ → Placed → ℕ → Type 0
 IsTooClose C o g p E k output slot = IsTrue (is_too_close (answered_cells C o g p (take k E)) slot output.source output.limits.spacing)
 
@@ -49,7 +49,7 @@ pub record IsSentWithin (C : ℕ) (o : Opening) (g : ℕ) (p : SlotTable) (E : L
   pub close : slot < at + output.limits.spacing
 
 -- A slot table in which each output has a source of its own, is on one of the buses, and is exactly periodic. Its
--- period keeps to its least spacing.
+-- period keeps to its spacing.
 pub record IsSpacedTable (t : SlotTable) : Type 0 where
   pub own : (a b : ℕ) (x y : Placed) → slice_get (outputs_of t) a ≡ Some x → slice_get (outputs_of t) b ≡ Some y → x.source ≡ y.source → a ≡ b
   pub on_a_bus : (n : ℕ) (x : Placed) → slice_get (outputs_of t) n ≡ Some x → x.place.bus < buses_of t
@@ -79,7 +79,7 @@ WordsAreApart =
     (C : ℕ) (o : Opening) (g : ℕ) (p : SlotTable) (E : List Event) (j k : ℕ) (earlier now : Placed) (u t w x : ℕ) → j < k
     → Sends C o g p E j earlier u w → Sends C o g p E k now t x → earlier.source ≡ now.source → u + now.limits.spacing ≤ t
 
--- a cell is empty because of the least spacing only if a word of the source was sent within it
+-- a cell is empty because of the spacing only if a word of the source was sent within it
 abbrev pub EmptyCellsFollowWords : Type 0
 EmptyCellsFollowWords =
     (C : ℕ) (o : Opening) (g : ℕ) (p : SlotTable) (E : List Event) (k : ℕ) (now : Placed) (t : ℕ) → k < length E
@@ -92,26 +92,26 @@ CellsOfOnePlanAreApart =
     → IsOutputCell o g p E j earlier u → IsOutputCell o g p E k now t → earlier.source ≡ now.source
     → number_at o g p E j ≡ number_at o g p E k → HasSpacedTable o g p E k → u + now.limits.spacing ≤ t
 
--- before a cell that is empty because of the least spacing there is none of its source by the same plan
+-- before a cell that is empty because of the spacing there is none of its source by the same plan
 abbrev pub EmptyCellsAreFirst : Type 0
 EmptyCellsAreFirst =
     (C : ℕ) (o : Opening) (g : ℕ) (p : SlotTable) (E : List Event) (i k : ℕ) (x now : Placed) (s t : ℕ) → OpensWith o g p
     → HasSpacedTable o g p E k → i < k → IsOutputCell o g p E i x s → IsOutputCell o g p E k now t → x.source ≡ now.source
     → IsTooClose C o g p E k now t → ¬ (number_at o g p E i ≡ number_at o g p E k)
 
--- by the opening plan no cell is empty because of the least spacing
+-- by the opening plan no cell is empty because of the spacing
 abbrev pub OpeningPlanEmptiesNone : Type 0
 OpeningPlanEmptiesNone =
     (C : ℕ) (o : Opening) (g : ℕ) (p : SlotTable) (E : List Event) (k : ℕ) (now : Placed) (t : ℕ) → OpensWith o g p
     → HasSpacedTable o g p E k → IsOutputCell o g p E k now t → number_at o g p E k ≡ o.proposal.plan.number → ¬ (IsTooClose C o g p E k now t)
 
--- the slot table of a planned group whose outputs have sources of their own keeps to the least spacings
+-- the slot table of a planned group whose outputs have sources of their own keeps to the spacings
 abbrev pub PlannedTablesAreSpaced : Type 0
 PlannedTablesAreSpaced =
     (rate : ℕ) (sources : List SourceRow) (rows : List OutputRow) (t : SlotTable)
     → IsPlannedFor rate sources rows t → HaveOwnSources rows → IsSpacedTable t
 
--- if each plan is that of its own table, the slot table in force keeps to the least spacings at every place
+-- if each plan is that of its own table, the slot table in force keeps to the spacings at every place
 abbrev pub PlansInForceAreSpaced : Type 0
 PlansInForceAreSpaced =
     (o : Opening) (g : ℕ) (p : SlotTable) (E : List Event) (k : ℕ) → OpensWith o g p → HaveOwnPlans o E → HasSpacedTable o g p E k

@@ -269,7 +269,7 @@ impl<const N: usize> GroupPlan<N> {
     }
 
     /// Two words of an output are at least this number of slots apart, start to start, even if plans change between:
-    /// the least spacing of its interval.
+    /// the spacing of its interval.
     pub fn spacing(&self, output: OutputId) -> u32
         requires { output < length (outputs_of self.now) }
         ensures spacing { option_map (λ l. l.spacing) (limits_of self.now output) ≡ Some result }

@@ -79,7 +79,7 @@ pub fn sends_are_recalled()
     ensures other { RecentPassesOtherCells }
 {}
 
-/// Let q be the least spacing, in slots, of an output in the plan in force at its cell. If the cell sends a word, each
+/// Let q be the spacing, in slots, of an output in the plan in force at its cell. If the cell sends a word, each
 /// earlier word of the source was sent at least q slots before, even if plans changed between. A cell is empty for this
 /// reason only if a word of the source was sent fewer than q slots before.
 pub fn words_are_spaced()
@@ -93,15 +93,15 @@ pub fn holds_are_kept()
     ensures { HoldsAreKept }
 {}
 
-/// If no plan comes between, two cells of an output are far enough apart. So a cell can be empty because of the least
-/// spacing only if it is the output's first one after a change of plans.
+/// If no plan comes between, two cells of an output are far enough apart. So a cell can be empty because of the spacing
+/// only if it is the output's first one after a change of plans.
 pub fn spacing_empties_first_cells_only()
     ensures plan { CellsOfOnePlanAreApart }
     ensures first { EmptyCellsAreFirst }
     ensures opening { OpeningPlanEmptiesNone }
 {}
 
-/// The slot tables of a plan keep to the least spacing of each output, and have each output on one of their buses.
+/// The slot tables of a plan keep to the spacing of each output, and have each output on one of their buses.
 pub fn planned_tables_are_spaced()
     ensures { PlannedTablesAreSpaced }
 {
@@ -112,8 +112,7 @@ pub fn planned_tables_are_spaced()
 }
 
 /// A proposal is the opening one or one that is published. If each proposal has the plan of its own table, then the
-/// slot table in force of a group keeps to the least spacings at every place of a history. The laws of spacing ask for
-/// this.
+/// slot table in force of a group keeps to the spacings at every place of a history. The laws of spacing ask for this.
 pub fn plans_in_force_are_spaced()
     ensures { PlansInForceAreSpaced }
 {

@@ -6,11 +6,18 @@
 //! of slots between two cells of an output at a change of plan.
 //!
 //! ```text
-//! let proposal: Proposal<OUTPUTS> = Proposal::of(alloc, equipment)?;
-//! let group = proposal.plan().group(0);
-//! if let Some(output) = group.at(0, slot) {
-//!     let source = group.source(output);
-//! }
+//! let made: Plan<OUTPUTS> = plan(alloc, &equipment).expect(rt, "a plan");
+//! ..
+//! *made.group(0)
+//! ..
+//! let place = group.place(output);
+//! let slots = place.period.slots();
+//! (group.source(output), place.bus, place.offset, slots)
+//! ..
+//! let output = group.at(bus, slot)?;
+//! Some(output.number())
+//! ..
+//! Some(gap(before, second, after, second))
 //! ```
 #![tactic(auto)]
 

@@ -28,7 +28,7 @@ impl Model for LastSend {
 }
 
 impl LastSend {
-    /// Before the first send.
+    /// What is kept before the first send.
     pub fn never() -> LastSend
         ensures { result ≡ never }
     {

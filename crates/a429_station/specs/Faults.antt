@@ -93,7 +93,7 @@ pub record HasStopped {L B : Type 0} (source : LineSource.Ghosts L) (sink : BusS
   pub first : IsFirstFault (first_fault heard) (first_fault sent) fault
 
 -- Why a run has no report: an allocation failed while the run was idle, before its control began; or a thread could not
--- be started or taken in; or all loops ended, and it is the first fault.
+-- be started or joined; or all loops ended, and it is the first fault.
 abbrev pub IsRunFault : {L B : Type 0} → Type 0 → LineSource.Ghosts L → BusSink.Ghosts B → GatePoints → RunAsk L B → LiveFault → Type 0
 IsRunFault idle source sink gate ask fault = ((fault ≡ live.NoMemory) × idle) ⊎ ((fault ≡ live.Join) ⊎ HasStopped source sink gate ask fault)
 

@@ -76,7 +76,7 @@ pub record IsDoneBetween (did : Running → Running → Type 0) (t : TableRecord
 -- ---- laws
 
 -- Each plan of a run is the plan of its own table, and the table's outputs have sources of their own. Then the plans
--- keep to the least spacings of their outputs.
+-- keep to the spacings of their outputs.
 abbrev pub PlansOfRunsAreSpaced : Type 0
 PlansOfRunsAreSpaced =
     (t : TableRecord) (opened : PlanTable) (later : List Proposed)

@@ -17,7 +17,7 @@ pub enum LiveFault {
     /// More than a million frames were asked for, and nothing was started; or a line gave a word after a million.
     #[error("too many frames or words")]
     TooMuch,
-    /// A thread could not be started or taken in.
+    /// A thread could not be started or joined.
     #[error("a thread could not be started or taken in")]
     Join,
     /// The source of a line failed.

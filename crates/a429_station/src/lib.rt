@@ -6,8 +6,24 @@
 //! program.
 //!
 //! ```text
-//! let report = live(rt, alloc, &equipment, lines, buses, 1000, &OpenGate, &mut NoControl)?;
-//! for totals in &report.groups { println!(rt; "{} cells", totals.cells)?; }
+//! live(
+//!     rt,
+//!     alloc,
+//!     equipment,
+//!     lines,
+//!     sinks,
+//!     setup.frames,
+//!     gate,
+//!     control,
+//! )
+//! ..
+//! impl<'a, R: Wait> Control<R> for Publishes<'a> {
+//!     fn run(&mut self, station: &mut Station<'_, R>) -> Result<(), AllocError> {
+//!         self.published = matches!(station.resubmit(THREE_FASTER.as_bytes()), Ok(1));
+//!         ..
+//!         Ok(())
+//!     }
+//! }
 //! ```
 #![tactic(auto)]
 

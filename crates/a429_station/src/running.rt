@@ -269,7 +269,7 @@ fn run<
 /// equipment's plan and one that has published them.
 ///
 /// Errors before anything is started, in this order: `Plan` if the equipment has no plan, `TooMuch` for more than a
-/// million frames. `Join` if a thread could not be started or taken in. When all have ended: the fault of the first
+/// million frames. `Join` if a thread could not be started or joined. When all have ended: the fault of the first
 /// receiver that has one (`Source`, `Gate`, or `TooMuch` if its source gave a word after a million); otherwise that of
 /// the first group (`Sink`, `Gate`); otherwise `NoMemory` of the control. `NoMemory` may also come before the control
 /// ran, or instead of the report if no worker has a fault. `Gate` comes only at a point at which the gate may end a

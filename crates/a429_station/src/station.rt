@@ -164,7 +164,8 @@ impl<'a, R: Wait> Station<'a, R> {
         }
     }
 
-    /// Like `resubmit`, for a table whose equipment was read before.
+    /// Like `resubmit`, for a table whose equipment was read before. Errors and waiting are those of `resubmit`,
+    /// without `Table`.
     pub fn resubmit_read(&mut self, table: &[u8], equipment: &Equipment) -> Result<u64, ReplanFault>
         requires read { reading table.now ≡ Ok equipment.now }
         ensures published { IfOk result (λ number. Publishes self.old table.now number self.new) }

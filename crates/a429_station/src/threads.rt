@@ -29,7 +29,7 @@ impl<W: Work> Promise<W::Done> for Doing<W> {
     ghost kept_by = { λ p r. W.did p.0.value r };
 }
 
-/// A thread could not be started or taken in.
+/// A thread could not be started or joined.
 #[derive(Clone, Copy, Debug, PartialEq, Eq)]
 pub struct NotJoined;
 
@@ -201,7 +201,7 @@ fn run_in_scope<
 }
 
 /// Runs each worker on a thread of its own, all at once, and at the same time the calling thread's own work. If a
-/// thread cannot be started or taken in, no worker runs instead. In any case the threads that were started have ended.
+/// thread cannot be started or joined, no worker runs instead. In any case the threads that were started have ended.
 pub fn run_at_once<
     R: Threads + Wait,
     W: Work<Done = X>,

@@ -24,7 +24,7 @@ may key shape = record { key = key; shape = shape; required = false }
 abbrev pub column_view : CodeColumn → Column
 column_view c = record { key = c.key.now; shape = c.shape; required = c.required }
 
--- In version 1 the root has the rate; in version 2 each group has its own, and outputs may have a hold (profile: equipment table, version 2).
+-- In version 1 the root has the bit rate; in version 2 each group has its own, and outputs may have a hold (profile: equipment table, version 2).
 unfoldable pub columns : TableVersion → TablePlace → List Column
 columns One Root =
     must (codes "version") Integer ∷ must (codes "rate") Integer ∷ must (codes "receiver") Tables ∷ must (codes "source") Tables

@@ -38,7 +38,7 @@ has_wrong_version _ d = false
 abbrev pub is_column_key : TableVersion → TablePlace → List ℕ → Bool
 is_column_key version place key = list_any (λ c. bytes_eq c.key key) (columns version place)
 
--- a key that the table doesn't have
+-- a key that the table does not have
 unfoldable pub has_unknown_key : TableVersion → TablePlace → Data → Bool
 has_unknown_key version place d = list_any (λ key. not (is_column_key version place key)) (keys_of d)
 
@@ -112,7 +112,7 @@ unfoldable pub has_bad_sdi : TablePlace → Data → Bool
 has_bad_sdi (Source i) d = not (is_sdi (get (codes "sdi") d))
 has_bad_sdi _ d = false
 
--- both within 1 to 30000000, and the least not above the greatest
+-- both within 1 to 30000000, and the minimum not above the maximum
 abbrev pub is_interval : ℤ → ℤ → Bool
 is_interval least most = (is_within 1 30000000 least && is_within 1 30000000 most) && int_le least most
 

@@ -34,7 +34,7 @@ fn rate_at(table: &Value) -> u32
     number(integer_at(table, "rate"))
 }
 
-/// The rate of all groups, in bit/s, which the root has in version 1.
+/// The bit rate of all groups, in bit/s, which the root has in version 1. `None` in version 2.
 pub fn rate_of(version: TableVersion, root: &Value) -> Option<u32>
     ensures { result ≡ rate_of version (view root.now) }
 {
@@ -168,7 +168,7 @@ fn group_row(alloc: Global, rate: Option<u32>, table: &Value) -> Result<GroupRow
     Ok(GroupRow { name, rate })
 }
 
-/// The groups: each has this bit rate, if there is one, and otherwise its own.
+/// The groups: each has this bit rate, if there is one, and otherwise its own. Error: an allocation failed.
 pub fn group_rows(
     alloc: Global,
     rate: Option<u32>,

@@ -25,7 +25,8 @@ fn not_text(alloc: Global, bytes: &[u8]) -> Option<RefusedTable> {
     }
 }
 
-/// The root table of the bytes. If it has none, `kept` gets what TOML's reader says.
+/// The root table of the bytes. Error: they are no TOML document (then `kept` gets what the TOML reader says),
+/// or an allocation failed.
 #[tactic(auto, unfolding(crate::specs::Reading::document))]
 pub fn document(
     alloc: Global,

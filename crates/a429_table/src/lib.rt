@@ -5,10 +5,16 @@
 //! row.
 //!
 //! ```text
-//! match read_equipment(alloc, bytes) {
-//!     Ok(equipment) => ..,
-//!     Err(TableFault::At(kind, place)) => println!(rt; "{kind} {place}")?,
-//!     Err(TableFault::NoMemory) => ..,
+//! let equipment = read_equipment(alloc, table).ok()?;
+//! ```
+//!
+//! A refused table has the kind of its fault and the place. `read_or_keep` also keeps what was read:
+//!
+//! ```text
+//! match read_or_keep(alloc, table, &mut seen.document) {
+//!     Ok(equipment) => Ok(equipment),
+//!     Err(TableFault::NoMemory) => Err(CommandRefusal::Memory),
+//!     Err(TableFault::At(kind, place)) => Err(CommandRefusal::Table(kind, place)),
 //! }
 //! ```
 #![tactic(auto)]

@@ -13,7 +13,7 @@ use crate::tree::text_at;
 use crate::walk::Stop;
 use toml::Value;
 
-/// The row of a number.
+/// The row of a number. `None` if there is none.
 pub fn nth_row<T>(rows: &[T], row: usize) -> Option<&T>
     ensures { option_copied result ≡ slice_get rows.now row }
 {
@@ -26,7 +26,7 @@ fn name_of(table: &Value) -> &str
     text_at(table, "name")
 }
 
-/// The name is that of an earlier table of the same array.
+/// Whether the name is that of an earlier table of the same array.
 #[tactic(auto, unfolding(crate::specs::Faults::repeats_name, crate::specs::Walk::earlier), using(crate::proofs::NameNumbers::named_before))]
 pub fn repeats_name(index: &TableIndex<'_>, stop: &Stop) -> bool
     ensures { result ≡ repeats_name (table_of index.now) stop.now.place (view stop.now.value.now) }
@@ -45,7 +45,7 @@ fn is_below(number: Option<usize>, row: usize) -> bool
     number.is_some_and(|number| number < row)
 }
 
-/// A source's receiver or an output's source has no table.
+/// Whether no table has the name of a source's receiver, or of an output's source.
 #[tactic(auto, unfolding(crate::specs::Faults::names_nothing))]
 pub fn names_nothing(index: &TableIndex<'_>, stop: &Stop) -> bool
     ensures { result ≡ names_nothing (table_of index.now) stop.now.place (view stop.now.value.now) }

@@ -154,7 +154,7 @@ fn flag(flags: &[bool], row: usize) -> bool
 }
 
 impl Repeats {
-    /// The repeats among these rows.
+    /// The repeats among these rows. Error: an allocation failed.
     pub fn of(alloc: Global, rows: &WordRows) -> Result<Repeats, AllocError>
         ensures { IfOk result (AreRepeatsIn rows.now.sources.items (map (λ v. v.items) rows.now.outputs.items)) }
     {
@@ -163,7 +163,7 @@ impl Repeats {
         Ok(Repeats { sources, outputs })
     }
 
-    /// An earlier source can be for the same word.
+    /// Whether an earlier source takes the same word.
     pub fn has_source(&self, place: TablePlace) -> bool
         ensures { result ≡ source_flag self.now place }
     {
@@ -173,7 +173,7 @@ impl Repeats {
         }
     }
 
-    /// An earlier output of the group has a source of the same label and SDI.
+    /// Whether an earlier output of the group has a source of the same label and SDI.
     pub fn has_output(&self, place: TablePlace) -> bool
         ensures { result ≡ output_flag self.now place }
     {

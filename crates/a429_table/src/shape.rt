@@ -15,7 +15,7 @@ use crate::walk::Stop;
 use a429_equipment::TableVersion;
 use toml::{Table, Value};
 
-/// `version` is absent, or is neither the integer 1 nor the integer 2.
+/// Whether `version` is absent, or is neither the integer 1 nor the integer 2.
 #[tactic(auto, unfolding(crate::specs::Faults::has_wrong_version))]
 pub fn has_wrong_version(stop: &Stop) -> bool
     ensures { result ≡ has_wrong_version stop.now.place (view stop.now.value.now) }
@@ -34,7 +34,7 @@ fn is_column_key(version: TableVersion, place: TablePlace, key: &str) -> bool
         .any(|column| column.key == key)
 }
 
-/// The table has a key that isn't one of its columns.
+/// Whether the table has a key that is not one of its columns.
 #[tactic(auto, unfolding(crate::specs::Faults::has_unknown_key))]
 pub fn has_unknown_key(version: TableVersion, stop: &Stop) -> bool
     ensures { result ≡ has_unknown_key version stop.now.place (view stop.now.value.now) }
@@ -53,7 +53,7 @@ fn table_has_unknown_key(version: TableVersion, place: TablePlace, table: &Table
         .any(|key| !is_column_key(version, place, key.as_str()))
 }
 
-/// A key that isn't there must be.
+/// Whether the table lacks a key that it must have.
 #[tactic(auto, unfolding(crate::specs::Faults::lacks_key))]
 pub fn lacks_key(version: TableVersion, stop: &Stop) -> bool
     ensures { result ≡ lacks_key version stop.now.place (view stop.now.value.now) }
@@ -90,7 +90,7 @@ fn misfits(value: &Value, c: &Column) -> bool
     }
 }
 
-/// The value is no table, or one of its values is of another kind than its column's.
+/// Whether the value is no table, or one of its values is not of the kind of its column.
 #[tactic(auto, unfolding(crate::specs::Faults::has_wrong_kind))]
 pub fn has_wrong_kind(version: TableVersion, stop: &Stop) -> bool
     ensures { result ≡ has_wrong_kind version stop.now.place (view stop.now.value.now) }

@@ -31,7 +31,7 @@ pub struct TableIndex<'a> {
 impl<'a> TableIndex<'a> {
     ghost use Rattle.a429_table.specs.Stops.{table_of};
 
-    /// Gathers the names of a root table.
+    /// Gathers the names of a root table. Error: an allocation failed.
     pub fn of(alloc: Global, root: &'a Value) -> Result<TableIndex<'a>, AllocError>
         ensures { IfOk result (λ numbers. table_of numbers ≡ view root.now) }
     {
@@ -43,21 +43,21 @@ impl<'a> TableIndex<'a> {
         })
     }
 
-    /// The number of the first receiver with the name.
+    /// The number of the first receiver with the name. `None` if there is none.
     pub fn receiver(&self, name: &str) -> Option<usize>
         ensures { result ≡ number_named name.now (rows_at (codes "receiver") (table_of self.now)) }
     {
         self.names.receivers.get(name).copied()
     }
 
-    /// The number of the first source with the name.
+    /// The number of the first source with the name. `None` if there is none.
     pub fn source(&self, name: &str) -> Option<usize>
         ensures { result ≡ number_named name.now (rows_at (codes "source") (table_of self.now)) }
     {
         self.names.sources.get(name).copied()
     }
 
-    /// The number of the first group with the name.
+    /// The number of the first group with the name. `None` if there is none.
     pub fn group(&self, name: &str) -> Option<usize>
         ensures { result ≡ number_named name.now (rows_at (codes "group") (table_of self.now)) }
     {

@@ -30,7 +30,7 @@ fn is_rate(rate: i64) -> bool
     is_within(100000, 100000, rate) || is_within(12000, 14500, rate)
 }
 
-/// The rate of the root of version 1, or of a group of version 2, is neither 100000 nor 12000 to 14500.
+/// Whether the bit rate of the root of version 1, or of a group of version 2, is neither 100000 nor 12000 to 14500.
 #[tactic(auto, unfolding(crate::specs::Faults::has_wrong_rate))]
 pub fn has_wrong_rate(version: TableVersion, stop: &Stop) -> bool
     ensures { result ≡ has_wrong_rate version stop.now.place (view stop.now.value.now) }
@@ -43,7 +43,7 @@ pub fn has_wrong_rate(version: TableVersion, stop: &Stop) -> bool
     }
 }
 
-/// An array is longer than allowed.
+/// Whether an array is longer than allowed.
 #[tactic(auto, unfolding(crate::specs::Faults::has_too_many))]
 pub fn has_too_many(stop: &Stop) -> bool
     ensures { result ≡ has_too_many stop.now.place (view stop.now.value.now) }
@@ -84,7 +84,7 @@ pub fn is_named(place: TablePlace) -> bool
     )
 }
 
-/// The name isn't of its form.
+/// Whether the name is not of its form.
 #[tactic(auto, unfolding(crate::specs::Faults::has_bad_name))]
 pub fn has_bad_name(stop: &Stop) -> bool
     ensures { result ≡ has_bad_name stop.now.place (view stop.now.value.now) }
@@ -106,7 +106,7 @@ fn has_bad_filter(filters: &[Value]) -> bool
     filters.iter().any(|filter| !is_filter(text_of(filter)))
 }
 
-/// A label or a filter isn't of its form.
+/// Whether a label or a filter is not of its form.
 #[tactic(auto, unfolding(crate::specs::Faults::has_bad_label), using(crate::proofs::Trees::list_any_map))]
 pub fn has_bad_label(stop: &Stop) -> bool
     ensures { result ≡ has_bad_label stop.now.place (view stop.now.value.now) }
@@ -131,7 +131,7 @@ fn table_has_bad_sdi(table: &Value) -> bool
     }
 }
 
-/// The SDI is neither 0 to 3 nor `any`.
+/// Whether the SDI is neither 0 to 3 nor `any`.
 #[tactic(auto, unfolding(crate::specs::Faults::has_bad_sdi))]
 pub fn has_bad_sdi(stop: &Stop) -> bool
     ensures { result ≡ has_bad_sdi stop.now.place (view stop.now.value.now) }
@@ -148,7 +148,7 @@ fn is_interval(least: i64, most: i64) -> bool
     is_within(1, 30000000, least) && is_within(1, 30000000, most) && least <= most
 }
 
-/// An interval is out of range, or its least is above its most.
+/// Whether an interval is out of range, or its minimum is above its maximum.
 #[tactic(auto, unfolding(crate::specs::Faults::has_bad_interval))]
 pub fn has_bad_interval(stop: &Stop) -> bool
     ensures { result ≡ has_bad_interval stop.now.place (view stop.now.value.now) }
@@ -170,7 +170,7 @@ fn is_hold(hold: Option<i64>) -> bool
     hold.is_none_or(|hold| is_within(1, HOLD, hold))
 }
 
-/// There is a hold, and it is out of range.
+/// Whether there is a hold, and it is out of range.
 #[tactic(auto, unfolding(crate::specs::Faults::has_bad_hold))]
 pub fn has_bad_hold(stop: &Stop) -> bool
     ensures { result ≡ has_bad_hold stop.now.place (view stop.now.value.now) }
@@ -181,7 +181,7 @@ pub fn has_bad_hold(stop: &Stop) -> bool
     }
 }
 
-/// A group has no output.
+/// Whether a group has no output.
 #[tactic(auto, unfolding(crate::specs::Faults::is_empty_group))]
 pub fn is_empty_group(stop: &Stop) -> bool
     ensures { result ≡ is_empty_group stop.now.place (view stop.now.value.now) }

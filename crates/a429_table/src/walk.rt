@@ -69,7 +69,7 @@ fn push_groups<'a>(stops: &mut Vec<Stop<'a>>, groups: &'a [Value]) -> Result<(),
     Ok(())
 }
 
-/// The root, the receivers, the sources, and each group followed by its outputs.
+/// The root, the receivers, the sources, and each group followed by its outputs. Error: an allocation failed.
 pub fn walk(alloc: Global, root: &Value) -> Result<Vec<Stop<'_>>, AllocError>
     ensures { IfOk result (λ stops. map stop_view stops.items ≡ walk (view root.now)) }
 {

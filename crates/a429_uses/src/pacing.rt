@@ -14,7 +14,7 @@ pub struct Marks {
 }
 
 impl Marks {
-    /// None yet.
+    /// Marks of which none was made.
     pub fn none() -> Marks {
         Marks {
             words: AtomicU64::new(0),

@@ -7,10 +7,24 @@
 //! accepted.
 //!
 //! ```text
-//! let (hub, mut desk) = Hub::<SOURCES, COUNT_BITS>::open(alloc, &equipment)?;
-//! let mut receiver = desk.receiver(alloc, &hub, 0)?;
-//! let mut transmitter = desk.transmitter(&hub, 0)?;
-//! let answer = receiver.accept(raw);
+//! let (hub, mut desk) = Hub::<SOURCES, COUNT_BITS>::open(alloc, equipment)?;
+//! let receiver = desk.receiver(alloc, &hub, 0)?;
+//! let transmitter = desk.transmitter(&hub, 0)?;
+//! ```
+//!
+//! On the receiver's thread:
+//!
+//! ```text
+//! match receiver.accept(raw) {
+//!     Accept::Accepted(_) => heard.accepted = heard.accepted.saturating_add(1),
+//!     ..
+//! }
+//! ```
+//!
+//! On the transmitter's thread:
+//!
+//! ```text
+//! transmitter.meet(receiver);
 //! let word = transmitter.load(source);
 //! ```
 #![tactic(auto)]

@@ -89,7 +89,7 @@ pub fn join_step(shared_words: &SharedWords, seat: &mut HubSeat, other: HubSeat)
     shared_words.shared.join_seat::<Meets>(seat, other);
 }
 
-/// It gives the receiver's part back.
+/// A joined seat gives the receiver's part back.
 pub fn part_step(shared_words: &SharedWords, seat: &mut HubSeat) -> HubSeat
     requires seat { SitsAt shared_words.now.shared.table_id seat.old }
     requires view { seat.old.me.0.receives ≡ true }

@@ -9,7 +9,7 @@ pub struct View {
     pub deals: bool,
     /// The numbers of the receivers that were given out.
     pub given: LinkedList<usize>,
-    /// The numbers of the transmitters that were.
+    /// The numbers of the transmitters that were given out.
     pub sent: LinkedList<usize>,
     pub receives: bool,
     pub number: usize,

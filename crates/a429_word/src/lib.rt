@@ -5,10 +5,22 @@
 //! `bnr` and `bcd` read its fields. `Label::parse` reads three octal digits. No call allocates memory.
 //!
 //! ```text
-//! let altitude = Label::new(0o203);
-//! let word = Word::build(altitude, Sdi::new(0), 8000, Ssm::new(3))?;
-//! let same = Word::from_raw(word.raw())?;
-//! let feet = same.bnr(17);
+//! let Ok(word) = Word::from_raw(raw) else {
+//!     return false;
+//! };
+//! word.label().value() == label
+//!     && word.sdi().value() == sdi
+//!     && word.ssm().value() == ssm
+//!     && word.data() == data
+//! ..
+//! Word::build(Label::new(0), Sdi::new(0), data, Ssm::new(0)).expect(rt, "a word")
+//! ..
+//! 1 <= bits && bits <= 18 && word.bnr(bits) == number
+//! ..
+//! match Label::parse(text) {
+//!     Ok(label) => label.value() == value,
+//!     Err(_) => false,
+//! }
 //! ```
 #![tactic(auto)]
 

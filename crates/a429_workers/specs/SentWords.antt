@@ -49,7 +49,7 @@ HoldsAreKeptByCalls =
     → AreLawful g p s calls → SendsAt calls k d m → output_due (standing_at g p s calls k) ≡ Some output
     → output.limits.hold ≡ Some hold → times_sent (cells_of (take k calls)) m.source m.count < hold
 
--- neither the output's hold nor its least spacing keeps the load's word back in this cell
+-- neither the output's hold nor its spacing keeps the load's word back in this cell
 pub record MayGoOut (calls : List Call) (k : ℕ) (output : Placed) (d : Carried) (m : Load) : Type 0 where
   pub held : (hold : ℕ) → output.limits.hold ≡ Some hold → times_sent (cells_of (take k calls)) m.source m.count < hold
   pub apart : (j : ℕ) (c : Carried) (l : Load) → j < k → SendsAt calls j c l → l.source ≡ m.source → c.slot + output.limits.spacing ≤ d.slot
@@ -72,7 +72,7 @@ pub record AnswersAt (g : ℕ) (p : SlotTable) (s : GroupState) (calls : List Ca
   pub asked : slice_get calls k ≡ Some (Asks (Some c))
   pub due : output_due (standing_at g p s calls k) ≡ Some output
 
--- the cell that is answered there has no word because of the least spacing of its output
+-- the cell that is answered there has no word because of the spacing of its output
 abbrev pub IsTooCloseAt : ℕ → SlotTable → GroupState → List Call → ℕ → Placed → Carried → Type 0
 IsTooCloseAt g p s calls k output c = is_too_close (standing_at g p s calls k).earlier c.slot output.source output.limits.spacing ≡ true
 
@@ -87,25 +87,25 @@ CellsOfOneTableAreApart =
     → AreLawful g p s calls → j < k → AnswersAt g p s calls j earlier c → AnswersAt g p s calls k now d → earlier.source ≡ now.source
     → IsSpacedTable (table_at g p s calls k) → HasOneTable g p s calls j k → c.slot + now.limits.spacing ≤ d.slot
 
--- before a cell that is empty because of the least spacing there is none of its source since the slot table changed
+-- before a cell that is empty because of the spacing there is none of its source since the slot table changed
 abbrev pub EmptyCellsAreFirstByCalls : Type 0
 EmptyCellsAreFirstByCalls =
     (g : ℕ) (p : SlotTable) (s : GroupState) (calls : List Call) (i k : ℕ) (earlier now : Placed) (c d : Carried)
     → s.earlier ≡ [] → AreLawful g p s calls → i < k → AnswersAt g p s calls i earlier c → AnswersAt g p s calls k now d
     → earlier.source ≡ now.source → IsSpacedTable (table_at g p s calls k) → IsTooCloseAt g p s calls k now d → ¬ (HasOneTable g p s calls i k)
 
--- before the slot table changes no cell is empty because of the least spacing
+-- before the slot table changes no cell is empty because of the spacing
 abbrev pub FirstTableEmptiesNone : Type 0
 FirstTableEmptiesNone =
     (g : ℕ) (p : SlotTable) (s : GroupState) (calls : List Call) (k : ℕ) (now : Placed) (d : Carried)
     → s.earlier ≡ [] → AreLawful g p s calls → AnswersAt g p s calls k now d → IsSpacedTable (table_at g p s calls k)
     → HasOneTable g p s calls 0 k → ¬ (IsTooCloseAt g p s calls k now d)
 
--- each slot table of the plan keeps to the least spacings of its outputs
+-- each slot table of the plan keeps to the spacings of its outputs
 abbrev pub IsSpacedPlan : PlanTable → Type 0
 IsSpacedPlan q = AllByRecursion IsSpacedTable (groups_of q)
 
--- if the plans that were seen keep to their least spacings, and so do the tables that the group began with, so does the
+-- if the plans that were seen keep to their spacings, and so do the tables that the group began with, so does the
 -- table in force at each place
 abbrev pub TablesInForceAreSpaced : Type 0
 TablesInForceAreSpaced =

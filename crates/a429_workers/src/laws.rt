@@ -37,17 +37,17 @@ pub fn words_are_spaced()
     ensures { WordsAreApartByCalls }
 {}
 
-/// As long as one slot table is in force, which keeps to its least spacings, two cells of an output are far enough
-/// apart. So because of the least spacing only the output's first cell after a change of the slot table can be empty,
-/// and none before the first change. The transmitter had answered no cell before the first call.
+/// As long as one slot table is in force, which keeps to its spacings, two cells of an output are far enough apart. So
+/// because of the spacing only the output's first cell after a change of the slot table can be empty, and none before
+/// the first change. The transmitter had answered no cell before the first call.
 pub fn spacing_empties_first_cells_only()
     ensures table { CellsOfOneTableAreApart }
     ensures first { EmptyCellsAreFirstByCalls }
     ensures opening { FirstTableEmptiesNone }
 {}
 
-/// If the plans that a transmitter saw keep to their least spacings, so does the slot table in force at each call. The
-/// law `spacing_empties_first_cells_only` asks for this.
+/// If the plans that a transmitter saw keep to their spacings, so does the slot table in force at each call. The law
+/// `spacing_empties_first_cells_only` asks for this.
 pub fn tables_in_force_are_spaced()
     ensures { TablesInForceAreSpaced }
 {}
@@ -59,8 +59,8 @@ pub fn holds_are_kept()
     ensures { HoldsAreKeptByCalls }
 {}
 
-/// The word that a cell's load found goes out, unless the output's hold or its least spacing forbids it. So these are
-/// the only reasons to keep a word back. The transmitter had answered no cell before the first call.
+/// The word that a cell's load found goes out, unless the output's hold or its spacing forbids it. So these are the
+/// only reasons to keep a word back. The transmitter had answered no cell before the first call.
 pub fn other_words_go_out()
     ensures { OtherWordsGoOut }
 {}

@@ -6,12 +6,17 @@
 //! loops in tests; `OpenGate` holds none.
 //!
 //! ```text
-//! match receive_all(&mut line, &mut receiver, 0, &OpenGate) {
-//!     Ok(totals) => ..,
-//!     Err(ReceiveFault::TooMuch { raw, totals }) => { receiver.accept(raw); }
-//!     Err(fault) => ..,
-//! }
-//! let totals = send_frames(&mut transmit, &mut sink, 0, frames, &OpenGate)?;
+//! let (raw, parity) = match receive_all(line, receiver, 0, &OpenGate) {
+//!     Err(ReceiveFault::TooMuch { raw, totals }) => (raw, totals.parity),
+//!     _ => (0, 0),
+//! };
+//! let accepted = receiver.accept(raw) == Accept::Accepted(0);
+//! let rest = match receive_all(line, receiver, 0, &OpenGate) {
+//!     Ok(totals) => totals.accepted,
+//!     Err(_) => 0,
+//! };
+//! ..
+//! let answer = send_frames(&mut workers.transmit, &mut sink, 0, 2, gate);
 //! ```
 #![tactic(auto)]
 
