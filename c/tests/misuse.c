@@ -3,34 +3,14 @@
  *
  *     misuse TABLE OTHER     TABLE: examples/displays/table.toml; OTHER: the table of another station */
 #include "a429.h"
+#include "checks.h"
+#include "tables.h"
 
 #include <stdio.h>
 #include <stdlib.h>
 #include <string.h>
 
-static long checks, wrong;
-
-static void check(int holds, int line)
-{
-    checks++;
-    if (!holds) {
-        wrong++;
-        printf("misuse.c:%d\n", line);
-    }
-}
-#define CHECK(holds) check((holds), __LINE__)
 #define BYTES(text) ((const uint8_t *)(text)), strlen(text)
-
-static size_t read_table(const char *name, uint8_t *room, size_t size)
-{
-    FILE *file = fopen(name, "rb");
-    size_t length;
-    if (!file)
-        exit(2);
-    length = fread(room, 1, size, file);
-    fclose(file);
-    return length;
-}
 
 static int says(a429_station *s, const char *text)
 {

@@ -3,32 +3,11 @@
  *
  *     places TABLE NEWER     TABLE: examples/displays/table.toml; NEWER: examples/displays/faster.toml */
 #include "a429.h"
+#include "checks.h"
+#include "tables.h"
 
 #include <stdio.h>
 #include <stdlib.h>
-
-static long checks, wrong;
-
-static void check(int holds, int line)
-{
-    checks++;
-    if (!holds) {
-        wrong++;
-        printf("places.c:%d\n", line);
-    }
-}
-#define CHECK(holds) check((holds), __LINE__)
-
-static size_t read_table(const char *name, uint8_t *room, size_t size)
-{
-    FILE *file = fopen(name, "rb");
-    size_t length;
-    if (!file)
-        exit(2);
-    length = fread(room, 1, size, file);
-    fclose(file);
-    return length;
-}
 
 static int is_at(a429_station *s, size_t output, uint32_t bus, uint32_t offset, uint32_t period)
 {

@@ -2,20 +2,9 @@
  *
  *     words */
 #include "a429.h"
+#include "checks.h"
 
 #include <stdio.h>
-
-static long checks, wrong;
-
-static void check(int holds, int line)
-{
-    checks++;
-    if (!holds) {
-        wrong++;
-        printf("words.c:%d\n", line);
-    }
-}
-#define CHECK(holds) check((holds), __LINE__)
 
 typedef struct row {
     uint32_t word;
