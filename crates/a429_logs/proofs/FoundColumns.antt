@@ -1,0 +1,53 @@
+-- The place of a column in a heading, field by field, and how many fields a line has.
+use Rattle.std.proofs.Common.{◌≡◌, ◌+◌, ◌≤◌, ℕ, Bool, true, false, List, [], ◌∷◌, length, refl, sym, arith}
+use Rattle.std.specs.Prelude.{Option, Some, None, filter_map}
+use Rattle.std.specs.List.{enumerate_from}
+use Rattle.std.proofs.lemmas.List.Sums.{count_by-le-length}
+use Rattle.std.proofs.lemmas.List.Splits.{length-slice_split}
+use Rattle.a429_logs.specs.LogColumns.{found_next, found_with, is_column, noted, places_in}
+use Rattle.a429_logs.specs.LogFields.{field_in, fields_of, is_mark, parts_of}
+use Rattle.a429_logs.specs.declared.columns.Column.{Column}
+use Rattle.a429_logs.specs.declared.columns.Found.{Found}
+use Rattle.a429_logs.specs.declared.columns.Found.TheVariants.{Absent, At, Twice}
+use Rattle.a429_logs.specs.declared.fields.Mark.{Mark}
+
+noted_with : (found : Found) (place : ℕ) (later : List ℕ) → found_with (noted found place) later ≡ found_with found (place ∷ later)
+noted_with Absent place [] = refl
+noted_with Absent place (x ∷ xs) = refl
+noted_with (At k) place later = refl
+noted_with Twice place later = refl
+
+by_test : (column : Column) (found : Found) (place : ℕ) (name : List ℕ) (rest : List (List ℕ)) (is : Bool) → is_column column name ≡ is
+    → found_with (found_next column found place name) (places_in column (enumerate_from (place + 1) rest)) ≡ found_with found (places_in column (enumerate_from place (name ∷ rest)))
+by_test column found place name rest true e = rw e (noted_with found place (places_in column (enumerate_from (place + 1) rest)))
+by_test column found place name rest false e = rw e refl
+
+-- a field more
+pub found-next : (column : Column) (found : Found) (place : ℕ) (name : List ℕ) (rest : List (List ℕ))
+    → found_with (found_next column found place name) (places_in column (enumerate_from (place + 1) rest)) ≡ found_with found (places_in column (enumerate_from place (name ∷ rest)))
+found-next column found place name rest = by_test column found place name rest (is_column column name) refl
+
+pub found-all : (found : Found) → found_with found [] ≡ found
+found-all Absent = refl
+found-all (At k) = refl
+found-all Twice = refl
+
+-- ---- how many fields there are
+
+kept_one : {X Y : Type 0} (f : X → Option Y) (x : X) (xs : List X) (o : Option Y) → f x ≡ o → length (filter_map f xs) ≤ length xs → length (filter_map f (x ∷ xs)) ≤ length (x ∷ xs)
+kept_one f x xs None e shorter = rw e (omega (arith, shorter))
+kept_one f x xs (Some y) e shorter = rw e (omega (arith, shorter))
+
+kept_few : {X Y : Type 0} (f : X → Option Y) (xs : List X) → length (filter_map f xs) ≤ length xs
+kept_few f [] = omega arith
+kept_few f (x ∷ xs) = kept_one f x xs (f x) refl (kept_few f xs)
+
+pub fields_few : (mark : Mark) (line : List ℕ) → length (fields_of mark line) ≤ length line + 1
+unfolding fields_of
+fields_few mark line =
+    omega (arith, kept_few (field_in mark) (parts_of mark line), length-slice_split (is_mark mark) line, count_by-le-length (is_mark mark) line)
+
+pub found-end : (column : Column) (found : Found) (place : ℕ) (fields : List (List ℕ)) → length fields ≡ 0
+    → found ≡ found_with found (places_in column (enumerate_from place fields))
+found-end column found place [] none = sym (found-all found)
+found-end column found place (x ∷ xs) none = absurd (omega (arith, none))

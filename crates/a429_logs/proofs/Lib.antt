@@ -1,0 +1,8 @@
+mod PartsOfText
+mod MicrosDigits
+mod FoundColumns
+mod CaughtFields
+mod ReadEntries
+mod PartsWords
+mod HexNumbers
+pub mod NeverFall

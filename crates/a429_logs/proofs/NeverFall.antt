@@ -1,0 +1,73 @@
+-- The times of a log never fall.
+use Rattle.std.proofs.Common.{◌≡◌, ◌-◌, ◌≤◌, ◌∷◌, [], ℕ, Bool, true, false, List, refl, sym, subst, arith}
+use Rattle.std.specs.Prelude.{⊤, Option, Some, None, Result, Ok, Err, nat_lt}
+use Rattle.std.proofs.lemmas.Bool.Decides.{nat_tests}
+use Rattle.a429_logs.specs.LogColumns.{is_heading, places_of, plain_places}
+use Rattle.a429_logs.specs.LogFields.{fields_of, mark_in}
+use Rattle.a429_logs.specs.LogRows.{Stated, row_of}
+use Rattle.a429_logs.specs.Logs.{LineRead, NoneBefore, WordAt, base_of, entries_from, entry_then, is_passed_over, on_clock, read_first, read_line, read_stated, with_clock, with_heading, with_row}
+use Rattle.a429_logs.specs.declared.columns.HeadingFault.{HeadingFault}
+use Rattle.a429_logs.specs.declared.columns.Places.{Places}
+use Rattle.a429_logs.specs.declared.fields.Mark.{Mark}
+use Rattle.a429_logs.specs.declared.reader.LogFault.{LogFault}
+use Rattle.a429_logs.specs.declared.reading.LineFault.{LineFault}
+use Rattle.a429_logs.specs.declared.reading.Reading.{Reading}
+use Rattle.a429_logs.specs.declared.reading.Shape.{Shape}
+use Rattle.a429_logs.specs.declared.rows.RowFault.{RowFault}
+
+-- a line does not turn the clock back
+abbrev KeepsTime : ℕ → ℕ → Result (Option Stated) LineFault → Type 0
+KeepsTime last next (Err why) = ⊤
+KeepsTime last next (Ok None) = last ≡ next
+KeepsTime last next (Ok (Some w)) = (last ≤ w.time) × (w.time ≡ next)
+
+abbrev Keeps : Reading → LineRead → Type 0
+Keeps reading read = KeepsTime reading.clock.last read.next.clock.last read.states
+
+-- by the two tests of a time
+by_tests : (reading : Reading) (shape : Shape) (word : Stated) (early falls : Bool) → nat_lt word.time (base_of reading.clock word) ≡ early
+    → nat_lt (word.time - base_of reading.clock word) reading.clock.last ≡ falls → Keeps reading (with_clock reading shape word (on_clock reading.clock word))
+by_tests reading shape word true falls e f = rw e tt
+by_tests reading shape word false true e f = rw (e, f) tt
+by_tests reading shape word false false e f =
+    let later : reading.clock.last ≤ word.time - base_of reading.clock word = grind (arith, nat_tests) in
+    rw (e, f) (later, refl)
+
+by_row : (reading : Reading) (shape : Shape) (row : Result Stated RowFault) → Keeps reading (with_row reading shape row)
+by_row reading shape (Err why) = tt
+by_row reading shape (Ok word) = by_tests reading shape word _ _ refl refl
+
+by_heading : (reading : Reading) (mark : Mark) (places : Result Places HeadingFault) → Keeps reading (with_heading reading mark places)
+by_heading reading mark (Err why) = tt
+by_heading reading mark (Ok places) = refl
+
+by_first : (reading : Reading) (line : List ℕ) (mark : Mark) (heads : Bool) → is_heading (fields_of mark line) ≡ heads → Keeps reading (read_first reading line mark)
+by_first reading line mark true e = rw e (by_heading reading mark (places_of (fields_of mark line)))
+by_first reading line mark false e = rw e (by_row reading (record { mark = mark; places = plain_places }) (row_of reading.unit mark plain_places (fields_of mark line)))
+
+by_shape : (reading : Reading) (line : List ℕ) (shape : Option Shape) → Keeps reading (read_stated reading line shape)
+by_shape reading line None = by_first reading line (mark_in line) _ refl
+by_shape reading line (Some shape) = by_row reading shape (row_of reading.unit shape.mark shape.places (fields_of shape.mark line))
+
+by_passed : (reading : Reading) (line : List ℕ) (passed : Bool) → is_passed_over line ≡ passed → Keeps reading (read_line reading line)
+unfolding read_line
+by_passed reading line true e = rw e refl
+by_passed reading line false e = rw e (by_shape reading line reading.shape)
+
+-- ---- all lines
+
+with_entry : (reading : Reading) (n : ℕ) (read : LineRead) (later : List (Result WordAt LogFault)) → Keeps reading read → NoneBefore read.next.clock.last later
+    → NoneBefore reading.clock.last (entry_then n read.states later)
+with_entry reading n read later keeps above = by_states reading.clock.last read.next.clock.last n read.states later keeps above
+  where
+    by_states : (last next n : ℕ) (states : Result (Option Stated) LineFault) (later : List (Result WordAt LogFault)) → KeepsTime last next states → NoneBefore next later
+        → NoneBefore last (entry_then n states later)
+    by_states last next n (Err why) later keeps above = tt
+    by_states last next n (Ok None) later keeps above = subst (λ (t : ℕ). NoneBefore t later) (sym keeps) above
+    by_states last next n (Ok (Some w)) later keeps above = (keeps.0, subst (λ (t : ℕ). NoneBefore t later) (sym keeps.1) above)
+
+pub never_fall : (reading : Reading) (lines : List (ℕ × List ℕ)) → NoneBefore reading.clock.last (entries_from reading lines)
+never_fall reading [] = tt
+never_fall reading ((n, line) ∷ lines) =
+    with_entry reading n (read_line reading line) (entries_from (read_line reading line).next lines) (by_passed reading line _ refl)
+    (never_fall (read_line reading line).next lines)

@@ -1,0 +1,27 @@
+use Rattle.std.proofs.Common.{◌≡◌, ◌∙◌, ◌∷◌, ℕ, List, length, rules, sym, ap, arith}
+use Rattle.std.specs.Prelude.{None, Ok, Some}
+use Rattle.a429_logs.specs.LogRows.{stated_by}
+use Rattle.a429_logs.specs.Logs.{read_line}
+use Rattle.a429_logs.specs.LogsLeft.{lines_left}
+use Rattle.a429_logs.proofs.ReadEntries.{entries-first}
+use Rattle.a429_logs.proofs.reader.LogReader.next.Goals as goal
+
+pub loop-line-smaller : goal.loop-line-smaller
+unfolding lines_left
+loop-line-smaller c =
+    let taken : lines_left c.loop-line.self ≡ (c.in-Some.line, c.in-Some.text.now) ∷ lines_left c.next_line.new.self = search rules in
+    omega (arith, ap (λ (lines : List (ℕ × List ℕ)). length lines) taken)
+
+pub loop-line-preserved : goal.loop-line-preserved
+unfolding lines_left
+loop-line-preserved c =
+    let taken : lines_left c.loop-line.self ≡ (c.in-Some.line, c.in-Some.text.now) ∷ lines_left c.next_line.new.self = search rules in
+    let read : record { next = c.read.new.self; states = Ok None } ≡ read_line c.next_line.new.self.reading c.in-Some.text.now = search rules in
+    sym (entries-first _ _ _ _ _ _ _ c.next_line.ensures.reading taken read) ∙ c.loop-line.invariant
+
+pub returns-in-Ok-Some : goal.returns-in-Ok-Some
+unfolding lines_left
+returns-in-Ok-Some c =
+    let taken : lines_left c.loop-line.self ≡ (c.in-Some.line, c.in-Some.text.now) ∷ lines_left c.next_line.new.self = search rules in
+    let read : record { next = c.read.new.self; states = Ok (Some (stated_by c.in-Ok-Some.word)) } ≡ read_line c.next_line.new.self.reading c.in-Some.text.now = search rules in
+    sym c.loop-line.invariant ∙ entries-first _ _ _ _ _ _ _ c.next_line.ensures.reading taken read

@@ -1,0 +1,144 @@
+-- The rows of a log: a time, a name and a word (profile: log).
+use Rattle.std.specs.Prelude.{◌==◌, ◌&&◌, ◌||◌, ◌+◌, ◌-◌, ◌*◌, ◌^◌, ◌∷◌, [], ℕ, Bool, List, Option, Some, None, Result, Ok, Err, if◌then◌else◌, get_or, length, nat_le, nat_lt}
+use Rattle.std.specs.List.{list_all}
+use Rattle.std.specs.Char.{is_ascii_digit}
+use Rattle.std.specs.Str.Parse.{digits_value}
+use Rattle.a429_word.specs.Bits.{has_odd_parity, reversed_from}
+use Rattle.a429_word.specs.Hexadecimal.{hex_onto, raw_word}
+use Rattle.a429_word.specs.Texts.{label_value}
+use Rattle.a429_logs.specs.LogColumns.{and_then}
+use Rattle.a429_logs.specs.LogTimes.{time_of}
+use Rattle.a429_logs.specs.declared.columns.Base.{Base}
+use Rattle.a429_logs.specs.declared.columns.Base.TheVariants.{Ten, Sixteen}
+use Rattle.a429_logs.specs.declared.columns.PartsPlaces.{PartsPlaces}
+use Rattle.a429_logs.specs.declared.columns.Places.{Places}
+use Rattle.a429_logs.specs.declared.columns.WordPlaces.{WordPlaces}
+use Rattle.a429_logs.specs.declared.columns.WordPlaces.TheVariants.{Whole, Parts}
+use Rattle.a429_logs.specs.declared.fields.Mark.{Mark}
+use Rattle.a429_logs.specs.declared.rows.RowFault.{RowFault}
+use Rattle.a429_logs.specs.declared.rows.RowFields.{RowFields}
+use Rattle.a429_logs.specs.declared.rows.StatedWord.{StatedWord}
+use Rattle.a429_logs.specs.declared.rows.RowFault.TheVariants as fault
+use Rattle.a429_logs.specs.declared.times.TimeUnit.{TimeUnit}
+
+-- ---- words
+
+-- hexadecimal digits may come after `0x`
+abbrev pub without_prefix : List ℕ → List ℕ
+without_prefix (a ∷ b ∷ digits) = if a == 48 && (b == 120 || b == 88) then digits else a ∷ b ∷ digits
+without_prefix text = text
+
+-- eight hexadecimal digits
+unfoldable pub whole_word : List ℕ → Option ℕ
+whole_word text = raw_word (without_prefix text)
+
+-- one to five hexadecimal digits
+abbrev pub hex_number : List ℕ → Option ℕ
+hex_number text = if nat_le 1 (length text) && nat_le (length text) 5 then hex_onto 0 text else None
+
+-- decimal digits, of which there are at most eighteen
+abbrev pub decimal_digits : List ℕ → Option ℕ
+decimal_digits text =
+    if (nat_lt 0 (length text) && nat_le (length text) 18) && list_all is_ascii_digit text then Some (digits_value 10 text) else None
+
+-- a number of 19 bits
+abbrev pub as_value : Option ℕ → Option ℕ
+as_value None = None
+as_value (Some n) = if nat_lt n (2 ^ 19) then Some n else None
+
+-- the 19 data bits
+abbrev pub value_in : Base → List ℕ → Option ℕ
+value_in Ten text = as_value (decimal_digits text)
+value_in Sixteen text = as_value (hex_number (without_prefix text))
+
+abbrev pub is_bit : ℕ → Bool
+is_bit c = c == 48 || c == 49
+
+-- the SDI or the SSM: a digit from 0 to 3, or two binary digits
+unfoldable pub two_bits : List ℕ → Option ℕ
+two_bits (c ∷ []) = if nat_le 48 c && nat_le c 51 then Some (c - 48) else None
+two_bits (b ∷ c ∷ []) = if is_bit b && is_bit c then Some (2 * (b - 48) + (c - 48)) else None
+two_bits _ = None
+
+-- bits 1 to 31 of a word (ARINC 429 Part 1, word format): the label with its bits reversed, and then the SDI, the data and the SSM
+abbrev pub word_bits : ℕ → ℕ → ℕ → ℕ → ℕ
+word_bits label sdi value ssm = reversed_from 1 8 label + 256 * sdi + 1024 * value + 2 ^ 29 * ssm
+
+-- bit 32 makes the parity odd
+unfoldable pub with_parity : ℕ → ℕ
+with_parity bits = if has_odd_parity bits then bits else bits + 2 ^ 31
+
+-- ---- rows
+
+-- what a row states: when a word comes in, in microseconds; by which name; and its 32 bits
+pub record Stated : Type 0 where
+  pub time : ℕ
+  pub name : List ℕ
+  pub raw : ℕ
+
+-- the field in a column
+abbrev pub field_at : ℕ → List (List ℕ) → List ℕ
+field_at place fields = get_or fields place []
+
+abbrev pub or_fault : {A : Type 0} → RowFault → Option A → Result A RowFault
+or_fault why None = Err why
+or_fault why (Some a) = Ok a
+
+-- a word by its label, SDI, SSM and data
+abbrev pub parts_word : PartsPlaces → List (List ℕ) → Result ℕ RowFault
+parts_word places fields =
+    and_then (or_fault fault.Label (label_value (field_at places.label fields))) (λ label.
+    and_then (or_fault fault.Sdi (two_bits (field_at places.sdi fields))) (λ sdi.
+    and_then (or_fault fault.Ssm (two_bits (field_at places.ssm fields))) (λ ssm.
+    and_then (or_fault fault.Value (value_in places.value.base (field_at places.value.place fields))) (λ value.
+    Ok (with_parity (word_bits label sdi value ssm))))))
+
+-- the word of a row
+abbrev pub word_in : WordPlaces → List (List ℕ) → Result ℕ RowFault
+word_in (Whole place) fields = or_fault fault.Word (whole_word (field_at place fields))
+word_in (Parts places) fields = parts_word places fields
+
+abbrev pub row_in : TimeUnit → Mark → Places → List (List ℕ) → Result Stated RowFault
+row_in unit mark places fields =
+    and_then (or_fault fault.Time (time_of unit mark (field_at places.time fields))) (λ time. and_then (word_in places.word fields) (λ raw.
+    Ok (record { time = time; name = field_at places.name fields; raw = raw })))
+
+-- what a row states by its fields, of which there are as many as columns; or the first fault of it
+unfoldable pub row_of : TimeUnit → Mark → Places → List (List ℕ) → Result Stated RowFault
+row_of unit mark places fields = if length fields == places.count then row_in unit mark places fields else Err fault.Fields
+
+-- ---- steps
+
+-- the fields of a row in three columns
+pub record Caught : Type 0 where
+  pub time : List ℕ
+  pub name : List ℕ
+  pub word : List ℕ
+
+-- the column in which a word begins
+abbrev pub word_place : WordPlaces → ℕ
+word_place (Whole place) = place
+word_place (Parts places) = places.label
+
+-- the fields of a row in these columns, if it has as many fields as there are columns
+abbrev pub caught_in : Places → List (List ℕ) → Option Caught
+caught_in places fields =
+    if length fields == places.count then
+    Some (record { time = field_at places.time fields; name = field_at places.name fields; word = field_at (word_place places.word) fields })
+    else None
+
+-- a field is caught if it is in the column
+abbrev pub caught : ℕ → ℕ → List ℕ → List ℕ → List ℕ
+caught column place field old = if column == place then field else old
+
+-- what a struct of three fields shows
+abbrev pub shown : RowFields → Caught
+shown row = record { time = row.time.now; name = row.name.now; word = row.word.now }
+
+-- what a row gives, in the same words
+abbrev pub stated_by : StatedWord → Stated
+stated_by w = record { time = w.time; name = w.name.now; raw = w.raw }
+
+abbrev pub shown_row : Result StatedWord RowFault → Result Stated RowFault
+shown_row (Ok w) = Ok (stated_by w)
+shown_row (Err why) = Err why

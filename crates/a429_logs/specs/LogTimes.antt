@@ -1,0 +1,55 @@
+-- The time of a word in a log, in microseconds (profile: log).
+use Rattle.std.specs.Prelude.{◌==◌, ◌&&◌, ◌||◌, ◌+◌, ◌++◌, ◌∷◌, [], ℕ, Bool, List, Option, Some, None, if◌then◌else◌, drop, length, nat_le, nat_lt, position, suc, take, zero}
+use Rattle.std.specs.List.{list_all}
+use Rattle.std.specs.Char.{is_ascii_digit}
+use Rattle.std.specs.Str.Parse.{digits_value}
+use Rattle.a429_logs.specs.declared.fields.Mark.{Mark}
+use Rattle.a429_logs.specs.declared.fields.Mark.TheVariants.{Semicolon}
+use Rattle.a429_logs.specs.declared.times.TimeUnit.{TimeUnit}
+use Rattle.a429_logs.specs.declared.times.TimeUnit.TheVariants.{Microseconds, Milliseconds, Seconds}
+
+-- how many decimals of a unit are microseconds
+abbrev pub decimals : TimeUnit → ℕ
+decimals Microseconds = 0
+decimals Milliseconds = 3
+decimals Seconds = 6
+
+-- what separates whole units from decimals: a point, and between semicolons a comma too
+abbrev pub is_point : Mark → ℕ → Bool
+is_point Semicolon b = b == 46 || b == 44
+is_point _ b = b == 46
+
+-- decimal digits, of which there is at least one; with those of microseconds below them at most eighteen
+abbrev pub is_whole : TimeUnit → List ℕ → Bool
+is_whole unit whole = (nat_lt 0 (length whole) && nat_le (length whole + decimals unit) 18) && list_all is_ascii_digit whole
+
+-- decimal digits, of which there is at least one, below a unit that is not the microsecond
+abbrev pub is_fraction : TimeUnit → List ℕ → Bool
+is_fraction unit fraction = (nat_lt 0 (decimals unit) && nat_lt 0 (length fraction)) && list_all is_ascii_digit fraction
+
+-- the first digits of a fraction, as many as these; a digit that is not there is 0
+abbrev pub first_digits : ℕ → List ℕ → List ℕ
+first_digits zero fraction = []
+first_digits (suc count) [] = 48 ∷ first_digits count []
+first_digits (suc count) (digit ∷ digits) = digit ∷ first_digits count digits
+
+-- the digits of microseconds: those of whole units, and then the decimals that are microseconds; later decimals are dropped
+abbrev pub micros_digits : TimeUnit → List ℕ → List ℕ → List ℕ
+micros_digits unit whole fraction = whole ++ first_digits (decimals unit) fraction
+
+unfoldable pub micros : TimeUnit → List ℕ → List ℕ → ℕ
+micros unit whole fraction = digits_value 10 (micros_digits unit whole fraction)
+
+abbrev pub whole_time : TimeUnit → List ℕ → Option ℕ
+whole_time unit whole = if is_whole unit whole then Some (micros unit whole []) else None
+
+abbrev pub parted_time : TimeUnit → List ℕ → List ℕ → Option ℕ
+parted_time unit whole fraction = if is_whole unit whole && is_fraction unit fraction then Some (micros unit whole fraction) else None
+
+abbrev pub time_by : TimeUnit → List ℕ → Option ℕ → Option ℕ
+time_by unit text None = whole_time unit text
+time_by unit text (Some k) = parted_time unit (take k text) (drop (k + 1) text)
+
+-- the microseconds that a text states in a unit
+unfoldable pub time_of : TimeUnit → Mark → List ℕ → Option ℕ
+time_of unit mark text = time_by unit text (position (is_point mark) text)

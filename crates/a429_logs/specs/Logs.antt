@@ -1,0 +1,126 @@
+-- Logs of words, as recorders write them (profile: log): what their lines state, in order, up to the first fault.
+use Rattle.std.specs.Prelude.{◌==◌, ◌-◌, ◌≤◌, ◌∷◌, [], ⊤, ℕ, Bool, true, List, Option, Some, None, Result, Ok, Err, if◌then◌else◌, nat_lt, unwrap_or}
+use Rattle.std.specs.List.{enumerate_from}
+use Rattle.a429_logs.specs.LogColumns.{is_heading, places_of, plain_places}
+use Rattle.a429_logs.specs.LogFields.{fields_of, mark_in, parts_of, trimmed, without_byte_order_mark}
+use Rattle.a429_logs.specs.LogRows.{Stated, row_of, stated_by}
+use Rattle.a429_logs.specs.declared.clocks.Clock.{Clock}
+use Rattle.a429_logs.specs.declared.columns.HeadingFault.{HeadingFault}
+use Rattle.a429_logs.specs.declared.columns.Places.{Places}
+use Rattle.a429_logs.specs.declared.fields.Mark.{Mark}
+use Rattle.a429_logs.specs.declared.fields.Mark.TheVariants.{LineFeed}
+use Rattle.a429_logs.specs.declared.reader.LogFault.{LogFault}
+use Rattle.a429_logs.specs.declared.reading.LineFault.{LineFault}
+use Rattle.a429_logs.specs.declared.reading.LineFault.TheVariants.{Heading, Row}
+use Rattle.a429_logs.specs.declared.reading.Reading.{Reading}
+use Rattle.a429_logs.specs.declared.reading.Shape.{Shape}
+use Rattle.a429_logs.specs.declared.rows.RowFault.{RowFault}
+use Rattle.a429_logs.specs.declared.rows.RowFault.TheVariants.{Early, Falls}
+use Rattle.a429_logs.specs.declared.rows.StatedWord.{StatedWord}
+
+-- ---- times, from a base on
+
+-- The time of a word is counted from the base, which is the time of the first word if none is given. No time is below the one before it.
+abbrev pub after_base : Clock → Stated → ℕ → Result Stated RowFault
+after_base clock word base =
+    if nat_lt word.time base then Err Early
+    else if nat_lt (word.time - base) clock.last then Err Falls
+    else Ok (record word { time = word.time - base })
+
+abbrev pub base_of : Clock → Stated → ℕ
+base_of clock word = unwrap_or clock.base word.time
+
+abbrev pub on_clock : Clock → Stated → Result Stated RowFault
+on_clock clock word = after_base clock word (base_of clock word)
+
+-- the clock after a word
+abbrev pub clock_after : Clock → Stated → Clock
+clock_after clock word = record { base = Some (base_of clock word); last = word.time - base_of clock word }
+
+-- ---- lines
+
+-- empty but for blanks, or with `#` before anything else
+abbrev pub is_passed : List ℕ → Bool
+is_passed [] = true
+is_passed (c ∷ cs) = c == 35
+
+unfoldable pub is_passed_over : List ℕ → Bool
+is_passed_over line = is_passed (trimmed line)
+
+-- how the next line is read, and what a line states: nothing, a word, or a fault
+pub record LineRead : Type 0 where
+  pub next : Reading
+  pub states : Result (Option Stated) LineFault
+
+abbrev pub word_shown : Result (Option StatedWord) LineFault → Result (Option Stated) LineFault
+word_shown (Ok None) = Ok None
+word_shown (Ok (Some w)) = Ok (Some (stated_by w))
+word_shown (Err why) = Err why
+
+abbrev pub shown_line : Reading → Result (Option StatedWord) LineFault → LineRead
+shown_line next result = record { next = next; states = word_shown result }
+
+abbrev pub with_clock : Reading → Shape → Stated → Result Stated RowFault → LineRead
+with_clock reading shape word (Err why) = record { next = reading; states = Err (Row why) }
+with_clock reading shape word (Ok timed) =
+    record { next = record { unit = reading.unit; shape = Some shape; clock = clock_after reading.clock word }; states = Ok (Some timed) }
+
+abbrev pub with_row : Reading → Shape → Result Stated RowFault → LineRead
+with_row reading shape (Err why) = record { next = reading; states = Err (Row why) }
+with_row reading shape (Ok word) = with_clock reading shape word (on_clock reading.clock word)
+
+-- a row in a form
+abbrev pub read_row : Reading → List ℕ → Shape → LineRead
+read_row reading line shape = with_row reading shape (row_of reading.unit shape.mark shape.places (fields_of shape.mark line))
+
+abbrev pub with_heading : Reading → Mark → Result Places HeadingFault → LineRead
+with_heading reading mark (Err why) = record { next = reading; states = Err (Heading why) }
+with_heading reading mark (Ok places) = record { next = record reading { shape = Some (record { mark = mark; places = places }) }; states = Ok None }
+
+-- the first line that is not passed over is a heading or a row, and its marks are those of all lines
+abbrev pub read_first : Reading → List ℕ → Mark → LineRead
+read_first reading line mark =
+    if is_heading (fields_of mark line) then with_heading reading mark (places_of (fields_of mark line))
+    else read_row reading line (record { mark = mark; places = plain_places })
+
+abbrev pub read_stated : Reading → List ℕ → Option Shape → LineRead
+read_stated reading line None = read_first reading line (mark_in line)
+read_stated reading line (Some shape) = read_row reading line shape
+
+unfoldable pub read_line : Reading → List ℕ → LineRead
+read_line reading line =
+    if is_passed_over line then record { next = reading; states = Ok None }
+    else read_stated reading line reading.shape
+
+-- ---- logs
+
+-- a word with the number of its line, or a fault with its line; lines are numbered from 1
+pub record WordAt : Type 0 where
+  pub line : ℕ
+  pub word : Stated
+
+abbrev pub entry_then : ℕ → Result (Option Stated) LineFault → List (Result WordAt LogFault) → List (Result WordAt LogFault)
+entry_then n (Err why) later = Err (record { line = n; why = why }) ∷ []
+entry_then n (Ok None) later = later
+entry_then n (Ok (Some word)) later = Ok (record { line = n; word = word }) ∷ later
+
+abbrev pub entries_from : Reading → List (ℕ × List ℕ) → List (Result WordAt LogFault)
+entries_from reading [] = []
+entries_from reading ((n, line) ∷ lines) =
+    entry_then n (read_line reading line).states (entries_from (read_line reading line).next lines)
+
+-- what a log states: its words, up to the first fault, if there is one
+unfoldable pub log_entries : Reading → List ℕ → List (Result WordAt LogFault)
+log_entries reading text = entries_from reading (enumerate_from 1 (parts_of LineFeed (without_byte_order_mark text)))
+
+-- ---- what follows
+
+-- no word comes before the one above it, nor before this time
+abbrev pub NoneBefore : ℕ → List (Result WordAt LogFault) → Type 0
+NoneBefore last [] = ⊤
+NoneBefore last (Err fault ∷ later) = ⊤
+NoneBefore last (Ok w ∷ later) = (last ≤ w.word.time) × NoneBefore w.word.time later
+
+-- times never fall
+abbrev pub TimesNeverFall : Type 0
+TimesNeverFall = (reading : Reading) (text : List ℕ) → NoneBefore reading.clock.last (log_entries reading text)

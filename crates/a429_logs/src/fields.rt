@@ -1,0 +1,153 @@
+//! The lines of a log, and the fields of a line.
+ghost use Rattle.std.specs.Prelude.{◌≡◌, ◌<◌, ◌∷◌, [], Some, None, IfSome, MatchOption, length, option_map, position};
+ghost use Rattle.std.specs.List.{list_any};
+ghost use Rattle.a429_logs.specs.LogFields.{Takes, field_in, fields_left, fields_of, is_mark, mark_in, parts_left, parts_of, trimmed, without_byte_order_mark};
+
+/// What ends a line of a log, or a field of a line.
+#[derive(Clone, Copy, PartialEq, Eq)]
+pub enum Mark {
+    LineFeed,
+    /// A space, a tab, a carriage return or a form feed.
+    Blank,
+    Comma,
+    Semicolon,
+}
+
+impl Mark {
+    /// Whether a byte is this mark.
+    fn is(self, byte: u8) -> bool
+        ensures { result ≡ is_mark self byte }
+    {
+        match self {
+            Mark::LineFeed => byte == b'\n',
+            Mark::Blank => byte.is_ascii_whitespace(),
+            Mark::Comma => byte == b',',
+            Mark::Semicolon => byte == b';',
+        }
+    }
+
+    /// The place of the first such mark.
+    fn first(self, text: &[u8]) -> Option<usize>
+        ensures { result ≡ position (is_mark self) text.now }
+    {
+        text.iter().position(|byte| self.is(*byte))
+    }
+
+    /// Whether a text has such a mark.
+    fn is_in(self, text: &[u8]) -> bool
+        ensures { result ≡ list_any (is_mark self) text.now }
+    {
+        text.iter().any(|byte| self.is(*byte))
+    }
+
+    /// What separates the fields of a log with this first line: semicolons if it has one, otherwise commas if it has
+    /// one, otherwise blanks.
+    #[tactic(auto, unfolding(crate::specs::LogFields::mark_in))]
+    pub fn in_line(line: &[u8]) -> Mark
+        ensures { result ≡ mark_in line.now }
+    {
+        if Mark::Semicolon.is_in(line) {
+            Mark::Semicolon
+        } else if Mark::Comma.is_in(line) {
+            Mark::Comma
+        } else {
+            Mark::Blank
+        }
+    }
+}
+
+/// A text without the blanks at both ends.
+#[tactic(auto, unfolding(crate::specs::LogFields::trimmed))]
+pub fn trimmed(text: &[u8]) -> &[u8]
+    ensures { result.now ≡ trimmed text.now }
+{
+    text.trim_ascii()
+}
+
+/// A text without the byte order mark at its beginning (UTF-8), if it has one.
+pub fn without_byte_order_mark(text: &[u8]) -> &[u8]
+    ensures { result.now ≡ without_byte_order_mark text.now }
+{
+    match text {
+        [0xEF, 0xBB, 0xBF, rest @ ..] => rest,
+        _ => text,
+    }
+}
+
+/// The parts of a text before, between and after marks, as long as some are left.
+#[derive(Clone, Copy)]
+pub struct Parts<'a> {
+    mark: Mark,
+    left: Option<&'a [u8]>,
+}
+
+impl<'a> Parts<'a> {
+    /// All parts of a text.
+    pub fn of(mark: Mark, text: &'a [u8]) -> Parts<'a>
+        ensures mark { result.mark ≡ mark }
+        ensures parts { parts_left result ≡ parts_of mark text.now }
+    {
+        Parts {
+            mark,
+            left: Some(text),
+        }
+    }
+
+    /// Takes the next part. `None` if none is left.
+    pub fn next(&mut self) -> Option<&'a [u8]>
+        ensures mark { self.new.mark ≡ self.old.mark }
+        ensures taken { Takes (λ part. part.now) result (parts_left self.old) (parts_left self.new) }
+    {
+        let text = self.left?;
+        match self.mark.first(text) {
+            Some(end) => {
+                self.left = Some(&text[end + 1..]);
+                Some(&text[..end])
+            }
+            None => {
+                self.left = None;
+                Some(text)
+            }
+        }
+    }
+}
+
+/// The field of a part between two marks: between blanks nothing is no field.
+fn field_in(mark: Mark, part: &[u8]) -> Option<&[u8]>
+    ensures { option_map (λ field. field.now) result ≡ field_in mark part.now }
+{
+    match mark {
+        Mark::Blank => { if part.is_empty() { None } else { Some(part) } }
+        _ => Some(trimmed(part)),
+    }
+}
+
+/// The fields of a line, as long as some are left.
+#[derive(Clone, Copy)]
+pub struct Fields<'a> {
+    parts: Parts<'a>,
+}
+
+impl<'a> Fields<'a> {
+    /// All fields of a line.
+    #[tactic(auto, unfolding(crate::specs::LogFields::fields_of))]
+    pub fn of(mark: Mark, line: &'a [u8]) -> Fields<'a>
+        ensures { fields_left result ≡ fields_of mark line.now }
+    {
+        Fields {
+            parts: Parts::of(mark, line),
+        }
+    }
+
+    /// Takes the next field. `None` if none is left.
+    pub fn next(&mut self) -> Option<&'a [u8]>
+        ensures taken { Takes (λ field. field.now) result (fields_left self.old) (fields_left self.new) }
+    {
+        while let Some(part) = self.parts.next() {
+            if let Some(field) = field_in(self.parts.mark, part) {
+                return Some(field);
+            }
+        }
+        None
+    }
+}

@@ -1,0 +1,7 @@
+//! What follows from the definitions.
+ghost use Rattle.a429_logs.specs.Logs.{TimesNeverFall};
+
+/// The times of the words of a log never fall.
+pub fn times_never_fall()
+    ensures { TimesNeverFall }
+{}

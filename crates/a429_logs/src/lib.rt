@@ -1,0 +1,32 @@
+//! Logs of words, as recorders write them.
+//!
+//! A `LogReader` gives the words of a log one by one: the time of each in microseconds, the name of its receiver or
+//! channel, and its 32 bits; or the first line that is faulty, and why. Fields are separated by blanks, commas or
+//! semicolons. A heading may name the columns. `Reading` says the unit of times and from when on they are counted. No
+//! call allocates memory.
+//!
+//! ```text
+//! let mut reader = LogReader::open(reading, log);
+//! while let Some(entry) = reader.next() {
+//! ..
+//! let Some(word) = word_for(names, entry.word) else {
+//! ```
+#![tactic(auto)]
+
+mod clocks;
+mod columns;
+mod fields;
+pub mod laws;
+mod reader;
+mod reading;
+mod rows;
+mod times;
+mod words;
+
+pub use clocks::Clock;
+pub use columns::{Base, Column, HeadingFault, PartsPlaces, Places, ValuePlace, WordPlaces};
+pub use fields::{Fields, Mark};
+pub use reader::{LogFault, LogReader, LogWord};
+pub use reading::{LineFault, Reading, Shape};
+pub use rows::{RowFault, StatedWord};
+pub use times::TimeUnit;

@@ -1,0 +1,125 @@
+//! The lines of a log.
+ghost use Rattle.std.specs.Prelude.{◌≡◌, None};
+ghost use Rattle.a429_logs.specs.LogColumns.{plain_places};
+ghost use Rattle.a429_logs.specs.LogFields.{mark_in};
+ghost use Rattle.a429_logs.specs.Logs.{is_passed_over, read_first, read_line, read_row, shown_line};
+
+use crate::clocks::Clock;
+use crate::columns::{Heading, HeadingFault, Places, WordPlaces};
+use crate::fields::{Mark, trimmed};
+use crate::rows::{RowFault, StatedWord, row_of};
+use crate::times::TimeUnit;
+
+/// What separates the fields of a log, and which columns it has.
+#[derive(Clone, Copy)]
+pub struct Shape {
+    pub mark: Mark,
+    pub places: Places,
+}
+
+impl Shape {
+    /// A log without a heading: each line is a time, a name and a word.
+    fn plain(mark: Mark) -> Shape
+        ensures { result ≡ record { mark = mark; places = plain_places } }
+    {
+        Shape {
+            mark,
+            places: Places {
+                count: 3,
+                time: 0,
+                name: 1,
+                word: WordPlaces::Whole(2),
+            },
+        }
+    }
+}
+
+/// How the next line of a log is read.
+#[derive(Clone, Copy)]
+pub struct Reading {
+    /// The unit of times.
+    pub unit: TimeUnit,
+    /// The form of rows. `None` before the first line that is not passed over.
+    pub shape: Option<Shape>,
+    pub clock: Clock,
+}
+
+/// What is wrong with a line.
+#[derive(Clone, Copy)]
+pub enum LineFault {
+    Heading(HeadingFault),
+    Row(RowFault),
+}
+
+/// Whether a line is passed over: it is empty but for blanks, or begins with `#` after blanks.
+#[tactic(auto, unfolding(crate::specs::Logs::is_passed_over))]
+fn is_passed_over(line: &[u8]) -> bool
+    ensures { result ≡ is_passed_over line.now }
+{
+    match trimmed(line) {
+        [] => true,
+        [first, ..] => *first == b'#',
+    }
+}
+
+impl Reading {
+    /// How the first line of a log is read.
+    pub fn new(unit: TimeUnit, clock: Clock) -> Reading
+        ensures { result ≡ record { unit = unit; shape = None; clock = clock } }
+    {
+        Reading {
+            unit,
+            shape: None,
+            clock,
+        }
+    }
+
+    /// The word of a row in a form.
+    fn row<'a>(&mut self, line: &'a [u8], shape: Shape) -> Result<Option<StatedWord<'a>>, LineFault>
+        ensures { shown_line self.new result ≡ read_row self.old line.now shape }
+    {
+        let word = match row_of(self.unit, shape.mark, &shape.places, line) {
+            Ok(word) => word,
+            Err(why) => return Err(LineFault::Row(why)),
+        };
+        match self.clock.read(word) {
+            Ok(word) => {
+                self.shape = Some(shape);
+                Ok(Some(word))
+            }
+            Err(why) => Err(LineFault::Row(why)),
+        }
+    }
+
+    /// The word of the first line that is not passed over; none if it is a heading.
+    fn first<'a>(&mut self, line: &'a [u8]) -> Result<Option<StatedWord<'a>>, LineFault>
+        ensures { shown_line self.new result ≡ read_first self.old line.now (mark_in line.now) }
+    {
+        let mark = Mark::in_line(line);
+        let heading = Heading { mark, line };
+        if !heading.is_heading() {
+            return self.row(line, Shape::plain(mark));
+        }
+        match heading.places() {
+            Ok(places) => {
+                self.shape = Some(Shape { mark, places });
+                Ok(None)
+            }
+            Err(why) => Err(LineFault::Heading(why)),
+        }
+    }
+
+    /// What a line states: a word, or nothing. Error: what is wrong with it.
+    #[tactic(auto, unfolding(crate::specs::Logs::read_line))]
+    pub fn read<'a>(&mut self, line: &'a [u8]) -> Result<Option<StatedWord<'a>>, LineFault>
+        ensures { shown_line self.new result ≡ read_line self.old line.now }
+    {
+        if is_passed_over(line) {
+            return Ok(None);
+        }
+        match self.shape {
+            Some(shape) => self.row(line, shape),
+            None => self.first(line),
+        }
+    }
+}

@@ -1,0 +1,146 @@
+//! The rows of a log: a time, a name and a word.
+ghost use Rattle.std.specs.Prelude.{◌≡◌, option_map};
+ghost use Rattle.a429_logs.specs.LogFields.{fields_of};
+ghost use Rattle.a429_logs.specs.LogRows.{caught, caught_in, field_at, parts_word, row_of, shown, shown_row, word_in, word_place};
+
+use crate::columns::{PartsPlaces, Places, WordPlaces};
+use crate::fields::{Fields, Mark};
+use crate::times::{TimeUnit, time_of};
+use crate::words::{two_bits, value_in, whole_word, word_of};
+use a429_word::Label;
+
+/// What is wrong with a row.
+#[derive(Clone, Copy)]
+pub enum RowFault {
+    /// It has more or fewer fields than there are columns.
+    Fields,
+    /// Its time is none in the unit of the log.
+    Time,
+    /// Its word is not eight hexadecimal digits.
+    Word,
+    /// Its label is not three octal digits, 000 to 377.
+    Label,
+    /// Its SDI is neither 0 to 3 nor two binary digits.
+    Sdi,
+    /// Its SSM is neither 0 to 3 nor two binary digits.
+    Ssm,
+    /// Its data is no number, or has more than 19 bits.
+    Value,
+    /// It comes before the time from which times are counted.
+    Early,
+    /// Its time is below that of the row before it.
+    Falls,
+}
+
+/// A word as a row states it: when it comes in, in microseconds; by which name; and its 32 bits.
+#[derive(Clone, Copy)]
+pub struct StatedWord<'a> {
+    pub time: u64,
+    pub name: &'a [u8],
+    pub raw: u32,
+}
+
+/// The column in which a word begins.
+fn word_place(places: WordPlaces) -> usize
+    ensures { result ≡ word_place places }
+{
+    match places {
+        WordPlaces::Whole(place) => place,
+        WordPlaces::Parts(parts) => parts.label,
+    }
+}
+
+/// The fields of a row in the columns of its time, its name and its word.
+#[derive(Clone, Copy)]
+pub struct RowFields<'a> {
+    pub time: &'a [u8],
+    pub name: &'a [u8],
+    pub word: &'a [u8],
+}
+
+/// A field, if it is in the column; otherwise the old one.
+fn caught<'a>(column: usize, place: usize, field: &'a [u8], old: &'a [u8]) -> &'a [u8]
+    ensures { result.now ≡ caught column place field.now old.now }
+{
+    if column == place { field } else { old }
+}
+
+/// The fields of a row. `None` if there are more or fewer than columns.
+pub fn row_fields<'a>(places: &Places, mark: Mark, line: &'a [u8]) -> Option<RowFields<'a>>
+    ensures { option_map shown result ≡ caught_in places.now (fields_of mark line.now) }
+{
+    let mut time: &'a [u8] = &[];
+    let mut name: &'a [u8] = &[];
+    let mut word: &'a [u8] = &[];
+    let mut fields = Fields::of(mark, line);
+    for place in 0..places.count {
+        let field = fields.next()?;
+        time = caught(places.time, place, field, time);
+        name = caught(places.name, place, field, name);
+        word = caught(word_place(places.word), place, field, word);
+    }
+    match fields.next() {
+        None => Some(RowFields { time, name, word }),
+        Some(_) => None,
+    }
+}
+
+/// The field of a line in a column.
+fn field_at(mark: Mark, line: &[u8], place: usize) -> &[u8]
+    ensures { result.now ≡ field_at place (fields_of mark line.now) }
+{
+    let mut fields = Fields::of(mark, line);
+    for passed in 0..place {
+        let Some(_field) = fields.next() else {
+            return &[];
+        };
+    }
+    fields.next().unwrap_or(&[])
+}
+
+/// A word by its label, SDI, SSM and data.
+fn parts_word(parts: &PartsPlaces, mark: Mark, line: &[u8]) -> Result<u32, RowFault>
+    ensures { result ≡ parts_word parts.now (fields_of mark line.now) }
+{
+    let label = Label::of_digits(field_at(mark, line, parts.label)).ok_or(RowFault::Label)?;
+    let sdi = two_bits(field_at(mark, line, parts.sdi)).ok_or(RowFault::Sdi)?;
+    let ssm = two_bits(field_at(mark, line, parts.ssm)).ok_or(RowFault::Ssm)?;
+    let text = field_at(mark, line, parts.value.place);
+    let value = value_in(parts.value.base, text).ok_or(RowFault::Value)?;
+    Ok(word_of(label, sdi, ssm, value))
+}
+
+/// The word of a row that begins with this field.
+fn word_in(place: &WordPlaces, mark: Mark, line: &[u8], word: &[u8]) -> Result<u32, RowFault>
+    requires { word.now ≡ field_at (word_place place.now) (fields_of mark line.now) }
+    ensures { result ≡ word_in place.now (fields_of mark line.now) }
+{
+    match place {
+        WordPlaces::Whole(_) => whole_word(word).ok_or(RowFault::Word),
+        WordPlaces::Parts(parts) => parts_word(parts, mark, line),
+    }
+}
+
+/// The word that a row states. Error: the first fault of the row.
+#[tactic(auto, unfolding(crate::specs::LogRows::row_of))]
+pub fn row_of<'a>(
+    unit: TimeUnit,
+    mark: Mark,
+    places: &Places,
+    line: &'a [u8],
+) -> Result<StatedWord<'a>, RowFault>
+    ensures { shown_row result ≡ row_of unit mark places.now (fields_of mark line.now) }
+{
+    let Some(row) = row_fields(places, mark, line) else {
+        return Err(RowFault::Fields);
+    };
+    let Some(time) = time_of(unit, mark, row.time) else {
+        return Err(RowFault::Time);
+    };
+    let raw = word_in(&places.word, mark, line, row.word)?;
+    Ok(StatedWord {
+        time,
+        name: row.name,
+        raw,
+    })
+}

@@ -1,0 +1,152 @@
+//! The time of a word in a log.
+ghost use Rattle.std.specs.Prelude.{◌≡◌, ◌≤◌, ◌<◌, ◌+◌, ◌*◌, ◌^◌, [], get_or, length, position, true};
+ghost use Rattle.std.specs.List.{list_all};
+ghost use Rattle.std.specs.Char.{is_ascii_digit};
+ghost use Rattle.std.specs.Str.Parse.{digits_value};
+ghost use Rattle.a429_logs.specs.LogRows.{decimal_digits};
+ghost use Rattle.a429_logs.specs.LogTimes.{decimals, is_fraction, is_point, is_whole, micros, parted_time, time_of, whole_time};
+
+use crate::fields::Mark;
+
+/// The unit of the times in a log.
+#[derive(Clone, Copy, PartialEq, Eq)]
+pub enum TimeUnit {
+    Microseconds,
+    Milliseconds,
+    Seconds,
+}
+
+impl TimeUnit {
+    /// How many decimals of this unit are microseconds.
+    fn decimals(self) -> usize
+        ensures { result ≡ decimals self }
+    {
+        match self {
+            TimeUnit::Microseconds => 0,
+            TimeUnit::Milliseconds => 3,
+            TimeUnit::Seconds => 6,
+        }
+    }
+}
+
+/// Whether a byte separates whole units from decimals.
+fn is_point(mark: Mark, byte: u8) -> bool
+    ensures { result ≡ is_point mark byte }
+{
+    match mark {
+        Mark::Semicolon => byte == b'.' || byte == b',',
+        _ => byte == b'.',
+    }
+}
+
+/// The place of the first such byte.
+fn first_point(mark: Mark, text: &[u8]) -> Option<usize>
+    ensures { result ≡ position (is_point mark) text.now }
+{
+    text.iter().position(|byte| is_point(mark, *byte))
+}
+
+/// Whether each byte is a decimal digit.
+fn are_digits(text: &[u8]) -> bool
+    ensures { result ≡ list_all is_ascii_digit text.now }
+{
+    text.iter().all(|byte| byte.is_ascii_digit())
+}
+
+/// Whether digits are whole units of a time.
+fn is_whole(unit: TimeUnit, whole: &[u8]) -> bool
+    ensures { result ≡ is_whole unit whole.now }
+{
+    !whole.is_empty()
+        && whole.len() <= 18
+        && whole.len() + unit.decimals() <= 18
+        && are_digits(whole)
+}
+
+/// Whether digits are decimals of a unit.
+fn is_fraction(unit: TimeUnit, fraction: &[u8]) -> bool
+    ensures { result ≡ is_fraction unit fraction.now }
+{
+    0 < unit.decimals() && !fraction.is_empty() && are_digits(fraction)
+}
+
+/// A digit of a fraction; one that is not there is 0.
+fn digit_at(fraction: &[u8], place: usize) -> u8
+    ensures { result ≡ get_or fraction.now place 48 }
+{
+    match fraction.get(place) {
+        Some(digit) => *digit,
+        None => b'0',
+    }
+}
+
+/// The number that digits state.
+fn value(digits: &[u8]) -> u64
+    requires digits { list_all is_ascii_digit digits.now ≡ true }
+    requires few { length digits.now ≤ 18 }
+    ensures { result ≡ digits_value 10 digits.now }
+{
+    let mut value = 0;
+    for digit in digits {
+        value = value * 10 + u64::from(*digit - b'0');
+    }
+    value
+}
+
+/// The number that one to eighteen decimal digits state. `None` for any other text.
+pub fn decimal_digits(text: &[u8]) -> Option<u64>
+    ensures { result ≡ decimal_digits text.now }
+{
+    if !text.is_empty() && text.len() <= 18 && are_digits(text) {
+        Some(value(text))
+    } else {
+        None
+    }
+}
+
+/// The microseconds that whole units and the decimals below them state.
+fn micros(unit: TimeUnit, whole: &[u8], fraction: &[u8]) -> u64
+    requires whole { is_whole unit whole.now ≡ true }
+    requires fraction { list_all is_ascii_digit fraction.now ≡ true }
+    ensures { result ≡ micros unit whole.now fraction.now }
+{
+    let mut micros = value(whole);
+    for place in 0..unit.decimals() {
+        micros = micros * 10 + u64::from(digit_at(fraction, place) - b'0');
+    }
+    micros
+}
+
+/// The time that whole units state.
+fn whole_time(unit: TimeUnit, whole: &[u8]) -> Option<u64>
+    ensures { result ≡ whole_time unit whole.now }
+{
+    if is_whole(unit, whole) {
+        Some(micros(unit, whole, &[]))
+    } else {
+        None
+    }
+}
+
+/// The time that whole units and decimals state.
+fn parted_time(unit: TimeUnit, whole: &[u8], fraction: &[u8]) -> Option<u64>
+    ensures { result ≡ parted_time unit whole.now fraction.now }
+{
+    if is_whole(unit, whole) && is_fraction(unit, fraction) {
+        Some(micros(unit, whole, fraction))
+    } else {
+        None
+    }
+}
+
+/// The time in microseconds, below 10^18, that a text states in a unit. Decimals below a microsecond are dropped.
+/// `None` if the text is no time.
+#[tactic(auto, unfolding(crate::specs::LogTimes::time_of))]
+pub fn time_of(unit: TimeUnit, mark: Mark, text: &[u8]) -> Option<u64>
+    ensures { result ≡ time_of unit mark text.now }
+{
+    match first_point(mark, text) {
+        None => whole_time(unit, text),
+        Some(point) => parted_time(unit, &text[..point], &text[point + 1..]),
+    }
+}

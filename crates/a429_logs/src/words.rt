@@ -1,0 +1,88 @@
+//! Words of a log, whole or by their fields.
+ghost use Rattle.std.specs.Prelude.{◌≡◌, ◌<◌, ◌^◌, IfSome};
+ghost use Rattle.a429_logs.specs.LogRows.{as_value, decimal_digits, hex_number, two_bits, value_in, whole_word, with_parity, without_prefix, word_bits};
+
+use crate::columns::Base;
+use crate::times::decimal_digits;
+use a429_word::{Label, Sdi, Ssm, Word, raw_word};
+
+/// Digits without `0x` before them.
+fn without_prefix(text: &[u8]) -> &[u8]
+    ensures { result.now ≡ without_prefix text.now }
+{
+    match text {
+        [b'0', b'x' | b'X', digits @ ..] => digits,
+        _ => text,
+    }
+}
+
+/// The 32 bits of eight hexadecimal digits, in either case. They may come after `0x`.
+#[tactic(auto, unfolding(crate::specs::LogRows::whole_word))]
+pub fn whole_word(text: &[u8]) -> Option<u32>
+    ensures { result ≡ whole_word text.now }
+{
+    raw_word(without_prefix(text))
+}
+
+/// The number of one to five hexadecimal digits, in either case.
+fn hex_number(text: &[u8]) -> Option<u32>
+    ensures { result ≡ hex_number text.now }
+{
+    if text.is_empty() || text.len() > 5 {
+        return None;
+    }
+    let mut digits = [b'0'; 8];
+    let start = digits.len() - text.len();
+    digits[start..].copy_from_slice(text);
+    raw_word(&digits)
+}
+
+/// A number, if it has 19 bits.
+fn as_value(number: Option<u64>) -> Option<u32>
+    ensures value { result ≡ as_value number }
+    ensures small { IfSome result (λ value. value < 2 ^ 19) }
+{
+    let number = number?;
+    if number < 1 << 19 {
+        Some(number as u32)
+    } else {
+        None
+    }
+}
+
+/// The 19 data bits that digits state.
+pub fn value_in(base: Base, text: &[u8]) -> Option<u32>
+    ensures value { result ≡ value_in base text.now }
+    ensures small { IfSome result (λ value. value < 2 ^ 19) }
+{
+    match base {
+        Base::Ten => as_value(decimal_digits(text)),
+        Base::Sixteen => as_value(hex_number(without_prefix(text)).map(u64::from)),
+    }
+}
+
+/// The SDI or the SSM that digits state: one from 0 to 3, or two binary digits.
+#[tactic(auto, unfolding(crate::specs::LogRows::two_bits))]
+pub fn two_bits(text: &[u8]) -> Option<u8>
+    ensures value { result ≡ two_bits text.now }
+    ensures small { IfSome result (λ value. value < 4) }
+{
+    match text {
+        [digit @ b'0'..=b'3'] => Some(*digit - b'0'),
+        [high @ b'0'..=b'1', low @ b'0'..=b'1'] => Some(2 * (*high - b'0') + (*low - b'0')),
+        _ => None,
+    }
+}
+
+/// The 32 bits of a word with odd parity, by its label, SDI, SSM and data.
+pub fn word_of(label: Label, sdi: u8, ssm: u8, value: u32) -> u32
+    requires sdi { sdi < 4 }
+    requires ssm { ssm < 4 }
+    requires value { value < 2 ^ 19 }
+    ensures { result ≡ with_parity (word_bits label sdi value ssm) }
+{
+    match Word::build(label, Sdi::new(sdi), value, Ssm::new(ssm)) {
+        Ok(word) => word.raw(),
+        Err(_) => 0,
+    }
+}

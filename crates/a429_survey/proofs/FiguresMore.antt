@@ -1,0 +1,171 @@
+-- The figures after one more word.
+use Rattle.std.proofs.Common.{◌≡◌, ℕ, zero, suc, ◌+◌, ◌-◌, ◌*◌, ◌^◌, ◌<◌, ◌≤◌, List, [], ◌∷◌, ◌++◌, Bool, true, false, cond, length, map, set, get_or, refl, sym, ap, subst, ◌∙◌, inl, inr, arith, length-append, zero-add}
+use Rattle.std.specs.Prelude.{count_by, filter, fold, if◌then◌else◌, max, min, not, slice_index_or, ◌==◌}
+use Rattle.std.specs.List.{range_with_len}
+use Rattle.std.proofs.lemmas.Bool.{cases_Bool, cases_eq, eqb-true}
+use Rattle.std.proofs.lemmas.Bool.Decides.{nat_tests}
+use Rattle.std.proofs.lemmas.List.{get_or-set_other, get_or-set_same, length-map, length-set, map-append}
+use Rattle.std.proofs.lemmas.List.FromFn.{fill_by_all, get_or-map-range_with_len, length-map-range_with_len}
+use Rattle.std.proofs.lemmas.List.Sums.{count_by-le-length, length-filter}
+use Rattle.a429_word.proofs.Lists.{false_unless}
+use Rattle.a429_word.proofs.Fields.{power_next}
+use Rattle.a429_word.proofs.Ones.{number_is}
+use Rattle.a429_word.specs.Bits.{bit, has_odd_parity, reversed_from}
+use Rattle.a429_survey.specs.declared.figures.Figures.{Figures}
+use Rattle.a429_survey.specs.Figures.{Noted, intervals, intervals_after, is_even, last_after, last_of, times_of}
+use Rattle.a429_survey.specs.Kept.{LineKept, figures_of, figures_with, first_figures, least_of, line_of, line_with, next_figures, no_figures, one_more, place_of, words_at}
+
+-- ---- lists with one more at the end
+
+pub fold_more : {A B : Type 0} (f : B → A → B) (a : B) (xs : List A) (x : A) → fold f a (xs ++ x ∷ []) ≡ f (fold f a xs) x
+fold_more f a [] x = refl
+fold_more f a (y ∷ ys) x = fold_more f (f a y) ys x
+
+pub filter_more : {A : Type 0} (p : A → Bool) (xs : List A) (x : A) (r : Bool) → p x ≡ r → filter p (xs ++ x ∷ []) ≡ cond r (filter p xs ++ x ∷ []) (filter p xs)
+filter_more p [] x true h = rw h refl
+filter_more p [] x false h = rw h refl
+filter_more {A} p (y ∷ ys) x r h =
+    elim (cases_Bool (p y)) [
+      | inl passes ↦ rw passes (ap (λ (zs : List A). y ∷ zs) (filter_more p ys x r h) ∙ kept r y (filter p ys) x)
+      | inr fails ↦ rw fails (filter_more p ys x r h)
+    ]
+  where
+    kept : (r : Bool) (y : A) (zs : List A) (x : A) → y ∷ cond r (zs ++ x ∷ []) zs ≡ cond r (y ∷ zs ++ x ∷ []) (y ∷ zs)
+    kept true y zs x = refl
+    kept false y zs x = refl
+
+pub last_more : (n m : ℕ) (ns : List ℕ) → last_after n (ns ++ m ∷ []) ≡ m
+last_more n m [] = refl
+last_more n m (k ∷ ks) = last_more k m ks
+
+pub intervals_more : (t u : ℕ) (ts : List ℕ) → intervals_after t (ts ++ u ∷ []) ≡ intervals_after t ts ++ (u - last_after t ts) ∷ []
+intervals_more t u [] = refl
+intervals_more t u (s ∷ ts) = ap (λ (ns : List ℕ). (s - t) ∷ ns) (intervals_more s u ts)
+
+count_more : (p : Noted → Bool) (ws : List Noted) (w : Noted) → count_by p (ws ++ w ∷ []) ≡ count_by p ws + cond (p w) 1 0
+count_more p ws w = fold_more (λ (a : ℕ) (x : Noted). a + cond (p x) 1 0) 0 ws w
+
+-- ---- each figure
+
+even_more : (ws : List Noted) (w : Noted) → length ws < 2 ^ 64 - 1 → (if has_odd_parity w.raw then count_by is_even ws else one_more (count_by is_even ws)) ≡ count_by is_even (ws ++ w ∷ [])
+even_more ws w few =
+    let more = count_more is_even ws w in
+    let small : count_by is_even ws ≤ length ws = count_by-le-length is_even ws in
+    elim (cases_Bool (has_odd_parity w.raw)) [
+      | inl odd ↦ let none : ◌≡◌ {A = ℕ} (cond (not (has_odd_parity w.raw)) 1 0) 0 = rw odd refl in rw odd (omega (arith, more, none))
+      | inr even ↦ let one : ◌≡◌ {A = ℕ} (cond (not (has_odd_parity w.raw)) 1 0) 1 = rw even refl in rw even (omega (arith, more, one, small, few))
+    ]
+
+least_more : (t : ℕ) (ts : List ℕ) (interval count : ℕ) → count ≡ length ts + 1
+    → (if count == 1 then interval else min (least_of (intervals_after t ts)) interval) ≡ least_of (intervals_after t ts ++ interval ∷ [])
+least_more t [] interval count is = rw is refl
+least_more t (u ∷ ts) interval count is =
+    let several : (count == 1) ≡ false = grind (arith, nat_tests) in
+    rw several (sym (fold_more min (u - t) (intervals_after u ts) interval))
+
+same_figures : (a b c d e f g a' b' c' d' e' f' g' : ℕ) → a ≡ a' → b ≡ b' → c ≡ c' → d ≡ d' → e ≡ e' → f ≡ f' → g ≡ g'
+    → ◌≡◌ {A = Figures} record { words = a; even = b; least = c; greatest = d; first = e; last = f; last_word = g }
+    record { words = a'; even = b'; least = c'; greatest = d'; first = e'; last = f'; last_word = g' }
+same_figures a b c d e f g a' b' c' d' e' f' g' p q r s t u v = rw (p, q, r, s, t, u, v) refl
+
+-- ---- all of them
+
+next_are : (v : Noted) (vs : List Noted) (w : Noted) → length (v ∷ vs) < 2 ^ 64 - 1
+    → next_figures (w.time - last_of (times_of (v ∷ vs))) w.time w.raw (figures_of (v ∷ vs)) ≡ figures_of (v ∷ vs ++ w ∷ [])
+unfolding figures_of
+next_are v vs w few =
+    let interval : ℕ = w.time - last_of (times_of (v ∷ vs)) in
+    let times : times_of (vs ++ w ∷ []) ≡ times_of vs ++ w.time ∷ [] = map-append (λ (x : Noted). x.time) vs (w ∷ []) in
+    let raws : map (λ (x : Noted). x.raw) (vs ++ w ∷ []) ≡ map (λ (x : Noted). x.raw) vs ++ w.raw ∷ [] = map-append (λ (x : Noted). x.raw) vs (w ∷ []) in
+    let ranges : intervals (times_of (v ∷ vs ++ w ∷ [])) ≡ intervals (times_of (v ∷ vs)) ++ interval ∷ [] =
+    ap (intervals_after v.time) times ∙ intervals_more v.time w.time (times_of vs) in
+    let long : length (v ∷ vs) ≡ length (times_of vs) + 1 = omega (arith, length-map vs (λ (x : Noted). x.time)) in
+    same_figures _ _ _ _ _ _ _ _ _ _ _ _ _ _
+    (omega (arith, few, length-append (v ∷ vs) (w ∷ [])))
+    (even_more (v ∷ vs) w few)
+    (least_more v.time (times_of vs) interval (length (v ∷ vs)) long ∙ ap least_of (sym ranges))
+    (sym (fold_more max 0 (intervals (times_of (v ∷ vs))) interval) ∙ ap (fold max 0) (sym ranges))
+    refl
+    (sym (ap (last_after v.time) times ∙ last_more v.time w.time (times_of vs)))
+    (sym (ap (last_after v.raw) raws ∙ last_more v.raw w.raw (map (λ (x : Noted). x.raw) vs)))
+
+first_are : (w : Noted) → first_figures w.time w.raw ≡ figures_of (w ∷ [])
+unfolding figures_of
+first_are w =
+    elim (cases_Bool (has_odd_parity w.raw)) [
+      | inl odd ↦ rw odd refl
+      | inr even ↦ rw even refl
+    ]
+
+with_next : (f : Figures) (time raw : ℕ) → (f.words == 0) ≡ false → figures_with time raw f ≡ next_figures (time - f.last) time raw f
+with_next f time raw some = ap (λ (b : Bool). if b then first_figures time raw else next_figures (time - f.last) time raw f) some
+
+pub figures_more : (ws : List Noted) (w : Noted) → length ws < 2 ^ 64 - 1 → figures_with w.time w.raw (figures_of ws) ≡ figures_of (ws ++ w ∷ [])
+unfolding figures_of
+figures_more [] w few = first_are w
+figures_more (v ∷ vs) w few =
+    let some : (length (v ∷ vs) == 0) ≡ false = grind (arith, nat_tests) in
+    with_next (figures_of (v ∷ vs)) w.time w.raw some ∙ next_are v vs w few
+
+-- ---- a line
+
+bit_cases : (bit power rest : ℕ) → bit < 2 → rest < power → bit * power + rest < power * 2
+bit_cases zero power rest b r = omega arith
+bit_cases (suc zero) power rest b r = omega arith
+bit_cases (suc (suc bit)) power rest b r = absurd (omega arith)
+
+reversed_small : (n count raw : ℕ) → reversed_from n count raw < 2 ^ count
+unfolding reversed_from
+reversed_small n zero raw = omega arith
+reversed_small n (suc count) raw =
+    let one : bit n raw < 2 = omega arith in
+    subst (λ (p : ℕ). bit n raw * 2 ^ count + reversed_from (n + 1) count raw < p) (sym (power_next count))
+    (bit_cases (bit n raw) (2 ^ count) (reversed_from (n + 1) count raw) one (reversed_small (n + 1) count raw))
+
+place_small : (raw : ℕ) → place_of raw < 1024
+place_small raw = omega (arith, reversed_small 1 8 raw, number_is 8 2 raw)
+
+same_line : (name : List ℕ) (a b : Figures) (c d : List Figures) → a ≡ b → c ≡ d → ◌≡◌ {A = LineKept} record { name = name; all = a; each = c } record { name = name; all = b; each = d }
+same_line name a b c d p q = rw (p, q) refl
+
+pub line_more : (name : List ℕ) (ws : List Noted) (w : Noted) → length ws < 2 ^ 64 - 1 → line_with w.time w.raw (line_of name ws) ≡ line_of name (ws ++ w ∷ [])
+unfolding line_of line_with
+line_more name ws w few = same_line name _ _ _ _ (figures_more ws w few) each_is
+  where
+    place : ℕ
+    place = place_of w.raw
+
+    old : ℕ → Figures
+    old k = figures_of (words_at k ws)
+
+    new : ℕ → Figures
+    new k = figures_of (words_at k (ws ++ w ∷ []))
+
+    here : figures_with w.time w.raw (old place) ≡ new place
+    here =
+        let passes : (place_of w.raw == place) ≡ true = grind (arith, nat_tests) in
+        let short : length (words_at place ws) ≤ length ws = omega (arith, length-filter (λ (x : Noted). place_of x.raw == place) ws, count_by-le-length (λ (x : Noted). place_of x.raw == place) ws) in
+        figures_more (words_at place ws) w (omega (arith, short, few)) ∙ ap figures_of (sym (filter_more (λ (x : Noted). place_of x.raw == place) ws w true passes))
+
+    elsewhere : (k : ℕ) → (k ≡ place → ⊥) → old k ≡ new k
+    elsewhere k differs =
+        let fails : (place_of w.raw == k) ≡ false = false_unless (place_of w.raw == k) (λ e. differs (sym (eqb-true (place_of w.raw) k e))) in
+        ap figures_of (sym (filter_more (λ (x : Noted). place_of x.raw == k) ws w false fails))
+
+    all : List Figures
+    all = map old (range_with_len 0 1024)
+
+    read : slice_index_or all place no_figures ≡ old place
+    read = get_or-map-range_with_len old 0 1024 place place no_figures (place_small w.raw) (zero-add place)
+
+    at : (k : ℕ) → k < 1024 → get_or (set all place (new place)) k no_figures ≡ new k
+    at k within =
+        elim (cases_eq k place) [
+          | inl same ↦ rw same (get_or-set_same all place (new place) no_figures (subst (λ (n : ℕ). place < n) (sym (length-map-range_with_len old 0 1024)) (place_small w.raw)))
+          | inr other ↦ get_or-set_other all place k (new place) no_figures other ∙ get_or-map-range_with_len old 0 1024 k k no_figures within (zero-add k) ∙ elsewhere k other
+        ]
+
+    each_is : set all place (figures_with w.time w.raw (slice_index_or all place no_figures)) ≡ map new (range_with_len 0 1024)
+    each_is =
+        ap (λ (f : Figures). set all place f) (ap (figures_with w.time w.raw) read ∙ here)
+        ∙ fill_by_all new (set all place (new place)) 1024 no_figures (length-set all place (new place) ∙ length-map-range_with_len old 0 1024) at

@@ -1,0 +1,103 @@
+-- The rows by figures are those of the words.
+use Rattle.std.proofs.Common.{◌≡◌, ℕ, zero, suc, ◌+◌, ◌-◌, ◌*◌, ◌<◌, List, [], ◌∷◌, ◌++◌, Bool, true, false, cond, length, map, refl, ap, ap₂, ◌∙◌, arith, zero-add}
+use Rattle.std.specs.Prelude.{count_by, filter, flat_map, fold, if◌then◌else◌, max, nat_lt, ◌==◌, ◌&&◌}
+use Rattle.std.specs.List.{range_with_len}
+use Rattle.std.proofs.lemmas.Bool.Decides.{nat_tests}
+use Rattle.std.proofs.lemmas.List.FromFn.{get_or-map-range_with_len}
+use Rattle.a429_text.specs.Fields.{Field, Text, Number, Absent}
+use Rattle.a429_text.specs.Texts.{octal}
+use Rattle.a429_word.proofs.Ones.{number_is}
+use Rattle.a429_word.specs.Bits.{label_of, sdi_of}
+use Rattle.a429_word.specs.Hexadecimal.{hex}
+use Rattle.a429_survey.specs.Figures.{Noted, first_of, greatest_field, intervals, intervals_after, is_even, last_of, least_field, load_field, mean_field, times_of}
+use Rattle.a429_survey.specs.Survey.{label_rows, name_rows, names_of, rows_if_any, survey_row, survey_rows, words_of, words_with}
+use Rattle.a429_survey.specs.Kept.{LineKept, figures_of, label_in, least_of, line_of, lines_of, load_in, no_figures, pair_in, place_of, row_in, rows_by, rows_in, words_at}
+
+-- ---- a row
+
+least_is : (ws : List Noted) → (if nat_lt 1 (length ws) then Number (least_of (intervals (times_of ws))) else Absent) ≡ least_field (intervals (times_of ws))
+least_is [] = refl
+least_is (w ∷ []) = refl
+least_is (w ∷ v ∷ ws) =
+    let several : nat_lt 1 (length (w ∷ v ∷ ws)) ≡ true = grind (arith, nat_tests) in
+    rw several refl
+
+from_zero : (n : ℕ) (ns : List ℕ) → fold max 0 (n ∷ ns) ≡ fold max n ns
+from_zero n ns = let first : max 0 n ≡ n = omega arith in ap (λ (m : ℕ). fold max m ns) first
+
+greatest_is : (ws : List Noted) → (if nat_lt 1 (length ws) then Number (fold max 0 (intervals (times_of ws))) else Absent) ≡ greatest_field (intervals (times_of ws))
+greatest_is [] = refl
+greatest_is (w ∷ []) = refl
+greatest_is (w ∷ v ∷ ws) =
+    let several : nat_lt 1 (length (w ∷ v ∷ ws)) ≡ true = grind (arith, nat_tests) in
+    rw several (ap (λ (n : ℕ). Number n) (from_zero (v.time - w.time) (intervals_after v.time (times_of ws))))
+
+row_is : (name : List ℕ) (label sdi load : Field) (ws : List Noted) → row_in name label sdi load (figures_of ws) ≡ survey_row name label sdi load ws
+unfolding row_in survey_row figures_of
+row_is name label sdi load ws =
+    ap₂ (λ (least greatest : Field).
+    Text name ∷ label ∷ sdi ∷ Number (length ws) ∷ Number (count_by is_even ws) ∷ least ∷ mean_field ws ∷ greatest ∷ Number (first_of (times_of ws)) ∷ Number (last_of (times_of ws))
+    ∷ Text (hex (last_of (map (λ w. w.raw) ws))) ∷ load ∷ []) (least_is ws) (greatest_is ws)
+
+rows_by_is : (name : List ℕ) (label sdi : ℕ) (ws : List Noted) → rows_by name label sdi (figures_of ws) ≡ rows_if_any name label sdi ws
+unfolding figures_of
+rows_by_is name label sdi [] = refl
+rows_by_is name label sdi (w ∷ ws) =
+    let some : (length (w ∷ ws) == 0) ≡ false = grind (arith, nat_tests) in
+    ap (λ (b : Bool). if b then [] else row_in name (Text (octal label)) (Number sdi) Absent (figures_of (w ∷ ws)) ∷ []) some
+    ∙ ap (λ (r : List Field). r ∷ []) (row_is name (Text (octal label)) (Number sdi) Absent (w ∷ ws))
+
+-- ---- the words of a row
+
+filter_same : {X : Type 0} (p q : X → Bool) (xs : List X) → ((x : X) → p x ≡ q x) → filter p xs ≡ filter q xs
+filter_same p q [] same = refl
+filter_same {X} p q (x ∷ xs) same =
+    ap (λ (b : Bool). cond b (x ∷ filter p xs) (filter p xs)) (same x) ∙ ap (λ (ys : List X). cond (q x) (x ∷ ys) ys) (filter_same p q xs same)
+
+place_tests : (a b l s : ℕ) → b < 4 → s < 4 → (4 * a + b == 4 * l + s) ≡ (a == l && b == s)
+place_tests a b l s small little = grind (arith, nat_tests)
+
+words_same : (label sdi : ℕ) (ws : List Noted) → sdi < 4 → words_at (4 * label + sdi) ws ≡ words_with label sdi ws
+words_same label sdi ws small =
+    filter_same (λ (w : Noted). place_of w.raw == 4 * label + sdi) (λ (w : Noted). label_of w.raw == label && sdi_of w.raw == sdi) ws
+    (λ w. place_tests (label_of w.raw) (sdi_of w.raw) label sdi (omega (arith, number_is 8 2 w.raw)) small)
+
+pair_is : (name : List ℕ) (ws : List Noted) (label sdi : ℕ) → label < 256 → sdi < 4 → pair_in (line_of name ws) label sdi ≡ rows_if_any name label sdi (words_with label sdi ws)
+unfolding pair_in line_of
+pair_is name ws label sdi within small =
+    let place : ℕ = 4 * label + sdi in
+    ap (rows_by name label sdi)
+    (get_or-map-range_with_len (λ (k : ℕ). figures_of (words_at k ws)) 0 1024 (4 * label + sdi) (4 * label + sdi) no_figures (omega (arith, within, small)) (zero-add (4 * label + sdi))
+    ∙ ap figures_of (words_same label sdi ws small))
+    ∙ rows_by_is name label sdi (words_with label sdi ws)
+
+-- ---- all rows
+
+flat_range : {Y : Type 0} (f g : ℕ → List Y) (from n : ℕ) → ((k : ℕ) → k < from + n → f k ≡ g k) → flat_map f (range_with_len from n) ≡ flat_map g (range_with_len from n)
+flat_range f g from zero same = refl
+flat_range {Y} f g from (suc n) same =
+    ap (λ (ys : List Y). ys ++ flat_map f (range_with_len (from + 1) n)) (same from (omega arith))
+    ∙ ap (λ (ys : List Y). g from ++ ys) (flat_range f g (from + 1) n (λ k within. same k (omega (arith, within))))
+
+label_is : (name : List ℕ) (ws : List Noted) (label : ℕ) → label < 256 → label_in (line_of name ws) label ≡ label_rows name ws label
+label_is name ws label within =
+    flat_range (pair_in (line_of name ws) label) (λ (sdi : ℕ). rows_if_any name label sdi (words_with label sdi ws)) 0 4 (λ sdi small. pair_is name ws label sdi within (omega (arith, small)))
+
+last_row : (rate : ℕ) (name : List ℕ) (ws : List Noted) → row_in name Absent Absent (load_in rate (figures_of ws)) (figures_of ws) ≡ survey_row name Absent Absent (load_field rate ws) ws
+unfolding figures_of
+last_row rate name ws = row_is name Absent Absent (load_field rate ws) ws
+
+line_is : (rate : ℕ) (name : List ℕ) (ws : List Noted) → rows_in rate (line_of name ws) ≡ name_rows rate name ws
+unfolding line_of
+line_is rate name ws =
+    ap₂ (λ (rs : List (List Field)) (r : List Field). rs ++ r ∷ [])
+    (flat_range (label_in (line_of name ws)) (label_rows name ws) 0 256 (λ label within. label_is name ws label (omega (arith, within))))
+    (last_row rate name ws)
+
+flat_mapped : (rate : ℕ) (ws : List Noted) (names : List (List ℕ)) → flat_map (rows_in rate) (lines_of names ws) ≡ flat_map (λ name. name_rows rate name (words_of name ws)) names
+flat_mapped rate ws [] = refl
+flat_mapped rate ws (n ∷ names) = ap₂ (λ (rs qs : List (List Field)). rs ++ qs) (line_is rate n (words_of n ws)) (flat_mapped rate ws names)
+
+pub sheet_is : (rate : ℕ) (ws : List Noted) (lines : List LineKept) → lines ≡ lines_of (names_of ws) ws → flat_map (rows_in rate) lines ≡ survey_rows rate ws
+unfolding survey_rows
+sheet_is rate ws lines is = ap (flat_map (rows_in rate)) is ∙ flat_mapped rate ws (names_of ws)

@@ -1,0 +1,181 @@
+-- What a survey keeps of the words that were noted.
+use Rattle.std.specs.Prelude.{◌≡◌, ℕ, suc, ◌+◌, ◌-◌, ◌*◌, ◌/◌, ◌^◌, ◌==◌, List, [], ◌∷◌, ◌++◌, Bool, true, false, bytes_eq, count_by, filter, flat_map, fold, if◌then◌else◌, length, map, max, min, nat_lt, set, slice_index_or}
+use Rattle.std.specs.Int.{div_ceil}
+use Rattle.std.specs.List.{list_any, range_with_len}
+use Rattle.std.specs.Ordering.{is_eq, is_lt, nat_cmp}
+use Rattle.std.specs.Cmp.Lexicographic.{slice_cmp}
+use Rattle.a429_text.specs.declared.cells.Cell.{Cell}
+use Rattle.a429_text.specs.Fields.{Field, Text, Number, Absent}
+use Rattle.a429_text.specs.Sheets.{field_of}
+use Rattle.a429_text.specs.Texts.{octal}
+use Rattle.a429_word.specs.Bits.{has_odd_parity, label_of, sdi_of}
+use Rattle.a429_word.specs.Hexadecimal.{hex}
+use Rattle.a429_survey.specs.declared.figures.Figures.{Figures}
+use Rattle.a429_survey.specs.Figures.{Noted, first_of, intervals, is_even, last_of, tenths_field, times_of}
+use Rattle.a429_survey.specs.Survey.{names_of, words_of}
+
+-- ---- figures
+
+-- the least of some numbers, or 0 if there is none
+abbrev pub least_of : List ℕ → ℕ
+least_of [] = 0
+least_of (n ∷ ns) = fold min n ns
+
+-- the figures of some words
+unfoldable pub figures_of : List Noted → Figures
+figures_of words = record {
+  words = length words;
+  even = count_by is_even words;
+  least = least_of (intervals (times_of words));
+  greatest = fold max 0 (intervals (times_of words));
+  first = first_of (times_of words);
+  last = last_of (times_of words);
+  last_word = last_of (map (λ w. w.raw) words);
+}
+
+-- those of no word
+abbrev pub no_figures : Figures
+no_figures = record { words = 0; even = 0; least = 0; greatest = 0; first = 0; last = 0; last_word = 0 }
+
+-- one more, up to 2^64 - 1
+abbrev pub one_more : ℕ → ℕ
+one_more count = min (count + 1) (2 ^ 64 - 1)
+
+-- the figures of the first word
+abbrev pub first_figures : ℕ → ℕ → Figures
+first_figures time raw = record {
+  words = 1;
+  even = (if has_odd_parity raw then 0 else 1);
+  least = 0;
+  greatest = 0;
+  first = time;
+  last = time;
+  last_word = raw;
+}
+
+-- the figures after one word more than some, the interval to it among them
+abbrev pub next_figures : ℕ → ℕ → ℕ → Figures → Figures
+next_figures interval time raw f = record {
+  words = one_more f.words;
+  even = (if has_odd_parity raw then f.even else one_more f.even);
+  least = (if f.words == 1 then interval else min f.least interval);
+  greatest = max f.greatest interval;
+  first = f.first;
+  last = time;
+  last_word = raw;
+}
+
+-- the figures after one more word
+abbrev pub figures_with : ℕ → ℕ → Figures → Figures
+figures_with time raw f = if f.words == 0 then first_figures time raw else next_figures (time - f.last) time raw f
+
+-- ---- lines
+
+-- the place of a word's label and SDI among the 1024
+abbrev pub place_of : ℕ → ℕ
+place_of raw = 4 * label_of raw + sdi_of raw
+
+-- the words with the label and the SDI of a place
+abbrev pub words_at : ℕ → List Noted → List Noted
+words_at place words = filter (λ w. place_of w.raw == place) words
+
+-- what is kept of a name: the figures of all its words, and those of each label and SDI
+pub record LineKept : Type 0 where
+  pub name : List ℕ
+  pub all : Figures
+  pub each : List Figures
+
+-- that of a name's words
+unfoldable pub line_of : List ℕ → List Noted → LineKept
+line_of name words = record {
+  name = name;
+  all = figures_of words;
+  each = map (λ place. figures_of (words_at place words)) (range_with_len 0 1024);
+}
+
+-- a line after one more word
+unfoldable pub line_with : ℕ → ℕ → LineKept → LineKept
+line_with time raw l = record {
+  name = l.name;
+  all = figures_with time raw l.all;
+  each = set l.each (place_of raw) (figures_with time raw (slice_index_or l.each (place_of raw) no_figures));
+}
+
+-- a line for each name, in their order
+abbrev pub lines_of : List (List ℕ) → List Noted → List LineKept
+lines_of names words = map (λ name. line_of name (words_of name words)) names
+
+-- the names of some lines
+abbrev pub names_in : List LineKept → List (List ℕ)
+names_in lines = map (λ l. l.name) lines
+
+-- a name is before another
+abbrev pub is_before : List ℕ → List ℕ → Bool
+is_before name other = is_lt (slice_cmp nat_cmp name other)
+
+-- how many names from the front on are before a name
+abbrev pub place_for : List ℕ → List (List ℕ) → ℕ
+place_for name [] = 0
+place_for name (first ∷ names) = if is_before first name then suc (place_for name names) else 0
+
+-- lines in the order of their names, with one for this name among them
+abbrev pub with_line : List ℕ → List LineKept → List LineKept
+with_line name [] = line_of name [] ∷ []
+with_line name (first ∷ lines) =
+    if is_lt (slice_cmp nat_cmp first.name name) then first ∷ with_line name lines
+    else (if is_eq (slice_cmp nat_cmp first.name name) then first ∷ lines else line_of name [] ∷ first ∷ lines)
+
+-- a name is before each of some others
+abbrev pub IsBeforeAll : List ℕ → List (List ℕ) → Type 0
+IsBeforeAll name [] = Unit {0}
+IsBeforeAll name (other ∷ others) = (is_before name other ≡ true) × IsBeforeAll name others
+
+-- each name is before those that follow it
+abbrev pub Ascend : List (List ℕ) → Type 0
+Ascend [] = Unit {0}
+Ascend (name ∷ names) = IsBeforeAll name names × Ascend names
+
+-- the lines are those of the words that were noted
+pub record IsKept (words : List Noted) (lines : List LineKept) (count : ℕ) : Type 0 where
+  pub kept : lines ≡ lines_of (names_of words) words
+  pub counted : count ≡ length words
+  pub order : Ascend (names_of words)
+  pub absent : (name : List ℕ) → list_any (λ n. bytes_eq n name) (names_of words) ≡ false → words_of name words ≡ []
+
+-- ---- rows by figures
+
+abbrev pub span_in : Figures → ℕ
+span_in f = f.last - f.first
+
+abbrev pub interval_in : Figures → ℕ → Field
+interval_in f interval = if nat_lt 1 f.words then Number interval else Absent
+
+abbrev pub mean_in : Figures → Field
+mean_in f = if nat_lt 1 f.words then tenths_field (10 * span_in f / (f.words - 1)) else Absent
+
+abbrev pub load_in : ℕ → Figures → Field
+load_in rate f =
+    if nat_lt 0 (rate * span_in f) then tenths_field (div_ceil (36 * 1000000 * 1000 * (f.words - 1)) (rate * span_in f)) else Absent
+
+unfoldable pub row_in : List ℕ → Field → Field → Field → Figures → List Field
+row_in name label sdi load f =
+    Text name ∷ label ∷ sdi ∷ Number f.words ∷ Number f.even ∷ interval_in f f.least ∷ mean_in f ∷ interval_in f f.greatest ∷ Number f.first ∷ Number f.last
+    ∷ Text (hex f.last_word) ∷ load ∷ []
+
+-- the row with these cells for label, SDI and load
+abbrev pub row_with : List ℕ → Cell → Cell → Cell → Figures → List Field
+row_with name label sdi load f = row_in name (field_of label) (field_of sdi) (field_of load) f
+
+-- the row of a label and an SDI, if there are such words
+abbrev pub rows_by : List ℕ → ℕ → ℕ → Figures → List (List Field)
+rows_by name label sdi f = if f.words == 0 then [] else row_in name (Text (octal label)) (Number sdi) Absent f ∷ []
+
+unfoldable pub pair_in : LineKept → ℕ → ℕ → List (List Field)
+pair_in l label sdi = rows_by l.name label sdi (slice_index_or l.each (4 * label + sdi) no_figures)
+
+abbrev pub label_in : LineKept → ℕ → List (List Field)
+label_in l label = flat_map (pair_in l label) (range_with_len 0 4)
+
+-- the rows of a line
+abbrev pub rows_in : ℕ → LineKept → List (List Field)
+rows_in rate l = flat_map (label_in l) (range_with_len 0 256) ++ row_in l.name Absent Absent (load_in rate l.all) l.all ∷ []

@@ -1,0 +1,4 @@
+pub mod Figures
+pub mod Kept
+pub mod Past
+pub mod Survey

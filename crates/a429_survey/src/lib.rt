@@ -1,0 +1,26 @@
+//! What is on the lines of a recording.
+//!
+//! `Survey::note` takes the words of a recording one by one. `Survey::sheet` gives a row for each label and SDI of each
+//! receiver or channel, and a row for all words of each. The memory that a survey needs grows with the number of names,
+//! and not with the number of words.
+//!
+//! ```text
+//! let mut survey = Survey::new(rt.alloc());
+//! for (time, name, raw) in WORDS {
+//!     survey.note(name, time, raw).expect(&rt, "a word");
+//! }
+//! let sheet = survey.sheet(rt.alloc(), 100000).expect(&rt, "a sheet");
+//! ```
+#![tactic(auto)]
+
+mod cells;
+mod figures;
+mod lines;
+mod names;
+mod past;
+mod rows;
+mod survey;
+#[cfg(test)]
+mod tests;
+
+pub use survey::{NoteFault, Survey};

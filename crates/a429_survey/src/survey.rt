@@ -1,0 +1,118 @@
+//! The survey of a recording.
+ghost use Rattle.std.specs.Prelude.{◌≡◌, ◌↔◌, ◌++◌, ◌∷◌, ◌-◌, ◌^◌, [], length, map, IfOk, OnOk, OnErr, IsErrOf};
+ghost use Rattle.a429_survey.specs.Survey.{survey_columns, survey_rows};
+
+use crate::lines::Line;
+use crate::names::{line_for, note_at};
+use crate::past::Past;
+use crate::rows::rows_of;
+use a429_text::Sheet;
+use std::alloc::{AllocError, Global};
+use std::marker::Model;
+use thiserror::Error;
+
+/// The names of the columns.
+const COLUMNS: &[&str] = &[
+    "name",
+    "label",
+    "sdi",
+    "words",
+    "even",
+    "least_us",
+    "mean_us",
+    "greatest_us",
+    "first_us",
+    "last_us",
+    "last_word",
+    "load",
+];
+
+/// Why a word was not noted. Then the survey is as before.
+#[derive(Clone, Copy, Debug, PartialEq, Eq, Error)]
+pub enum NoteFault {
+    /// An allocation failed. Only the first word of a name allocates memory.
+    #[error("out of memory")]
+    NoMemory,
+    /// The survey has 2^64 - 1 words.
+    #[error("a survey has at most 18446744073709551615 words")]
+    TooManyWords,
+}
+
+/// What is on the lines of a recording. Clauses see all words that were noted, oldest first. A program keeps figures: it
+/// needs some 57 KB for each name, and nothing for a word.
+#[derive(Drop)]
+pub struct Survey {
+    alloc: Global,
+    /// A line for each name, in their order.
+    lines: Vec<Line>,
+    /// The place of the line of the last word.
+    last: usize,
+    /// How many words were noted.
+    count: u64,
+    past: Past,
+}
+
+impl Model for Survey {
+    ghost use Rattle.std.specs.Prelude.{List};
+    ghost use Rattle.a429_survey.specs.Figures.{Noted};
+
+    ghost Value = { List Noted };
+
+    ghost use Rattle.a429_survey.specs.Past.{words_in};
+    ghost use Rattle.a429_survey.specs.Kept.{IsKept};
+
+    ghost view = { λ s. words_in s.past };
+
+    ghost invariant = { λ s. IsKept (words_in s.past) s.lines.items s.count };
+}
+
+impl Survey {
+    /// A survey of no words.
+    pub fn new(alloc: Global) -> Survey
+        ensures { result ≡ [] }
+    {
+        Survey {
+            alloc,
+            lines: Vec::new(alloc),
+            last: 0,
+            count: 0,
+            past: Past::Nothing,
+        }
+    }
+
+    /// Notes a word: the name of its receiver or channel, its time in microseconds, and its 32 bits, of even or odd parity.
+    /// A caller whose names are bytes checks first that they are UTF-8. Times may fall: an interval to an earlier time is 0.
+    /// Error: an allocation failed, or the survey has 2^64 - 1 words.
+    pub fn note(&mut self, name: &str, time: u64, raw: u32) -> Result<(), NoteFault>
+        ensures noted { OnOk result (self.new ≡ self.old ++ record { time = time; name = name.now; raw = raw } ∷ []) }
+        ensures kept { OnErr result (self.new ≡ self.old) }
+        ensures full { IsErrOf result NoteFault.TooManyWords ↔ (length self.old ≡ 2 ^ 64 - 1) }
+    {
+        if self.count == u64::MAX {
+            return Err(NoteFault::TooManyWords);
+        }
+        let Ok(place) = line_for(self.alloc, &mut self.lines, self.last, name) else {
+            return Err(NoteFault::NoMemory);
+        };
+        note_at(&mut self.lines, place, time, raw);
+        let line = &self.lines[place];
+        self.past.add(line.name(), time, raw);
+        self.count += 1;
+        self.last = place;
+        Ok(())
+    }
+
+    /// The sheet of the words that were noted, at a bit rate in bit/s, by which `load` is reckoned. Names are in the order
+    /// of their bytes. A name has a row for each label and SDI of its words, by label and then by SDI, and a row for all
+    /// its words follows them. Error: an allocation failed.
+    pub fn sheet(&self, alloc: Global, rate: u32) -> Result<Sheet, AllocError>
+        ensures columns { IfOk result (λ sheet. map (λ name. name.now) sheet.columns.now ≡ survey_columns) }
+        ensures rows { IfOk result (λ sheet. sheet.rows ≡ survey_rows rate self.now) }
+    {
+        let rows = rows_of(alloc, rate, &self.lines)?;
+        Ok(Sheet {
+            columns: COLUMNS,
+            rows,
+        })
+    }
+}
