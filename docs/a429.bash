@@ -4,19 +4,19 @@ _a429_lines() {
     cat <<'END_OF_LINES'
 word      Print the fields of a 32-bit word, and its data as BNR and as BCD
 encode    Print the 32-bit word that has these fields
-lines     Print what a reader of a line reports: words, faults, and the rest
+lines     Decode a recorded line: print its words, its faults, and the rest
 import    Print an equipment table, made from a spreadsheet's rows
 plan      Plan a station on the fewest buses, with the bound that shows it
 check     Check whether a plan's text shows the fewest buses for a station
-icd       Print what an interface control document says of each output
-margin    Print how far each group is from one bus less, and what would help
-load      Print the load of each bus, and what its free cells would take
+icd       Print the data of each output for an interface control document
+margin    Show what would save a bus in each group
+load      Print the load of each bus, and how many more outputs it can take
 slots     Print the slot tables of a plan: each cell with its output
-lint      Print what a table does silently, such as words that never arrive
-diff      Print what changes from the plan of a table to that of another
+lint      Report likely mistakes in a table, such as sources that are not sent
+diff      Print what changes when one table replaces another
 draw      Draw the slot tables of a plan as an image (SVG)
 replay    Play the events of a script on a station, and print the answers
-simulate  Print which words a station would have sent, by a log with times
+simulate  Simulate a station on a log of received words with times
 live      Run a station on threads, and print how many words and cells passed
 END_OF_LINES
 }
@@ -43,10 +43,12 @@ _a429() {
         icd | margin | lint) options="--csv --json $options" ;;
         diff) options="--all --csv --json $options" ;;
         draw) options="--group --slots --width --html $options" ;;
-        simulate) options="--until --summary --csv --json $options" ;;
+        simulate) options="--time --from --until --summary --csv --json $options" ;;
     esac
     case ${COMP_WORDS[COMP_CWORD - 1]} in
         --width) COMPREPLY=($(compgen -W "64 128 256" -- "$word")); return ;;
+        --time) COMPREPLY=($(compgen -W "us ms s" -- "$word")); return ;;
+        --from) COMPREPLY=($(compgen -W "first" -- "$word")); return ;;
         --sdi | --ssm) COMPREPLY=($(compgen -W "0 1 2 3" -- "$word")); return ;;
         --group | --slots | --until | --limit | --data | --bnr | --bits | --bcd) COMPREPLY=(); return ;;
     esac

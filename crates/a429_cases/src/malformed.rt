@@ -23,12 +23,12 @@ impl Malformed {
     /// The fault in words, for the line that reports it.
     pub fn text(self) -> &'static str {
         match self {
-            Malformed::File => "the file cannot be read, or is no UTF-8",
+            Malformed::File => "the file cannot be read, or is not UTF-8",
             Malformed::Head => "a line before the first case is no comment",
             Malformed::Words => "the title is not followed by the one line of the command's words",
             Malformed::NoOut => "no part `out STATUS`",
             Malformed::Twice => "more than one part, or text, of one name",
-            Malformed::Status => "the status is no number from 0 to 255",
+            Malformed::Status => "the status is not a number from 0 to 255",
             Malformed::Part => {
                 "a part is neither lines alone nor `has TEXT`, `is NAME`, `is NAME with EDITS`, `is N bytes of NAME` alone"
             }

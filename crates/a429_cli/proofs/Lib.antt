@@ -18,7 +18,6 @@ pub mod Ran
 pub mod Taken
 pub mod WholeAnswers
 pub mod Imported
-pub mod LogTimes
 pub mod LogLines
 pub mod Timelines
 pub mod SimulatedSteps

@@ -1,73 +1,44 @@
--- What the first line of a log states, and the lines after it.
-use Rattle.std.proofs.Common.{◌≡◌, ◌∙◌, ◌+◌, ◌<◌, ◌≤◌, ℕ, zero, suc, inl, inr, List, [], ◌∷◌, ◌++◌, length, refl, sym, ap, arith, subst}
-use Rattle.std.specs.Prelude.{Option, Some, None, Result, Ok, Err, option_map, option_and_then, slice_get}
+-- The words of a log, one after another.
+use Rattle.std.proofs.Common.{◌≡◌, ◌∙◌, ◌+◌, ◌<◌, ◌≤◌, ℕ, zero, suc, inl, inr, List, [], ◌∷◌, ◌++◌, length, sym, ap, arith, subst}
+use Rattle.std.specs.Prelude.{Option, Some, None, Result, Ok, Err, slice_get}
 use Rattle.std.proofs.lemmas.Bool.{cases_lt}
 use Rattle.std.proofs.lemmas.Option.{none-some, same_Some}
-use Rattle.a429_console.specs.CutText.{cut}
-use Rattle.a429_console.specs.Lines.{entries_before, first_entry}
+use Rattle.a429_logs.specs.Logs.{NoneBefore, WordAt}
+use Rattle.a429_logs.specs.declared.reader.LogFault.{LogFault}
+use Rattle.a429_console.specs.Lines.{entries_before}
 use Rattle.a429_console.specs.Names.{Naming}
-use Rattle.a429_console.proofs.CutLines.{lines_by, lines-cut}
 use Rattle.a429_console.proofs.EntryLines.{entries_before-append}
-use Rattle.a429_cli.specs.SimulationLog.{AreInTime, IsInTime, log_after, log_entry, log_from, log_then, time_with, words_with}
-use Rattle.a429_cli.specs.declared.simulate.log.LogEntry.{LogEntry}
-use Rattle.a429_cli.specs.declared.simulate.log.LogEntry.TheVariants.{PassedOver, Word}
+use Rattle.a429_logs.specs.declared.reading.Reading.{Reading}
+use Rattle.a429_cli.specs.SimulationLog.{AreInTime, IsFaultAt, IsReadFault, log_words, word_for, word_then, words_from}
 use Rattle.a429_cli.specs.declared.simulate.log.LogWord.{LogWord}
-
--- what the first entry of a text says of all
-abbrev pub after_entry : Naming → ℕ → ℕ → Option (LogEntry × List ℕ) → Result (List LogWord) ℕ
-after_entry names last n None = Err (n + 1)
-after_entry names last n (Some p) = log_then (Some p.0) (n + 1) last (λ time. log_after names time (n + 1) p.1)
-
--- the first entry, by what the line states
-abbrev by_line : List ℕ → Option LogEntry → Option (LogEntry × List ℕ)
-by_line rest entry = option_map (λ e. (e, rest)) entry
-
-from_line : (names : Naming) (last n : ℕ) (rest : List ℕ) (entry : Option LogEntry)
-    → log_then entry (n + 1) last (λ time. log_after names time (n + 1) rest) ≡ after_entry names last n (by_line rest entry)
-from_line names last n rest None = refl
-from_line names last n rest (Some e) = refl
-
-from_cut : (names : Naming) (last n x : ℕ) (xs : List ℕ) (o : Option (List ℕ × List ℕ))
-    → log_from names last (n + 1) (lines_by o (x ∷ xs)).0 (lines_by o (x ∷ xs)).1 ≡ after_entry names last n (option_and_then (λ p. by_line p.1 (log_entry names last p.0)) o)
-from_cut names last n x xs None = refl
-from_cut names last n x xs (Some p) = from_line names last n p.1 (log_entry names last p.0)
-
--- the words of a text that is not empty, after n lines
-pub log_step : (names : Naming) (last n : ℕ) (text : List ℕ) → 0 < length text → log_after names last n text ≡ after_entry names last n (first_entry (log_entry names last) text)
-log_step names last n [] some = absurd (omega (arith, some))
-log_step names last n (x ∷ xs) some =
-    ap (λ (l : List (List ℕ) × List ℕ). log_from names last (n + 1) l.0 l.1) (lines-cut (x ∷ xs)) ∙ from_cut names last n x xs (cut 10 (x ∷ xs))
-
-pub log_end : (names : Naming) (last n : ℕ) (text : List ℕ) → length text ≡ 0 → log_after names last n text ≡ Ok []
-log_end names last n [] none = refl
-log_end names last n (x ∷ xs) none = absurd (omega (arith, none))
-
--- ---- words taken one after another
-
--- a line that is passed over
-pub log_passed : (names : Naming) (last n : ℕ) (words : List LogWord) (text rest : List ℕ) → 0 < length text → first_entry (log_entry names last) text ≡ Some (PassedOver, rest)
-    → entries_before words (log_after names last n text) ≡ entries_before words (log_after names last (n + 1) rest)
-log_passed names last n words text rest some first = ap (entries_before words) (log_step names last n text some ∙ ap (after_entry names last n) first)
+use Rattle.a429_cli.specs.declared.simulate.log.ReadFault.{ReadFault}
+use Rattle.a429_cli.specs.declared.simulate.log.ReadFault.TheVariants as fault
 
 -- a word more
-pub log_word_more : (names : Naming) (last n : ℕ) (words : List LogWord) (w : LogWord) (text rest : List ℕ) → 0 < length text
-    → first_entry (log_entry names last) text ≡ Some (Word w, rest)
-    → entries_before words (log_after names last n text) ≡ entries_before (words ++ w ∷ []) (log_after names w.time (n + 1) rest)
-log_word_more names last n words w text rest some first =
-    ap (entries_before words) (log_step names last n text some ∙ ap (after_entry names last n) first)
-    ∙ entries_before-append words w (log_after names w.time (n + 1) rest)
+pub words_more : (names : Naming) (words : List LogWord) (left rest : List (Result WordAt LogFault)) (w : WordAt) (v : LogWord) → left ≡ Ok w ∷ rest
+    → Some v ≡ word_for names w.word → entries_before words (words_from names left) ≡ entries_before (words ++ v ∷ []) (words_from names rest)
+words_more names words left rest w v first is =
+    ap (λ (l : List (Result WordAt LogFault)). entries_before words (words_from names l)) first
+    ∙ ap (λ (o : Option LogWord). entries_before words (word_then w.line o (words_from names rest))) (sym is)
+    ∙ entries_before-append words v (words_from names rest)
 
--- a line more
-pub log_more : (names : Naming) (last n : ℕ) (words : List LogWord) (entry : LogEntry) (text rest : List ℕ) → 0 < length text
-    → first_entry (log_entry names last) text ≡ Some (entry, rest)
-    → entries_before words (log_after names last n text) ≡ entries_before (words_with words entry) (log_after names (time_with last entry) (n + 1) rest)
-log_more names last n words PassedOver text rest some first = log_passed names last n words text rest some first
-log_more names last n words (Word w) text rest some first = log_word_more names last n words w text rest some first
+-- a word at no receiver
+pub words_none : (names : Naming) (words : List LogWord) (left rest : List (Result WordAt LogFault)) (w : WordAt) → left ≡ Ok w ∷ rest
+    → None ≡ word_for names w.word → entries_before words (words_from names left) ≡ Err w.line
+words_none names words left rest w first is =
+    ap (λ (l : List (Result WordAt LogFault)). entries_before words (words_from names l)) first
+    ∙ ap (λ (o : Option LogWord). entries_before words (word_then w.line o (words_from names rest))) (sym is)
 
 -- a faulty line
-pub log_faulty : (names : Naming) (last n : ℕ) (words : List LogWord) (text : List ℕ) → 0 < length text → first_entry (log_entry names last) text ≡ None
-    → entries_before words (log_after names last n text) ≡ Err (n + 1)
-log_faulty names last n words text some none = ap (entries_before words) (log_step names last n text some ∙ ap (after_entry names last n) none)
+pub words_fault : (names : Naming) (words : List LogWord) (left rest : List (Result WordAt LogFault)) (bad : LogFault) → left ≡ Err bad ∷ rest
+    → entries_before words (words_from names left) ≡ Err bad.line
+words_fault names words left rest bad first = ap (λ (l : List (Result WordAt LogFault)). entries_before words (words_from names l)) first
+
+-- a fault at that line
+pub fault_at : (names : Naming) (reading : Reading) (text : List ℕ) (n : ℕ) (f : ReadFault) → IsFaultAt n f → log_words names reading text ≡ Err n
+    → IsReadFault names reading text f
+fault_at names reading text n (fault.Line f) at is = is ∙ ap Err (sym at)
+fault_at names reading text n fault.NoMemory at is = absurd at
 
 -- ---- their times
 
@@ -76,8 +47,8 @@ pub record AreUpTo (words : List LogWord) (last : ℕ) : Type 0 where
   pub in_time : AreInTime words
   pub before : (i : ℕ) (w : LogWord) → slice_get words i ≡ Some w → w.time ≤ last
 
-pub none_up_to : AreUpTo [] 0
-none_up_to = record {
+none_up_to : (last : ℕ) → AreUpTo [] last
+none_up_to last = record {
   in_time = record { in_order = λ i w v here next. absurd (none-some w here); few = λ i w here. absurd (none-some w here) };
   before = λ i w here. absurd (none-some w here);
 }
@@ -120,6 +91,17 @@ up_to_more words w last U later small = record {
       ];
 }
 
-pub up_to_with : (words : List LogWord) (last : ℕ) (entry : LogEntry) → AreUpTo words last → IsInTime last entry → AreUpTo (words_with words entry) (time_with last entry)
-up_to_with words last PassedOver U later = U
-up_to_with words last (Word w) U later = up_to_more words w last U later.0 later.1
+-- ---- with the words that are left
+
+-- the words so far, and the times of those that are left
+abbrev pub AreSoFar : List LogWord → List (Result WordAt LogFault) → Type 0
+AreSoFar words left = (last : ℕ) × AreUpTo words last × NoneBefore last left
+
+pub so_far_more : (words : List LogWord) (left rest : List (Result WordAt LogFault)) (w : WordAt) (v : LogWord) → AreSoFar words left → left ≡ Ok w ∷ rest
+    → v.time ≡ w.word.time → v.time < 100000000000000 → AreSoFar (words ++ v ∷ []) rest
+so_far_more words left rest w v (last, U, before) first same few =
+    let later = subst (λ (l : List (Result WordAt LogFault)). NoneBefore last l) first before in
+    (v.time, up_to_more words v last U (subst (λ (t : ℕ). last ≤ t) (sym same) later.0) few, subst (λ (t : ℕ). NoneBefore t rest) (sym same) later.1)
+
+pub so_far_none : (last : ℕ) (left : List (Result WordAt LogFault)) → NoneBefore last left → AreSoFar [] left
+so_far_none last left before = (last, none_up_to last, before)

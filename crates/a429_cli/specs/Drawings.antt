@@ -7,7 +7,6 @@ use Rattle.a429_slots.specs.Proposed.{Proposed}
 use Rattle.a429_documents.specs.Drawing.{IsDrawingFault, image_height}
 use Rattle.a429_documents.specs.declared.drawing.DrawingFault.{DrawingFault}
 use Rattle.a429_documents.specs.declared.drawing.DrawingFault.TheVariants as drawing
-use Rattle.a429_documents.specs.declared.drawing.DrawingForm.{DrawingForm}
 use Rattle.a429_console.specs.FileReadings.{readable}
 use Rattle.a429_console.specs.Requests.{OptionBytes}
 use Rattle.a429_console.specs.Tables.{IsGroupRefusal, IsProposedBy}

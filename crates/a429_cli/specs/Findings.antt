@@ -27,7 +27,7 @@ IsFound form columns rows status bytes = (bytes ≡ sheet_text form columns rows
 
 -- ---- lint
 
--- what is written of what a table does silently, and the status
+-- what is written of the likely mistakes in a table, and the status
 abbrev pub IsLint : SheetForm → TableRecord → ℕ → List ℕ → Type 0
 IsLint form t status bytes = (rows : List (List Field)) × AreFindings t rows × IsFound form lint_columns rows status bytes
 

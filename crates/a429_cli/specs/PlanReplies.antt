@@ -31,7 +31,7 @@ IsTextOf Plan e p text = text ≡ plan_text_of e p
 IsTextOf (Document form) e p text = text ≡ sheet_text form icd_columns (icd_rows e p)
 IsTextOf (Margin form) e p text = (rows : List (List Field)) × IsMargin e p rows × (text ≡ sheet_text form margin_columns rows)
 
--- it has this of the plan of the table in a file, and the status is 0
+-- it is this text about the plan of the table in a file, and the status is 0
 abbrev pub IsPlanTextOf : (List ℕ → Option (List ℕ)) → PlanText → List ℕ → ℕ → List ℕ → Type 0
 IsPlanTextOf file kind name status text =
     (table : List ℕ) × (q : Proposed) × (readable (file name) ≡ Some table) × IsProposedBy table q × IsTextOf kind q.station q.plan text × (status ≡ 0)

@@ -1,4 +1,4 @@
--- What the program does with the words that it is given.
+-- What the program does with its arguments.
 use Rattle.std.specs.Prelude.{◌≡◌, ◌≤◌, [], ◌∷◌, ◌⊎◌, ℕ, List, Bool, false, Option, IsTrue, codes, if◌then◌else◌}
 use Rattle.std.specs.Str.{bytes_eq}
 use Rattle.a429_console.specs.Ends.{EndsBy, IsLeft, IsMemoryRefused, IsMistakeTold, IsPutTo, IsWhole, Writing}
@@ -18,7 +18,7 @@ abbrev pub is_live : List (List ℕ) → Bool
 is_live [] = false
 is_live (word ∷ words) = bytes_eq word (codes "live")
 
--- The words went to `command_live`, or to `command`, which does the other commands; Reads says what is true of all files that give what the reader
+-- The arguments went to `command_live`, or to `command`, which does the other commands; Reads says what is true of all files that give what the reader
 -- answered during the call.
 pub record IsCallDone {X Y : Type 0} (live : Bool) (words : List (List ℕ)) (reader : Reader) (Reads : ((List ℕ → Option (List ℕ)) → Type 0) → Type 0) (out : Writing X) (err : Writing Y) (status : ℕ) : Type 0 where
   pub answered : (r : AskedBytes) → is_run r.verb ≡ live → AsksFor words r → (status ≤ trouble_of r.verb) × (IsTrue reader.tells → IsWhole out → IsPutTo (IsReplyOrMemory reader.file r) out status)
@@ -26,7 +26,7 @@ pub record IsCallDone {X Y : Type 0} (live : Bool) (words : List (List ℕ)) (re
   pub quiet : (r : AskedBytes) → is_run r.verb ≡ live → AsksFor words r → Reads (λ file. TakesEach file r → status ≡ 0 → IsLeft err)
   pub ends : EndsBy (if live then live_kinds_of_words words else kinds_of_words words) out err status
 
--- the words went to the call that does the command which the first of them names
+-- the arguments went to the call that does the command which the first of them names
 abbrev pub CommandIsDone : {X Y : Type 0} → List (List ℕ) → Reader → (((List ℕ → Option (List ℕ)) → Type 0) → Type 0) → Writing X → Writing Y → ℕ → Type 0
 CommandIsDone words = IsCallDone (is_live words) words
 
@@ -34,7 +34,7 @@ CommandIsDone words = IsCallDone (is_live words) words
 abbrev pub IsDoneOrRefused : {X Y : Type 0} → List (List ℕ) → Reader → (((List ℕ → Option (List ℕ)) → Type 0) → Type 0) → Writing X → Writing Y → ℕ → Type 0
 IsDoneOrRefused words reader Reads out err status = CommandIsDone words reader Reads out err status ⊎ IsMemoryRefused out err status
 
--- the words that were given went to their command, or they are not all UTF-8, or an allocation failed
+-- the given arguments went to their command, or one of them is not UTF-8, or an allocation failed
 abbrev pub HasRunProgram : {X Y : Type 0} → (ℕ → List ℕ → Type 0) → (ℕ → Type 0) → Reader → (((List ℕ → Option (List ℕ)) → Type 0) → Type 0) → Writing X → Writing Y → ℕ → Type 0
 HasRunProgram gives ends reader Reads out err status =
     ((words : List (List ℕ)) × AreAllWords gives ends words × CommandIsDone words reader Reads out err status)

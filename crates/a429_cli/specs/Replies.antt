@@ -18,7 +18,7 @@ use Rattle.a429_cli.specs.Findings.{IsDiffOf, IsLinted, IsNoDiff, IsNoLint}
 use Rattle.a429_cli.specs.Importing.{IsImported, IsNoImport}
 use Rattle.a429_cli.specs.LiveReplies.{IsLiveReply, TakesLive}
 use Rattle.a429_cli.specs.Replaying.{IsReplay, TakesFurther}
-use Rattle.a429_cli.specs.SimulationReplies.{IsSimulation}
+use Rattle.a429_cli.specs.SimulationReplies.{IsSimulation, simulation_form}
 use Rattle.a429_cli.specs.WholeReplies.{IsReplyBy}
 use Rattle.a429_cli.specs.declared.plan_texts.PlanText.TheVariants as told
 
@@ -69,7 +69,7 @@ IsNoAnswer _ file r = IsNoPlan file r.first
 abbrev pub IsReplyOf : Verb → (List ℕ → Option (List ℕ)) → AskedBytes → ℕ → List ℕ → Type 0
 IsReplyOf verb.Lines file r = IsLinesReply file r.first r.more
 IsReplyOf verb.Replay file r = IsReplay file r.first r.second r.more
-IsReplyOf verb.Simulate file r = IsSimulation file r.first r.second (record { until = r.options.until; summary = r.options.summary; form = r.options.form })
+IsReplyOf verb.Simulate file r = IsSimulation file r.first r.second (simulation_form r.options)
 IsReplyOf verb.Live file r = IsLiveReply file r
 IsReplyOf v file r = IsReplyBy (trouble_of v) (IsAnswerOf v file r) (IsNoAnswer v file r)
 

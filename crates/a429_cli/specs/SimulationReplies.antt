@@ -1,12 +1,16 @@
 -- The command `simulate`: what it writes, and its status.
-use Rattle.std.specs.Prelude.{◌≡◌, ◌∷◌, [], ◌++◌, ◌⊎◌, ℕ, List, Bool, true, false, Option, Ok, Result, MatchResult, IfOk, codes, take}
+use Rattle.std.specs.Prelude.{◌≡◌, ◌∷◌, [], ◌++◌, ◌⊎◌, ℕ, List, Bool, true, false, Option, None, Some, Ok, Result, MatchResult, IfOk, codes, take}
 use Rattle.a429_text.specs.declared.sheets.SheetForm.{SheetForm}
+use Rattle.a429_console.specs.declared.arguments.times.LogOrigin.{LogOrigin}
+use Rattle.a429_console.specs.declared.arguments.times.LogOrigin.TheVariants as origin
+use Rattle.a429_logs.specs.declared.clocks.Clock.{Clock}
+use Rattle.a429_logs.specs.declared.reading.Reading.{Reading}
 use Rattle.a429_slots.specs.Proposed.{Proposed}
 use Rattle.a429_console.specs.FileReadings.{AreRead, IsFirstUnread}
 use Rattle.a429_console.specs.Names.{naming_of}
 use Rattle.a429_console.specs.Outputs.{AppendsPending, IsPut, OrNoMemory, memory_refused}
 use Rattle.a429_console.specs.RefusalText.{OrMemory, refusal_line}
-use Rattle.a429_console.specs.Requests.{is_csv}
+use Rattle.a429_console.specs.Requests.{OptionBytes, is_csv}
 use Rattle.a429_console.specs.Tables.{IsProposedBy, IsTableRefusal}
 use Rattle.a429_console.specs.declared.refusals.CommandRefusal.{CommandRefusal}
 use Rattle.a429_console.specs.declared.refusals.CommandRefusal.TheVariants as refused
@@ -24,6 +28,16 @@ use Rattle.a429_cli.specs.declared.simulate.machine.Happening.{Happening}
 use Rattle.a429_cli.specs.declared.simulate.moments.Moment.{Moment}
 use Rattle.a429_cli.specs.declared.simulate.playing.Player.{Player}
 
+-- times are counted from a time on, or from that of the first word
+abbrev pub clock_from : LogOrigin → Clock
+clock_from (origin.Time base) = record { base = Some base; last = 0 }
+clock_from origin.First = record { base = None; last = 0 }
+
+-- what the options ask for
+abbrev pub simulation_form : OptionBytes → SimulationForm
+simulation_form o =
+    record { until = o.until; summary = o.summary; form = o.form; reading = record { unit = o.time; shape = None; clock = clock_from o.from } }
+
 -- the bytes of the files that a simulation reads
 pub record SimulationFiles : Type 0 where
   pub table : List ℕ
@@ -34,32 +48,33 @@ abbrev pub AreSimulationFiles : (List ℕ → Option (List ℕ)) → List ℕ �
 AreSimulationFiles file table log i = AreRead file (table ∷ log ∷ []) (i.table ∷ i.log ∷ [])
 
 -- the table has a plan, at whose slot 0 the station opens, and the log these words
-pub record IsSimulated (i : SimulationFiles) (q : Proposed) (words : List LogWord) : Type 0 where
+pub record IsSimulated (i : SimulationFiles) (reading : Reading) (q : Proposed) (words : List LogWord) : Type 0 where
   pub proposed : IsProposedBy i.table q
-  pub words_are : log_words (naming_of q.station) i.log ≡ Ok words
+  pub words_are : log_words (naming_of q.station) reading i.log ≡ Ok words
 
 -- of a table with a plan, the log has a fault
-abbrev pub IsLogRefusal : SimulationFiles → CommandRefusal → Type 0
-IsLogRefusal i refusal = (q : Proposed) × IsProposedBy i.table q × IsLogFault (naming_of q.station) i.log refusal
+abbrev pub IsLogRefusal : SimulationFiles → Reading → CommandRefusal → Type 0
+IsLogRefusal i reading refusal = (q : Proposed) × IsProposedBy i.table q × IsLogFault (naming_of q.station) reading i.log refusal
 
 -- why there is no simulation of these bytes: the table or its plan, or the log
-abbrev pub IsNoSimulation : SimulationFiles → CommandRefusal → Type 0
-IsNoSimulation i refusal = IsTableRefusal i.table refusal ⊎ IsLogRefusal i refusal
+abbrev pub IsNoSimulation : SimulationFiles → Reading → CommandRefusal → Type 0
+IsNoSimulation i reading refusal = IsTableRefusal i.table refusal ⊎ IsLogRefusal i reading refusal
 
 -- a group would send too much up to the last time
-abbrev pub IsLongRefusal : SimulationFiles → Option ℕ → CommandRefusal → Type 0
-IsLongRefusal i until refusal =
-    (q : Proposed) × (words : List LogWord) × IsSimulated i q words × (refusal ≡ refused.TooMuch) × SendsTooMuch q (end_of q words until)
+abbrev pub IsLongRefusal : SimulationFiles → SimulationForm → CommandRefusal → Type 0
+IsLongRefusal i form refusal =
+    (q : Proposed) × (words : List LogWord) × IsSimulated i form.reading q words × (refusal ≡ refused.TooMuch)
+    × SendsTooMuch q (end_of q words form.until)
 
 -- why nothing is simulated: the bytes, or that it would be too long
-abbrev pub IsUnsimulated : SimulationFiles → Option ℕ → CommandRefusal → Type 0
-IsUnsimulated i until refusal = IsNoSimulation i refusal ⊎ IsLongRefusal i until refusal
+abbrev pub IsUnsimulated : SimulationFiles → SimulationForm → CommandRefusal → Type 0
+IsUnsimulated i form refusal = IsNoSimulation i form.reading refusal ⊎ IsLongRefusal i form refusal
 
 -- why there is no simulation: a file, the bytes, or that it would be too long
-abbrev pub IsSimulationRefusal : (List ℕ → Option (List ℕ)) → List ℕ → List ℕ → Option ℕ → CommandRefusal → Type 0
-IsSimulationRefusal file table log until refusal =
+abbrev pub IsSimulationRefusal : (List ℕ → Option (List ℕ)) → List ℕ → List ℕ → SimulationForm → CommandRefusal → Type 0
+IsSimulationRefusal file table log form refusal =
     IsFirstUnread file (table ∷ log ∷ []) refusal
-    ⊎ ((i : SimulationFiles) × AreSimulationFiles file table log i × IsUnsimulated i until refusal)
+    ⊎ ((i : SimulationFiles) × AreSimulationFiles file table log i × IsUnsimulated i form refusal)
 
 -- what comes before the lines: with commas the names of the fields
 abbrev pub heading : Bool → List ℕ
@@ -96,8 +111,8 @@ IsWritten q words last false form = IsPrinting q words last (is_csv form)
 -- what `simulate` writes, and its status: the line of a refusal, or what the simulation prints
 abbrev pub IsSimulation : (List ℕ → Option (List ℕ)) → List ℕ → List ℕ → SimulationForm → ℕ → List ℕ → Type 0
 IsSimulation file table log form status bytes =
-    ((refusal : CommandRefusal) × OrMemory (IsSimulationRefusal file table log form.until) refusal × (status ≡ 1) × (bytes ≡ refusal_line refusal ++ 10 ∷ []))
-    ⊎ ((i : SimulationFiles) × (q : Proposed) × (words : List LogWord) × AreSimulationFiles file table log i × IsSimulated i q words
+    ((refusal : CommandRefusal) × OrMemory (IsSimulationRefusal file table log form) refusal × (status ≡ 1) × (bytes ≡ refusal_line refusal ++ 10 ∷ []))
+    ⊎ ((i : SimulationFiles) × (q : Proposed) × (words : List LogWord) × AreSimulationFiles file table log i × IsSimulated i form.reading q words
     × IsWritten q words (end_of q words form.until) form.summary form.form status bytes)
 
 -- ---- by the values of the program
@@ -115,14 +130,16 @@ abbrev pub IsSettingOf : List ℕ → Bool → Setting → Type 0
 IsSettingOf table csv s = IsProposedBy table s.proposal × HasStationNames s.names s.proposal × (s.csv ≡ csv)
 
 -- a beginning with the words of a log
-abbrev pub BeginsLog : Setting → List ℕ → Option ℕ → Player → Type 0
-BeginsLog s log until p = (words : List LogWord) × (log_words s.names log ≡ Ok words) × IsBegin s.proposal words (end_of s.proposal words until) p
+abbrev pub BeginsLog : Setting → List ℕ → SimulationForm → Player → Type 0
+BeginsLog s log form p =
+    (words : List LogWord) × (log_words s.names form.reading log ≡ Ok words) × IsBegin s.proposal words (end_of s.proposal words form.until) p
 
 -- why there is none: the log, or that a group would send too much
-abbrev pub BeginsNoLog : Setting → List ℕ → Option ℕ → CommandRefusal → Type 0
-BeginsNoLog s log until refusal =
-    IsLogFault s.names log refusal
-    ⊎ ((words : List LogWord) × (log_words s.names log ≡ Ok words) × (refusal ≡ refused.TooMuch) × SendsTooMuch s.proposal (end_of s.proposal words until))
+abbrev pub BeginsNoLog : Setting → List ℕ → SimulationForm → CommandRefusal → Type 0
+BeginsNoLog s log form refusal =
+    IsLogFault s.names form.reading log refusal
+    ⊎ ((words : List LogWord) × (log_words s.names form.reading log ≡ Ok words) × (refusal ≡ refused.TooMuch)
+    × SendsTooMuch s.proposal (end_of s.proposal words form.until))
 
 -- it has the names of its station, and can be played
 pub record SimulationIsReady (s : Simulation) : Type 0 where
@@ -132,7 +149,7 @@ pub record SimulationIsReady (s : Simulation) : Type 0 where
 -- what these bytes simulate, at its begin
 pub record IsPreparedFor (i : SimulationFiles) (form : SimulationForm) (s : Simulation) : Type 0 where
   pub words : List LogWord
-  pub simulated : IsSimulated i s.setting.proposal words
+  pub simulated : IsSimulated i form.reading s.setting.proposal words
   pub csv : s.setting.csv ≡ is_csv form.form
   pub begin : HasPlayed s.setting.proposal words (end_of s.setting.proposal words form.until) [] s.player
   pub ready : SimulationIsReady s

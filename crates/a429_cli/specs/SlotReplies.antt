@@ -1,5 +1,5 @@
 -- The command `slots`: what it writes, its status, and when it is refused (profile: output).
-use Rattle.std.specs.Prelude.{◌≡◌, ◌⊎◌, ℕ, Bool, List, Option, Result, Some, if◌then◌else◌}
+use Rattle.std.specs.Prelude.{◌≡◌, ◌⊎◌, ℕ, List, Option, Result, Some, if◌then◌else◌}
 use Rattle.a429_text.specs.Sheets.{sheet_text}
 use Rattle.a429_slots.specs.Proposed.{Proposed}
 use Rattle.a429_documents.specs.SlotHeader.{header_text}

@@ -1,4 +1,4 @@
-//! Commands, from words and files to bytes.
+//! Commands, from arguments and files to bytes.
 ghost use Rattle.std.specs.Prelude.{[], ◌≡◌, ◌≤◌, ◌+◌, ◌⊎◌, false, true, IfOk, IsTrue, OnErr, OnOk};
 ghost use Rattle.a429_console.specs.Ends.{EndsBy, EndsOrFails, writing};
 ghost use Rattle.a429_console.specs.Files.{texts_of};
@@ -110,7 +110,7 @@ fn answer_here<H: Hints, F: FileReader, O: Output, V: Output>(
         (writing V.contents V.failures V.is_flushed err.old err.new) result }
 {
     if is_run(asked.verb) {
-        let error = other_call_error(alloc, "this call runs no station");
+        let error = other_call_error(alloc, "this call does not run `live`");
         explain(alloc, &error, &[], hints, out, err)
     } else {
         answer_with_hint(alloc, asked, hints, files, out, err)

@@ -55,7 +55,7 @@ fn group_numbered(groups: &[GroupRow], name: &str) -> Option<usize>
     groups.iter().position(|group| group.name.as_str() == name)
 }
 
-/// The number of the group that is asked for, or `None` for all if no name was given. A name that no group has is refused.
+/// The number of the group to draw; `None` draws all groups. Error: no group has this name.
 pub fn group_asked(
     alloc: Global,
     groups: &[GroupRow],

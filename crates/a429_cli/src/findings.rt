@@ -34,7 +34,7 @@ fn found_reply(alloc: Global, sheet: &Sheet, form: SheetForm) -> Result<Reply, A
     Ok(Reply { bytes, status })
 }
 
-/// What an equipment does silently. The rows are kept for a hint.
+/// The likely mistakes in an equipment. The rows are kept for a hint.
 fn lint(
     alloc: Global,
     equipment: &Equipment,
@@ -49,7 +49,7 @@ fn lint(
     reply
 }
 
-/// What the table in a file does silently, a row for each finding. The status is 0 if there is none, otherwise 1. The
+/// The likely mistakes in the table in a file, a row for each finding. The status is 0 if there is none, otherwise 1. The
 /// file is refused first, then the table.
 pub fn lint_reply<F: FileReader>(
     alloc: Global,

@@ -41,7 +41,7 @@ fn add_filter(filters: &mut FilterSet, text: &str) -> bool
     }
 }
 
-/// The filters of texts. Without texts there is no list. Error: the first text that is no filter, or the 33rd.
+/// The filters of texts. Without texts there is no list. Error: the first text that is not a filter, or the 33rd.
 fn read_filters(texts: &[&str]) -> Result<FilterSet, CommandRefusal>
     ensures { MatchResult result (AreFiltersOf (texts_of texts.now)) (IsFilterRefusal (texts_of texts.now)) }
 {

@@ -1,4 +1,4 @@
-//! Machines at the begin of a replay or a simulation.
+//! Machines at the beginning of a replay or a simulation.
 ghost use Rattle.a429_slots.specs.Planned.{IsPlanOf};
 ghost use Rattle.a429_cli.specs.Opened.{OpensMachine};
 
@@ -7,7 +7,7 @@ use a429_core::{OpenFault, StationState};
 use a429_slots::{OUTPUTS, Proposal};
 use std::alloc::Global;
 
-/// The machine of a proposal, to which nothing has happened, at slot 0. The refusal is that of memory.
+/// Opens the machine of a proposal at slot 0, with no event yet. Error: an allocation failed.
 pub fn open_machine(
     alloc: Global,
     proposal: Proposal<OUTPUTS>,

@@ -29,13 +29,13 @@ use std::io::Write;
 pub enum PlanText {
     /// The plan itself, with its bounds.
     Plan,
-    /// What an interface control document says of each output.
+    /// The data of each output for an interface control document.
     Document(SheetForm),
-    /// How far each group is from one bus less.
+    /// What would save a bus in each group.
     Margin(SheetForm),
 }
 
-/// The text that has this of a proposal's plan. Error: an allocation failed.
+/// This text about the plan of a proposal. Error: an allocation failed.
 fn text_of(
     alloc: Global,
     kind: PlanText,
@@ -50,8 +50,8 @@ fn text_of(
     }
 }
 
-/// The text that has this of the plan of the table in a file, with status 0. The file is refused first, then the table, then
-/// its plan.
+/// This text about the plan of the table in a file, with status 0. Error, in this order: the file, its table or the plan is
+/// refused.
 pub fn plan_reply<F: FileReader>(
     alloc: Global,
     files: &mut F,

@@ -1,4 +1,4 @@
-//! The whole program: from the words that it was given to a status.
+//! The whole program: from its arguments to a status.
 ghost use Rattle.std.specs.Prelude.{◌≡◌, false, map, string_bytes, true, IfOk};
 ghost use Rattle.a429_console.specs.Ends.{IsMemoryRefused, writing};
 ghost use Rattle.a429_console.specs.Files.{texts_of};
@@ -18,8 +18,8 @@ use std::alloc::{AllocError, Global};
 use std::sync::Wait;
 use std::thread::Threads;
 
-/// The line for arguments that are not all UTF-8.
-const NOT_TEXT: &[u8] = b"error: the words of the command line are not all UTF-8\n";
+/// The line for an argument that is not UTF-8.
+const NOT_TEXT: &[u8] = b"error: an argument is not UTF-8\n";
 
 fn texts(alloc: Global, words: &[String]) -> Result<Vec<&str>, AllocError>
     ensures { IfOk result (λ texts. texts_of texts.items ≡ map string_bytes words.entry.now) }

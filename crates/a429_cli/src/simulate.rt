@@ -7,7 +7,7 @@ ghost use Rattle.a429_console.specs.Replying.{HasReplied};
 ghost use Rattle.a429_console.specs.Requests.{is_csv};
 ghost use Rattle.a429_console.specs.Tables.{IsTableRefusal};
 ghost use Rattle.a429_cli.specs.CellLines.{IsBeginOfSlot};
-ghost use Rattle.a429_cli.specs.SimulationReplies.{BeginsLog, BeginsNoLog, HasPrinted, HasPrintedLines, HasPrintedSummary, HasSummary, IsPreparedFor, IsSettingOf, IsSimulation, IsSimulationReading, IsUnsimulated, PutsLines, SimulationIsReady, files_of};
+ghost use Rattle.a429_cli.specs.SimulationReplies.{BeginsLog, BeginsNoLog, HasPrinted, HasPrintedLines, HasPrintedSummary, HasSummary, IsPreparedFor, IsSettingOf, IsSimulation, IsSimulationReading, IsUnsimulated, PutsLines, SimulationIsReady, clock_from, files_of};
 ghost use Rattle.a429_cli.specs.SimulationRuns.{CanBePlayed, HasStationNames};
 
 pub mod figures;
@@ -27,6 +27,7 @@ use crate::simulate::log::read_log;
 use crate::simulate::playing::Player;
 use crate::simulate::summary_rows::summary_sheet;
 use a429_console::arguments::requests::Options;
+use a429_console::arguments::times::LogOrigin;
 use a429_console::files::FileReader;
 use a429_console::files::reading::read_file;
 use a429_console::hints::Seen;
@@ -34,6 +35,7 @@ use a429_console::output::endings::{finish, refuse_memory};
 use a429_console::output::{Output, OutputFault};
 use a429_console::refusals::tables::propose;
 use a429_console::refusals::{CommandRefusal, refuse};
+use a429_logs::{Clock, Reading};
 use a429_text::SheetForm;
 use std::alloc::{AllocError, Global};
 
@@ -44,19 +46,34 @@ pub struct SimulationForm {
     pub until: Option<u64>,
     pub summary: bool,
     pub form: SheetForm,
+    /// How the first line of the log is read.
+    pub reading: Reading,
+}
+
+/// The clock that counts from this time on.
+fn clock_from(from: LogOrigin) -> Clock
+    ensures { result ≡ clock_from from }
+{
+    match from {
+        LogOrigin::Time(base) => Clock::from_time(base),
+        LogOrigin::First => Clock::from_first(),
+    }
 }
 
 impl SimulationForm {
     ghost use Rattle.std.specs.Prelude.{◌≡◌};
+    ghost use Rattle.a429_console.specs.Requests.{given_of};
+    ghost use Rattle.a429_cli.specs.SimulationReplies.{simulation_form};
 
     /// The form that these options ask for.
     pub fn of(options: &Options) -> SimulationForm
-        ensures { result ≡ record { until = options.now.until; summary = options.now.summary; form = options.now.form } }
+        ensures { result ≡ simulation_form (given_of options.now) }
     {
         SimulationForm {
             until: options.until,
             summary: options.summary,
             form: options.form,
+            reading: Reading::new(options.time, clock_from(options.from)),
         }
     }
 }
@@ -118,18 +135,18 @@ fn read_station(
     })
 }
 
-/// A log on a station, with slots up to this time. Error: the log is refused, or a group would send too much.
+/// A log on a station, with slots up to the time that the form asks for. Error: the log is refused, or a group would send too much.
 fn read_player(
     alloc: Global,
     setting: &Setting,
     log: &[u8],
-    until: Option<u64>,
+    form: SimulationForm,
     seen: &mut Seen,
 ) -> Result<Player, CommandRefusal>
-    ensures { MatchResult result (BeginsLog setting.now log.now until) (OrMemory (BeginsNoLog setting.now log.now until)) }
+    ensures { MatchResult result (BeginsLog setting.now log.now form) (OrMemory (BeginsNoLog setting.now log.now form)) }
 {
-    let words = read_log(alloc, &setting.names, log, seen)?;
-    Player::open(alloc, &setting.proposal, words, until)
+    let words = read_log(alloc, &setting.names, form.reading, log, seen)?;
+    Player::open(alloc, &setting.proposal, words, form.until)
 }
 
 /// What is simulated. Error: the table, its plan or the log is refused, or a group would send too much.
@@ -139,10 +156,10 @@ fn prepare(
     form: SimulationForm,
     seen: &mut Seen,
 ) -> Result<Simulation, CommandRefusal>
-    ensures { MatchResult result (IsPreparedFor (files_of input.now) form) (OrMemory (IsUnsimulated (files_of input.now) form.until)) }
+    ensures { MatchResult result (IsPreparedFor (files_of input.now) form) (OrMemory (IsUnsimulated (files_of input.now) form)) }
 {
     let setting = read_station(alloc, &input.table, is_csv(form.form), seen)?;
-    let player = read_player(alloc, &setting, &input.log, form.until, seen)?;
+    let player = read_player(alloc, &setting, &input.log, form, seen)?;
     Ok(Simulation { setting, player })
 }
 

@@ -1,4 +1,4 @@
-//! The program on words of its own.
+//! The program on arguments of its own.
 
 use crate::failing::Failing;
 use crate::words::run_on_words;
@@ -14,7 +14,7 @@ type ProgramRow = (&'static [&'static [u8]], u8, &'static [u8], &'static [u8]);
 static RUNS: [ProgramRow; 2] = [
     // An argument that is not text is a usage error.
     (&[b"a429", b"word", b"600000c1", b"\xff"], 2, b"", b""),
-    // A word of any length is read.
+    // An argument of any length is read.
     (
         &[b"a429", b"word", &[b'0'; 600]],
         1,
@@ -23,7 +23,7 @@ static RUNS: [ProgramRow; 2] = [
     ),
 ];
 
-/// Whether the program does so on words in memory.
+/// Whether the program does so on arguments in memory.
 fn is_done<R: AllocGlobal + Threads + Wait>(rt: &R, row: &ProgramRow) -> bool {
     let (words, status, out, err) = *row;
     let mut files = MemoryFiles {

@@ -36,7 +36,7 @@ pub fn replay_in_memory(
     Some((status, out.writer))
 }
 
-/// The same by the whole program, on words in memory: its path, which need not be text, `replay`, and the two names. It
+/// The same by the whole program, on arguments in memory: its path, which need not be text, `replay`, and the two names. It
 /// may wait for threads, since the program may.
 pub fn replay_by_words<R: AllocGlobal + Threads + Wait>(
     rt: &R,

@@ -1,4 +1,4 @@
-//! Words in memory, and the program on them.
+//! Arguments in memory, and the program on them.
 ghost use Rattle.std.specs.Io.{WritesAtMost};
 ghost use Rattle.a429_console.specs.Ends.{writing};
 ghost use Rattle.a429_console.specs.Files.{texts_of};

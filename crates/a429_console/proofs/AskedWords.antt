@@ -1,6 +1,6 @@
 -- The plain form of a request asks for it.
 use Rattle.std.proofs.Common.{◌≡◌, ◌∙◌, ap, refl, subst, sym, true, false, codes, Bool, List, [], ◌∷◌, ◌++◌, map, append-nil, append_assoc, arith}
-use Rattle.std.specs.Prelude.{◌^◌, ◌<◌, ◌≤◌, ◌+◌, ◌&&◌, ◌||◌, ℕ, Option, min, Some, None, IfSome, MatchOption, ⊤, if◌then◌else◌, is_some, not, option_map}
+use Rattle.std.specs.Prelude.{◌^◌, ◌<◌, ◌≤◌, ◌+◌, ◌&&◌, ℕ, Option, min, Some, None, IfSome, MatchOption, ⊤, if◌then◌else◌, is_some, not, option_map}
 use Rattle.std.specs.Fmt.{decimal}
 use Rattle.std.specs.List.{AllByRecursion, list_all}
 use Rattle.std.specs.Str.{bytes_eq}
@@ -12,11 +12,11 @@ use Rattle.clap.specs.Lexer.{usize_max}
 use Rattle.clap.specs.ValueTests.{is_unsigned_in}
 use Rattle.clap.specs.Words.{Row, Rule, Shape, Text, first_of, one_of}
 use Rattle.clap.specs.Takes.{value_passes}
-use Rattle.clap.specs.Walk.{Held, finished, has_row, idle, nothing_held, settled, walk_from}
+use Rattle.clap.specs.Walk.{Held, finished, has_row, idle, nothing_held, walk_from}
 use Rattle.a429_equipment.specs.Limits.{most_frames}
-use Rattle.a429_console.specs.CommandLine.{All, Bcd, Bits, Bnr, Code, CommandRow, Csv, Data, Group, Html, Json, Limit, OptionName, Sdi, Slots, Ssm, Summary, Until, Width, last_time, most_bits, most_pair, most_percent, most_slots, options_of, row_of}
-use Rattle.a429_console.specs.Requests.{AskedBytes, HasWords, IsName, OptionBytes, flag_word, has_one_value, has_option, is_csv, is_flag, is_json, word_given, words_if, words_of, words_of_options, words_with}
-use Rattle.a429_console.specs.RequestRows.{AreFields, AreOptions, AsksFor, IsAskedBy, form_given, form_of, is_set, is_value_given, number_of, values_of, width_given}
+use Rattle.a429_console.specs.CommandLine.{All, Bcd, Bits, Bnr, Code, CommandRow, Csv, Data, From, Group, Html, Json, Limit, OptionName, Sdi, Slots, Ssm, Summary, Time, Until, Width, last_time, most_bits, most_pair, most_percent, most_slots, options_of, row_of}
+use Rattle.a429_console.specs.Requests.{AskedBytes, HasWords, IsName, OptionBytes, flag_word, has_one_value, has_option, is_csv, is_flag, is_json, origin_word, unit_word, word_given, words_if, words_of, words_of_options, words_with}
+use Rattle.a429_console.specs.RequestRows.{AreFields, AreOptions, AsksFor, IsAskedBy, form_of, is_set, is_value_given, number_of, origin_given, unit_given, values_of, width_given}
 use Rattle.a429_text.specs.declared.sheets.SheetForm.{SheetForm}
 use Rattle.a429_text.specs.declared.sheets.SheetForm.TheVariants as form
 use Rattle.a429_console.specs.declared.arguments.forms.Verb.{Verb}
@@ -26,7 +26,7 @@ use Rattle.a429_console.proofs.CommandWords.{asks_for, ends_well, row, row_of_wo
 use Rattle.a429_console.proofs.Decimals.{decimal_is_name, number_of_decimal}
 use Rattle.a429_console.proofs.FoundRows.{flag_unset, option_found, option_missing, required_given, still_found, still_missing, use_id, use_row, uses_found, uses_still_found, with_defaults}
 use Rattle.a429_console.proofs.OptionWords.{AreFound, WordPasses, id_of, options_read, rows_of_options, rows_of_word, same_option}
-use Rattle.a429_console.proofs.PassingOptions.{from_zero, width_of_decimal, words_pass}
+use Rattle.a429_console.proofs.PassingOptions.{from_zero, origin_of_word, unit_of_word, width_of_decimal, words_pass}
 use Rattle.a429_console.proofs.PlainWords.{IsPlainWord, at_word, for_none, name_is_plain}
 use Rattle.a429_console.proofs.SettledWords.{IsSingle, Reads, Settles, all_settles, held_with, many_read, rows_of_many, single_read, value_settles}
 use Rattle.a429_console.proofs.UsedRows.{Within, all_new, not_so, found_before, found_behind, has_id, is_new, missing_in_both, none_found, rest_is_new, row_at, same_text, within_more, within_passed}
@@ -107,23 +107,25 @@ more_read s o names (Some id) more i ids h rows passes found (at, by) words new 
 -- ---- what is found at the end
 
 at_option : (Q : OptionName → Type 0) → AllByRecursion Q all_options → (name : OptionName) → Q name
-at_option Q (a, (b, (c, (d, (e, (f, (g, (h, (i, (j, (k, (l, (m, (n, (o, (p, (q, _))))))))))))))))) Csv = a
-at_option Q (a, (b, (c, (d, (e, (f, (g, (h, (i, (j, (k, (l, (m, (n, (o, (p, (q, _))))))))))))))))) Json = b
-at_option Q (a, (b, (c, (d, (e, (f, (g, (h, (i, (j, (k, (l, (m, (n, (o, (p, (q, _))))))))))))))))) All = c
-at_option Q (a, (b, (c, (d, (e, (f, (g, (h, (i, (j, (k, (l, (m, (n, (o, (p, (q, _))))))))))))))))) Group = d
-at_option Q (a, (b, (c, (d, (e, (f, (g, (h, (i, (j, (k, (l, (m, (n, (o, (p, (q, _))))))))))))))))) Slots = e
-at_option Q (a, (b, (c, (d, (e, (f, (g, (h, (i, (j, (k, (l, (m, (n, (o, (p, (q, _))))))))))))))))) Width = f
-at_option Q (a, (b, (c, (d, (e, (f, (g, (h, (i, (j, (k, (l, (m, (n, (o, (p, (q, _))))))))))))))))) Html = g
-at_option Q (a, (b, (c, (d, (e, (f, (g, (h, (i, (j, (k, (l, (m, (n, (o, (p, (q, _))))))))))))))))) Until = h
-at_option Q (a, (b, (c, (d, (e, (f, (g, (h, (i, (j, (k, (l, (m, (n, (o, (p, (q, _))))))))))))))))) Summary = i
-at_option Q (a, (b, (c, (d, (e, (f, (g, (h, (i, (j, (k, (l, (m, (n, (o, (p, (q, _))))))))))))))))) Code = j
-at_option Q (a, (b, (c, (d, (e, (f, (g, (h, (i, (j, (k, (l, (m, (n, (o, (p, (q, _))))))))))))))))) Limit = k
-at_option Q (a, (b, (c, (d, (e, (f, (g, (h, (i, (j, (k, (l, (m, (n, (o, (p, (q, _))))))))))))))))) Sdi = l
-at_option Q (a, (b, (c, (d, (e, (f, (g, (h, (i, (j, (k, (l, (m, (n, (o, (p, (q, _))))))))))))))))) Ssm = m
-at_option Q (a, (b, (c, (d, (e, (f, (g, (h, (i, (j, (k, (l, (m, (n, (o, (p, (q, _))))))))))))))))) Data = n
-at_option Q (a, (b, (c, (d, (e, (f, (g, (h, (i, (j, (k, (l, (m, (n, (o, (p, (q, _))))))))))))))))) Bnr = o
-at_option Q (a, (b, (c, (d, (e, (f, (g, (h, (i, (j, (k, (l, (m, (n, (o, (p, (q, _))))))))))))))))) Bits = p
-at_option Q (a, (b, (c, (d, (e, (f, (g, (h, (i, (j, (k, (l, (m, (n, (o, (p, (q, _))))))))))))))))) Bcd = q
+at_option Q (a, (b, (c, (d, (e, (f, (g, (h, (i, (j, (k, (l, (m, (n, (o, (p, (q, (r, (s, _))))))))))))))))))) Csv = a
+at_option Q (a, (b, (c, (d, (e, (f, (g, (h, (i, (j, (k, (l, (m, (n, (o, (p, (q, (r, (s, _))))))))))))))))))) Json = b
+at_option Q (a, (b, (c, (d, (e, (f, (g, (h, (i, (j, (k, (l, (m, (n, (o, (p, (q, (r, (s, _))))))))))))))))))) All = c
+at_option Q (a, (b, (c, (d, (e, (f, (g, (h, (i, (j, (k, (l, (m, (n, (o, (p, (q, (r, (s, _))))))))))))))))))) Group = d
+at_option Q (a, (b, (c, (d, (e, (f, (g, (h, (i, (j, (k, (l, (m, (n, (o, (p, (q, (r, (s, _))))))))))))))))))) Slots = e
+at_option Q (a, (b, (c, (d, (e, (f, (g, (h, (i, (j, (k, (l, (m, (n, (o, (p, (q, (r, (s, _))))))))))))))))))) Width = f
+at_option Q (a, (b, (c, (d, (e, (f, (g, (h, (i, (j, (k, (l, (m, (n, (o, (p, (q, (r, (s, _))))))))))))))))))) Html = g
+at_option Q (a, (b, (c, (d, (e, (f, (g, (h, (i, (j, (k, (l, (m, (n, (o, (p, (q, (r, (s, _))))))))))))))))))) Time = h
+at_option Q (a, (b, (c, (d, (e, (f, (g, (h, (i, (j, (k, (l, (m, (n, (o, (p, (q, (r, (s, _))))))))))))))))))) From = i
+at_option Q (a, (b, (c, (d, (e, (f, (g, (h, (i, (j, (k, (l, (m, (n, (o, (p, (q, (r, (s, _))))))))))))))))))) Until = j
+at_option Q (a, (b, (c, (d, (e, (f, (g, (h, (i, (j, (k, (l, (m, (n, (o, (p, (q, (r, (s, _))))))))))))))))))) Summary = k
+at_option Q (a, (b, (c, (d, (e, (f, (g, (h, (i, (j, (k, (l, (m, (n, (o, (p, (q, (r, (s, _))))))))))))))))))) Code = l
+at_option Q (a, (b, (c, (d, (e, (f, (g, (h, (i, (j, (k, (l, (m, (n, (o, (p, (q, (r, (s, _))))))))))))))))))) Limit = m
+at_option Q (a, (b, (c, (d, (e, (f, (g, (h, (i, (j, (k, (l, (m, (n, (o, (p, (q, (r, (s, _))))))))))))))))))) Sdi = n
+at_option Q (a, (b, (c, (d, (e, (f, (g, (h, (i, (j, (k, (l, (m, (n, (o, (p, (q, (r, (s, _))))))))))))))))))) Ssm = o
+at_option Q (a, (b, (c, (d, (e, (f, (g, (h, (i, (j, (k, (l, (m, (n, (o, (p, (q, (r, (s, _))))))))))))))))))) Data = p
+at_option Q (a, (b, (c, (d, (e, (f, (g, (h, (i, (j, (k, (l, (m, (n, (o, (p, (q, (r, (s, _))))))))))))))))))) Bnr = q
+at_option Q (a, (b, (c, (d, (e, (f, (g, (h, (i, (j, (k, (l, (m, (n, (o, (p, (q, (r, (s, _))))))))))))))))))) Bits = r
+at_option Q (a, (b, (c, (d, (e, (f, (g, (h, (i, (j, (k, (l, (m, (n, (o, (p, (q, (r, (s, _))))))))))))))))))) Bcd = s
 
 each_of : (P : OptionName → Bool) (names : List OptionName) → list_all P names ≡ true → AllByRecursion (λ (name : OptionName). P name ≡ true) names
 each_of P [] all = tt
@@ -281,6 +283,8 @@ module _ (r : AskedBytes) (us : List (Rule × Text)) (f : Facts r.verb us) (has 
     slots = ap (number_of 1 most_slots) (one_field Slots (option_map decimal r.options.slots) refl refl) ∙ number_of_decimal 1 most_slots r.options.slots (omega arith) (has.options Slots);
     width = ap width_given (first_field Width (option_map decimal r.options.width) refl refl) ∙ width_of_decimal r.options.width (has.options Width);
     html = flag_field Html r.options.html refl;
+    time = ap unit_given (first_field Time (unit_word r.options.time) refl refl) ∙ unit_of_word r.options.time;
+    from = ap origin_given (first_field From (origin_word r.options.from) refl refl) ∙ origin_of_word r.options.from (has.options From);
     until =
         ap (number_of 0 last_time) (one_field Until (option_map decimal r.options.until) refl refl)
         ∙ number_of_decimal 0 last_time r.options.until (omega arith) (from_zero last_time r.options.until (has.options Until));

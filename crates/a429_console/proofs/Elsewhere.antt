@@ -6,7 +6,6 @@ use Rattle.clap.specs.Words.{HasKind, Kinds}
 use Rattle.clap.specs.declared.error.Error.{Error}
 use Rattle.a429_console.specs.Usage.{ComesTo}
 use Rattle.a429_console.specs.declared.arguments.forms.Verb.{Verb}
-use Rattle.a429_console.specs.declared.arguments.forms.Verb.TheVariants as verb
 use Rattle.a429_console.specs.declared.arguments.requests.Asked.{Asked}
 
 -- a kind of the first list is one of both

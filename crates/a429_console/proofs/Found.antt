@@ -16,6 +16,8 @@ use Rattle.a429_console.specs.CommandLine.{CommandRow, many_rule, number_rule, r
 use Rattle.a429_console.specs.RequestRows.{is_set, number_of}
 use Rattle.a429_console.specs.Requests.{AskedBytes, FieldBytes, OptionBytes}
 use Rattle.a429_console.specs.declared.arguments.forms.Verb.{Verb}
+use Rattle.a429_console.specs.declared.arguments.times.LogOrigin.{LogOrigin}
+use Rattle.a429_logs.specs.declared.times.TimeUnit.{TimeUnit}
 use Rattle.a429_text.specs.declared.sheets.SheetForm.{SheetForm}
 use Rattle.std.specs.Borrow.{Bor}
 
@@ -83,10 +85,10 @@ name_is None default text is = absurd (cc is)
 name_is (Some t) default text is = same_Some t.now text is
 
 -- what is given of the options is read as it
-pub options_are : (o : OptionBytes) (f : SheetForm) (all html summary code : Bool) (group : Option Text) (slots width until limit : Option ℕ) (fields : FieldBytes) → f ≡ o.form → all ≡ o.all
-    → group ≡ o.group → slots ≡ o.slots → width ≡ o.width → html ≡ o.html → until ≡ o.until → summary ≡ o.summary → code ≡ o.code → limit ≡ o.limit → fields ≡ o.fields
-    → record { form = f; all = all; group = group; slots = slots; width = width; html = html; until = until; summary = summary; code = code; limit = limit; fields = fields } ≡ o
-options_are o f all html summary code group slots width until limit fields a b c d e g h i j k l = rw (a, b, c, d, e, g, h, i, j, k, l) refl
+pub options_are : (o : OptionBytes) (f : SheetForm) (all html summary code : Bool) (group : Option Text) (slots width : Option ℕ) (time : TimeUnit) (from : LogOrigin) (until limit : Option ℕ) (fields : FieldBytes) → f ≡ o.form → all ≡ o.all
+    → group ≡ o.group → slots ≡ o.slots → width ≡ o.width → html ≡ o.html → time ≡ o.time → from ≡ o.from → until ≡ o.until → summary ≡ o.summary → code ≡ o.code → limit ≡ o.limit → fields ≡ o.fields
+    → record { form = f; all = all; group = group; slots = slots; width = width; html = html; time = time; from = from; until = until; summary = summary; code = code; limit = limit; fields = fields } ≡ o
+options_are o f all html summary code group slots width time from until limit fields a b c d e g t u h i j k l = rw (a, b, c, d, e, g, t, u, h, i, j, k, l) refl
 
 -- and of the fields of a word
 pub fields_are : (f : FieldBytes) (sdi ssm bits : Option ℕ) (hex bnr bcd : Option Text) → sdi ≡ f.sdi → ssm ≡ f.ssm → hex ≡ f.hex → bnr ≡ f.bnr → bits ≡ f.bits → bcd ≡ f.bcd

@@ -24,3 +24,4 @@ pub mod CommandFacts
 pub mod PassingOptions
 pub mod AskedWords
 pub mod NoOptions
+pub mod MetCommands

@@ -8,7 +8,7 @@ use Rattle.clap.specs.Simple.{filled}
 use Rattle.clap.specs.Takes.{value_passes}
 use Rattle.clap.specs.Walk.{Held, Waiting, arg_by_id, arg_by_long, has_row, idle}
 use Rattle.clap.proofs.OnLiterals.{clap_on_literals}
-use Rattle.a429_console.specs.CommandLine.{All, Bcd, Bits, Bnr, Code, Csv, Data, Group, Html, Json, Limit, OptionName, Sdi, Slots, Ssm, Summary, Until, Width, option_rule}
+use Rattle.a429_console.specs.CommandLine.{All, Bcd, Bits, Bnr, Code, Csv, Data, From, Group, Html, Json, Limit, OptionName, Sdi, Slots, Ssm, Summary, Time, Until, Width, option_rule}
 use Rattle.a429_console.specs.Requests.{OptionBytes, flag_word, is_csv, is_flag, is_json, option_words, word_given, words_of_options}
 use Rattle.a429_console.proofs.CommandWords.{row}
 use Rattle.a429_console.proofs.PlainWords.{IsPlainWord, TakesValues, at_word, for_none}
@@ -33,6 +33,8 @@ is_option Group = record { no_end = refl; long = refl }
 is_option Slots = record { no_end = refl; long = refl }
 is_option Width = record { no_end = refl; long = refl }
 is_option Html = record { no_end = refl; long = refl }
+is_option Time = record { no_end = refl; long = refl }
+is_option From = record { no_end = refl; long = refl }
 is_option Until = record { no_end = refl; long = refl }
 is_option Summary = record { no_end = refl; long = refl }
 is_option Code = record { no_end = refl; long = refl }
@@ -68,6 +70,8 @@ same_option Group Group is = refl
 same_option Slots Slots is = refl
 same_option Width Width is = refl
 same_option Html Html is = refl
+same_option Time Time is = refl
+same_option From From is = refl
 same_option Until Until is = refl
 same_option Summary Summary is = refl
 same_option Code Code is = refl

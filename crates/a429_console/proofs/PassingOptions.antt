@@ -1,14 +1,19 @@
 -- What is given of options passes the rules of the command line.
-use Rattle.std.proofs.Common.{◌≡◌, refl, inl, inr, true, false, codes, Bool, arith}
-use Rattle.std.specs.Prelude.{◌^◌, ◌<◌, ◌≤◌, ◌||◌, ℕ, Option, Some, None, IfSome, option_map}
+use Rattle.std.proofs.Common.{◌≡◌, ◌==◌, refl, inl, inr, true, false, codes, Bool, arith}
+use Rattle.std.specs.Prelude.{◌^◌, ◌<◌, ◌≤◌, ◌||◌, ℕ, Option, Some, None, IfSome, if◌then◌else◌, option_map}
 use Rattle.std.specs.Fmt.{decimal, digits}
 use Rattle.std.specs.Str.{bytes_eq}
+use Rattle.std.proofs.lemmas.Bool.{eqb-true}
 use Rattle.clap.specs.ValueTests.{is_unsigned_in}
 use Rattle.clap.specs.Words.{Text}
-use Rattle.a429_console.specs.CommandLine.{All, Bcd, Bits, Bnr, Code, Csv, Data, Group, Html, Json, Limit, OptionName, Sdi, Slots, Ssm, Summary, Until, Width, last_time, most_bits, most_pair, most_percent, most_slots}
-use Rattle.a429_console.specs.Requests.{CanBeGiven, IsName, IsWidth, OptionBytes, flag_word, is_csv, is_json, word_given}
-use Rattle.a429_console.specs.RequestRows.{width_given}
-use Rattle.a429_console.proofs.Decimals.{decimal_is_name, decimal_passes}
+use Rattle.a429_console.specs.CommandLine.{All, Bcd, Bits, Bnr, Code, Csv, Data, From, Group, Html, Json, Limit, OptionName, Sdi, Slots, Ssm, Summary, Time, Until, Width, last_time, most_bits, most_pair, most_percent, most_slots}
+use Rattle.a429_console.specs.Requests.{CanBeGiven, IsName, IsOrigin, IsWidth, OptionBytes, flag_word, is_csv, is_json, last_origin, origin_word, unit_word, word_given}
+use Rattle.a429_console.specs.RequestRows.{origin_given, unit_given, width_given}
+use Rattle.a429_console.specs.declared.arguments.times.LogOrigin.{LogOrigin}
+use Rattle.a429_console.specs.declared.arguments.times.LogOrigin.TheVariants as origin
+use Rattle.a429_logs.specs.declared.times.TimeUnit.{TimeUnit}
+use Rattle.a429_logs.specs.declared.times.TimeUnit.TheVariants as unit
+use Rattle.a429_console.proofs.Decimals.{decimal_is_name, decimal_is_not_first, decimal_passes, number_up_to_decimal}
 use Rattle.a429_console.proofs.OptionWords.{WordPasses}
 use Rattle.a429_console.proofs.PlainWords.{IsPlainWord, name_is_plain}
 
@@ -31,6 +36,19 @@ width_passes : (width : Option ℕ) → IfSome width IsWidth → IfSome (option_
 width_passes None is = tt
 width_passes (Some w) is = (name_is_plain (decimal w) (decimal_is_name w (width_is_small w is)), refl)
 
+unit_passes : (u : TimeUnit) → IfSome (unit_word u) (λ w. IsPlainWord w × (true ≡ true))
+unit_passes unit.Microseconds = tt
+unit_passes unit.Milliseconds = (record { no_end = refl; no_long = refl; no_short = refl }, refl)
+unit_passes unit.Seconds = (record { no_end = refl; no_long = refl; no_short = refl }, refl)
+
+time_passes : (n : ℕ) (is_zero : Bool) → n ≤ last_origin → IfSome (if is_zero then None else Some (decimal n)) (λ w. IsPlainWord w × (true ≡ true))
+time_passes n true few = tt
+time_passes n false few = (name_is_plain (decimal n) (decimal_is_name n (omega (arith, few))), refl)
+
+origin_passes : (o : LogOrigin) → IsOrigin o → IfSome (origin_word o) (λ w. IsPlainWord w × (true ≡ true))
+origin_passes (origin.Time n) few = time_passes n (n == 0) few
+origin_passes origin.First few = (record { no_end = refl; no_long = refl; no_short = refl }, refl)
+
 flag_passes : (b : Bool) → IfSome (flag_word b) (λ w. IsPlainWord w × (bytes_eq w (codes "true") || bytes_eq w (codes "false") ≡ true))
 flag_passes true = (record { no_end = refl; no_long = refl; no_short = refl }, refl)
 flag_passes false = tt
@@ -47,6 +65,8 @@ words_pass o can Group = word_passes o.group (can Group)
 words_pass o can Slots = number_passes 1 most_slots o.slots (omega arith) (can Slots)
 words_pass o can Width = width_passes o.width (can Width)
 words_pass o can Html = flag_passes o.html
+words_pass o can Time = unit_passes o.time
+words_pass o can From = origin_passes o.from (can From)
 words_pass o can Until = number_passes 0 last_time o.until (omega arith) (from_zero last_time o.until (can Until))
 words_pass o can Summary = flag_passes o.summary
 words_pass o can Code = flag_passes o.code
@@ -65,3 +85,20 @@ width_of_decimal None c = refl
 width_of_decimal (Some w) (inl is) = rw is refl
 width_of_decimal (Some w) (inr (inl is)) = rw is refl
 width_of_decimal (Some w) (inr (inr is)) = rw is refl
+
+-- the unit that a word states
+pub unit_of_word : (u : TimeUnit) → unit_given (unit_word u) ≡ Some u
+unit_of_word unit.Microseconds = refl
+unit_of_word unit.Milliseconds = refl
+unit_of_word unit.Seconds = refl
+
+time_of_word : (n : ℕ) (is_zero : Bool) → (n == 0) ≡ is_zero → n ≤ last_origin → origin_given (if is_zero then None else Some (decimal n)) ≡ Some (origin.Time n)
+time_of_word n true is few = rw (eqb-true n 0 is) refl
+time_of_word n false is few =
+    let small : n < 2 ^ 64 = omega (arith, few) in
+    rw (decimal_is_not_first n small, number_up_to_decimal last_origin n few small) refl
+
+-- and the time from which times are counted
+pub origin_of_word : (o : LogOrigin) → IsOrigin o → origin_given (origin_word o) ≡ Some o
+origin_of_word (origin.Time n) few = time_of_word n (n == 0) refl few
+origin_of_word origin.First few = refl

@@ -67,6 +67,8 @@ pub data OptionName : Type 0 where
   Slots : OptionName
   Width : OptionName
   Html : OptionName
+  Time : OptionName
+  From : OptionName
   Until : OptionName
   Summary : OptionName
   Code : OptionName
@@ -86,6 +88,8 @@ option_rule Group = value_rule (codes "group")
 option_rule Slots = number_value_rule (codes "slots") 1 most_slots
 option_rule Width = value_rule (codes "width")
 option_rule Html = flag_rule (codes "html")
+option_rule Time = value_rule (codes "time")
+option_rule From = value_rule (codes "from")
 option_rule Until = number_value_rule (codes "until") 0 last_time
 option_rule Summary = flag_rule (codes "summary")
 option_rule Code = flag_rule (codes "c")
@@ -109,7 +113,7 @@ options_of verb.Slots = Group ∷ All ∷ Code ∷ Csv ∷ Json ∷ []
 options_of verb.Lint = Csv ∷ Json ∷ []
 options_of verb.Diff = All ∷ Csv ∷ Json ∷ []
 options_of verb.Draw = Group ∷ Slots ∷ Width ∷ Html ∷ []
-options_of verb.Simulate = Until ∷ Summary ∷ Csv ∷ Json ∷ []
+options_of verb.Simulate = Time ∷ From ∷ Until ∷ Summary ∷ Csv ∷ Json ∷ []
 options_of _ = []
 
 -- what a command is given: a name or two, perhaps a number up to the most, perhaps as many names as one likes, and options

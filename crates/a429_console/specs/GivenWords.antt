@@ -1,16 +1,16 @@
--- The words that a program was given.
+-- The arguments that a program was given.
 use Rattle.std.specs.Prelude.{◌<◌, ◌+◌, ◌∷◌, [], ⊤, ℕ, List, length}
 use Rattle.std.specs.Str.{IsUtf8}
 
--- these words were answered at the places from k on, in order
+-- these arguments were answered at the places from k on, in order
 abbrev pub AreFrom : (ℕ → List ℕ → Type 0) → ℕ → List (List ℕ) → Type 0
 AreFrom gives k [] = ⊤
 AreFrom gives k (word ∷ words) = gives k word × AreFrom gives (k + 1) words
 
--- these are all words that follow the path of the program, which is at place 0: each was answered at its place, and after the last that there is none
+-- these are all arguments after the path of the program, which is at place 0: each was answered at its place, and after the last that there is none
 abbrev pub AreAllWords : (ℕ → List ℕ → Type 0) → (ℕ → Type 0) → List (List ℕ) → Type 0
 AreAllWords gives ends words = AreFrom gives 1 words × ends (length words + 1)
 
--- a word that follows the path of the program is no UTF-8
+-- an argument after the path of the program is not UTF-8
 abbrev pub HasNoText : (ℕ → List ℕ → Type 0) → Type 0
 HasNoText gives = (place : ℕ) × (bytes : List ℕ) × (0 < place) × gives place bytes × (¬ (IsUtf8 bytes))

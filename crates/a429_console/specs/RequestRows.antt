@@ -1,14 +1,18 @@
--- What is asked for by the values that were read of a command's words.
-use Rattle.std.specs.Prelude.{◌≡◌, [], ◌∷◌, ℕ, Bool, List, Option, Some, None, true, false, MatchOption, ◌&&◌, ◌||◌, not, codes, if◌then◌else◌, is_some, option_and_then, option_map, unwrap_or}
+-- What is asked for by the values that were read of a command's arguments.
+use Rattle.std.specs.Prelude.{◌≡◌, [], ℕ, Bool, List, Option, Some, None, true, false, MatchOption, ◌&&◌, ◌||◌, not, codes, if◌then◌else◌, is_some, option_map, unwrap_or}
 use Rattle.std.specs.Str.{bytes_eq}
 use Rattle.std.specs.Str.Parse.{digits_value, without_leading_plus}
 use Rattle.clap.specs.ValueTests.{is_unsigned_in}
 use Rattle.clap.specs.Words.{Row, Text, first_of, one_of, all_of, subcommand_of, takes}
 use Rattle.a429_equipment.specs.Limits.{most_frames}
 use Rattle.a429_console.specs.CommandLine.{command_line, last_time, most_bits, most_pair, most_percent, most_slots, row_of}
-use Rattle.a429_console.specs.Requests.{AskedBytes, FieldBytes, HasWords, IsName, OptionBytes, is_one_alone, words_of, words_with}
+use Rattle.a429_console.specs.Requests.{AskedBytes, FieldBytes, HasWords, IsName, OptionBytes, is_one_alone, last_origin, words_of, words_with}
 use Rattle.a429_console.specs.declared.arguments.choices.Choices.{Choices}
 use Rattle.a429_console.specs.declared.arguments.forms.Verb.TheVariants as verb
+use Rattle.a429_console.specs.declared.arguments.times.LogOrigin.{LogOrigin}
+use Rattle.a429_console.specs.declared.arguments.times.LogOrigin.TheVariants as origin
+use Rattle.a429_logs.specs.declared.times.TimeUnit.{TimeUnit}
+use Rattle.a429_logs.specs.declared.times.TimeUnit.TheVariants as unit
 use Rattle.a429_text.specs.declared.sheets.SheetForm.{SheetForm}
 use Rattle.a429_text.specs.declared.sheets.SheetForm.TheVariants as form
 
@@ -30,6 +34,22 @@ width_given None = Some None
 width_given (Some text) =
     if bytes_eq text (codes "64") then Some (Some 64)
     else (if bytes_eq text (codes "128") then Some (Some 128) else (if bytes_eq text (codes "256") then Some (Some 256) else None))
+
+-- the unit of the times in a log, by its text; nothing if the text is another than the three that there are
+abbrev pub unit_given : Option Text → Option TimeUnit
+unit_given None = Some unit.Microseconds
+unit_given (Some text) =
+    if bytes_eq text (codes "us") then Some unit.Microseconds
+    else (if bytes_eq text (codes "ms") then Some unit.Milliseconds else (if bytes_eq text (codes "s") then Some unit.Seconds else None))
+
+-- the whole number of a text, up to the most; nothing if the text is no such number
+unfoldable pub number_up_to : ℕ → Text → Option ℕ
+number_up_to most text = if is_unsigned_in 0 most text then Some (digits_value 10 (without_leading_plus text)) else None
+
+-- from when on times are counted, by the text of that; nothing if the text is neither `first` nor a number of at most eighteen digits
+abbrev pub origin_given : Option Text → Option LogOrigin
+origin_given None = Some (origin.Time 0)
+origin_given (Some text) = if bytes_eq text (codes "first") then Some origin.First else option_map origin.Time (number_up_to last_origin text)
 
 -- the form of what is printed, by whether `--c`, `--csv` and `--json` are given; nothing if two of them are
 abbrev pub form_of : Bool → Bool → Bool → Option SheetForm
@@ -58,17 +78,22 @@ is_value_given rows =
 abbrev pub lacks_value : Text → List Row → Bool
 lacks_value name rows = bytes_eq name (codes "encode") && not (is_value_given rows)
 
+-- the choices, if each of them is there
+abbrev pub choices_of : Option (Option ℕ) → Option TimeUnit → Option LogOrigin → Option SheetForm → Option Choices
+choices_of (Some width) (Some time) (Some from) (Some form) = Some (record { width = width; time = time; from = from; form = form })
+choices_of _ _ _ _ = None
+
 -- all choices that the rules of the command line do not state; nothing if one of them is none
-abbrev pub choices_given : Text → List Row → Option Choices
+unfoldable pub choices_given : Text → List Row → Option Choices
 choices_given name rows =
     if lacks_value name rows then None
-    else option_and_then (λ width. option_map (λ form. record { width = width; form = form }) (form_given name rows)) (width_given (first_of (codes "width") rows))
+    else choices_of (width_given (first_of (codes "width") rows)) (unit_given (first_of (codes "time") rows)) (origin_given (first_of (codes "from") rows)) (form_given name rows)
 
 -- an options' record has these choices
 abbrev pub IsChosen : Choices → OptionBytes → Type 0
-IsChosen choices o = (o.width ≡ choices.width) × (o.form ≡ choices.form)
+IsChosen choices o = (o.width ≡ choices.width) × (o.time ≡ choices.time) × (o.from ≡ choices.from) × (o.form ≡ choices.form)
 
--- these are the fields of a word, by what was found of the words
+-- these are the fields of a word, by what was found of the arguments
 pub record AreFields (rows : List Row) (f : FieldBytes) : Type 0 where
   pub sdi : number_of 0 most_pair (one_of (codes "sdi") rows) ≡ Some f.sdi
   pub ssm : number_of 0 most_pair (one_of (codes "ssm") rows) ≡ Some f.ssm
@@ -77,7 +102,7 @@ pub record AreFields (rows : List Row) (f : FieldBytes) : Type 0 where
   pub bits : number_of 1 most_bits (one_of (codes "bits") rows) ≡ Some f.bits
   pub bcd : first_of (codes "bcd") rows ≡ f.bcd
 
--- these are the options of a command of this name, by what was found of the words; one that the command has not is found nowhere
+-- these are the options of a command of this name, by what was found of the arguments; one that the command has not is found nowhere
 pub record AreOptions (name : Text) (rows : List Row) (o : OptionBytes) : Type 0 where
   pub form : form_given name rows ≡ Some o.form
   pub all : is_set (one_of (codes "all") rows) ≡ o.all
@@ -85,6 +110,8 @@ pub record AreOptions (name : Text) (rows : List Row) (o : OptionBytes) : Type 0
   pub slots : number_of 1 most_slots (one_of (codes "slots") rows) ≡ Some o.slots
   pub width : width_given (first_of (codes "width") rows) ≡ Some o.width
   pub html : is_set (one_of (codes "html") rows) ≡ o.html
+  pub time : unit_given (first_of (codes "time") rows) ≡ Some o.time
+  pub from : origin_given (first_of (codes "from") rows) ≡ Some o.from
   pub until : number_of 0 last_time (one_of (codes "until") rows) ≡ Some o.until
   pub summary : is_set (one_of (codes "summary") rows) ≡ o.summary
   pub code : is_set (one_of (codes "c") rows) ≡ o.code
@@ -106,16 +133,16 @@ pub record IsAskedBy (rows : List Row) (r : AskedBytes) : Type 0 where
   pub more : MatchOption (row_of r.verb).more (r.more ≡ []) (λ id. values_of id rows ≡ r.more)
   pub options : AreOptions (row_of r.verb).name rows r.options
 
--- by what was found of the words: the command's name and its values
+-- by what was found of the arguments: the command's name and its values
 abbrev pub IsFound : Option (Text × List Row) → AskedBytes → Type 0
 IsFound None r = ⊥
 IsFound (Some p) r = (p.0 ≡ (row_of r.verb).name) × IsAskedBy p.1 r
 
--- the rules of the command line take these words, and by the values that they give them this is asked for
+-- the rules of the command line accept these arguments, and by the values that they give them this is asked for
 unfoldable pub AsksFor : List Text → AskedBytes → Type 0
 AsksFor words r = (takes command_line words ≡ true) × IsFound (subcommand_of command_line words) r
 
--- the words of `live` ask for it with any text of the number of frames that the rules take
+-- the arguments of `live` ask for it with each spelling of FRAMES that the rules accept
 abbrev pub LiveWordsAsk : Type 0
 LiveWordsAsk =
     (r : AskedBytes) (text : Text) → HasWords r → r.verb ≡ verb.Live → IsName text → number_of 0 most_frames (Some text) ≡ Some (Some r.number) → AsksFor (words_with text r) r

@@ -1,5 +1,5 @@
 -- What arguments ask for.
-use Rattle.std.specs.Prelude.{◌≡◌, ◌≤◌, ◌≢◌, ◌∷◌, ◌++◌, ◌⊎◌, ◌&&◌, ◌||◌, not, [], ℕ, Bool, true, false, List, Option, Some, None, IfSome, MatchOption, Result, MatchResult, codes, if◌then◌else◌, is_some, option_map, ⊤}
+use Rattle.std.specs.Prelude.{◌≡◌, ◌==◌, ◌≤◌, ◌≢◌, ◌∷◌, ◌++◌, ◌⊎◌, ◌&&◌, ◌||◌, not, [], ℕ, Bool, true, false, List, Option, Some, None, IfSome, MatchOption, Result, MatchResult, codes, if◌then◌else◌, is_some, option_map, ⊤}
 use Rattle.std.specs.Fmt.{decimal}
 use Rattle.std.specs.List.{AllByRecursion, list_any}
 use Rattle.std.specs.Str.{bytes_eq}
@@ -8,7 +8,7 @@ use Rattle.clap.specs.declared.builder.action.ArgAction.{ArgAction}
 use Rattle.clap.specs.declared.builder.action.ArgAction.TheVariants.{SetTrue}
 use Rattle.clap.specs.declared.error.Error.{Error}
 use Rattle.clap.specs.declared.error.kind.ErrorKind.TheVariants.{OutOfMemory}
-use Rattle.a429_console.specs.CommandLine.{All, Bcd, Bits, Bnr, Code, Csv, Data, Group, Html, Json, Limit, OptionName, Sdi, Slots, Ssm, Summary, Until, Width, last_time, most_bits, most_pair, most_percent, most_slots, option_rule, options_of, row_of}
+use Rattle.a429_console.specs.CommandLine.{All, Bcd, Bits, Bnr, Code, Csv, Data, From, Group, Html, Json, Limit, OptionName, Sdi, Slots, Ssm, Summary, Time, Until, Width, last_time, most_bits, most_pair, most_percent, most_slots, option_rule, options_of, row_of}
 use Rattle.a429_console.specs.Files.{texts_of}
 use Rattle.a429_text.specs.declared.sheets.SheetForm.{SheetForm}
 use Rattle.a429_text.specs.declared.sheets.SheetForm.TheVariants as form
@@ -17,6 +17,10 @@ use Rattle.a429_console.specs.declared.arguments.forms.Verb.TheVariants as verb
 use Rattle.a429_console.specs.declared.arguments.requests.Asked.{Asked}
 use Rattle.a429_console.specs.declared.arguments.requests.FieldOptions.{FieldOptions}
 use Rattle.a429_console.specs.declared.arguments.requests.Options.{Options}
+use Rattle.a429_console.specs.declared.arguments.times.LogOrigin.{LogOrigin}
+use Rattle.a429_console.specs.declared.arguments.times.LogOrigin.TheVariants as origin
+use Rattle.a429_logs.specs.declared.times.TimeUnit.{TimeUnit}
+use Rattle.a429_logs.specs.declared.times.TimeUnit.TheVariants as unit
 
 -- what is given of the fields of a word that is made: an SDI and an SSM, and the data: in hexadecimal, as a BNR number with its bits below the sign, or as
 -- BCD digits
@@ -41,6 +45,9 @@ pub record OptionBytes : Type 0 where
   pub width : Option ℕ
   -- a page, instead of an image
   pub html : Bool
+  -- the unit of the times in a log, and from when on they are counted
+  pub time : TimeUnit
+  pub from : LogOrigin
   -- until when cells are asked for, in microseconds
   pub until : Option ℕ
   -- one line for each output, instead of one for each word
@@ -73,6 +80,8 @@ no_options = record {
   slots = None;
   width = None;
   html = false;
+  time = unit.Microseconds;
+  from = origin.Time 0;
   until = None;
   summary = false;
   code = false;
@@ -84,7 +93,7 @@ no_options = record {
 abbrev pub asked_by_names : Verb → Text → Text → List Text → AskedBytes
 asked_by_names v first second more = record { verb = v; first = first; second = second; number = 0; more = more; options = no_options }
 
--- ---- its words
+-- ---- its arguments
 
 abbrev pub is_csv : SheetForm → Bool
 is_csv form.Csv = true
@@ -94,12 +103,23 @@ abbrev pub is_json : SheetForm → Bool
 is_json form.Json = true
 is_json _ = false
 
--- the word of an option that is a flag
+-- the value of an option that is a flag
 abbrev pub flag_word : Bool → Option Text
 flag_word false = None
 flag_word true = Some (codes "true")
 
--- what is given of an option, as a word: a number in decimal digits, and of a flag that it is given
+-- the word of a unit of times, unless it is the one that times have without a word
+abbrev pub unit_word : TimeUnit → Option Text
+unit_word unit.Microseconds = None
+unit_word unit.Milliseconds = Some (codes "ms")
+unit_word unit.Seconds = Some (codes "s")
+
+-- the word of the time from which times are counted, unless that is 0
+abbrev pub origin_word : LogOrigin → Option Text
+origin_word (origin.Time n) = if n == 0 then None else Some (decimal n)
+origin_word origin.First = Some (codes "first")
+
+-- what is given of an option, as a text: a number in decimal digits, and of a flag that it is given
 abbrev pub word_given : OptionBytes → OptionName → Option Text
 word_given o Csv = flag_word (is_csv o.form)
 word_given o Json = flag_word (is_json o.form)
@@ -108,6 +128,8 @@ word_given o Group = o.group
 word_given o Slots = option_map decimal o.slots
 word_given o Width = option_map decimal o.width
 word_given o Html = flag_word o.html
+word_given o Time = unit_word o.time
+word_given o From = origin_word o.from
 word_given o Until = option_map decimal o.until
 word_given o Summary = flag_word o.summary
 word_given o Code = flag_word o.code
@@ -127,22 +149,22 @@ is_switch _ = false
 abbrev pub is_flag : OptionName → Bool
 is_flag name = is_switch (option_rule name).action
 
--- the words of an option, of which this is given
+-- the arguments of an option, of which this is given
 abbrev pub option_words : OptionName → Option Text → List Text
 option_words name None = []
 option_words name (Some word) = (codes "--" ++ (option_rule name).id) ∷ (if is_flag name then [] else word ∷ [])
 
--- the words of options, in this order
+-- the arguments of options, in this order
 abbrev pub words_of_options : OptionBytes → List OptionName → List Text
 words_of_options o [] = []
 words_of_options o (name ∷ names) = option_words name (word_given o name) ++ words_of_options o names
 
--- these words, of a command that has them
+-- these arguments, of a command that has them
 abbrev pub words_if : {A : Type 0} → Option A → List Text → List Text
 words_if None words = []
 words_if (Some _) words = words
 
--- its words in their plain form: the command, what it names, and then its options; with this text of the number
+-- its arguments in their plain form: the command, what it names, and then its options; with this text of the number
 abbrev pub words_with : Text → AskedBytes → List Text
 words_with number r =
     (row_of r.verb).name ∷ r.first
@@ -151,7 +173,7 @@ words_with number r =
 abbrev pub words_of : AskedBytes → List Text
 words_of r = words_with (decimal r.number) r
 
--- ---- which requests have words
+-- ---- which requests have arguments
 
 -- a name of a file, which no option can be
 abbrev pub IsName : Text → Type 0
@@ -165,6 +187,15 @@ IsPlainSlots n = (1 ≤ n) × (n ≤ most_slots)
 -- how many slots wide the folds of a drawing can be
 abbrev pub IsWidth : ℕ → Type 0
 IsWidth n = (n ≡ 64) ⊎ ((n ≡ 128) ⊎ (n ≡ 256))
+
+-- the last microsecond from which times can be counted: eighteen digits
+abbrev pub last_origin : ℕ
+last_origin = 999999999999999999
+
+-- from when on times can be counted
+abbrev pub IsOrigin : LogOrigin → Type 0
+IsOrigin (origin.Time n) = n ≤ last_origin
+IsOrigin origin.First = ⊤
 
 -- one of three, and no other
 abbrev pub is_one_alone : Bool → Bool → Bool → Bool
@@ -182,6 +213,7 @@ abbrev pub CanBeGiven : OptionBytes → OptionName → Type 0
 CanBeGiven o Group = IfSome o.group IsName
 CanBeGiven o Slots = IfSome o.slots IsPlainSlots
 CanBeGiven o Width = IfSome o.width IsWidth
+CanBeGiven o From = IsOrigin o.from
 CanBeGiven o Until = IfSome o.until (λ n. n ≤ last_time)
 CanBeGiven o Limit = IfSome o.limit (λ n. (1 ≤ n) × (n ≤ most_percent))
 CanBeGiven o Sdi = IfSome o.fields.sdi (λ n. n ≤ most_pair)
@@ -195,7 +227,7 @@ CanBeGiven o _ = ⊤
 abbrev pub has_option : List OptionName → OptionName → Bool
 has_option names name = list_any (λ x. bytes_eq (option_rule x).id (option_rule name).id) names
 
--- a request has words: each text of it is a name, its numbers can be asked for, and its command takes all that it has
+-- a request has arguments: each text of it is a name, its numbers can be asked for, and its command takes all that it has
 pub record HasWords (r : AskedBytes) : Type 0 where
   pub first : IsName r.first
   pub second : MatchOption (row_of r.verb).second (r.second ≡ []) (λ _. IsName r.second)
@@ -210,7 +242,7 @@ pub record HasWords (r : AskedBytes) : Type 0 where
   pub encoded : r.verb ≡ verb.Encode → has_one_value r.options.fields ≡ true
   pub others : (name : OptionName) → has_option (options_of r.verb) name ≡ false → word_given r.options name ≡ None
 
--- ---- the bytes of what was read of the words
+-- ---- the bytes of what was read of the arguments
 
 abbrev pub fields_of : FieldOptions → FieldBytes
 fields_of f = record {
@@ -230,6 +262,8 @@ given_of o = record {
   slots = o.slots;
   width = o.width;
   html = o.html;
+  time = o.time;
+  from = o.from;
   until = o.until;
   summary = o.summary;
   code = o.code;

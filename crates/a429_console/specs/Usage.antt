@@ -25,18 +25,18 @@ abbrev pub elsewhere : Bool → Kinds
 elsewhere true = InvalidSubcommand ∷ []
 elsewhere false = []
 
--- a drawing was asked for with a width that there is not, or a form that the command has not
+-- an option has a value that it does not take, or options do not go together
 abbrev pub has_wrong_choice : Option (Text × List Row) → Bool
 has_wrong_choice None = false
 has_wrong_choice (Some p) = not (is_some (choices_given p.0 p.1))
 
--- what may be answered to words that the rules of the command line take, instead of a request: by what was found of them and by whether another call
--- does the command
+-- what may be answered to arguments that the rules of the command line accept, instead of a request: by what was found of them and by whether another
+-- call does the command
 abbrev pub found_kinds : Option (Text × List Row) → Bool → Kinds
 found_kinds found is_elsewhere = if has_wrong_choice found then InvalidValue ∷ [] else elsewhere is_elsewhere
 
--- what `command` may answer to words instead of a request, by the rules of the command line, and since `live` is not one of its commands; empty if
--- they ask for something
+-- what `command` may answer to arguments instead of a request, by the rules of the command line, and since `live` is not one of its commands; empty
+-- if they ask for something
 abbrev pub kinds_of_words : List (List ℕ) → Kinds
 kinds_of_words words = or_else (fault_of command_line words) (found_kinds (subcommand_of command_line words) (is_live (subcommand_of command_line words)))
 

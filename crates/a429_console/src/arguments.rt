@@ -7,3 +7,4 @@ pub mod given;
 mod help;
 pub mod replies;
 pub mod requests;
+pub mod times;

@@ -8,6 +8,7 @@ use crate::output::Output;
 use crate::output::endings::put_whole;
 use crate::refusals::CommandRefusal;
 use a429_equipment::Equipment;
+use a429_logs::{LineFault, Shape, TimeUnit};
 use a429_slots::{OUTPUTS, Proposal};
 use a429_table::{FaultKind, RefusedTable};
 use a429_text::Sheet;
@@ -20,7 +21,7 @@ use std::io::Write;
 pub struct Objection {
     /// Its number, from 1.
     pub line: usize,
-    /// What is wrong, by the word that `check` prints.
+    /// The reason that `check` prints.
     pub reason: &'static str,
 }
 
@@ -36,7 +37,7 @@ pub struct SeenLine {
     pub is_ended: bool,
     /// The last line before it that states something: empty ones and comments do not.
     pub before: Vec<u8>,
-    /// The names that it can have.
+    /// The names of the receivers and of the groups that it can name.
     pub receivers: Vec<String>,
     pub groups: Vec<String>,
     /// How many further tables it can publish.
@@ -79,23 +80,52 @@ impl SeenLine {
     }
 }
 
+/// Why a line of a log is refused.
+#[derive(Clone, Copy)]
+pub enum LogRefusal {
+    /// It is faulty.
+    Line(LineFault),
+    /// No receiver has the name of its word.
+    Receiver,
+    /// Its time is too late.
+    Late,
+}
+
+/// Why a line of a log is refused, and how it was read.
+#[derive(Clone, Copy)]
+pub struct SeenLog {
+    pub why: LogRefusal,
+    /// The form of the log's rows. `None` if the line is the first that states something.
+    pub shape: Option<Shape>,
+    /// The unit of times.
+    pub unit: TimeUnit,
+}
+
 /// What a text looks like that is given as a table.
 #[derive(Clone, Copy, PartialEq, Eq)]
 pub enum TableLook {
     PlanText,
     Script,
+    /// Rows for `import`.
+    Rows,
+    /// The line of a refusal.
+    Refusal,
     Log,
     Other,
 }
 
 impl TableLook {
-    /// By the first word of the text, or its last line.
+    /// By the first words of the text, or its last line.
     pub fn of(text: &[u8]) -> TableLook {
         let first_words: [&[u8]; 4] = [b"arrive ", b"cell ", b"frame ", b"publish "];
         if text.starts_with(b"plan ") {
             TableLook::PlanText
         } else if first_words.iter().any(|word| text.starts_with(word)) {
             TableLook::Script
+        } else if text.starts_with(b"refused ") {
+            TableLook::Refusal
+        } else if has_columns(text) {
+            TableLook::Rows
         } else if last_stated(text)
             .first()
             .is_some_and(|byte| byte.is_ascii_digit())
@@ -107,12 +137,20 @@ impl TableLook {
     }
 }
 
+/// Whether the first line of a text names columns of rows for `import`, separated by commas.
+fn has_columns(text: &[u8]) -> bool {
+    let end = text.iter().position(|byte| *byte == b'\n');
+    let heading = &text[..end.unwrap_or(text.len())];
+    heading.split(|byte| *byte == b',').any(|name| name == b"source".as_slice()
+        || name == b"min_us".as_slice())
+}
+
 /// What was read of a table that has a fault or no plan.
 #[derive(Drop)]
 pub struct SeenTable {
-    /// What it looks like.
+    /// Which kind of file it looks like.
     pub looks: TableLook,
-    /// What it was read as.
+    /// The parsed document of the refused table.
     pub document: Option<RefusedTable>,
     /// Its equipment, if it has no plan.
     pub equipment: Option<Equipment>,
@@ -236,6 +274,8 @@ pub struct Seen {
     pub objection: Option<Objection>,
     /// The line that is refused.
     pub line: Option<SeenLine>,
+    /// Why that line is refused, if it is one of a log.
+    pub log: Option<SeenLog>,
     /// The byte after that line's bytes, if it is what is refused.
     pub byte: Option<u8>,
     /// The plan's text that is refused.
@@ -261,6 +301,7 @@ impl Seen {
             proposal: None,
             objection: None,
             line: None,
+            log: None,
             byte: None,
             text: None,
             rows: None,

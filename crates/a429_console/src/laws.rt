@@ -6,7 +6,7 @@ pub fn plain_words_ask()
     ensures { PlainWordsAsk }
 {}
 
-/// The words of `live` ask for it with any text of the number of frames that the rules take, such as `007` or `+7`.
+/// `live` accepts each spelling of FRAMES that the rules of the command line accept, such as `007` or `+7`.
 pub fn live_words_ask()
     ensures { LiveWordsAsk }
 {}

@@ -22,7 +22,7 @@ pub enum CsvKind {
     Form,
     /// The heading lacks a column, or has it twice.
     Column,
-    /// An earlier row states otherwise of the same source, receiver or group.
+    /// It contradicts an earlier row about the same source, receiver or group.
     Differs,
 }
 
@@ -55,9 +55,9 @@ pub enum CommandRefusal {
     LabelText,
     /// The data of a word are not of the form that was asked for, or do not fit.
     DataText,
-    /// The byte at this place of a line file, from 0, is the first that stands for nothing.
+    /// The byte at this place of a line file, from 0, is the first that is not a symbol, a space or a line feed.
     LineByte(usize),
-    /// The filter of this number, from 1, is the first that is none, or the 33rd.
+    /// The filter of this number, from 1, is the first that is not `LLL/MMM`, or it is the 33rd.
     Filter(usize),
     /// The table has this fault at this place.
     Table(FaultKind, TablePlace),
@@ -67,11 +67,11 @@ pub enum CommandRefusal {
     TooManyBuses { group: String, needed: usize },
     /// The table has no group of this name, which was asked for.
     Group(String),
-    /// The line of this number, from 1, is the first faulty one of the script or of the file of words. It is no event
-    /// of the station, or no word for it.
+    /// The line of this number, from 1, is the first faulty one of the script or of the file of words. It is not an
+    /// event of the station, or not a word for it.
     Script(usize),
-    /// The line of this number, from 1, is the first of the log that is no word for the station, or whose time is below the
-    /// one before.
+    /// This line of the log, from 1, is the first that is not a word for the station, or whose time is less than the
+    /// time before it.
     LogLine { line: usize },
     /// The row at the line of this number, from 1, of a file of comma-separated values is the first with a fault, and this is
     /// wrong with it.

@@ -282,7 +282,7 @@ fn tell_bound(judged: JudgedText, group: NumberedGroup, found: &str, hint: &mut 
     hint.end_text("`: ", meaning("bound"));
 }
 
-/// Says which earlier line uses a cell of this one.
+/// Says which earlier output uses a cell of the output of this line.
 fn tell_shared(judged: JudgedText, due: DueLine, line: usize, found: &str, hint: &mut HintText) {
     let DueLine::Output(group) = due else {
         return;
@@ -292,7 +292,7 @@ fn tell_shared(judged: JudgedText, due: DueLine, line: usize, found: &str, hint:
             hint.begin(": the output of line ");
             hint.say_count("", earlier);
             return hint.end(
-                " uses a cell of this one: same bus, and offsets that are equal modulo the smaller period",
+                " uses a cell of this output: same bus, and offsets that are equal modulo the smaller period",
             );
         }
     }

@@ -33,7 +33,7 @@ fn tell_count(what: &str, running: usize, other: usize, hint: &mut HintText) -> 
     }
     hint.say_count("", other);
     hint.say_text(" ", what);
-    hint.say_count(" here, and ", running);
+    hint.say_count(" in the new table, and ", running);
     hint.end(IN_FIRST);
     true
 }
@@ -46,7 +46,7 @@ fn tell_name(kind: &str, place: usize, own: &str, found: &str, hint: &mut HintTe
     hint.say(kind);
     hint.say_count(" ", place);
     hint.say_quoted(" is ", found);
-    hint.say_quoted(" here, and ", own);
+    hint.say_quoted(" in the new table, and ", own);
     hint.end(IN_FIRST);
     true
 }
@@ -80,7 +80,7 @@ fn tell_filters(own: &ReceiverRow, found: &ReceiverRow, hint: &mut HintText) -> 
     }
     hint.say_text("receiver ", own.name.as_str());
     say_filters(" has ", &found.filters, hint);
-    say_filters(" here, and ", &own.filters, hint);
+    say_filters(" in the new table, and ", &own.filters, hint);
     hint.end(IN_FIRST);
     true
 }
@@ -136,13 +136,16 @@ fn tell_source(
     hint.say_text("source ", own.name.as_str());
     if own.receiver != found.receiver {
         hint.say_text(" has receiver ", receiver_name(receivers, found.receiver));
-        hint.say_text(" here, and ", receiver_name(receivers, own.receiver));
+        hint.say_text(
+            " in the new table, and ",
+            receiver_name(receivers, own.receiver),
+        );
     } else if own.label != found.label {
         hint.say_value(" has label ", found.label);
-        hint.say_value(" here, and ", own.label);
+        hint.say_value(" in the new table, and ", own.label);
     } else {
         say_sdi(" has sdi ", found.sdi, hint);
-        say_sdi(" here, and ", own.sdi, hint);
+        say_sdi(" in the new table, and ", own.sdi, hint);
     }
     hint.end(IN_FIRST);
     true
@@ -183,7 +186,7 @@ fn tell_rate(own: &GroupRow, found: &GroupRow, hint: &mut HintText) -> bool {
     }
     hint.say_text("group ", own.name.as_str());
     hint.say_number(" has rate ", u64::from(found.rate));
-    hint.say_number(" here, and ", u64::from(own.rate));
+    hint.say_number(" in the new table, and ", u64::from(own.rate));
     hint.end(IN_FIRST);
     true
 }

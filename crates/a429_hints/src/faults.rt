@@ -199,9 +199,9 @@ fn tell_unknown_keys(row: &TableRow, hint: &mut HintText) {
 
 fn tell_unknown_key(version: TableVersion, row: &TableRow, key: &str, hint: &mut HintText) {
     begin_row(row, ": ", hint);
-    hint.say_quoted("", key);
-    hint.say_value(" is not a key here; version ", version.number());
-    hint.say(" has");
+    hint.say_quoted("unknown key ", key);
+    hint.say_value("; the keys in version ", version.number());
+    hint.say(" are");
     for column in columns_of(version, row.place) {
         hint.say_text(" `", column.key);
         hint.say("`");

@@ -12,7 +12,7 @@ pub fn tell_trouble(trouble: FileTrouble, name: &str, hint: &mut HintText) {
         FileTrouble::Missing => "there is no file of this name",
         FileTrouble::Folder => "this is a folder, not a file",
         FileTrouble::Forbidden => "you have no permission to read the file",
-        FileTrouble::TooLarge => "the file has more than 16777216 bytes, the limit",
+        FileTrouble::TooLarge => "the file has more than 16777216 bytes (the limit)",
         FileTrouble::Unknown => return,
     });
 }

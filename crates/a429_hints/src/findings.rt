@@ -26,7 +26,7 @@ fn advice(kind: &str) -> &'static str {
             "the filter passes no label of the receiver's sources: correct it, or remove it"
         }
         "alike" => {
-            "two outputs send the same label, one of them with sdi = \"any\", so a display cannot distinguish them: give both sources a number as `sdi`, or send them in two groups"
+            "two outputs send the same label, one of them with sdi = \"any\", so an LRU cannot always distinguish them: give both sources a number as `sdi`, or send them in two groups"
         }
         _ => {
             "the group's buses have no empty cell, so one more output needs one more bus: `a429 margin` prints what would free cells"

@@ -19,7 +19,7 @@ pub fn tell_rows(refusal: &CommandRefusal, seen: &SeenRows, hint: &mut HintText)
     hint.turn_to_line(1);
     match lines.as_slice() {
         [] => hint.say_line(
-            "there is no heading; it must name the columns group, rate, source, receiver, label, sdi, min_us and max_us",
+            "the heading is missing; it must name the columns group, rate, source, receiver, label, sdi, min_us and max_us",
         ),
         [heading, rows @ ..] => {
             let sheet = Sheet { heading, rows };
@@ -187,7 +187,7 @@ fn tell_difference(sheet: Sheet, row: &CsvLine, column: &str, hint: &mut HintTex
             hint.say(owner);
             hint.say_quoted(" ", sheet.text(row, owner));
             hint.say_quoted(" has ", sheet.text(row, column));
-            hint.say_quoted(" here, and ", sheet.text(earlier, column));
+            hint.say_quoted(" on this line, but ", sheet.text(earlier, column));
             hint.say_number(" on line ", earlier.number);
             return hint.end("");
         }

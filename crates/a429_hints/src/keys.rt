@@ -1,4 +1,4 @@
-//! What must be at each key of a table, in words.
+//! What must be at each key of a table, as a text.
 
 use a429_equipment::{GROUPS, OUTPUTS, RECEIVERS, SOURCES};
 use a429_filter::FILTERS;
@@ -13,7 +13,7 @@ pub fn form(column: &Column) -> &'static str {
         ("receiver", Shape::Tables) => "an array of at most 16 tables, [[receiver]]",
         ("source", Shape::Tables) => "an array of at most 256 tables, [[source]]",
         ("group", _) => "an array of at most 8 tables, [[group]]",
-        ("name", _) => "a text of 1 to 16 of `a` to `z`, `0` to `9`, `-` and `_`",
+        ("name", _) => "a text of 1 to 16 characters of `a` to `z`, `0` to `9`, `-` and `_`",
         ("filters", _) => "an array of at most 32 texts LLL/MMM, such as [\"200/370\"]",
         ("receiver", _) => "a text, the name of a receiver",
         ("label", _) => "a text of three octal digits from 000 to 377, such as \"203\"",

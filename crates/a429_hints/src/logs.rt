@@ -1,45 +1,178 @@
 //! Hints about lines of logs, and about logs that are too long.
 
 use crate::hint::HintText;
-use crate::lists::has_name;
-use crate::scripts::{NOT_UTF8, cut, is_script_word, tell_arrival, tell_form};
-use a429_console::hints::SeenLine;
+use crate::lists::{has_name, tell_names};
+use crate::scripts::{NOT_UTF8, is_script_word};
+use a429_console::hints::{LogRefusal, SeenLine, SeenLog};
+use a429_logs::{
+    Column, Fields, HeadingFault, LineFault, Mark, Places, RowFault, TimeUnit, WordPlaces,
+};
 
-/// The form of a log's lines.
+/// The form of a log's lines without a heading.
 const FORM: &str = "TIME RECEIVER HEX";
 
-/// The maximum number of digits of a time.
-const TIME_DIGITS: usize = 14;
+/// The maximum number of digits of a time in microseconds.
+const TIME_DIGITS: usize = 18;
+
+/// A line of a log, and how it was read.
+#[derive(Clone, Copy)]
+struct ReadLine<'a> {
+    text: &'a str,
+    mark: Mark,
+    unit: TimeUnit,
+    /// The columns; `None` for the first line that states something.
+    places: Option<Places>,
+}
 
 /// Says what is wrong with a line of a log.
-pub fn tell_log_line(line: &SeenLine, hint: &mut HintText) {
+pub fn tell_log_line(line: &SeenLine, log: &SeenLog, hint: &mut HintText) {
+    if let Some(kind) = other_file(&line.bytes) {
+        return hint.say_line(kind);
+    }
     let Ok(text) = str::from_utf8(&line.bytes) else {
         return hint.say_line(NOT_UTF8);
     };
-    if text.starts_with('#') {
-        return hint.say_line("the last line has no line feed at its end");
-    }
-    if tell_form(line, text, FORM, hint) {
+    let read = ReadLine {
+        text,
+        mark: match log.shape {
+            Some(shape) => shape.mark,
+            None => Mark::in_line(text.as_bytes()),
+        },
+        unit: log.unit,
+        places: log.shape.map(|shape| shape.places),
+    };
+    if tell_first_field(line, &read, hint) {
         return;
     }
-    let (time, rest) = cut(text);
-    if tell_first_word(line, time, hint) || tell_time(time, hint) || tell_fall(line, time, hint) {
-        return;
+    match log.why {
+        LogRefusal::Line(LineFault::Heading(fault)) => tell_heading(fault, hint),
+        LogRefusal::Line(LineFault::Row(fault)) => tell_row(line, &read, fault, hint),
+        LogRefusal::Receiver => tell_names("receiver", name_in(&read), &line.receivers, hint),
+        LogRefusal::Late => hint.say_line(
+            "the time is 100000000000000 us or more; to count times from the first word, give --from first",
+        ),
     }
-    tell_arrival(line, rest, hint);
 }
 
-/// Says that a line belongs to another kind of file, by its first word, and answers whether it does.
-fn tell_first_word(line: &SeenLine, word: &str, hint: &mut HintText) -> bool {
-    if is_script_word(word) {
+/// What kind of file begins with these bytes, if it is none of text in UTF-8.
+fn other_file(bytes: &[u8]) -> Option<&'static str> {
+    match bytes {
+        [0xFF, 0xFE, ..] | [0xFE, 0xFF, ..] | [_, 0, ..] => {
+            Some("the log is UTF-16; save it as UTF-8")
+        }
+        [0x1F, 0x8B, ..] => Some("the log is compressed (gzip); unpack it first"),
+        [0xD4, 0xC3, 0xB2, 0xA1, ..] | [0xA1, 0xB2, 0xC3, 0xD4, ..] => {
+            Some("this is a capture file (pcap); export it as text")
+        }
+        [b'P', b'K', 3, 4, ..] => {
+            Some("this is a workbook or an archive; save it as comma-separated values")
+        }
+        _ => None,
+    }
+}
+
+/// The field of a line in a place.
+fn field<'a>(read: &ReadLine<'a>, place: usize) -> &'a str {
+    let mut fields = Fields::of(read.mark, read.text.as_bytes());
+    for passed in 0..place {
+        if fields.next().is_none() {
+            return "";
+        }
+    }
+    str::from_utf8(fields.next().unwrap_or(&[])).unwrap_or("")
+}
+
+/// How many fields a line has.
+fn count(read: &ReadLine<'_>) -> usize {
+    let mut fields = Fields::of(read.mark, read.text.as_bytes());
+    let mut count = 0usize;
+    for place in 0..read.text.len() + 1 {
+        if fields.next().is_none() {
+            return place;
+        }
+        count = place;
+    }
+    count
+}
+
+fn time_in<'a>(read: &ReadLine<'a>) -> &'a str {
+    field(read, read.places.map_or(0, |places| places.time))
+}
+
+fn name_in<'a>(read: &ReadLine<'a>) -> &'a str {
+    field(read, read.places.map_or(1, |places| places.name))
+}
+
+/// The names that a column can have.
+fn names_of(column: Column) -> &'static str {
+    match column {
+        Column::Time => "time",
+        Column::Name => "receiver, channel, bus, group or name",
+        Column::Word => "word, hex or data",
+        Column::Hex => "data or data_dec",
+        Column::Decimal => "data_dec",
+        Column::Label => "label",
+        Column::Sdi => "sdi",
+        Column::Ssm => "ssm",
+    }
+}
+
+/// Says that a line belongs to another kind of file, by its first field, and answers whether it does.
+fn tell_first_field(line: &SeenLine, read: &ReadLine<'_>, hint: &mut HintText) -> bool {
+    let first = field(read, 0);
+    if is_script_word(first) {
         hint.begin(": this is a line of a script");
-    } else if has_name(&line.receivers, word) && !is_number(word) {
+    } else if read.places.is_none() && has_name(&line.receivers, first) && !is_number(first) {
         hint.begin(": the time before the receiver is missing");
     } else {
         return false;
     }
     hint.end_text("; a log has lines ", FORM);
     true
+}
+
+/// Says what is wrong with a heading.
+fn tell_heading(fault: HeadingFault, hint: &mut HintText) {
+    match fault {
+        HeadingFault::Lacks(column) => {
+            hint.begin(": the line begins with no digit, so it is read as a heading");
+            hint.say_text("; it has no column ", names_of(column));
+            hint.end("");
+        }
+        HeadingFault::Repeats(column) => {
+            hint.begin(": the heading has more than one column ");
+            hint.end(names_of(column));
+        }
+    }
+}
+
+/// Says what is wrong with a row.
+fn tell_row(line: &SeenLine, read: &ReadLine<'_>, fault: RowFault, hint: &mut HintText) {
+    match fault {
+        RowFault::Fields => tell_count(read, hint),
+        RowFault::Time => tell_time(read, hint),
+        RowFault::Falls => tell_fall(line, read, hint),
+        RowFault::Early => hint.say_line("the word comes before the time of --from"),
+        RowFault::Word => tell_word(read, hint),
+        RowFault::Label => hint.say_line("the label is not three octal digits, 000 to 377"),
+        RowFault::Sdi => hint.say_line("the SDI is not 0 to 3, nor two binary digits"),
+        RowFault::Ssm => hint.say_line("the SSM is not 0 to 3, nor two binary digits"),
+        RowFault::Value => hint.say_line("the data is not a number of 19 bits"),
+    }
+}
+
+/// Says how many fields a line has, and how many it has to have.
+fn tell_count(read: &ReadLine<'_>, hint: &mut HintText) {
+    let needed = read.places.map_or(3, |places| places.count);
+    hint.begin(": ");
+    hint.say_count("the number of fields is ", count(read));
+    hint.say_count(", not ", needed);
+    hint.say("; fields are separated by ");
+    hint.end(match read.mark {
+        Mark::Semicolon => "semicolons",
+        Mark::Comma => "commas",
+        _ => "blanks",
+    });
 }
 
 /// Whether a text is one or more decimal digits.
@@ -52,45 +185,58 @@ fn is_number(text: &str) -> bool {
     !text.is_empty()
 }
 
-/// Says what is wrong with the form of a time, and answers whether something is.
-fn tell_time(time: &str, hint: &mut HintText) -> bool {
-    if is_number(time) && time.len() <= TIME_DIGITS {
-        return false;
-    }
+/// Says what is wrong with the form of a time.
+fn tell_time(read: &ReadLine<'_>, hint: &mut HintText) {
+    let time = time_in(read);
     hint.begin(": ");
     hint.say_quoted("", time);
     if time.starts_with('+') || time.starts_with('-') {
         hint.end(" has a sign; write the time without it");
-    } else if time.contains('.') || time.contains(',') {
-        hint.end(" has a decimal point; a time is in whole microseconds");
-    } else if !is_number(time) {
+    } else if is_number(time) {
+        hint.say_count(" has ", time.len());
+        hint.say_count(" digits; a time has at most ", TIME_DIGITS);
+        hint.end(" for microseconds");
+    } else if read.unit == TimeUnit::Microseconds && (time.contains('.') || time.contains(',')) {
+        hint.end(
+            " has a decimal point; a time is in whole microseconds; for seconds give --time s, for milliseconds --time ms",
+        );
+    } else if read.unit == TimeUnit::Microseconds {
         hint.say_count(
             " is not a time; a time is in whole microseconds, 1 to ",
             TIME_DIGITS,
         );
         hint.end(" digits");
     } else {
-        hint.say_count(" has ", time.len());
-        hint.say_count(" digits; a time has at most ", TIME_DIGITS);
-        hint.end("");
+        hint.end(" is not a time; a time is a decimal number, such as 12.5");
     }
-    true
 }
 
-/// Says that a time is less than the time before it, and answers whether it is.
-fn tell_fall(line: &SeenLine, time: &str, hint: &mut HintText) -> bool {
-    let before = cut(str::from_utf8(&line.before).unwrap_or("")).0;
-    let (Ok(earlier), Ok(later)) = (before.parse::<u64>(), time.parse::<u64>()) else {
-        return false;
-    };
-    if earlier <= later {
-        return false;
-    }
+/// Says that a time is less than the time before it.
+fn tell_fall(line: &SeenLine, read: &ReadLine<'_>, hint: &mut HintText) {
+    let before = str::from_utf8(&line.before).unwrap_or("");
+    let earlier = time_in(&ReadLine {
+        text: before,
+        mark: read.mark,
+        unit: read.unit,
+        places: read.places,
+    });
     hint.begin(": the time ");
-    hint.say_number("", later);
-    hint.say_number(" is less than the time before it, ", earlier);
+    hint.say_short("", time_in(read));
+    hint.say_short(" is less than the time before it, ", earlier);
     hint.end("; times must not decrease");
-    true
+}
+
+/// Says what is wrong with a word.
+fn tell_word(read: &ReadLine<'_>, hint: &mut HintText) {
+    let place = match read.places.map(|places| places.word) {
+        Some(WordPlaces::Whole(place)) => place,
+        _ => 2,
+    };
+    let word = field(read, place);
+    hint.begin(": ");
+    hint.say_quoted("", word);
+    hint.say_count(" is not a word: it has ", word.len());
+    hint.end(" characters, and a word is eight hexadecimal digits");
 }
 
 /// Says that a log, or the time of `--until`, takes too many frames of a group.
@@ -100,11 +246,11 @@ pub fn tell_too_long(until: Option<u64>, hint: &mut HintText) {
             hint.begin(": until ");
             hint.say_number("", until);
             hint.end(
-                " us a group would send more than 1000000 frames, the limit: give an earlier --until",
+                " us a group would send more than 1000000 frames (the limit): give an earlier --until",
             );
         }
         None => hint.say_line(
-            "until one frame after the last word a group would send more than 1000000 frames, the limit: let the times begin near 0, or give --until",
+            "the log is too long: until one frame after the last word a group would send more than 1000000 frames (the limit); count times from the first word (--from first), or give --until",
         ),
     }
 }

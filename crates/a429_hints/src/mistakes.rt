@@ -57,7 +57,7 @@ fn add_name(hyphens: &str, name: &str, names: &mut String) -> Result<(), AllocEr
     names.push(' ')
 }
 
-/// Says which name of this kind is nearest to a word, if the word is not such a name.
+/// Says which name of this kind is nearest to an argument, if the argument is not such a name.
 fn tell_nearest(kind: &str, names: &str, word: &str, hint: &mut HintText) {
     let shown = short_text(word);
     let shown = shown.as_str();

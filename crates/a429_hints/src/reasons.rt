@@ -1,12 +1,12 @@
-//! The reasons of `check`, in words.
+//! What the reasons of `check` mean.
 
-/// What a line must be that `check` refuses for this reason, by the word that `check` prints.
+/// The rule of a line that `check` refuses for this reason, as a text.
 pub fn meaning(reason: &str) -> &'static str {
     match reason {
         "form" => {
             "the line must have the form shown and end with a line feed; no line may be missing or extra"
         }
-        "rate" => "the rate must be that of the table, or in version 2 that of the group",
+        "rate" => "the bit rate must be that of the table, or in version 2 that of the group",
         "group" => "the group must be the next one of the table",
         "frame" => "the frame must be the longest grid period of the group's outputs",
         "buses" => "the number of buses must be 1 to 16",

@@ -16,7 +16,7 @@ pub const NOT_UTF8: &str = "the line is not UTF-8";
 const EMPTY: &str = "the line is empty";
 
 /// What is wrong with a line that is a comment.
-const COMMENT: &str = "comments are not allowed here";
+const COMMENT: &str = "this file cannot have comments";
 
 /// The first words of the lines of a script, separated by spaces.
 const VERBS: &str = "arrive cell frame publish";
@@ -94,11 +94,11 @@ fn fault_of_form(line: &SeenLine, text: &str) -> Option<&'static str> {
 /// What is wrong between the words of a line, or at its ends. `None` if nothing is.
 fn fault_between_words(line: &SeenLine, text: &str) -> Option<&'static str> {
     if text.contains('\t') {
-        Some("the line has a tab; put one space between its words")
+        Some("the line has a tab; use single spaces")
     } else if text.starts_with(' ') {
         Some("the line begins with a space")
     } else if text.contains("  ") {
-        Some("the line has two spaces together; put one space between its words")
+        Some("the line has two spaces together; use single spaces")
     } else if text.ends_with(' ') {
         Some("the line ends with a space")
     } else if !line.is_ended {

@@ -82,7 +82,7 @@ impl<'a> Sheet<'a> {
 /// What a column has, in two words.
 fn thing_in(column: &str) -> &'static str {
     match column {
-        "rate" => "a rate",
+        "rate" => "a bit rate",
         "label" => "a label",
         "sdi" => "an SDI",
         "min_us" | "max_us" => "a time",
@@ -102,7 +102,7 @@ pub fn form_in(column: &str) -> &'static str {
         "max_us" => "a whole number of microseconds, from min_us to 30000000",
         "hold" => "a whole number from 1 to 1000000, or nothing for no limit",
         "filters" => "LLL/MMM, label and mask, each three octal digits from 000 to 377",
-        _ => "1 to 16 of `a` to `z`, `0` to `9`, `-` and `_`",
+        _ => "1 to 16 characters of `a` to `z`, `0` to `9`, `-` and `_`",
     }
 }
 

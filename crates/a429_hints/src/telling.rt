@@ -142,7 +142,11 @@ fn tell_of_line(asked: &Asked, seen: &Seen, hint: &mut HintText) {
     match (asked.verb, seen.byte) {
         (_, Some(byte)) => tell_line_byte(line, byte, hint),
         (Verb::Live, None) => tell_words_line(line, hint),
-        (Verb::Simulate, None) => tell_log_line(line, hint),
+        (Verb::Simulate, None) => {
+            if let Some(log) = &seen.log {
+                tell_log_line(line, log, hint);
+            }
+        }
         (_, None) => tell_script_line(line, hint),
     }
 }
@@ -214,6 +218,12 @@ fn tell_order(asked: &Asked, looks: TableLook, hint: &mut HintText) {
         TableLook::PlanText => "the text of a plan",
         TableLook::Script => "a script",
         TableLook::Log => "a log",
+        TableLook::Rows => return hint.say_line(
+            "these are rows for import; write a429 import FILE >table.toml, and name table.toml here",
+        ),
+        TableLook::Refusal => return hint.say_line(
+            "this is the answer of a command that refused its file; correct that, and run the command again",
+        ),
         TableLook::Other => return,
     };
     hint.begin(": this looks like ");

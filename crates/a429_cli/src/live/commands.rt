@@ -1,4 +1,4 @@
-//! The command `live`, from words and files to bytes.
+//! The command `live`, from arguments and files to bytes.
 ghost use Rattle.std.specs.Prelude.{◌≡◌, ◌≤◌, ◌+◌, ◌⊎◌, not, true, IfOk, IsTrue, OnErr, OnOk};
 ghost use Rattle.a429_console.specs.Ends.{EndsBy, EndsOrFails, writing};
 ghost use Rattle.a429_console.specs.Files.{texts_of};
@@ -119,7 +119,7 @@ fn run_here<R: Threads + Wait, H: Hints, F: FileReader, O: Output, V: Output, P:
     if is_run(asked.verb) {
         run_with_hint(rt, alloc, asked, hints, files, out, err, progress)
     } else {
-        let error = other_call_error(alloc, "this call runs stations, and does nothing else");
+        let error = other_call_error(alloc, "this call runs only `live`");
         explain(alloc, &error, &[], hints, out, err)
     }
 }

@@ -191,8 +191,8 @@ fn run_report<R: Threads + Wait, F: FileReader, P: Progress + Sync>(
     result
 }
 
-/// Runs the station of a table on threads of its own, and puts the report of the run, or the one line of a refusal. The
-/// status is 0, or 1 after a refusal. While the station runs, `progress` gets reports of its progress.
+/// Runs the station of a table on threads of its own, and prints the report of the run, or one refusal line. The status
+/// is 0, or 1 after a refusal. While the station runs, `progress` gets reports of its progress.
 pub fn run_station<R: Threads + Wait, F: FileReader, O: Output, P: Progress + Sync>(
     rt: &R,
     alloc: Global,

@@ -86,7 +86,7 @@ impl LineForm for ScriptForm<'_> {
     }
 }
 
-/// Reads a script. The refusal has the number of its first faulty line, from 1: one that is no event, names nothing, or
+/// Reads a script. The refusal has the number of its first faulty line, from 1: one that is not an event, names nothing, or
 /// does not end with a line feed. That line is kept in `seen`.
 pub fn read_script(
     alloc: Global,

@@ -23,8 +23,8 @@ pub struct ReplayStation {
 }
 
 impl ReplayStation {
-    /// The station of a table's bytes, to which nothing has happened, at slot 0. Error: the table's fault, otherwise
-    /// the first fault of its plan. The further tables whose plans the station does not take are noted.
+    /// Opens the station of a table's bytes at slot 0, with no event yet. Error: the table's fault, otherwise the first
+    /// fault of its plan. The further tables whose plans the station does not take are noted.
     pub fn open(
         alloc: Global,
         table: &[u8],
@@ -40,7 +40,7 @@ impl ReplayStation {
         ReplayStation::of(alloc, proposal)
     }
 
-    /// The station of a proposal, to which nothing has happened, at slot 0. The refusal is that of memory.
+    /// Opens the station of a proposal at slot 0, with no event yet. Error: an allocation failed.
     fn of(alloc: Global, proposal: Proposal<OUTPUTS>) -> Result<ReplayStation, CommandRefusal>
         requires planned { IsPlanOf proposal.station proposal.plan }
         ensures { OpensStation proposal result }

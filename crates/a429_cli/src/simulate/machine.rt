@@ -58,7 +58,7 @@ fn note_word(heard: &mut Vec<Heard>, source: usize, time: u64)
 }
 
 impl Run {
-    /// The station of a proposal, to which nothing has happened, at slot 0.
+    /// Opens the station of a proposal at slot 0, with no event yet. Error: an allocation failed.
     pub fn open(alloc: Global, proposal: &Proposal<OUTPUTS>) -> Result<Run, CommandRefusal>
         ensures { IsOpening proposal.now result }
     {

@@ -5,6 +5,8 @@ ghost use Rattle.clap.specs.Words.{first_of, found_of, one_of, rows_of};
 ghost use Rattle.a429_console.specs.RequestRows.{choices_given, form_given, form_of, is_set, is_value_given, lacks_value, width_given};
 
 use crate::arguments::forms::{BCD, BITS, BNR, CODE, CSV, DATA, JSON, SUMMARY, WIDTH};
+use crate::arguments::times::{LogOrigin, origin_given, unit_given};
+use a429_logs::TimeUnit;
 use a429_text::SheetForm;
 use clap::ArgMatches;
 
@@ -19,6 +21,10 @@ const ENCODE: &str = "encode";
 pub struct Choices {
     /// How many slots wide the folds of a drawing are, 64, 128 or 256, if that is given.
     pub width: Option<u32>,
+    /// The unit of the times in a log.
+    pub time: TimeUnit,
+    /// From when on they are counted.
+    pub from: LogOrigin,
     /// The form of what is printed.
     pub form: SheetForm,
 }
@@ -55,7 +61,7 @@ fn width_given(found: &ArgMatches<'_>) -> Option<Option<u32>>
     }
 }
 
-/// The form of what a command prints. The error says which options do not go together.
+/// The form of what a command prints. The error says which options cannot be used together.
 fn form_given(name: &str, found: &ArgMatches<'_>) -> Result<SheetForm, &'static str>
     ensures given { IfOk result (λ form. form_given name.now (rows_of (found_of found.now)) ≡ Some form) }
     ensures none { IfErr result (λ _. form_given name.now (rows_of (found_of found.now)) ≡ None) }
@@ -63,10 +69,10 @@ fn form_given(name: &str, found: &ArgMatches<'_>) -> Result<SheetForm, &'static 
     let is_csv = is_given(found, CSV.id);
     let is_json = is_given(found, JSON.id);
     if is_csv && is_json {
-        return Err("'--csv' and '--json' do not go together");
+        return Err("'--csv' and '--json' cannot be used together");
     }
     if is_json && name == SIMULATE && !is_given(found, SUMMARY.id) {
-        return Err("'--json' is given with '--summary'");
+        return Err("'--json' needs '--summary'");
     }
     one_form(is_given(found, CODE.id), is_csv, is_json)
 }
@@ -81,7 +87,7 @@ fn one_form(is_code: bool, is_csv: bool, is_json: bool) -> Result<SheetForm, &'s
         return Ok(SheetForm::Columns);
     }
     if is_code {
-        return Err("'--c' goes with neither '--csv' nor '--json'");
+        return Err("'--c' cannot be used with '--csv' or '--json'");
     }
     Ok(if is_csv {
         SheetForm::Csv
@@ -114,10 +120,10 @@ fn value_given(found: &ArgMatches<'_>) -> Result<(), &'static str>
 {
     let is_bnr = has_text(found, BNR.id);
     if !is_one_alone(has_text(found, DATA.id), is_bnr, has_text(found, BCD.id)) {
-        return Err("one of '--data', '--bnr' and '--bcd' is given");
+        return Err("give exactly one of '--data', '--bnr' and '--bcd'");
     }
     if has_text(found, BITS.id) && !is_bnr {
-        return Err("'--bits' is given with '--bnr'");
+        return Err("'--bits' needs '--bnr'");
     }
     Ok(())
 }
@@ -135,14 +141,26 @@ fn value_if_made(name: &str, found: &ArgMatches<'_>) -> Result<(), &'static str>
 }
 
 /// What is chosen of the command of this name. The error says what is wrong.
+#[tactic(auto, unfolding(crate::specs::RequestRows::choices_given))]
 pub fn choices_in(name: &str, found: &ArgMatches<'_>) -> Result<Choices, &'static str>
     ensures chosen { IfOk result (λ choices. choices_given name.now (rows_of (found_of found.now)) ≡ Some choices) }
     ensures none { IfErr result (λ _. choices_given name.now (rows_of (found_of found.now)) ≡ None) }
 {
     value_if_made(name, found)?;
     let Some(width) = width_given(found) else {
-        return Err("'--width <N>' takes 64, 128 or 256");
+        return Err("'--width <N>' must be 64, 128 or 256");
+    };
+    let Some(time) = unit_given(found) else {
+        return Err("'--time <UNIT>' takes us, ms or s");
+    };
+    let Some(from) = origin_given(found) else {
+        return Err("'--from <TIME>' takes 'first' or a number of at most 18 digits");
     };
     let form = form_given(name, found)?;
-    Ok(Choices { width, form })
+    Ok(Choices {
+        width,
+        time,
+        from,
+        form,
+    })
 }

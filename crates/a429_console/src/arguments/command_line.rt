@@ -170,7 +170,7 @@ fn usage_error(alloc: Global, kind: ErrorKind, message: &str) -> Result<Error, A
     error
 }
 
-/// The error of words that the command line takes, but no call does.
+/// The error of arguments that the command line accepts, but no call can use.
 pub fn words_error(alloc: Global, kind: ErrorKind, message: &str) -> Error
     ensures { HasKind (kind ∷ []) result }
 {

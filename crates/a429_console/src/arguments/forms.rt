@@ -107,6 +107,17 @@ macro_rules! flag {
     };
 }
 
+/// The form of an option with a text, which help calls by this name.
+macro_rules! text {
+    ($id:literal, $value:literal, $help:expr) => {
+        OptionForm {
+            id: $id,
+            kind: OptionKind::Text { value: $value },
+            help: $help,
+        }
+    };
+}
+
 /// `--csv`
 pub const CSV: OptionForm = flag!("csv", help::CSV);
 
@@ -123,11 +134,7 @@ const SUMMARY_JSON: OptionForm = OptionForm {
 pub const ALL: OptionForm = flag!("all", help::ALL);
 
 /// `--group`
-pub const GROUP: OptionForm = OptionForm {
-    id: "group",
-    kind: OptionKind::Text { value: "NAME" },
-    help: help::GROUP,
-};
+pub const GROUP: OptionForm = text!("group", "NAME", help::GROUP);
 
 /// `--slots`
 pub const SLOTS: OptionForm = OptionForm {
@@ -141,14 +148,16 @@ pub const SLOTS: OptionForm = OptionForm {
 };
 
 /// `--width`
-pub const WIDTH: OptionForm = OptionForm {
-    id: "width",
-    kind: OptionKind::Text { value: "N" },
-    help: help::WIDTH,
-};
+pub const WIDTH: OptionForm = text!("width", "N", help::WIDTH);
 
 /// `--html`
 pub const HTML: OptionForm = flag!("html", help::HTML);
+
+/// `--time`
+pub const TIME: OptionForm = text!("time", "UNIT", help::TIME);
+
+/// `--from`
+pub const FROM: OptionForm = text!("from", "TIME", help::FROM);
 
 /// `--until`
 pub const UNTIL: OptionForm = OptionForm {
@@ -207,18 +216,10 @@ pub const SSM: OptionForm = OptionForm {
 };
 
 /// `--data`
-pub const DATA: OptionForm = OptionForm {
-    id: "data",
-    kind: OptionKind::Text { value: "HEX" },
-    help: help::DATA,
-};
+pub const DATA: OptionForm = text!("data", "HEX", help::DATA);
 
 /// `--bnr`
-pub const BNR: OptionForm = OptionForm {
-    id: "bnr",
-    kind: OptionKind::Text { value: "N" },
-    help: help::BNR,
-};
+pub const BNR: OptionForm = text!("bnr", "N", help::BNR);
 
 /// `--bits`
 pub const BITS: OptionForm = OptionForm {
@@ -232,11 +233,7 @@ pub const BITS: OptionForm = OptionForm {
 };
 
 /// `--bcd`
-pub const BCD: OptionForm = OptionForm {
-    id: "bcd",
-    kind: OptionKind::Text { value: "DIGITS" },
-    help: help::BCD,
-};
+pub const BCD: OptionForm = text!("bcd", "DIGITS", help::BCD);
 
 /// The form of a name.
 macro_rules! name {
@@ -357,7 +354,7 @@ static COMMANDS: [CommandForm; 16] = [
         verb: Verb::Simulate,
         name: "simulate",
         second: Some(name!("LOG", help::LOG)),
-        options: &[UNTIL, SUMMARY, CSV, SUMMARY_JSON],
+        options: &[TIME, FROM, UNTIL, SUMMARY, CSV, SUMMARY_JSON],
         ..OF_TABLE
     },
     CommandForm {

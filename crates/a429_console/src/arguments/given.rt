@@ -16,7 +16,7 @@ pub enum WordsFault {
     #[error("out of memory")]
     NoMemory,
     /// An argument is not UTF-8.
-    #[error("a word is no UTF-8")]
+    #[error("an argument is not UTF-8")]
     NotText,
 }
 
@@ -97,7 +97,7 @@ fn push_word(words: &mut Vec<String>, word: String) -> Result<(), WordsFault>
     }
 }
 
-/// The word at a place. `None` after the last.
+/// The argument at a place. `None` after the last.
 fn word_at<A: Arguments>(
     alloc: Global,
     arguments: &A,

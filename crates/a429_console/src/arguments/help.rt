@@ -33,11 +33,10 @@ pub fn help_of(verb: Verb) -> CommandHelp {
 }
 
 pub const PROGRAM: &str =
-    "ARINC 429 data concentrator: takes in words, and sends them on by planned slots";
+    "ARINC 429 data concentrator: receives words, and sends them in planned slots";
 
 pub const PROGRAM_END: &str = "\
-A table is TOML. It begins with `version = 2`, and has, each as often as it
-needs:
+A table is TOML. It begins with `version = 2`, and then has any number of:
   [[receiver]]      name, filters (may be left out)
   [[source]]        name, receiver, label, sdi
   [[group]]         name, rate (bit/s)
@@ -67,44 +66,44 @@ pub const SSM: &str = "The SSM, 0 to 3 [default: 3 with --bnr, otherwise 0]";
 
 pub const DATA: &str = "Data as one to five hexadecimal digits, at most 7ffff";
 
-pub const BNR: &str = "Data as a whole number in BNR; --bnr=-5 if it is negative";
+pub const BNR: &str = "Data as a whole number in BNR; write --bnr=-5 for -5";
 
-pub const BITS: &str = "Bits of that number below its sign, 1 to 18 [default: 18]";
+pub const BITS: &str = "Bits of --bnr below its sign, 1 to 18 [default: 18]";
 
 pub const BCD: &str = "Data as five decimal digits in BCD, the first at most 7";
 
 pub const ENCODE_END: &str = "\
-One of --data, --bnr and --bcd is given. The word has odd parity. `word` prints
-its fields.
+Give exactly one of --data, --bnr and --bcd. The word has odd parity. Print its
+fields with `a429 word`.
 
 Example:
   a429 encode 203 --bnr 5000";
 
-pub const LINES: &str = "Print what a reader of a line reports: words, faults, and the rest";
+pub const LINES: &str = "Decode a recorded line: print its words, its faults, and the rest";
 
-pub const FILE: &str = "File of a line, a byte a symbol";
+pub const FILE: &str = "Line file, with one byte for each symbol";
 
 pub const FILTER: &str = "Label filters, LLL/MMM in octal, at most 32";
 
 pub const LINES_END: &str = "\
 A line file has `1` for Hi, `0` for Lo and `.` for Null; spaces and line feeds
-are skipped. With filters, only the words that one of them passes are printed.
+are skipped. With filters, `lines` prints only the words that a filter passes.
 
 Example:
   a429 lines examples/displays/line 203/377";
 
 pub const IMPORT: &str = "Print an equipment table, made from a spreadsheet's rows";
 
-pub const ROWS: &str = "Comma-separated values, a row for each output";
+pub const ROWS: &str = "Comma-separated values, with a row for each output";
 
 pub const IMPORT_END: &str = "\
-The first row names the columns, in any order; others are passed over:
-  group, rate        the group that sends the output, and its rate in bit/s
-  source, receiver   the source of its words, and the receiver of that
+The first row names the columns, in any order. Other columns are ignored.
+  group, rate        the group that sends the output, and its bit rate (bit/s)
+  source, receiver   the source that the output sends, and its receiver
   label, sdi         the label in octal, and the SDI, 0 to 3 or `any`
-  min_us, max_us     the interval of transmission in microseconds
-  hold               may be left out; a number, or empty
-  filters            may be left out; filters of the receiver, with spaces
+  min_us, max_us     minimum and maximum transmit interval in microseconds
+  hold               optional: a number, or empty
+  filters            optional: filters of the receiver, separated by spaces
 
 Example:
   a429 import examples/displays/labels.csv > table.toml";
@@ -117,13 +116,13 @@ Example:
 
 pub const CHECK: &str = "Check whether a plan's text shows the fewest buses for a station";
 
-pub const TEXT: &str = "Text of a plan, by any program or person";
+pub const TEXT: &str = "Plan text, from any program or person";
 
 pub const CHECK_END: &str = "\
 Example:
   a429 check examples/displays/table.toml examples/displays/table.plan";
 
-pub const ICD: &str = "Print what an interface control document says of each output";
+pub const ICD: &str = "Print the data of each output for an interface control document";
 
 pub const CSV: &str = "As comma-separated values, for spreadsheets";
 
@@ -133,21 +132,21 @@ pub const ICD_END: &str = "\
 Example:
   a429 icd --csv examples/displays/table.toml";
 
-pub const MARGIN: &str = "Print how far each group is from one bus less, and what would help";
+pub const MARGIN: &str = "Show what would save a bus in each group";
 
 pub const MARGIN_END: &str = "\
 Example:
   a429 margin examples/air_data_and_inertial/station.toml";
 
-pub const LOAD: &str = "Print the load of each bus, and what its free cells would take";
+pub const LOAD: &str = "Print the load of each bus, and how many more outputs it can take";
 
-pub const LIMIT: &str = "Status 1 if a bus has a load above it, 1 to 100 per cent";
+pub const LIMIT: &str = "Status 1 if a bus load is above PERCENT, 1 to 100";
 
 pub const LOAD_END: &str = "\
-There is a row for each bus, and one for each group with all its buses. The
-columns room_2, room_4 .. have how many more outputs with this period in slots
-its free cells take. With a limit the row of a group that is above it has the
-fewest buses that it needs to stay below.
+There is a row for each bus, and a row for each group with all its buses. Column
+room_2 is the number of outputs with a period of 2 slots that fit into the free
+cells, room_4 the same for 4 slots, and so on. With --limit, `needed` in the row
+of a group above the limit is the fewest buses that stay within the limit.
 
 Example:
   a429 load --limit 80 examples/displays/table.toml";
@@ -164,30 +163,30 @@ The cells are in the order in which each group sends them in one frame.
 Example:
   a429 slots --group displays examples/displays/table.toml";
 
-pub const LINT: &str = "Print what a table does silently, such as words that never arrive";
+pub const LINT: &str = "Report likely mistakes in a table, such as sources that are not sent";
 
 pub const LINT_END: &str = "\
-There is a row for each finding, and the status is 1 if there is one:
+There is a row for each finding, and the status is 1 if there is a finding:
   unfit           the interval of an output has no period
-  too-many-buses  a group needs this number of buses, and 16 are the most
-  unheard         no filter of its receiver passes a source
-  unsent          no group has an output of a source
-  idle            a receiver has no source
-  blind           the filter of this number passes none of its sources
-  alike           two outputs have one label, and one of them any SDI
+  too-many-buses  a group needs this number of buses, more than 16
+  unheard         no filter of the receiver passes this source
+  unsent          no group sends this source
+  idle            this receiver has no source
+  blind           the filter with this number passes no source of its receiver
+  alike           two outputs have the same label, and one has the SDI `any`
   full            a group has no empty cell
 
 Example:
   a429 lint examples/air_data_and_inertial/station.toml";
 
-pub const DIFF: &str = "Print what changes from the plan of a table to that of another";
+pub const DIFF: &str = "Print what changes when one table replaces another";
 
-pub const OTHER: &str = "Equipment table that takes its place (TOML)";
+pub const OTHER: &str = "Equipment table that replaces TABLE (TOML)";
 
-pub const ALL: &str = "Each output that only moves, instead of their number";
+pub const ALL: &str = "A row for each output that only moves, instead of their number";
 
 pub const DIFF_END: &str = "\
-There is a row for each change, and the status is 1 if there is one. A row
+There is a row for each change, and the status is 1 if there is a change. A row
 `receiver`, `filters`, `source`, `source-receiver`, `label`, `sdi`, `group` or
 `rate` means that OTHER cannot be published while TABLE runs. A row `moved` has
 the number of outputs that only change their slots.
@@ -199,9 +198,9 @@ pub const DRAW: &str = "Draw the slot tables of a plan as an image (SVG)";
 
 pub const GROUP: &str = "Only the group of this name";
 
-pub const DRAWN_SLOTS: &str = "Slots drawn, 1 to 8192 [default: a frame, at most 256]";
+pub const DRAWN_SLOTS: &str = "Slots to draw, 1 to 8192 [default: one frame, at most 256]";
 
-pub const WIDTH: &str = "Slots side by side, 64, 128 or 256 [default: 64]";
+pub const WIDTH: &str = "Slots in a row, 64, 128 or 256 [default: 64]";
 
 pub const HTML: &str = "As a page (HTML) with `icd`, `margin` and `lint`";
 
@@ -215,7 +214,7 @@ pub const TABLE: &str = "Equipment table of the station (TOML)";
 
 pub const SCRIPT: &str = "Script of events, one on each line";
 
-pub const FURTHER: &str = "Further tables that the script can publish, from number 1";
+pub const FURTHER: &str = "Further tables that the script can publish, numbered from 1";
 
 pub const REPLAY_END: &str = "\
 A script has an event on each line:
@@ -227,30 +226,37 @@ A script has an event on each line:
 Example:
   a429 replay examples/first/table.toml examples/first/script";
 
-pub const SIMULATE: &str = "Print which words a station would have sent, by a log with times";
+pub const SIMULATE: &str = "Simulate a station on a log of received words with times";
 
-pub const LOG: &str = "Words that come in, `TIME RECEIVER HEX` on each line";
+pub const LOG: &str = "Received words, `TIME RECEIVER HEX` on each line";
 
-pub const UNTIL: &str = "Send until then [default: a frame after the last word]";
+pub const TIME: &str = "Unit of times in the log: us, ms or s [default: us]";
+
+pub const FROM: &str = "\
+Count times from the first word (first), or from this
+time in us [default: 0]";
+
+pub const UNTIL: &str = "Simulate until US [default: one frame after the last word]";
 
 pub const SUMMARY: &str = "One row for each output instead of a line for each word";
 
 pub const SUMMARY_JSON: &str = "The summary as JSON";
 
 pub const SIMULATE_END: &str = "\
-A log has a word on each line. TIME is in whole microseconds, and does not
-fall; empty lines and lines that begin with # are passed over. What is printed:
-  TIME GROUP BUS HEX SOURCE AGE      a word goes out, AGE microseconds old
-  TIME RECEIVER HEX refused REASON   a word that came in is not taken
+A log has a word on each line. Blanks, commas or semicolons separate its fields,
+and a heading may name its columns. TIME must not decrease. Empty lines, and
+lines that begin with #, are ignored. US is in microseconds. Output lines:
+  TIME GROUP BUS HEX SOURCE AGE      a word is sent, AGE microseconds old
+  TIME RECEIVER HEX refused REASON   a received word is not accepted
 
 Example:
   a429 simulate examples/displays/table.toml examples/displays/log";
 
 pub const LIVE: &str = "Run a station on threads, and print how many words and cells passed";
 
-pub const WORDS: &str = "Words that come in, `RECEIVER HEX` on each line";
+pub const WORDS: &str = "Received words, `RECEIVER HEX` on each line";
 
-pub const RESUBMITTED: &str = "Further tables, published one after another while it runs";
+pub const RESUBMITTED: &str = "Further tables, published one by one while the station runs";
 
 pub const FRAMES: &str = "How many frames each group sends, at most 1000000";
 

@@ -81,7 +81,7 @@ fn mistake_text(alloc: Global, mistake: &Error) -> io::Result<Vec<u8>> {
     Ok(printable_text(alloc, str::from_utf8(&text).unwrap_or(""))?)
 }
 
-/// A text of several lines with `?` for each other control character: a terminal would obey those of a word.
+/// A text of several lines with `?` for each other control character: a terminal would obey those of an argument.
 fn printable_text(alloc: Global, text: &str) -> Result<Vec<u8>, AllocError> {
     let mut shown = String::new(alloc);
     for c in text.chars() {

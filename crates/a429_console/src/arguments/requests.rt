@@ -13,6 +13,8 @@ use crate::arguments::forms::{
     ALL, BCD, BITS, BNR, CODE, CommandForm, DATA, GROUP, HTML, LIMIT, NameForm, NumberForm, SDI,
     SLOTS, SSM, SUMMARY, UNTIL, Verb, command_named,
 };
+use crate::arguments::times::LogOrigin;
+use a429_logs::TimeUnit;
 use a429_text::SheetForm;
 use clap::error::ErrorKind;
 use clap::{ArgMatches, Error};
@@ -50,6 +52,10 @@ pub struct Options<'a> {
     pub width: Option<u32>,
     /// A page is drawn, with the image and the lines of the documents (`--html`).
     pub html: bool,
+    /// The unit of the times in a log: microseconds, unless `--time` is given.
+    pub time: TimeUnit,
+    /// From when on they are counted: from 0, unless `--from` is given.
+    pub from: LogOrigin,
     /// The last microsecond at which the slot of a cell may begin (`--until`). `None`: one frame after the last word.
     pub until: Option<u64>,
     /// There is one row for each output, instead of one line for each word (`--summary`).
@@ -80,7 +86,7 @@ pub struct Asked<'a> {
 pub fn parse<'a>(alloc: Global, words: &'a [&'a str]) -> Result<Asked<'a>, Error>
     // Arguments that ask for a request are read as it. The only error then is that an allocation fails.
     ensures asked { (r : AskedBytes) → AsksFor (texts_of words.entry.now) r → IsRead r result }
-    // An error has a kind that the words come to for `command`; a request means that they come to none, unless it is for `live`.
+    // An error has a kind that the arguments have for `command`; a request means that they have none, unless it is for `live`.
     ensures kinds { ComesTo (kinds_of_words (texts_of words.entry.now)) is_run result }
     // The same for `command_live`, which does `live` alone.
     ensures live_kinds { ComesTo (live_kinds_of_words (texts_of words.entry.now)) (λ verb. not (is_run verb)) result }
@@ -98,8 +104,8 @@ pub fn other_call_error(alloc: Global, message: &str) -> Error
     words_error(alloc, ErrorKind::InvalidSubcommand, message)
 }
 
-/// What the arguments ask for, by what was found of them. Error: options that exclude each other, or a width other than
-/// 64, 128 and 256.
+/// What the arguments ask for, by what was found of them. Error: `--width`, `--time` or `--from` has a value that
+/// it does not take, or options do not go together.
 fn read_matches<'a>(alloc: Global, matches: &ArgMatches<'a>) -> Result<Asked<'a>, Error>
     ensures asked { (r : AskedBytes) → IsFound (subcommand_rows_of matches.now) r → IsRead r result }
     ensures kinds { ComesTo (found_kinds (subcommand_rows_of matches.now) (is_live (subcommand_rows_of matches.now))) is_run result }
@@ -119,7 +125,7 @@ fn read_matches<'a>(alloc: Global, matches: &ArgMatches<'a>) -> Result<Asked<'a>
     }
 }
 
-/// What a command of this form is asked for, by what was found of its words.
+/// What a command of this form is asked for, by what was found of its arguments.
 fn read_asked<'a>(
     alloc: Global,
     form: &CommandForm,
@@ -193,6 +199,8 @@ fn options_in<'a>(found: &ArgMatches<'a>, choices: Choices) -> Options<'a>
         slots: asked_number(found, SLOTS.id),
         width: choices.width,
         html: is_given(found, HTML.id),
+        time: choices.time,
+        from: choices.from,
         until: asked_time(found, UNTIL.id),
         summary: is_given(found, SUMMARY.id),
         code: is_given(found, CODE.id),

@@ -78,8 +78,7 @@ pub fn finish<O: Output>(left: &[u8], sufficed: bool, out: &mut O) -> Result<u8,
     Ok(0)
 }
 
-/// Reports on `err` that standard output failed. If its reader has closed it, nobody waits for more, and nothing is
-/// reported.
+/// Writes to `err` that standard output failed. If its reader has closed standard output, it writes nothing.
 pub fn tell_fault<V: Output>(fault: OutputFault, err: &mut V)
     ensures announced { is_closing fault ≡ false → NoneFailed (V.failures err.old) (V.failures err.new)
         → Appends (V.contents err.old) (V.contents err.new) failed_line }

@@ -17,19 +17,19 @@ returns-in_err-words c =
     let log = c.args.log.now in
     let e = c.in_err-words.field-0.0 in
     let p = err_from_is_err_and c.from_residual.result c.from_residual.ensures.1 in
-    failed c.from_residual.result _ (OrMemory (BeginsNoLog s log c.args.until)) e (p.1 ∙ ap Err p.2)
-    (or_memory_weaker (IsLogFault s.names log) (BeginsNoLog s log c.args.until) e (λ one. inl one) c.in_err-words.ensures.words)
+    failed c.from_residual.result _ (OrMemory (BeginsNoLog s log c.args.form)) e (p.1 ∙ ap Err p.2)
+    (or_memory_weaker (IsLogFault s.names c.args.form.reading log) (BeginsNoLog s log c.args.form) e (λ one. inl one) c.in_err-words.ensures.words)
 
 pub returns : goal.returns
 returns c =
     let s = c.args.setting.now in
     let log = c.args.log.now in
-    let until = c.args.until in
+    let form = c.args.form in
     let words = c.in_ok-words.words.items in
-    let last = end_of s.proposal words until in
-    matched_both c.open.result (IsBegin s.proposal words last) (BeginsLog s log until)
-    (OrMemory (λ (r : CommandRefusal). (r ≡ TooMuch) × SendsTooMuch s.proposal last)) (OrMemory (BeginsNoLog s log until))
+    let last = end_of s.proposal words form.until in
+    matched_both c.open.result (IsBegin s.proposal words last) (BeginsLog s log form)
+    (OrMemory (λ (r : CommandRefusal). (r ≡ TooMuch) × SendsTooMuch s.proposal last)) (OrMemory (BeginsNoLog s log form))
     (λ b is. (words, c.in_ok-words.ensures.words, is))
-    (λ e bad. or_memory_weaker (λ (r : CommandRefusal). (r ≡ TooMuch) × SendsTooMuch s.proposal last) (BeginsNoLog s log until) e
+    (λ e bad. or_memory_weaker (λ (r : CommandRefusal). (r ≡ TooMuch) × SendsTooMuch s.proposal last) (BeginsNoLog s log form) e
     (λ long. inr (words, c.in_ok-words.ensures.words, long.0, long.1)) bad)
     c.open.ensures

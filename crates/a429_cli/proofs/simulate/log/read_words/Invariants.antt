@@ -1,15 +1,15 @@
-use Rattle.std.proofs.Common.{◌≡◌, ◌+◌, ◌≤◌, length}
+use Rattle.std.proofs.Common.{◌≡◌, length}
 use Rattle.a429_console.specs.Lines.{entries_before}
-use Rattle.a429_cli.specs.SimulationLog.{log_after, log_words}
-use Rattle.a429_cli.proofs.LogLines.{AreUpTo}
+use Rattle.a429_logs.specs.LogsLeft.{entries_left}
+use Rattle.a429_cli.specs.SimulationLog.{log_words, words_from}
+use Rattle.a429_cli.proofs.LogLines.{AreSoFar}
 use Rattle.a429_cli.proofs.simulate.log.read_words.Given as goal
 
-abbrev pub invariant-loop-left : goal.invariant-loop-left
-invariant-loop-left l = record {
-  read : log_words l.names l.log ≡ entries_before l.words.items (log_after l.names l.last l.lines l.left);
-  counted : l.lines + length l.left ≤ length l.log;
-  up_to : AreUpTo l.words.items l.last;
+abbrev pub invariant-loop-entry : goal.invariant-loop-entry
+invariant-loop-entry l = record {
+  read : log_words l.names l.fn.reading l.log ≡ entries_before l.words.items (words_from l.names (entries_left l.reader));
+  times : AreSoFar l.words.items (entries_left l.reader);
 }
 
-abbrev pub decreases-loop-left : goal.decreases-loop-left
-decreases-loop-left l = length l.left
+abbrev pub decreases-loop-entry : goal.decreases-loop-entry
+decreases-loop-entry l = length (entries_left l.reader)

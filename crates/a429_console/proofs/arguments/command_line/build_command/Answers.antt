@@ -1,6 +1,6 @@
-use Rattle.std.proofs.Common.{ap, ap₂, ◌∙◌}
+use Rattle.std.proofs.Common.{ap₂, ◌∙◌}
 use Rattle.std.proofs.lemmas.Result.{IfOk-weaker}
-use Rattle.a429_console.specs.CommandLine.{bare_line, command_line, with_commands}
+use Rattle.a429_console.specs.CommandLine.{command_line, with_commands}
 use Rattle.a429_console.proofs.arguments.command_line.build_command.Goals as goal
 
 pub returns : goal.returns

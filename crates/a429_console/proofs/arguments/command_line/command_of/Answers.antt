@@ -1,7 +1,7 @@
-use Rattle.std.proofs.Common.{◌≡◌, ◌∷◌, ◌∙◌, [], ◌+◌, ap, drop, fold, get_or, map, List}
+use Rattle.std.proofs.Common.{◌≡◌, ◌∷◌, ◌∙◌, [], ◌+◌, ap, drop, fold, get_or, map}
 use Rattle.std.proofs.Math.ListN.{drop_of_length-le}
 use Rattle.std.proofs.lemmas.List.{drop_more}
-use Rattle.clap.specs.Words.{App, Rule, app_of, with_rule}
+use Rattle.clap.specs.Words.{App, app_of, with_rule}
 use Rattle.a429_console.specs.CommandLine.{form_row, form_rule, with_names}
 use Rattle.a429_console.specs.declared.arguments.forms.OptionForm.{OptionForm}
 use Rattle.a429_console.specs.declared.arguments.forms.OptionKind.TheVariants.{Flag}
