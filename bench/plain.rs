@@ -1,10 +1,10 @@
-//! Plays a script as `a429 replay` does, or tells a line as `a429 lines` does, in plain Rust that is written to be fast:
+//! Plays a script like `a429 replay`, or reads a line file like `a429 lines`, in plain Rust that is written to be fast:
 //! what bench/replay and bench/lines compare the program with, in time and in every byte. It shares no code with the
 //! program, knows the table that bench/replay makes (source `sN` has label N, and receiver `rM` has the sources from 16 M
 //! on), and takes the slot tables from the text of the plan. A word is counted, and a cell is looked up, as the program does
 //! it: in 41 bits, by a binary search, with spacing and hold.
 //!
-//! Words: `replay`, the text of the plan and the script; or `lines`, the line file and filters.
+//! Arguments: `replay`, the text of the plan and the script; or `lines`, the line file and filters.
 
 use std::error::Error;
 use std::hint::select_unpredictable;
@@ -58,7 +58,7 @@ impl<W: Write> Lines<W> {
         self.used += bytes.len();
     }
 
-    /// A text of so many bytes, which is followed by others in its array: they are copied too and written over.
+    /// A text with its number of bytes. Other bytes follow it in its array: they are copied too and written over.
     #[inline(always)]
     fn put_short(&mut self, text: &Short) {
         self.room[self.used..self.used + 24].copy_from_slice(&text.bytes);
@@ -147,7 +147,7 @@ fn sources() -> Vec<u16> {
     }).collect()
 }
 
-/// What a group sent last of a source; the count is 0 where it sent nothing.
+/// What a group sent last of a source; the count is 0 if it sent nothing.
 #[derive(Clone, Copy, Default)]
 struct LastSend {
     count: u64,
@@ -163,16 +163,16 @@ const OUTPUTS: usize = 128;
 struct Layout {
     starts: [u32; OUTPUTS],
     sources: [u8; OUTPUTS],
-    /// So many slots are two sends apart at least.
+    /// The minimum number of slots from one send to the next.
     spacings: [u32; OUTPUTS],
-    /// So often one accepted word is sent at most.
+    /// The maximum number of sends of one accepted word.
     holds: [u32; OUTPUTS],
     cells: u32,
     digits: u32,
 }
 
 impl Layout {
-    /// Of a frame of so many slots, the starts, sources and periods of its outputs, in the order of the starts. The
+    /// The layout of a frame of this number of slots, with the starts, sources and periods of its outputs, in the order of the starts. The
     /// table that bench/replay makes asks for an interval of a microsecond or more, and for no hold.
     fn of(frame: u32, outputs: &[(u32, u8, u32)]) -> Layout {
         let mut layout = Layout {
@@ -550,8 +550,8 @@ impl<W: Write> Teller<W> {
     }
 }
 
-/// Where a reader is in a line: behind so many Nulls, of which more than four count as four, in a run of so many bits, or
-/// in one that was reported.
+/// The state of a reader of a line: the number of Nulls before (4 for more), the number of bits of the run, or that the
+/// run was reported.
 #[derive(Clone, Copy)]
 enum Stage {
     Nulls(u32),
@@ -587,7 +587,7 @@ fn lines(file: &str, filters: &[String]) -> Result<(), Fault> {
             }
             (Stage::Bits(32, raw), b'.') => {
                 teller.word(raw)?;
-                // four Nulls stand between most words
+                // four Nulls are between most words
                 match rest {
                     [b'.', b'.', b'.', rest @ ..] => {
                         left = rest;

@@ -3,11 +3,11 @@
 //! (source `sN` has label N, receiver `rM` has the sources from 16 M on), and takes the slot tables from the text of
 //! the plan.
 //!
-//! It does what a transmitter is for: one look-up and one load a cell, the least spacing of a source's words and how
-//! often one of them may be sent, and at each frame's end a look at the number of the newest plan.
+//! It does what a transmitter is for: one look-up and one load a cell, the spacing of a source's words and how often
+//! one of them may be sent, and at each frame's end a look at the number of the newest plan.
 //!
-//! Words: the text of the plan, the file of words, how many receivers, how many frames, how many slots two words of a
-//! source are apart at least, and how often one word is sent at most (0 where there is no limit).
+//! Arguments: the text of the plan, the file of words, how many receivers, how many frames, the spacing of
+//! the words of a source in slots, and how often one word is sent at most (0: no limit).
 
 use std::error::Error;
 use std::sync::atomic::{AtomicU64, Ordering};
@@ -80,7 +80,7 @@ fn words(text: &str, receivers: usize) -> Result<Vec<Vec<u32>>, Box<dyn Error>> 
 /// bits above count the accepted words, as long as the program does: 32 of them are spent after 18 days at 100 kbit/s.
 const WORD_BITS: u32 = 23;
 
-/// The word of a source of this label (as it stands in the word's lowest bits) in a value.
+/// The word of a source of this label (as the lowest bits of a word have it) in a value.
 fn word_in(label: u32, value: u64) -> u32 {
     let rest = (value as u32 & ((1 << WORD_BITS) - 1)) << 8 | label;
     rest | (!rest.count_ones() & 1) << 31

@@ -1,9 +1,10 @@
-//! Plans a table as `a429 plan` does, tells of its plan as `a429 icd`, `margin`, `load`, `slots` and `draw` do, or checks its text as
-//! `a429 check` does, in plain Rust that is written to be fast where tables are read, planned and printed: what bench/plan
-//! and bench/ratios compare the program with, in time and in every byte. It shares no code with the program, reads tables of version 1 line by line in the form that bench/plan writes, where the
-//! program reads any TOML document, and asks of a table and of a text what the program asks of them.
+//! Plans a table like `a429 plan`, prints its plan like `a429 icd`, `margin`, `load`, `slots` and `draw`, or checks its text
+//! like `a429 check`, in plain Rust that is written to read, plan and print tables fast: what bench/plan and bench/ratios
+//! compare the program with, in time and in every byte. It shares no code with the program. It reads tables of version 1
+//! line by line in the form that bench/plan writes, while the program reads any TOML document. It tests the same rules of a
+//! table and of a text as the program.
 //!
-//! Words: `plan`, `icd`, `margin`, `load`, `slots` or `draw` and the table; or `icd`, the table and `--csv`; or `slots`,
+//! Arguments: `plan`, `icd`, `margin`, `load`, `slots` or `draw` and the table; or `icd`, the table and `--csv`; or `slots`,
 //! the table and `--c`; or `check`, the table and the text.
 
 use std::collections::HashMap;
@@ -233,7 +234,7 @@ fn table(text_of: &str) -> Result<Table, Fault> {
     Ok(table)
 }
 
-/// The greatest period that the interval of an output admits.
+/// The greatest period that the interval of an output allows.
 fn grid_period(rate: u64, output: &Output) -> Result<u64, Fault> {
     let fits = |period: &u64| {
         let time = 36_000_000 * period;
@@ -253,7 +254,7 @@ fn plan(table: &Table, group: &Group) -> Result<Plan, Fault> {
     let (mut start, mut placed) = (0, Vec::with_capacity(order.len()));
     for (period, _, _, output) in order {
         let place = start % frame;
-        // the digits of the place in reverse, where there are any
+        // the digits of the place in reverse, if there are any
         let offset = if frame == 1 { 0 } else { place.reverse_bits() >> (64 - frame.trailing_zeros()) };
         placed.push(Placed { output, period, bus: start / frame, offset });
         start += frame / period;
@@ -297,7 +298,7 @@ fn plan_text(table: &Table) -> Result<String, Fault> {
     Ok(text)
 }
 
-/// How long so many slots are, in microseconds, rounded up.
+/// The duration of this number of slots in microseconds, rounded up.
 fn slots_us(rate: u64, slots: u64) -> u64 {
     (36_000_000 * slots).div_ceil(rate)
 }
@@ -628,7 +629,7 @@ fn decimal(text: &str) -> Option<u64> {
     if plain { text.parse().ok() } else { None }
 }
 
-/// The first line of a text that fails, from 1, and why; none where it shows the fewest buses.
+/// The first line of a text that fails, from 1, and why; `None` if the text shows the fewest buses.
 fn check<'a>(table: &Table, text: &'a str) -> Result<Option<(&'static str, usize)>, Fault> {
     let mut lines = text.split_inclusive('\n').map(|line| line.strip_suffix('\n'));
     let mut at = 0;

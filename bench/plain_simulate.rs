@@ -3,7 +3,7 @@
 //! has label N, and receiver `rM` has the sources from 16 M on; no output has a hold), and takes rates and slot tables
 //! from the text of the plan.
 //!
-//! Words: `words`, the text of the plan and the log, for what the program prints; or `script` with these two, for a
+//! Arguments: `words`, the text of the plan and the log, for what the program prints; or `script` with these two, for a
 //! script of the same events, as many as 16 MiB hold, and their number on standard error.
 
 use std::collections::HashMap;

@@ -1,7 +1,7 @@
-/* Counts the requests for memory that a program makes, and refuses the one whose number stands in REFUSED, counted
-   from 1; with a minus behind the number, each from there on. At its end the program writes to descriptor 3 how many
-   it made. The start of the thread whose number stands in NO_THREAD, from 1, is refused too. It goes before a program by
-   LD_PRELOAD. */
+/* Counts the requests for memory that a program makes, and refuses the one with the number in the variable REFUSED, from 1;
+   with a minus after the number, each from there on. At its end the program writes the number of its requests to
+   descriptor 3. The start of the thread with the number in NO_THREAD, from 1, is refused too. LD_PRELOAD loads it into a
+   program. */
 
 #include <errno.h>
 
@@ -20,7 +20,7 @@ static unsigned long made;
 static unsigned long refused;
 static int and_later;
 
-/* The C library looks at the error where it starts a thread. */
+/* The C library looks at the error when it starts a thread. */
 static int is_refused(void) {
     unsigned long number = __atomic_add_fetch(&made, 1, __ATOMIC_SEQ_CST);
     if (number != refused && !(and_later && number > refused)) return 0;

@@ -1,5 +1,5 @@
 //! Accepts and loads words as `Receiver::accept` and `Transmitter::load` do, in plain Rust: what bench/values
-//! compares them with, beside a store and a load of an atomic alone. It shares no code with the library, and knows
+//! compares them with, next to a store and a load of an atomic alone. It shares no code with the library, and knows
 //! the table that bench/values makes: source N has label N and any SDI, and every label passes.
 
 use std::array::from_fn;
@@ -65,7 +65,7 @@ impl Transmitter<'_> {
     }
 }
 
-/// The words are accepted in turn; how often one was.
+/// Accepts the words one after another. The answer is how often one was accepted.
 fn accept_many(receiver: &mut Receiver, words: &[u32; 16]) -> u32 {
     let mut accepted = 0;
     for call in 0..CALLS {
@@ -76,7 +76,7 @@ fn accept_many(receiver: &mut Receiver, words: &[u32; 16]) -> u32 {
     accepted
 }
 
-/// The first sources are loaded in turn; the sum of the words, without what passes 32 bits.
+/// Loads the first sources one after another. The answer is the sum of the words modulo 2^32.
 fn load_many(transmitter: &Transmitter) -> u32 {
     let mut sum: u32 = 0;
     for call in 0..CALLS {

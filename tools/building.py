@@ -1,6 +1,6 @@
 """Proves crates and builds what is made of them: the program a429, and the archive of the static library a429_c.
 
-Beside what it builds, in out/ of the crate, it notes what that was built from, in the file built-from: the compiler, the sum of
+Next to what it builds, in out/ of the crate, it notes what that was built from, in the file built-from: the compiler, the sum of
 all that the proof read (`stamp` of repository.py), and the sum of the file that was built. Only a build that passed notes it.
 
 Variables: A429_JOBS is how many processors it uses; without it, all that memory is enough for. RT_BACKEND=rattle compiles
@@ -108,7 +108,7 @@ def without_proofs(said):
 
 
 def build(name, jobs, more):
-    """Proves and builds a crate. A check that was killed, most likely for memory, is run once more with one job."""
+    """Proves and builds a crate. A check that was killed, most likely for memory, is run again with one job."""
     status = -signal.SIGKILL
     for number in (jobs, 1):
         if status != -signal.SIGKILL:

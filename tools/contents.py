@@ -1,4 +1,4 @@
-"""What is installed of a429, and where: the files of the package, of the archive, and of tools/install.
+"""The files of a429 that are installed, with their paths: those of the package, of the archive, and of tools/install.
 
 They are those of a proved build alone. The program has no names for debuggers, and is otherwise as it was built.
 """
@@ -136,7 +136,7 @@ def documents():
 
 def contents(prefix="${pcfiledir}/../..", lib="lib"):
     """All files, sorted by their paths. The libraries are in the folder `lib`, and a429.pc says that they are below the prefix:
-    without one it goes by its own place, so that the folder of all files can be moved."""
+    without one it uses its own place, so that the folder of all files can be moved."""
     built = [Entry("bin/a429", stripped(building.Target("a429").made), 0o755),
              Entry(f"{lib}/{libraries.ARCHIVE}", read("out", libraries.ARCHIVE)),
              Entry(f"{lib}/{libraries.SHARED}", read("out", libraries.SHARED))]

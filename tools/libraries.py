@@ -25,7 +25,7 @@ def header_calls():
 
 
 def build():
-    """Proves a429_c if that is due, and puts both libraries and a429.pc into out/."""
+    """Proves a429_c if a source changed, and puts both libraries and a429.pc into out/."""
     building.build_if_due("a429_c")
     os.makedirs(OUT, exist_ok=True)
     with tempfile.TemporaryDirectory(dir=OUT) as room:

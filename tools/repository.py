@@ -68,7 +68,7 @@ def own_uses(name):
 
 @functools.lru_cache(maxsize=None)
 def below(name):
-    """The names of the repository's libraries that a crate stands on, lowest first."""
+    """The names of the repository's libraries that a crate uses, lowest first."""
     needed = {use for direct in own_uses(name) for use in [direct, *below(direct)]}
     return [other for other in crates() if other in needed]
 
@@ -141,7 +141,7 @@ def rattle():
 
 
 def rattle_words(name, jobs):
-    """The words after `rattle check` or `rattle build` that name a crate and the libraries that it stands on."""
+    """The arguments of `rattle check` or `rattle build` that name a crate and the libraries that it uses."""
     crate, rlibs = crates()[name], os.path.join(kit(), "rlibs")
     words = ["--crate-name", name, crate.root_file(), "-L", "dependency=" + rlibs]
     of_kit = [use for use in crate.uses if use not in crates()]

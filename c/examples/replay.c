@@ -1,4 +1,4 @@
-/* Replays a script on the station of a table, as `a429 replay TABLE SCRIPT TABLE..` does.
+/* Replays a script on the station of a table, like `a429 replay TABLE SCRIPT TABLE..`.
  *
  *     replay TABLE SCRIPT TABLE.. */
 #include "a429.h"
@@ -152,7 +152,7 @@ static void play(a429_station *station, const text *further, event e)
         print_refusal(station);
 }
 
-/* Reads the lines of a script, and plays them if `plays`. The number of the first that is no event, or 0. */
+/* Reads the lines of a script, and plays them if `plays`. The number of the first that is not an event, or 0. */
 static size_t each_line(a429_station *station, text script, const text *further, size_t count, int plays)
 {
     size_t number = 0;

@@ -1,4 +1,4 @@
-"""Replays a script on the station of a table, as `a429 replay TABLE SCRIPT TABLE..` does.
+"""Replays a script on the station of a table, like `a429 replay TABLE SCRIPT TABLE..`.
 
     python3 replay.py TABLE SCRIPT TABLE..
 """
@@ -11,7 +11,7 @@ import a429  # noqa: E402
 
 
 def event(station, further, line):
-    """The call of a line, as a function that gives the line of its answer; None if the line is no event."""
+    """The call of a line, as a function that gives the line of its answer; None if the line is not an event."""
     verb, _, words = line.partition(b" ")
     try:
         if verb == b"arrive":

@@ -1,4 +1,4 @@
-/* Each request for memory of an opening and of a publication is refused in turn: the status says so, nothing is held
+/* Refuses each request for memory of an opening and of a publication, one after another: the status says so, nothing is held
  * that was not held before, and nothing is lost. Events take no memory.
  *
  *     memory TABLE.. */
