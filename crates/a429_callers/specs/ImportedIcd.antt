@@ -10,12 +10,12 @@ use Rattle.a429_slots.specs.Proposed.{Proposed}
 use Rattle.a429_slots.specs.Tables.{PlanTable}
 use Rattle.a429_table.specs.Reading.{reading}
 use Rattle.a429_cert.specs.PlanText.{plan_text_of}
-use Rattle.a429_documents.specs.declared.import.fault.ImportFault.{ImportFault}
-use Rattle.a429_documents.specs.declared.import.fault.ImportFault.TheVariants.{NoMemory}
+use Rattle.a429_import.specs.declared.fault.ImportFault.{ImportFault}
+use Rattle.a429_import.specs.declared.fault.ImportFault.TheVariants.{NoMemory}
 use Rattle.a429_text.specs.Sheets.{sheet_text}
 use Rattle.a429_text.specs.declared.sheets.SheetForm.TheVariants.{Csv}
 use Rattle.a429_documents.specs.Document.{icd_columns, icd_rows}
-use Rattle.a429_documents.specs.Imports.{IsImport}
+use Rattle.a429_import.specs.Imports.{IsImport}
 use Rattle.a429_documents.specs.Lint.{has_source}
 use Rattle.a429_documents.specs.Losses.{IsSent}
 

@@ -2,8 +2,8 @@
 use Rattle.std.proofs.Common.{◌≡◌, ℕ, List, inr, refl}
 use Rattle.std.specs.Prelude.{Option, Some}
 use Rattle.a429_table.specs.declared.fault.TableFault.TheVariants as fault
-use Rattle.a429_documents.specs.declared.import.fault.ImportFault.{ImportFault}
-use Rattle.a429_documents.specs.declared.import.fault.ImportFault.TheVariants as wrong
+use Rattle.a429_import.specs.declared.fault.ImportFault.{ImportFault}
+use Rattle.a429_import.specs.declared.fault.ImportFault.TheVariants as wrong
 use Rattle.a429_console.specs.FileReadings.{readable}
 use Rattle.a429_console.specs.RefusalText.{OrMemory}
 use Rattle.a429_cli.specs.Importing.{IsImportFault, IsNoImport, import_refusal}

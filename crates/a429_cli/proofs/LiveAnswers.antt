@@ -5,7 +5,7 @@ use Rattle.a429_console.specs.Requests.{AskedBytes}
 use Rattle.a429_console.specs.Usage.{is_run}
 use Rattle.a429_console.specs.declared.arguments.forms.Verb.{Verb}
 use Rattle.a429_console.specs.declared.arguments.forms.Verb.TheVariants as verb
-use Rattle.a429_cli.specs.LiveReplies.{IsLiveReply, TakesLive}
+use Rattle.a429_live.specs.LiveReplies.{IsLiveReply, TakesLive}
 use Rattle.a429_cli.specs.Replies.{IsReplyOf, TakesTables}
 
 pub live_reply : (v : Verb) (file : List ℕ → Option (List ℕ)) (r : AskedBytes) (status : ℕ) (bytes : List ℕ) → is_run v ≡ true → IsLiveReply file r status bytes → IsReplyOf v file r status bytes

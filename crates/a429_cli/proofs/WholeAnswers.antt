@@ -1,5 +1,5 @@
 -- What is put of a command's reply or refusal.
-use Rattle.std.proofs.Common.{◌≡◌, ◌≤◌, ◌∷◌, ◌++◌, [], ℕ, List, arith, inl, inr, refl, sym, subst, true, false}
+use Rattle.std.proofs.Common.{◌≡◌, ◌≤◌, ℕ, List, arith, inl, inr, sym, subst, true}
 use Rattle.std.specs.Prelude.{Option, Result, Ok, Err, IfOk, OnOk}
 use Rattle.std.specs.Io.KnownBytes.{Appends}
 use Rattle.a429_console.specs.Outputs.{IsPut}

@@ -2,15 +2,15 @@
 use Rattle.std.specs.Prelude.{◌≡◌, ◌⊎◌, ℕ, List, Option, Ok, Err, Some}
 use Rattle.a429_table.specs.Reading.{reading}
 use Rattle.a429_table.specs.declared.fault.TableFault.TheVariants as fault
-use Rattle.a429_documents.specs.ImportRows.{rows_stated}
-use Rattle.a429_documents.specs.ImportTables.{record_stated}
-use Rattle.a429_documents.specs.Imports.{AreLines, IsImport}
-use Rattle.a429_documents.specs.declared.import.fault.CsvFaultKind.{CsvFaultKind}
-use Rattle.a429_documents.specs.declared.import.fault.CsvFaultKind.TheVariants as rows
-use Rattle.a429_documents.specs.declared.import.fault.ImportFault.{ImportFault}
-use Rattle.a429_documents.specs.declared.import.fault.ImportFault.TheVariants as wrong
-use Rattle.a429_documents.specs.declared.import.lines.CsvLine.{CsvLine}
-use Rattle.a429_documents.specs.declared.import.rows.ImportRow.{ImportRow}
+use Rattle.a429_import.specs.ImportRows.{rows_stated}
+use Rattle.a429_import.specs.ImportTables.{record_stated}
+use Rattle.a429_import.specs.Imports.{AreLines, IsImport}
+use Rattle.a429_import.specs.declared.fault.CsvFaultKind.{CsvFaultKind}
+use Rattle.a429_import.specs.declared.fault.CsvFaultKind.TheVariants as rows
+use Rattle.a429_import.specs.declared.fault.ImportFault.{ImportFault}
+use Rattle.a429_import.specs.declared.fault.ImportFault.TheVariants as wrong
+use Rattle.a429_import.specs.declared.lines.CsvLine.{CsvLine}
+use Rattle.a429_import.specs.declared.rows.ImportRow.{ImportRow}
 use Rattle.a429_console.specs.FileReadings.{IsFileRefusal, readable}
 use Rattle.a429_console.specs.declared.refusals.CommandRefusal.{CommandRefusal}
 use Rattle.a429_console.specs.declared.refusals.CommandRefusal.TheVariants as refused

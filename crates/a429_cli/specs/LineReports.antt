@@ -9,7 +9,8 @@ use Rattle.a429_filter.specs.Receiving.{accepts}
 use Rattle.a429_filter.specs.Sources.{raw_found}
 use Rattle.a429_word.specs.Hexadecimal.{hex}
 use Rattle.a429_console.specs.Outputs.{AppendsPending}
-use Rattle.a429_cli.specs.declared.pending.Pending.{Pending}
+use Rattle.std.specs.declared.vec.Vec.{Vec}
+use Rattle.std.specs.declared.alloc.Global.{Global}
 
 abbrev pub word_line : ℕ → List ℕ
 word_line raw = codes "word " ++ hex raw ++ 10 ∷ []
@@ -40,6 +41,6 @@ rest_line None rest = if nat_lt 0 rest then codes "rest " ++ decimal rest ++ 10 
 rest_line (Some filters) rest = []
 
 -- what is printed of one report is put out or appended to the lines that are yet to be; the answer says whether memory sufficed for it
-abbrev pub PrintsReport : {X E : Type 0} → (X → Option (List ℕ)) → Option (List Filter) → Found → X → X → Pending → Pending → Result Bool E → Type 0
+abbrev pub PrintsReport : {X E : Type 0} → (X → Option (List ℕ)) → Option (List Filter) → Found → X → X → Vec ℕ Global → Vec ℕ Global → Result Bool E → Type 0
 PrintsReport contents filters found out out' lines lines' result =
-    IfOk result (λ all. AppendsPending (contents out) lines.text.items (contents out') lines'.text.items (printed_if all filters found))
+    IfOk result (λ all. AppendsPending (contents out) lines.items (contents out') lines'.items (printed_if all filters found))

@@ -16,9 +16,9 @@ use Rattle.a429_cli.specs.Loads.{IsLoadOf}
 use Rattle.a429_cli.specs.SlotReplies.{IsNoSlots, IsSlotsOf, slots_form}
 use Rattle.a429_cli.specs.Findings.{IsDiffOf, IsLinted, IsNoDiff, IsNoLint}
 use Rattle.a429_cli.specs.Importing.{IsImported, IsNoImport}
-use Rattle.a429_cli.specs.LiveReplies.{IsLiveReply, TakesLive}
-use Rattle.a429_cli.specs.Replaying.{IsReplay, TakesFurther}
-use Rattle.a429_cli.specs.SimulationReplies.{IsSimulation, simulation_form}
+use Rattle.a429_live.specs.LiveReplies.{IsLiveReply, TakesLive}
+use Rattle.a429_replay.specs.Replaying.{IsReplay, TakesFurther}
+use Rattle.a429_recordings.specs.SimulationReplies.{IsSimulation, simulation_form}
 use Rattle.a429_cli.specs.WholeReplies.{IsReplyBy}
 use Rattle.a429_cli.specs.declared.plan_texts.PlanText.TheVariants as told
 

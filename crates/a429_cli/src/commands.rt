@@ -17,11 +17,9 @@ use crate::import::import_reply;
 use crate::lines::tell_lines;
 use crate::loads::load_reply;
 use crate::plan_texts::{PlanText, check_reply, plan_reply};
-use crate::replay::replay;
 use crate::replies::put_reply;
 use crate::replies::reply::Reply;
 use crate::runs::{is_run, is_whole, trouble_of};
-use crate::simulate::{SimulationForm, simulate};
 use crate::slots::{SlotsForm, slots_reply};
 use crate::word::word_reply;
 use a429_console::arguments::forms::Verb;
@@ -32,6 +30,8 @@ use a429_console::hints::{FurtherFault, Hints, Seen, tell_hints};
 use a429_console::output::endings::tell_fault;
 use a429_console::output::{Output, OutputFault};
 use a429_console::refusals::CommandRefusal;
+use a429_recordings::simulate::{SimulationForm, simulate};
+use a429_replay::replay::replay;
 use std::alloc::Global;
 
 /// Runs a command: `words` are the arguments without the program's name. Answers, refusals and help that is asked for

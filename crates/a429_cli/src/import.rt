@@ -9,7 +9,7 @@ use a429_console::files::FileReader;
 use a429_console::files::reading::read_file;
 use a429_console::hints::{Seen, SeenRows};
 use a429_console::refusals::{CommandRefusal, CsvKind};
-use a429_documents::{CsvFaultKind, ImportFault, import_table};
+use a429_import::{CsvFaultKind, ImportFault, import_table};
 use a429_table::TableFault;
 use std::alloc::Global;
 

@@ -11,7 +11,6 @@ ghost use Rattle.a429_console.specs.Outputs.{CountsFault, IsPut};
 pub mod reports;
 
 use crate::lines::reports::{print_report, push_rest};
-use crate::pending::Pending;
 use a429_console::files::FileReader;
 use a429_console::files::reading::read_file;
 use a429_console::hints::{Seen, SeenLine};
@@ -92,11 +91,11 @@ fn read_line<F: FileReader>(
 /// have become many, and those that are left are in `lines`. The result is whether memory sufficed for all.
 fn print_line<O: Output>(
     line: &LineInput,
-    lines: &mut Pending,
+    lines: &mut Vec<u8>,
     out: &mut O,
 ) -> Result<bool, OutputFault>
     ensures printed { IfOk result (IsPut (IsLinePrinted line.now)
-        (append_known (O.contents out.old) lines.old.text.items) (append_known (O.contents out.new) lines.new.text.items)) }
+        (append_known (O.contents out.old) lines.old.items) (append_known (O.contents out.new) lines.new.items)) }
     ensures faults { CountsFault result (O.failures out.old) (O.failures out.new) }
 {
     let bytes = line.bytes.as_slice();
@@ -120,9 +119,9 @@ fn tell_line<O: Output>(alloc: Global, line: &LineInput, out: &mut O) -> Result<
     ensures flushed { OnOk result (IsTrue (O.is_flushed out.new)) }
     ensures faults { CountsFault result (O.failures out.old) (O.failures out.new) }
 {
-    let mut lines = Pending::new(alloc);
+    let mut lines = Vec::new(alloc);
     let sufficed = print_line(line, &mut lines, out)?;
-    finish(&lines.text, sufficed, out)
+    finish(&lines, sufficed, out)
 }
 
 /// Prints what a reader reports of the line in a file: one line for each report, and one for a rest that has none. With

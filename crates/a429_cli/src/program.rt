@@ -6,14 +6,14 @@ ghost use Rattle.a429_console.specs.Readings.{HasReadFrom};
 ghost use Rattle.a429_cli.specs.ProgramRuns.{HasRunProgram, IsCallDone, IsDoneOrRefused, is_live};
 
 use crate::commands::command;
-use crate::live::commands::command_live;
-use crate::live::progress::Progress;
+use crate::live::command_live;
 use a429_console::arguments::given::{Arguments, WordsFault, given_words};
 use a429_console::arguments::replies::warn;
 use a429_console::files::FileReader;
 use a429_console::hints::Hints;
 use a429_console::output::Output;
 use a429_console::output::endings::{refuse_memory, tell_fault};
+use a429_live::Progress;
 use std::alloc::{AllocError, Global};
 use std::sync::Wait;
 use std::thread::Threads;

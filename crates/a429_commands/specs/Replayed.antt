@@ -4,8 +4,8 @@ use Rattle.a429_slots.specs.Proposed.{Proposed}
 use Rattle.a429_console.specs.Requests.{asked_by_names}
 use Rattle.a429_console.specs.declared.arguments.forms.Verb.TheVariants as verb
 use Rattle.a429_cli.specs.Replies.{IsReplyOrMemory}
-use Rattle.a429_cli.specs.Replaying.{IsInput, IsPlayed, IsStart, ReplayInput}
-use Rattle.a429_cli.specs.declared.replay.script.ScriptEvent.{ScriptEvent}
+use Rattle.a429_replay.specs.Replaying.{IsInput, IsPlayed, IsStart, ReplayInput}
+use Rattle.a429_replay.specs.declared.script.ScriptEvent.{ScriptEvent}
 
 -- the files of these names are a table with a plan and a script, and the bytes are the answers to all of its events
 pub record IsPlayedToTheEnd (file : List ℕ → Option (List ℕ)) (table script bytes : List ℕ) : Type 0 where

@@ -3,7 +3,6 @@ pub mod Margins
 pub mod Drawings
 pub mod MarkedCells
 pub mod MarginGroups
-pub mod RowFields
 pub mod DocumentRows
 pub mod Findings
 pub mod Changes
@@ -17,14 +16,6 @@ pub mod SameTables
 pub mod SamePlans
 pub mod StatedTexts
 pub mod OnePlan
-pub mod ImportTrees
-pub mod ImportRanges
-pub mod ImportRecords
-pub mod Imports
-pub mod RowsInRecord
-pub mod FirstRows
-pub mod ImportClashes
-pub mod NextRows
 pub mod Among
 pub mod SlotCells
 pub mod Loads
@@ -34,5 +25,3 @@ pub mod Rooms
 pub mod FilledCells
 pub mod RoomsOfPlans
 pub mod SharesOfPlans
-pub mod ImportLimits
-pub mod ImportReading

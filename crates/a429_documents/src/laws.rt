@@ -1,6 +1,5 @@
 //! What is true of the definitions that the contracts cite.
 ghost use Rattle.a429_documents.specs.Drawing.{MarksAreCells};
-ghost use Rattle.a429_documents.specs.ImportedRows.{RowsAreInRecord};
 ghost use Rattle.a429_documents.specs.Load.{NeededBusesAreFewest, RoomsAreExact};
 ghost use Rattle.a429_documents.specs.Losses.{BusCountsAreFewest, NoLossIsAllServed};
 ghost use Rattle.a429_documents.specs.Margins.{WiderIntervalsAreNext};
@@ -54,12 +53,6 @@ pub fn no_row_is_one_plan()
 {
     fewest_by_demand();
 }
-
-/// The record of the table has what each imported row says: a group with its name and bit rate that has an output with its
-/// interval and hold. The output's source has the row's name, label and SDI; its receiver has the row's name and filters.
-pub fn imported_rows_are_in_record()
-    ensures { RowsAreInRecord }
-{}
 
 /// The number of more outputs of a period that `load` computes from the free cells of a bus is exact. It is how many
 /// offsets below the period have only empty cells: each output takes all cells of one offset. No more fit, since each has

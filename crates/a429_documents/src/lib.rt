@@ -1,6 +1,5 @@
 //! The documents of a plan: its interface control document, what would save a bus, an image of its slot tables, likely
-//! mistakes in its table, and what another plan changes. Also the table that rows of an interface control document
-//! describe.
+//! mistakes in its table, and what another plan changes.
 //!
 //! `icd_sheet` has a row for each output: bus, offset, period, intervals and latency. `margin_sheet` says which maximum
 //! intervals would have to be longer to save a bus. `load_sheet` says how many cells of each bus have an output, how many
@@ -8,11 +7,10 @@
 //! a frame, and `slot_header` gives the slot tables as a header of C. `Drawing::of` has the marks of an image, of one group
 //! or of all; `draw_text` writes it as an image (SVG), and `page_text` as a page (HTML) with that image and the other
 //! documents. `diff_sheet` takes two proposals, and says what changes from the first to the second. `lint_sheet` takes an
-//! equipment, and says which words never arrive and what is unused. `import_table` takes rows of comma-separated values,
-//! and gives an equipment table. The others take a proposal. `Sheet::render` of `a429_text` renders a sheet.
+//! equipment, and says which words never arrive and what is unused. The others take a proposal. `Sheet::render` of
+//! `a429_text` renders a sheet.
 //!
-//! Errors: each call fails if an allocation fails. `Drawing::of` also fails if the image is too high, and `import_table`
-//! if the rows or their table have a fault.
+//! Errors: each call fails if an allocation fails. `Drawing::of` also fails if the image is too high.
 //!
 //! ```text
 //! match kind {
@@ -26,7 +24,6 @@
 mod diff;
 mod document;
 mod drawing;
-mod import;
 pub mod laws;
 mod lint;
 mod load;
@@ -37,10 +34,6 @@ mod slots;
 pub use diff::diff_sheet;
 pub use document::{icd_sheet, latency_us};
 pub use drawing::{Drawing, DrawingFault, DrawingForm, Mark, draw_text};
-pub use import::{
-    CsvFaultKind, CsvLine, IMPORT_COLUMNS, ImportColumn, ImportFault, LineCount, csv_lines,
-    import_table,
-};
 pub use lint::lint_sheet;
 pub use load::{Load, load_sheet};
 pub use margin::margin_sheet;

@@ -1,7 +1,7 @@
 //! Rows of comma-separated values, as a person sees them.
 
 use crate::hint::HintText;
-use a429_documents::CsvLine;
+use a429_import::CsvLine;
 
 /// The rows of a file below their heading.
 #[derive(Clone, Copy)]

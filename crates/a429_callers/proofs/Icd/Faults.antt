@@ -33,10 +33,10 @@ use Rattle.a429_table.proofs.AtKeys.{get_mapped}
 use Rattle.a429_table.proofs.Trees.{elements-items_of}
 use Rattle.a429_cert.proofs.Again.{same_again}
 use Rattle.a429_cert.proofs.CheckedPlans.{same_bytes}
-use Rattle.a429_documents.specs.declared.import.firsts.Part.{Part}
-use Rattle.a429_documents.specs.declared.import.firsts.Part.TheVariants.{Groups, Receivers, Sources}
-use Rattle.a429_documents.specs.declared.import.rows.ImportRow.{ImportRow}
-use Rattle.a429_documents.specs.ImportTables.{firsts, group_stated, group_tree, name_in, number_of, output_tree, part_tree, part_trees, receiver_tree, record_stated, root_members, rows_of_group, sdi_data, source_stated, source_tree, with_filters, words}
+use Rattle.a429_import.specs.declared.firsts.Part.{Part}
+use Rattle.a429_import.specs.declared.firsts.Part.TheVariants.{Groups, Receivers, Sources}
+use Rattle.a429_import.specs.declared.rows.ImportRow.{ImportRow}
+use Rattle.a429_import.specs.ImportTables.{firsts, group_stated, group_tree, name_in, number_of, output_tree, part_tree, part_trees, receiver_tree, record_stated, root_members, rows_of_group, sdi_data, source_stated, source_tree, with_filters, words}
 use Rattle.a429_callers.proofs.Icd.NamedFirsts.{own_firsts}
 use Rattle.a429_callers.proofs.Icd.Groups.{group_rows_are, groups_again}
 use Rattle.a429_callers.proofs.Icd.Records.{IsRead, all_read, first_is_of, no_words, source_is}
@@ -44,9 +44,9 @@ use Rattle.a429_callers.proofs.Icd.Rows.{IsRowOf, one_source, read_output, read_
 use Rattle.a429_callers.proofs.Icd.Sound.{few_receivers, few_sources, imported_sound}
 use Rattle.a429_callers.proofs.Icd.FineRows.{bare_receiver, group_fine, output_data, output_fine, outputs_at, receiver_fine, root_fine, source_fine}
 use Rattle.a429_callers.proofs.Icd.NoFaults.{HoldsAtStops, IsFine, no_faults, none_earlier, some_found}
-use Rattle.a429_documents.proofs.ImportRecords.{named_receiver, position_same}
+use Rattle.a429_import.proofs.ImportRecords.{named_receiver, position_same}
 use Rattle.a429_callers.proofs.Icd.OwnWords.{HaveOwnWords}
-use Rattle.a429_documents.proofs.RowsInRecord.{IsAt, first_of}
+use Rattle.a429_import.proofs.RowsInRecord.{IsAt, first_of}
 use Rattle.a429_documents.proofs.Words.{word_of}
 
 -- ---- SDIs that meet

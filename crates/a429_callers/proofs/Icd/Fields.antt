@@ -24,14 +24,14 @@ use Rattle.a429_slots.specs.declared.group_plan.SlotPlace.{SlotPlace}
 use Rattle.a429_text.specs.Fields.{Field, field_text}
 use Rattle.a429_cert.proofs.CheckedPlans.{same_bytes}
 use Rattle.a429_cert.proofs.Fields.{value_again}
-use Rattle.a429_documents.specs.declared.import.fault.CsvFaultKind.TheVariants.{Form}
-use Rattle.a429_documents.specs.declared.import.fault.ImportColumn.TheVariants.{Group, Rate, Source, Receiver, Label, Sdi, MinUs, MaxUs, Hold, Filters}
-use Rattle.a429_documents.specs.declared.import.rows.ImportRow.{ImportRow}
-use Rattle.a429_documents.specs.declared.import.rows.RowNumbers.{RowNumbers}
-use Rattle.a429_documents.specs.declared.import.rows.RowTexts.{RowTexts}
+use Rattle.a429_import.specs.declared.fault.CsvFaultKind.TheVariants.{Form}
+use Rattle.a429_import.specs.declared.fault.ImportColumn.TheVariants.{Group, Rate, Source, Receiver, Label, Sdi, MinUs, MaxUs, Hold, Filters}
+use Rattle.a429_import.specs.declared.rows.ImportRow.{ImportRow}
+use Rattle.a429_import.specs.declared.rows.RowNumbers.{RowNumbers}
+use Rattle.a429_import.specs.declared.rows.RowTexts.{RowTexts}
 use Rattle.a429_documents.specs.Document.{icd_columns, icd_row, limit_field, receiver_name, sdi_field}
-use Rattle.a429_documents.specs.ImportFields.{filters_in, hold_in, label_in, number_in, sdi_in, text_in}
-use Rattle.a429_documents.specs.ImportRows.{CsvFault, column_field, joined, numbers_of, texts_of}
+use Rattle.a429_import.specs.ImportFields.{filters_in, hold_in, label_in, number_in, sdi_in, text_in}
+use Rattle.a429_import.specs.ImportRows.{CsvFault, column_field, joined, numbers_of, texts_of}
 
 -- ---- numbers
 

@@ -21,7 +21,7 @@ use Rattle.a429_table.specs.Tree.{integer_at, get_integer, rows_at, text_at}
 use Rattle.a429_table.specs.Version.{version_of}
 use Rattle.a429_table.specs.Walk.{earlier}
 use Rattle.a429_table.proofs.Trees.{elements-items_of}
-use Rattle.a429_documents.specs.ImportTables.{listed, number, sdi_data, with_hold}
+use Rattle.a429_import.specs.ImportTables.{listed, number, sdi_data, with_hold}
 
 -- ---- tests
 

@@ -15,9 +15,9 @@ use Rattle.a429_equipment.specs.declared.rows.OutputRow.{OutputRow}
 use Rattle.a429_cert.proofs.Again.{same_again}
 use Rattle.a429_cert.proofs.CheckedPlans.{same_bytes}
 use Rattle.a429_table.proofs.Absence.{all_from}
-use Rattle.a429_documents.specs.declared.import.firsts.Part.TheVariants.{Groups, Sources}
-use Rattle.a429_documents.specs.declared.import.rows.ImportRow.{ImportRow}
-use Rattle.a429_documents.specs.ImportTables.{firsts, firsts_after, group_stated, number_of, output_stated, outputs_stated, record_stated}
+use Rattle.a429_import.specs.declared.firsts.Part.TheVariants.{Groups, Sources}
+use Rattle.a429_import.specs.declared.rows.ImportRow.{ImportRow}
+use Rattle.a429_import.specs.ImportTables.{firsts, firsts_after, group_stated, number_of, output_stated, outputs_stated, record_stated}
 use Rattle.a429_callers.proofs.Icd.Rows.{read_groups, read_output, read_table, source_at}
 use Rattle.a429_callers.proofs.Icd.RenumberedPlans.{renumbered_row}
 

@@ -10,19 +10,19 @@ use Rattle.a429_slots.specs.Tables.{PlanTable}
 use Rattle.a429_table.specs.declared.fault.TableFault.TheVariants as fault
 use Rattle.a429_table.specs.Faults.{faults, first}
 use Rattle.a429_cert.specs.PlanText.{plan_text_of}
-use Rattle.a429_documents.specs.declared.import.fault.ImportFault.{ImportFault}
-use Rattle.a429_documents.specs.declared.import.fault.ImportFault.TheVariants.{Csv, NoMemory, Table}
-use Rattle.a429_documents.specs.declared.import.lines.CsvLine.{CsvLine}
-use Rattle.a429_documents.specs.declared.import.rows.ImportRow.{ImportRow}
+use Rattle.a429_import.specs.declared.fault.ImportFault.{ImportFault}
+use Rattle.a429_import.specs.declared.fault.ImportFault.TheVariants.{Csv, NoMemory, Table}
+use Rattle.a429_import.specs.declared.lines.CsvLine.{CsvLine}
+use Rattle.a429_import.specs.declared.rows.ImportRow.{ImportRow}
 use Rattle.a429_callers.specs.ImportedIcd.{HasPlanTextOf, ImportedIcdIsSamePlan, ImportsPlan, IsWholeInIcd, icd_csv}
-use Rattle.a429_documents.specs.Imports.{AreLines, IsImport, IsImportOf}
-use Rattle.a429_documents.specs.ImportRows.{rows_stated}
-use Rattle.a429_documents.specs.ImportTables.{record_stated, root_members}
+use Rattle.a429_import.specs.Imports.{AreLines, IsImport, IsImportOf}
+use Rattle.a429_import.specs.ImportRows.{rows_stated}
+use Rattle.a429_import.specs.ImportTables.{record_stated, root_members}
 use Rattle.a429_callers.proofs.Icd.Faults.{none_at_all}
 use Rattle.a429_callers.proofs.Icd.Groups.{new_number}
 use Rattle.a429_callers.proofs.Icd.Records.{is_renumbered, sent_part}
 use Rattle.a429_callers.proofs.Icd.Rows.{read_table, rows_stated_are}
-use Rattle.a429_documents.proofs.ImportRanges.{same_ok}
+use Rattle.a429_import.proofs.ImportRanges.{same_ok}
 use Rattle.a429_callers.proofs.Icd.OwnWords.{IsReadTable, read_table_is}
 use Rattle.a429_callers.proofs.Icd.RenumberedPlans.{IsRenumbered, is_plan, renumbered_plan, one_text}
 

@@ -7,9 +7,9 @@ use Rattle.std.proofs.lemmas.List.Folds.{list_any-append}
 use Rattle.std.proofs.lemmas.Option.{none-some, same_Some}
 use Rattle.a429_word.proofs.Lists.{all_at, clash}
 use Rattle.a429_cert.proofs.Again.{same_again}
-use Rattle.a429_documents.specs.declared.import.firsts.Part.{Part}
-use Rattle.a429_documents.specs.declared.import.rows.ImportRow.{ImportRow}
-use Rattle.a429_documents.specs.ImportTables.{firsts, firsts_after, is_known, name_in, same_name}
+use Rattle.a429_import.specs.declared.firsts.Part.{Part}
+use Rattle.a429_import.specs.declared.rows.ImportRow.{ImportRow}
+use Rattle.a429_import.specs.ImportTables.{firsts, firsts_after, is_known, name_in, same_name}
 
 -- ---- none has the name of an earlier row
 

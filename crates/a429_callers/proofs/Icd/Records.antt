@@ -16,19 +16,19 @@ use Rattle.a429_slots.specs.Planned.{HaveSources}
 use Rattle.a429_table.proofs.Absence.{all_from}
 use Rattle.a429_table.proofs.Apart.{mapped_at}
 use Rattle.a429_table.proofs.AtKeys.{get_mapped}
-use Rattle.a429_documents.specs.declared.import.firsts.Part.{Part}
-use Rattle.a429_documents.specs.declared.import.firsts.Part.TheVariants.{Receivers, Sources}
-use Rattle.a429_documents.specs.declared.import.rows.ImportRow.{ImportRow}
+use Rattle.a429_import.specs.declared.firsts.Part.{Part}
+use Rattle.a429_import.specs.declared.firsts.Part.TheVariants.{Receivers, Sources}
+use Rattle.a429_import.specs.declared.rows.ImportRow.{ImportRow}
 use Rattle.a429_callers.specs.ImportedIcd.{IsSameOutput, IsSameSource, IsSentPart}
-use Rattle.a429_documents.specs.ImportTables.{filters_stated, firsts, number_of, receiver_stated, record_stated, source_stated, words}
+use Rattle.a429_import.specs.ImportTables.{filters_stated, firsts, number_of, receiver_stated, record_stated, source_stated, words}
 use Rattle.a429_documents.specs.Lint.{has_source}
 use Rattle.a429_documents.specs.Losses.{IsSent}
 use Rattle.a429_callers.proofs.Icd.NamedFirsts.{own_firsts}
 use Rattle.a429_callers.proofs.Icd.Groups.{groups_again, new_number, outputs_again}
 use Rattle.a429_callers.proofs.Icd.Rows.{IsRowOf, one_receiver, one_source, read_groups, read_output, read_table, rows_are, source_at, source_there}
-use Rattle.a429_documents.proofs.ImportRecords.{all_firsts}
+use Rattle.a429_import.proofs.ImportRecords.{all_firsts}
 use Rattle.a429_callers.proofs.Icd.RenumberedPlans.{AreAlike, AreKept, IsRenumbered, renumbered_row}
-use Rattle.a429_documents.proofs.RowsInRecord.{IsAt, first_of}
+use Rattle.a429_import.proofs.RowsInRecord.{IsAt, first_of}
 
 -- ---- lists
 

@@ -21,18 +21,18 @@ use Rattle.a429_slots.specs.Tables.{Placed, PlanTable, SlotTable, groups_of, out
 use Rattle.a429_cert.proofs.Again.{same_again}
 use Rattle.a429_cert.proofs.CheckedPlans.{same_bytes}
 use Rattle.a429_table.proofs.Absence.{all_from}
-use Rattle.a429_documents.specs.declared.import.fault.ImportColumn.{ImportColumn}
-use Rattle.a429_documents.specs.declared.import.fault.ImportColumn.TheVariants.{Filters, Label, Rate, Receiver, Sdi}
-use Rattle.a429_documents.specs.declared.import.lines.CsvLine.{CsvLine}
-use Rattle.a429_documents.specs.declared.import.rows.ImportRow.{ImportRow}
+use Rattle.a429_import.specs.declared.fault.ImportColumn.{ImportColumn}
+use Rattle.a429_import.specs.declared.fault.ImportColumn.TheVariants.{Filters, Label, Rate, Receiver, Sdi}
+use Rattle.a429_import.specs.declared.lines.CsvLine.{CsvLine}
+use Rattle.a429_import.specs.declared.rows.ImportRow.{ImportRow}
 use Rattle.a429_documents.specs.Document.{groups_rows, icd_columns, icd_rows, output_row, output_rows, receiver_name}
-use Rattle.a429_documents.specs.ImportRows.{agreed, below_heading, clash, first_clash, next_row, other_clash, row_of, rows_after, rows_stated, source_clash, unless_wrong, wrong_column, is_wrong}
-use Rattle.a429_documents.specs.Imports.{AreLines}
+use Rattle.a429_import.specs.ImportRows.{agreed, below_heading, clash, first_clash, next_row, other_clash, row_of, rows_after, rows_stated, source_clash, unless_wrong, wrong_column, is_wrong}
+use Rattle.a429_import.specs.Imports.{AreLines}
 use Rattle.a429_text.specs.Fields.{Field, field_text}
 use Rattle.a429_text.specs.Sheets.{csv_text_of}
 use Rattle.a429_callers.proofs.Icd.Fields.{texts, IsReadable, read_row, row_back, row_from}
 use Rattle.a429_callers.proofs.Icd.Texts.{lines_back}
-use Rattle.a429_documents.proofs.RowsInRecord.{IsAt}
+use Rattle.a429_import.proofs.RowsInRecord.{IsAt}
 
 -- ---- what is read
 

@@ -19,14 +19,14 @@ use Rattle.a429_equipment.specs.declared.rows.SourceRow.{SourceRow}
 use Rattle.a429_slots.specs.Planned.{HaveSources}
 use Rattle.a429_table.proofs.Absence.{all_from}
 use Rattle.a429_table.proofs.Apart.{mapped_at}
-use Rattle.a429_documents.specs.declared.import.firsts.Part.TheVariants.{Receivers, Sources}
-use Rattle.a429_documents.specs.declared.import.rows.ImportRow.{ImportRow}
-use Rattle.a429_documents.specs.ImportTables.{firsts, number_of, receiver_stated, record_stated, source_stated}
+use Rattle.a429_import.specs.declared.firsts.Part.TheVariants.{Receivers, Sources}
+use Rattle.a429_import.specs.declared.rows.ImportRow.{ImportRow}
+use Rattle.a429_import.specs.ImportTables.{firsts, number_of, receiver_stated, record_stated, source_stated}
 use Rattle.a429_callers.proofs.Icd.NamedFirsts.{no_more, own_firsts}
 use Rattle.a429_callers.proofs.Icd.Groups.{groups_again, new_number, outputs_again}
 use Rattle.a429_callers.proofs.Icd.Records.{all_read, first_is_of, imported_table, IsRead, output_source, receiver_found, receiver_same}
 use Rattle.a429_callers.proofs.Icd.Rows.{IsRowOf, read_table, source_at, source_there}
-use Rattle.a429_documents.proofs.ImportRecords.{from_all}
+use Rattle.a429_import.proofs.ImportRecords.{from_all}
 use Rattle.a429_callers.proofs.Icd.RenumberedPlans.{renumbered_row}
 
 -- ---- lists

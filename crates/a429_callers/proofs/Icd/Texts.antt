@@ -10,10 +10,10 @@ use Rattle.csv.specs.Writing.{default_writer, escaped, fields_text, is_blank, re
 use Rattle.csv.specs.declared.parser.State.{State}
 use Rattle.csv.specs.declared.parser.State.TheVariants as st
 use Rattle.csv.proofs.RoundTrip.{read-write}
-use Rattle.a429_documents.specs.declared.import.lines.CsvLine.{CsvLine}
+use Rattle.a429_import.specs.declared.lines.CsvLine.{CsvLine}
 use Rattle.a429_text.specs.Sheets.{csv_text_of}
 use Rattle.a429_documents.specs.Document.{icd_columns}
-use Rattle.a429_documents.specs.Imports.{AreLines}
+use Rattle.a429_import.specs.Imports.{AreLines}
 
 -- the lines of these rows
 abbrev text_of : List (List (List ℕ)) → List ℕ

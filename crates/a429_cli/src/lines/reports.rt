@@ -5,11 +5,11 @@ ghost use Rattle.a429_word.specs.Written.{Gains};
 ghost use Rattle.a429_cli.specs.LineReports.{PrintsReport, found_line, printed, received, rest_line};
 ghost use Rattle.a429_console.specs.Outputs.{CountsFault};
 
-use crate::pending::{Pending, put_if_full};
 use a429_console::output::from_end::{push_hex, push_number};
 use a429_console::output::{Output, OutputFault};
 use a429_filter::FilterSet;
 use a429_line::Found;
+use a429_replay::put_if_full;
 use a429_word::Word;
 use std::alloc::AllocError;
 
@@ -45,15 +45,15 @@ fn received_word(filters: &FilterSet, found: Found) -> Option<Word>
 
 /// Appends what is printed of a report: its line, or with a list of filters the line of a word that passes.
 /// If an allocation fails, nothing is appended.
-fn push_report(lines: &mut Pending, filters: &FilterSet, found: Found) -> Result<(), AllocError>
-    ensures line { OnOk result (lines.new.text.items ≡ lines.old.text.items ++ printed filters.now (found ∷ [])) }
-    ensures kept { OnErr result (lines.new.text.items ≡ lines.old.text.items) }
+fn push_report(lines: &mut Vec<u8>, filters: &FilterSet, found: Found) -> Result<(), AllocError>
+    ensures line { OnOk result (lines.new.items ≡ lines.old.items ++ printed filters.now (found ∷ [])) }
+    ensures kept { OnErr result (lines.new.items ≡ lines.old.items) }
 {
     if filters.list().is_none() {
-        return lines.push_found(found);
+        return push_found(lines, found);
     }
     match received_word(filters, found) {
-        Some(word) => lines.push_found(Found::Word(word)),
+        Some(word) => push_found(lines, Found::Word(word)),
         None => Ok(()),
     }
 }
@@ -63,28 +63,28 @@ fn push_report(lines: &mut Pending, filters: &FilterSet, found: Found) -> Result
 pub fn print_report<O: Output>(
     filters: &FilterSet,
     found: Found,
-    lines: &mut Pending,
+    lines: &mut Vec<u8>,
     out: &mut O,
 ) -> Result<bool, OutputFault>
     ensures printed { PrintsReport O.contents filters.now found out.old out.new lines.old lines.new result }
-    ensures few { OnOk result (length lines.old.text.items < 65536 → length lines.new.text.items < 65536) }
+    ensures few { OnOk result (length lines.old.items < 65536 → length lines.new.items < 65536) }
     ensures faults { CountsFault result (O.failures out.old) (O.failures out.new) }
 {
     let Ok(()) = push_report(lines, filters, found) else {
         return Ok(false);
     };
-    put_if_full(&mut lines.text, out)?;
+    put_if_full(lines, out)?;
     Ok(true)
 }
 
 /// Appends the line of a rest of this number of bits, unless there is no rest, or there is a list of filters. If an
 /// allocation fails, nothing is appended.
-pub fn push_rest(lines: &mut Pending, filters: &FilterSet, rest: u32) -> Result<(), AllocError>
-    ensures line { OnOk result (lines.new.text.items ≡ lines.old.text.items ++ rest_line filters.now rest) }
-    ensures kept { OnErr result (lines.new.text.items ≡ lines.old.text.items) }
+pub fn push_rest(lines: &mut Vec<u8>, filters: &FilterSet, rest: u32) -> Result<(), AllocError>
+    ensures line { OnOk result (lines.new.items ≡ lines.old.items ++ rest_line filters.now rest) }
+    ensures kept { OnErr result (lines.new.items ≡ lines.old.items) }
 {
     if rest > 0 && filters.list().is_none() {
-        return lines.push_rest(rest);
+        return push_number(lines, b"rest ", u64::from(rest));
     }
     Ok(())
 }

@@ -3,7 +3,7 @@ use Rattle.std.proofs.Common.{inl, refl}
 use Rattle.std.proofs.lemmas.Result.{IfOk-weaker}
 use Rattle.a429_console.specs.Files.{texts_of}
 use Rattle.a429_cli.specs.LineReplies.{IsLinesReply}
-use Rattle.a429_cli.specs.Replaying.{IsReplay, TakesFurther}
+use Rattle.a429_replay.specs.Replaying.{IsReplay, TakesFurther}
 use Rattle.a429_cli.proofs.commands.answer_by_lines.Goals as goal
 
 pub returns-in-Lines-clause-read : goal.returns-in-Lines-clause-read

@@ -8,7 +8,7 @@ use Rattle.a429_line.specs.KeptLines.{StandsForLine}
 use Rattle.a429_line.specs.declared.found.Found.{Found}
 use Rattle.a429_line.specs.declared.found.Symbol.{Symbol}
 use Rattle.a429_cli.specs.LineReports.{printed, rest_line}
-use Rattle.a429_cli.proofs.PlayedLines.{Appends-same, Appends-text, Appends-then}
+use Rattle.a429_replay.proofs.PutLines.{Appends-same, Appends-text, Appends-then}
 use Rattle.a429_cli.proofs.ReportLines.{no_reports, printed-append, printed-nil, symbols_cut, symbols_taken, taken_whole, told_before}
 use Rattle.a429_cli.proofs.lines.print_line.Goals as goal
 
@@ -16,7 +16,7 @@ pub loop-found-init : goal.loop-found-init
 loop-found-init g c = record {
   within = omega arith;
   stands = c.new-reader.ensures;
-  printed = rw (no_reports, printed-nil c.args.line.now.filters) (Appends-same (append_known (g.O.Output.contents c.args.out.now) c.args.lines.now.text.items));
+  printed = rw (no_reports, printed-nil c.args.line.now.filters) (Appends-same (append_known (g.O.Output.contents c.args.out.now) c.args.lines.now.items));
   kept = refl;
 }
 
@@ -61,7 +61,7 @@ returns-in_default-push_rest-clause-printed g c =
     let filters = c.args.line.now.filters in
     let past = take c.loop-found.at bytes in
     let left = drop c.loop-found.at bytes in
-    let kept : c.push_rest.new.lines.text.items ≡ c.loop-found.lines.text.items = c.in_default-push_rest.ensures.kept in (
+    let kept : c.push_rest.new.lines.items ≡ c.loop-found.lines.items = c.in_default-push_rest.ensures.kept in (
       printed filters (reports (symbols_of past)),
       told_before filters (symbols_of bytes) (symbols_of past) (symbols_of left) (symbols_cut bytes past left (sym (take-append-drop c.loop-found.at bytes))),
       rw kept was.printed,
@@ -81,10 +81,10 @@ returns-clause-printed g c =
     let reported : reports (symbols_of bytes) ≡ reports past =
     ap reports (sym whole) ∙ (next.reports past was.stands ∙ (ap (λ (o : Option Found). reports past ++ option_to_list o) none ∙ append-nil (reports past))) in
     let bits : c.rest.result ≡ rest (symbols_of bytes) = c.rest.ensures (symbols_of bytes) (subst (λ (x : List Symbol). StandsForLine x c.next.new.self) whole (next.stands past was.stands)) in
-    let said : c.push_rest.new.lines.text.items ≡ c.loop-found.lines.text.items ++ rest_line filters c.rest.result = c.in-Ok.ensures.line in
+    let said : c.push_rest.new.lines.items ≡ c.loop-found.lines.items ++ rest_line filters c.rest.result = c.in-Ok.ensures.line in
     let told = printed filters (reports past) in
     let last = rest_line filters c.rest.result in (
       told ++ last,
       rw (reported, ← bits) refl,
-      rw said (Appends-then _ _ _ told last was.printed (Appends-text (g.O.Output.contents c.loop-found.out) c.loop-found.lines.text.items last)),
+      rw said (Appends-then _ _ _ told last was.printed (Appends-text (g.O.Output.contents c.loop-found.out) c.loop-found.lines.items last)),
     )

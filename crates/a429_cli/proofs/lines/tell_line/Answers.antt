@@ -2,7 +2,7 @@ use Rattle.std.proofs.Common.{◌++◌, ℕ, subst, sym}
 use Rattle.a429_line.specs.LineBytes.{symbols_of}
 use Rattle.a429_cli.specs.LineReplies.{IsTold}
 use Rattle.a429_console.specs.Outputs.{ending}
-use Rattle.a429_cli.proofs.PlayedLines.{Appends-ended}
+use Rattle.a429_replay.proofs.PutLines.{Appends-ended}
 use Rattle.a429_console.proofs.Refused.{both_ok}
 use Rattle.a429_cli.proofs.ReportLines.{told_ended}
 use Rattle.a429_cli.proofs.lines.tell_line.Goals as goal
@@ -14,11 +14,11 @@ returns-clause-told g c =
     let line = symbols_of c.args.line.now.bytes.items in
     let all = c.in_ok-sufficed.sufficed in
     let was = c.in_ok-sufficed.ensures.printed in
-    let kept = rw c.new-lines.ensures at was.2 in
+    let kept = rw c.new-lines.ensures.items at was.2 in
     let sent = rw c.deref.ensures.value at put in
     let bytes = was.0 ++ ending all in (
       bytes,
       subst (λ (n : ℕ). IsTold filters line n bytes) (sym is) (told_ended filters line all was.0 was.1),
-      Appends-ended (g.O.Output.contents c.args.out.now) _ _ c.print_line.new.lines.text.items was.0 (ending all) kept sent,
+      Appends-ended (g.O.Output.contents c.args.out.now) _ _ c.print_line.new.lines.items was.0 (ending all) kept sent,
     ))
     c.finish.ensures.status c.finish.ensures.put

@@ -1,4 +1,4 @@
-use Rattle.std.proofs.Common.{◌≤◌, ◌++◌, ◌∷◌, [], ℕ, List, arith, refl}
+use Rattle.std.proofs.Common.{◌≤◌, ◌++◌, ◌∷◌, [], arith, refl}
 use Rattle.a429_console.specs.RefusalText.{refusal_line}
 use Rattle.a429_console.proofs.Refused.{both_ok}
 use Rattle.a429_cli.proofs.WholeAnswers.{done_is_few, done_put}

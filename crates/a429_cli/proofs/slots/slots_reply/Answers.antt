@@ -1,4 +1,4 @@
-use Rattle.std.proofs.Common.{◌≡◌, ◌∙◌, ℕ, List, Bor, ap, inl, inr, subst}
+use Rattle.std.proofs.Common.{◌∙◌, ℕ, List, Bor, ap, inl, inr, subst}
 use Rattle.std.specs.Prelude.{Err, option_map}
 use Rattle.std.proofs.lemmas.Result.{err_from_is_err_and}
 use Rattle.a429_console.proofs.ReadingParts.{read_weaker}

@@ -5,7 +5,7 @@ use Rattle.std.proofs.lemmas.Result.{on_ok_weaker}
 use Rattle.a429_word.specs.Bits.{bcd_of, ssm_of}
 use Rattle.a429_word.specs.Meanings.{bcd_meaning, bcd_text}
 use Rattle.a429_cli.specs.WordLines.{bcd_digits, meaning_text}
-use Rattle.a429_cli.proofs.PlayedLines.{Appends-then}
+use Rattle.a429_replay.proofs.PutLines.{Appends-then}
 use Rattle.a429_cli.proofs.word.write_bcd.Goals as goal
 
 pub returns : goal.returns

@@ -3,7 +3,7 @@ use Rattle.std.specs.Io.KnownBytes.{Appends}
 use Rattle.std.proofs.lemmas.Result.{on_ok_weaker}
 use Rattle.a429_word.specs.Bits.{label_of, sdi_of, ssm_of, data_of}
 use Rattle.a429_cli.specs.WordLines.{name_text, status_text, data_text}
-use Rattle.a429_cli.proofs.PlayedLines.{Appends-then}
+use Rattle.a429_replay.proofs.PutLines.{Appends-then}
 use Rattle.a429_cli.proofs.word.write_fields.Goals as goal
 
 pub returns : goal.returns

@@ -1,7 +1,7 @@
 use Rattle.std.proofs.Common.{◌++◌}
 use Rattle.std.proofs.lemmas.Result.{on_ok_weaker}
 use Rattle.a429_cli.specs.WordLines.{fields_line, bnr_line, bcd_line}
-use Rattle.a429_cli.proofs.PlayedLines.{Appends-then}
+use Rattle.a429_replay.proofs.PutLines.{Appends-then}
 use Rattle.a429_cli.proofs.word.write_word.Goals as goal
 
 pub returns : goal.returns

@@ -1,5 +1,0 @@
-use Rattle.a429_cli.proofs.LateRows.{words_within}
-use Rattle.a429_cli.proofs.laws.words_are_within_bounds.Goals as goal
-
-pub returns : goal.returns
-returns c = words_within c.plans_in_force_are_spaced.ensures c.accepted_words_go_out_in_time.ensures.opening

@@ -1,8 +1,0 @@
-use Rattle.std.proofs.Common.{◌≤◌, ◌-◌, length}
-use Rattle.a429_cli.proofs.live.running.count_sinks.Given as goal
-
-abbrev pub invariant-loop-sinks : goal.invariant-loop-sinks
-invariant-loop-sinks l = length l.sinks.items ≤ l.groups
-
-abbrev pub decreases-loop-sinks : goal.decreases-loop-sinks
-decreases-loop-sinks l = l.groups - length l.sinks.items

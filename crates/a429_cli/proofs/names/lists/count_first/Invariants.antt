@@ -1,6 +1,0 @@
-use Rattle.std.proofs.Common.{map, string_bytes}
-use Rattle.a429_cli.specs.NameLists.{AreFirst}
-use Rattle.a429_cli.proofs.names.lists.count_first.Given as goal
-
-abbrev pub invariant-loop-number : goal.invariant-loop-number
-invariant-loop-number l = AreFirst (map string_bytes l.names) l.number

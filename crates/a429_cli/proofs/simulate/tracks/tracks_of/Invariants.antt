@@ -1,5 +1,0 @@
-use Rattle.a429_cli.specs.Tracks.{AreCountedTo}
-use Rattle.a429_cli.proofs.simulate.tracks.tracks_of.Given as goal
-
-abbrev pub invariant-loop-group : goal.invariant-loop-group
-invariant-loop-group l = AreCountedTo l.proposal l.last l.group l.tracks.items

@@ -1,5 +1,0 @@
-use Rattle.a429_documents.proofs.RowsInRecord.{rows_in_record}
-use Rattle.a429_documents.proofs.laws.imported_rows_are_in_record.Goals as goal
-
-pub returns : goal.returns
-returns c = rows_in_record

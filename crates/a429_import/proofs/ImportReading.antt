@@ -1,0 +1,144 @@
+-- What is known of lines, after one more line.
+use Rattle.std.proofs.Common.{◌≡◌, ◌∙◌, ℕ, List, [], ◌∷◌, ◌++◌, Option, None, Some, option_map, Result, Ok, Err, true, ap, refl, subst, sym}
+use Rattle.std.specs.Prelude.{OnOk, is_some}
+use Rattle.std.specs.Result.{result_err, result_ok}
+use Rattle.csv.specs.Records.{fields_of}
+use Rattle.a429_import.specs.declared.fault.CsvFaultKind.TheVariants.{Column}
+use Rattle.a429_import.specs.declared.fault.ImportColumn.{ImportColumn}
+use Rattle.a429_import.specs.declared.fault.ImportColumn.TheVariants.{Group}
+use Rattle.a429_import.specs.declared.fault.ImportFault.{ImportFault}
+use Rattle.a429_import.specs.declared.fault.ImportFault.TheVariants.{NoMemory, Csv, Table}
+use Rattle.a429_import.specs.declared.lines.CsvLine.{CsvLine}
+use Rattle.a429_import.specs.declared.reading.LinesRead.{LinesRead}
+use Rattle.a429_import.specs.declared.rows.ImportRow.{ImportRow}
+use Rattle.a429_import.specs.FirstRows.{AreFirstRows}
+use Rattle.a429_import.specs.ImportClashes.{Agree}
+use Rattle.a429_import.specs.ImportReading.{AreRead, HaveFault, HaveRows, SayRows, with_line}
+use Rattle.a429_import.specs.ImportRows.{◌>>=◌, CsvFault, next_row, rows_after, rows_stated, unless_wrong, wrong_column}
+use Rattle.a429_import.specs.Imports.{IsImportOf, States}
+
+-- a result that succeeds
+pub ok_is : {A E : Type 0} (r : Result A E) (a : A) → Some a ≡ result_ok r → r ≡ Ok a
+ok_is (Ok x) a h = let same : x ≡ a = cc in ap (λ y. Ok y) same
+ok_is (Err e) a h = cc
+
+-- ---- the rows of lines, after one more line
+
+pub line_refused : {X : Type 0} (view : X → List ImportRow) (heading : List (List ℕ)) (earlier : List ImportRow) (line : CsvLine) (e : ImportFault)
+    → States {X = ImportRow} (λ row. row) (Err e) (next_row heading earlier line) → States view (Err e) (with_line heading earlier line)
+line_refused view heading earlier line NoMemory h = tt
+line_refused view heading earlier line (Csv number kind column) h = ap (λ (r : Result ImportRow CsvFault). r >>= λ row. Ok (earlier ++ row ∷ [])) h
+line_refused view heading earlier line (Table f) h = absurd h
+
+after_both : {A B C E : Type 0} (r : Result A E) (f : A → Result C E) (g : A → Result B E) (h : B → Result C E) → ((a : A) → f a ≡ (g a >>= h)) → (r >>= f) ≡ ((r >>= g) >>= h)
+after_both (Ok a) f g h each = each a
+after_both (Err e) f g h each = refl
+
+pub rows_after-push : (heading : List (List ℕ)) (earlier : List ImportRow) (lines : List CsvLine) (line : CsvLine)
+    → rows_after heading earlier (lines ++ line ∷ []) ≡ (rows_after heading earlier lines >>= λ rows. with_line heading rows line)
+rows_after-push heading earlier [] line = refl
+rows_after-push heading earlier (l ∷ lines) line =
+    after_both (next_row heading earlier l) (λ row. rows_after heading (earlier ++ row ∷ []) (lines ++ line ∷ [])) (λ row. rows_after heading (earlier ++ row ∷ []) lines) (λ rows. with_line heading rows line)
+    (λ row. rows_after-push heading (earlier ++ row ∷ []) lines line)
+
+-- ---- a fault stays
+
+refused_stays : (heading : List (List ℕ)) (below : List CsvLine) (line : CsvLine) (wrong : Option ImportColumn) (f : CsvFault)
+    → unless_wrong heading below wrong ≡ Err f → unless_wrong heading (below ++ line ∷ []) wrong ≡ Err f
+refused_stays heading below line None f h = rows_after-push heading [] below line ∙ ap (λ (r : Result (List ImportRow) CsvFault). r >>= λ rows. with_line heading rows line) h
+refused_stays heading below line (Some column) f h = h
+
+pub fault_stays : (e : ImportFault) (lines : List CsvLine) (line : CsvLine) → HaveFault e lines → HaveFault e (lines ++ line ∷ [])
+unfolding rows_stated
+fault_stays e [] line h = absurd h
+fault_stays NoMemory (heading ∷ below) line h = tt
+fault_stays (Csv number kind column) (heading ∷ below) line h = refused_stays (fields_of heading.fields) below line (wrong_column (fields_of heading.fields)) (number, kind, column) h
+fault_stays (Table f) (heading ∷ below) line h = absurd h
+
+-- ---- the heading
+
+abbrev fault_of : Option ImportColumn → Option ImportFault
+fault_of o = option_map (λ column. Csv 1 Column (Some column)) o
+
+heading_by : (new : LinesRead) (line : CsvLine) (wrong : Option ImportColumn) → wrong_column (fields_of line.fields) ≡ wrong → new.heading ≡ Some line → new.rows.items ≡ [] → AreFirstRows new.firsts []
+    → AreRead (fault_of wrong) new (line ∷ [])
+unfolding rows_stated
+heading_by new line None is headed empty firsts =
+    let P : Option CsvLine → Type 0 = λ o. HaveRows o new (line ∷ []) in
+    let none : List ImportRow = [] in
+    subst P (sym headed) (
+      [],
+      refl,
+      record {
+        named = is;
+        rows = ap (λ rows. Ok rows) (sym empty);
+        agree = subst Agree (sym empty) tt;
+        firsts = subst (AreFirstRows new.firsts) (sym empty) firsts;
+      },
+    )
+heading_by new line (Some column) is headed empty firsts = ap (unless_wrong (fields_of line.fields) []) is
+
+pub heading_read : (old new : LinesRead) (line : CsvLine) (lines : List CsvLine) (fault : Option ImportFault) → HaveRows None old lines → new.heading ≡ Some line → new.rows ≡ old.rows → new.firsts ≡ old.firsts
+    → fault ≡ fault_of (wrong_column (fields_of line.fields)) → AreRead fault new (lines ++ line ∷ [])
+heading_read old new line lines fault known headed rows firsts is =
+    let empty : new.rows.items ≡ [] = ap (λ v. v.items) rows ∙ known.1 in
+    let first : AreFirstRows new.firsts [] = subst (λ f. AreFirstRows f []) (sym firsts) known.2 in
+    let P : Option ImportFault → Type 0 = λ f. AreRead f new (line ∷ []) in
+    subst (λ ls. AreRead fault new (ls ++ line ∷ [])) (sym known.0) (subst P (sym is) (heading_by new line (wrong_column (fields_of line.fields)) refl headed empty first))
+
+-- ---- a row
+
+module _ (heading : CsvLine) (below : List CsvLine) (old : LinesRead) (line : CsvLine) (known : SayRows heading below old) where
+  stated : rows_stated (heading ∷ below ++ line ∷ []) ≡ with_line (fields_of heading.fields) old.rows.items line
+  unfolding rows_stated
+  stated =
+      ap (unless_wrong (fields_of heading.fields) (below ++ line ∷ [])) known.named ∙ rows_after-push (fields_of heading.fields) [] below line
+      ∙ ap (λ (r : Result (List ImportRow) CsvFault). r >>= λ rows. with_line (fields_of heading.fields) rows line) known.rows
+
+  -- a row without a fault
+  row_said : (new : LinesRead) → with_line (fields_of heading.fields) old.rows.items line ≡ Ok new.rows.items → Agree new.rows.items → AreFirstRows new.firsts new.rows.items → SayRows heading (below ++ line ∷ []) new
+  row_said new is agree firsts = record {
+    named = known.named;
+    rows = rows_after-push (fields_of heading.fields) [] below line ∙ ap (λ (r : Result (List ImportRow) CsvFault). r >>= λ rows. with_line (fields_of heading.fields) rows line) known.rows ∙ is;
+    agree = agree;
+    firsts = firsts;
+  }
+
+  row_refused : {X : Type 0} (view : X → List ImportRow) (e : ImportFault) → States view (Err e) (with_line (fields_of heading.fields) old.rows.items line) → HaveFault e (heading ∷ below ++ line ∷ [])
+  row_refused view NoMemory h = tt
+  row_refused view (Csv number kind column) h = stated ∙ h
+  row_refused view (Table f) h = absurd h
+
+-- one more line, which may have a fault
+pub line_read : (heading : CsvLine) (old new : LinesRead) (line : CsvLine) (lines : List CsvLine) (result : Result (Unit {0}) ImportFault) → HaveRows (Some heading) old lines → new.heading ≡ Some heading
+    → States (λ _. new.rows.items) result (with_line (fields_of heading.fields) old.rows.items line) → OnOk result (Agree new.rows.items) → OnOk result (AreFirstRows new.firsts new.rows.items)
+    → AreRead (result_err result) new (lines ++ line ∷ [])
+line_read heading old new line lines (Ok u) known headed is agree firsts =
+    let P : Option CsvLine → Type 0 = λ o. HaveRows o new (heading ∷ known.0 ++ line ∷ []) in
+    subst (λ ls. AreRead None new (ls ++ line ∷ [])) (sym known.1) (subst P (sym headed) (known.0 ++ line ∷ [], refl, row_said heading known.0 old line known.2 new is agree firsts))
+line_read heading old new line lines (Err e) known headed is agree firsts =
+    let view : Unit {0} → List ImportRow = λ _. new.rows.items in
+    subst (λ ls. HaveFault e (ls ++ line ∷ [])) (sym known.1) (row_refused heading known.0 old line known.2 view e is)
+
+-- lines after one with a fault
+pub line_skipped : (fault : Option ImportFault) (old new : LinesRead) (lines : List CsvLine) (line : CsvLine) → is_some fault ≡ true → AreRead fault old lines → AreRead fault new (lines ++ line ∷ [])
+line_skipped None old new lines line some known = cc
+line_skipped (Some e) old new lines line some known = fault_stays e lines line known
+
+-- ---- the end
+
+pub no_lines : (read : LinesRead) (lines : List CsvLine) (e : ImportFault) → HaveRows None read lines → e ≡ Csv 1 Column (Some Group) → IsImportOf lines (Err e)
+unfolding rows_stated
+no_lines read lines e known is =
+    let none : List CsvLine = [] in
+    let empty : IsImportOf none (Err (Csv 1 Column (Some Group))) = refl in
+    subst (λ ls. IsImportOf ls (Err e)) (sym known.0) (subst (λ (x : ImportFault). IsImportOf none (Err x)) (sym is) empty)
+
+pub rows_read : (heading : CsvLine) (read : LinesRead) (lines : List CsvLine) → HaveRows (Some heading) read lines → rows_stated lines ≡ Ok read.rows.items
+unfolding rows_stated
+rows_read heading read lines known = ap rows_stated known.1 ∙ ap (unless_wrong (fields_of heading.fields) known.0) known.2.named ∙ known.2.rows
+
+-- the fault makes no difference
+pub other_fault : (heading : Option CsvLine) (read : LinesRead) (fault : Option ImportFault) (lines : List CsvLine) → HaveRows heading read lines → HaveRows heading (record read { fault = fault }) lines
+other_fault None read fault lines known = known
+other_fault (Some heading) read fault lines known = (known.0, known.1, record { named = known.2.named; rows = known.2.rows; agree = known.2.agree; firsts = known.2.firsts })

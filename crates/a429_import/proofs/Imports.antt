@@ -1,0 +1,69 @@
+-- What is imported from lines.
+use Rattle.std.proofs.Common.{◌≡◌, ◌∙◌, ℕ, List, [], ◌∷◌, Some, Vec, Global, Result, Ok, Err, ap, refl, subst, sym}
+use Rattle.std.specs.Str.{IsUtf8}
+use Rattle.toml.specs.Data.{Data, table}
+use Rattle.toml.specs.Parse.{parse_document}
+use Rattle.a429_equipment.specs.TableRecord.{TableRecord}
+use Rattle.a429_table.specs.declared.fault.FaultKind.{FaultKind}
+use Rattle.a429_table.specs.declared.fault.TablePlace.{TablePlace}
+use Rattle.a429_table.specs.declared.fault.TableFault.{TableFault}
+use Rattle.a429_table.specs.declared.fault.TableFault.TheVariants as fault
+use Rattle.a429_table.specs.Faults.{faults, first}
+use Rattle.a429_table.specs.Reading.{GivesUnlessMemory, document, judged, reading}
+use Rattle.a429_table.specs.Stated.{stated}
+use Rattle.a429_table.proofs.Documents.{document-text}
+use Rattle.a429_import.specs.declared.fault.ImportFault.{ImportFault}
+use Rattle.a429_import.specs.declared.fault.ImportFault.TheVariants.{NoMemory, Csv, Table}
+use Rattle.a429_import.specs.declared.lines.CsvLine.{CsvLine}
+use Rattle.a429_import.specs.declared.rows.ImportRow.{ImportRow}
+use Rattle.a429_import.specs.ImportFaults.{of_table}
+use Rattle.a429_import.specs.ImportRows.{rows_stated}
+use Rattle.a429_import.specs.ImportTables.{record_stated, root_members}
+use Rattle.a429_import.specs.Imports.{AreLines, IsImport, IsImportOf}
+use Rattle.a429_import.proofs.ImportRanges.{stated_in_range}
+use Rattle.a429_import.proofs.ImportRecords.{tree_states}
+
+-- bytes whose document is a root table are read as that is judged
+reading_is : (bytes : List ℕ) (root : Data) → document bytes ≡ Some root → reading bytes ≡ judged root (faults root)
+unfolding reading
+reading_is bytes root there = rw there refl
+
+judged_record : (root : Data) (fs : List (FaultKind × TablePlace)) (t : TableRecord) → judged root fs ≡ Ok t → stated root ≡ t
+judged_record root [] t h = cc
+judged_record root (f ∷ fs) t h = cc
+
+judged_first : (root : Data) (fs : List (FaultKind × TablePlace)) (found : FaultKind × TablePlace) → judged root fs ≡ Err found → first fs ≡ Some found
+judged_first root [] found h = cc
+judged_first root (f ∷ fs) found h = cc
+
+-- ---- of lines
+
+module _ (lines : List CsvLine) (rows : List ImportRow) (are : rows_stated lines ≡ Ok rows) (bytes : List ℕ) (text : IsUtf8 bytes) (parsed : parse_document bytes ≡ Some (root_members rows)) where
+  there : document bytes ≡ Some (table (root_members rows))
+  there = document-text bytes (Some (root_members rows)) text parsed
+
+  -- the record that was read is the one that the rows state
+  pub record_read : (t : TableRecord) → reading bytes ≡ Ok t → reading bytes ≡ Ok (record_stated rows)
+  record_read t read =
+      let root = table (root_members rows) in
+      let is : t ≡ record_stated rows = sym (judged_record root (faults root) t (sym (reading_is bytes root there) ∙ read)) ∙ tree_states rows (stated_in_range lines rows are) in
+      read ∙ ap (λ r. Ok r) is
+
+  first_read : (f : FaultKind × TablePlace) → reading bytes ≡ Err f → first (faults (table (root_members rows))) ≡ Some f
+  first_read f read = let root = table (root_members rows) in judged_first root (faults root) f (sym (reading_is bytes root there) ∙ read)
+
+  refused : (f : TableFault) → GivesUnlessMemory (λ (t : TableRecord). t) bytes (Err f) (reading bytes) → IsImportOf lines (Err (of_table f))
+  refused fault.NoMemory h = tt
+  refused (fault.At kind place) h = (rows, are, first_read (kind, place) h)
+
+  -- a table that is refused
+  pub table_refused : (f : TableFault) (e : ImportFault) → GivesUnlessMemory (λ (t : TableRecord). t) bytes (Err f) (reading bytes) → e ≡ of_table f → IsImportOf lines (Err e)
+  table_refused f e h is = subst (λ (x : ImportFault). IsImportOf lines (Err x)) (sym is) (refused f h)
+
+-- ---- of a text
+
+pub import_of : (text : List ℕ) (lines : List CsvLine) (result : Result (Vec ℕ Global) ImportFault) → AreLines text lines → IsImportOf lines result → IsImport text result
+import_of text lines (Ok bytes) are h = (lines, are, h)
+import_of text lines (Err NoMemory) are h = tt
+import_of text lines (Err (Csv line kind column)) are h = (lines, are, h)
+import_of text lines (Err (Table f)) are h = (lines, are, h)

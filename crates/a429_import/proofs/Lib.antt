@@ -1,0 +1,12 @@
+pub mod RowFields
+pub mod ImportTrees
+pub mod ImportRanges
+pub mod ImportRecords
+pub mod Imports
+pub mod RowsInRecord
+pub mod FirstRows
+pub mod ImportClashes
+pub mod NextRows
+pub mod ImportLimits
+pub mod ImportReading
+mod FirstPlaces

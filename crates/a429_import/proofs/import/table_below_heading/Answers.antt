@@ -1,0 +1,11 @@
+use Rattle.std.proofs.Common.{◌∙◌, ap, Ok, subst, sym}
+use Rattle.a429_import.specs.ImportReading.{HaveRows}
+use Rattle.a429_import.proofs.ImportReading.{no_lines, rows_read}
+use Rattle.a429_import.proofs.import.table_below_heading.Goals as goal
+
+pub returns-in-None : goal.returns-in-None
+returns-in-None c = λ lines known. no_lines c.args.read.now lines c.wrong_heading.result (subst (λ o. HaveRows o c.args.read.now lines) c.in-None.is known) c.wrong_heading.ensures
+
+pub returns-in-Some : goal.returns-in-Some
+returns-in-Some c = λ lines known.
+    c.table_of_rows.ensures lines (rows_read _ c.args.read.now lines (subst (λ o. HaveRows o c.args.read.now lines) c.in-Some.is known) ∙ ap (λ rows. Ok rows) (sym c.deref.ensures.value))

@@ -1,0 +1,11 @@
+use Rattle.std.proofs.Common.{◌≡◌, ◌∙◌, None, subst, sym}
+use Rattle.a429_import.specs.declared.reading.LinesRead.{LinesRead}
+use Rattle.a429_import.specs.ImportReading.{AreRead}
+use Rattle.a429_import.proofs.ImportReading.{other_fault}
+use Rattle.a429_import.proofs.import.table_of_lines.Goals as goal
+
+pub returns-in-None : goal.returns-in-None
+returns-in-None c = λ lines known.
+    let old : LinesRead = c.args.read.now in
+    let none : old.fault ≡ None = sym c.take.ensures.value ∙ c.in-None.is in
+    c.table_below_heading.ensures lines (other_fault old.heading old c.take.new.self lines (subst (λ f. AreRead f old lines) none known))

@@ -1,0 +1,47 @@
+-- What is known of lines that were read: what the rows among them say, or their first fault (profile: import).
+use Rattle.std.specs.Prelude.{◌≡◌, ℕ, List, [], ◌∷◌, ◌++◌, Option, None, Some, option_map, Result, Ok, Err}
+use Rattle.csv.specs.Records.{fields_of}
+use Rattle.a429_import.specs.declared.fault.CsvFaultKind.TheVariants.{Column}
+use Rattle.a429_import.specs.declared.fault.ImportColumn.{ImportColumn}
+use Rattle.a429_import.specs.declared.fault.ImportFault.{ImportFault}
+use Rattle.a429_import.specs.declared.fault.ImportFault.TheVariants.{Csv}
+use Rattle.a429_import.specs.declared.lines.CsvLine.{CsvLine}
+use Rattle.a429_import.specs.declared.reading.LinesRead.{LinesRead}
+use Rattle.a429_import.specs.declared.rows.ImportRow.{ImportRow}
+use Rattle.a429_import.specs.FirstRows.{AreFirstRows}
+use Rattle.a429_import.specs.ImportClashes.{Agree}
+use Rattle.a429_import.specs.ImportRows.{◌>>=◌, CsvFault, next_row, rows_after, rows_stated, wrong_column}
+use Rattle.a429_import.specs.Imports.{States}
+
+-- a heading that lacks a column or has it twice is a fault of line 1
+abbrev pub heading_fault : List (List ℕ) → Option ImportFault
+heading_fault heading = option_map {T = ImportColumn} {U = ImportFault} (λ column. Csv 1 Column (Some column)) (wrong_column heading)
+
+-- earlier rows and that of one more line, or the fault of this line
+abbrev pub with_line : List (List ℕ) → List ImportRow → CsvLine → Result (List ImportRow) CsvFault
+with_line heading earlier line = next_row heading earlier line >>= λ row. Ok (earlier ++ row ∷ [])
+
+-- these lines, of which there is at least one, have this fault
+abbrev pub HaveFault : ImportFault → List CsvLine → Type 0
+HaveFault fault [] = ⊥
+HaveFault fault (heading ∷ below) = States {X = List ImportRow} (λ rows. rows) (Err fault) (rows_stated (heading ∷ below))
+
+-- the rows that lines below a heading say, and which of them are the first of their receiver, source or group
+pub record SayRows (heading : CsvLine) (below : List CsvLine) (read : LinesRead) : Type 0 where
+  pub named : wrong_column (fields_of heading.fields) ≡ None
+  pub rows : rows_after (fields_of heading.fields) [] below ≡ Ok read.rows.items
+  pub agree : Agree read.rows.items
+  pub firsts : AreFirstRows read.firsts read.rows.items
+
+-- nothing was read yet, or a heading and the lines below it
+abbrev pub HaveRows : Option CsvLine → LinesRead → List CsvLine → Type 0
+HaveRows None read lines = (lines ≡ []) × (read.rows.items ≡ []) × AreFirstRows read.firsts []
+HaveRows (Some heading) read lines = (below : List CsvLine) × (lines ≡ heading ∷ below) × SayRows heading below read
+
+abbrev pub AreRead : Option ImportFault → LinesRead → List CsvLine → Type 0
+AreRead None read lines = HaveRows read.heading read lines
+AreRead (Some fault) read lines = HaveFault fault lines
+
+-- what is known is right for these lines
+abbrev pub StandsFor : LinesRead → List CsvLine → Type 0
+StandsFor read lines = AreRead read.fault read lines

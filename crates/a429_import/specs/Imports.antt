@@ -1,0 +1,41 @@
+-- What is imported from a text of comma-separated values: a table, or why there is none (profile: import).
+use Rattle.std.specs.Prelude.{◌≡◌, ℕ, List, map, Some, Result, Ok, Err, Vec}
+use Rattle.std.specs.declared.alloc.Global.{Global}
+use Rattle.csv.specs.Reading.{AreRecords, default_config, strip_bom}
+use Rattle.csv.specs.Records.{fields_of}
+use Rattle.csv.specs.declared.parser.State.TheVariants as st
+use Rattle.toml.specs.Data.{table}
+use Rattle.a429_table.specs.declared.fault.TableFault.TheVariants as fault
+use Rattle.a429_table.specs.Faults.{faults, first}
+use Rattle.a429_table.specs.Reading.{reading}
+use Rattle.a429_import.specs.declared.fault.ImportFault.{ImportFault}
+use Rattle.a429_import.specs.declared.fault.ImportFault.TheVariants.{NoMemory, Csv, Table}
+use Rattle.a429_import.specs.declared.lines.CsvLine.{CsvLine}
+use Rattle.a429_import.specs.declared.rows.ImportRow.{ImportRow}
+use Rattle.a429_import.specs.ImportRows.{CsvFault, rows_stated}
+use Rattle.a429_import.specs.ImportTables.{root_members, record_stated}
+
+-- the result is the one of the rows, unless an allocation failed; the fault of a table cannot come here
+abbrev pub States : {X Y : Type 0} → (X → Y) → Result X ImportFault → Result Y CsvFault → Type 0
+States view (Ok x) stated = stated ≡ Ok (view x)
+States view (Err NoMemory) stated = Unit {0}
+States view (Err (Csv line kind column)) stated = stated ≡ Err (line, kind, column)
+States view (Err (Table fault)) stated = ⊥
+
+-- the rows of a text as the library `csv` reads them, each with a line
+abbrev pub AreLines : List ℕ → List CsvLine → Type 0
+AreLines text lines = AreRecords default_config st.StartRecord (strip_bom text) (map (λ l. fields_of l.fields) lines)
+
+-- the import of lines: the text is read as the record of the rows; a table is refused for its first fault
+abbrev pub IsImportOf : List CsvLine → Result (Vec ℕ Global) ImportFault → Type 0
+IsImportOf lines (Ok text) = (rows : List ImportRow) × (rows_stated lines ≡ Ok rows) × (reading text.items ≡ Ok (record_stated rows))
+IsImportOf lines (Err NoMemory) = Unit {0}
+IsImportOf lines (Err (Csv line kind column)) = rows_stated lines ≡ Err (line, kind, column)
+IsImportOf lines (Err (Table fault.NoMemory)) = ⊥
+IsImportOf lines (Err (Table (fault.At kind place))) =
+    (rows : List ImportRow) × (rows_stated lines ≡ Ok rows) × (first (faults (table (root_members rows))) ≡ Some (kind, place))
+
+-- the same for a text; an allocation may fail before its lines are known
+abbrev pub IsImport : List ℕ → Result (Vec ℕ Global) ImportFault → Type 0
+IsImport text (Err NoMemory) = Unit {0}
+IsImport text result = (lines : List CsvLine) × AreLines text lines × IsImportOf lines result

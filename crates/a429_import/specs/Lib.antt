@@ -1,0 +1,13 @@
+pub mod ImportFields
+pub mod ImportRows
+pub mod ImportTables
+pub mod ImportBuilding
+pub mod ImportFaults
+pub mod ImportTexts
+pub mod Imports
+pub mod ImportedRows
+pub mod FirstRows
+pub mod ImportClashes
+pub mod ImportLimits
+pub mod ImportReading
+pub mod NextRows

@@ -1,0 +1,69 @@
+//! An equipment table from rows of comma-separated values.
+ghost use Rattle.std.specs.Prelude.{◌≡◌, List, Ok};
+ghost use Rattle.a429_import.specs.declared.lines.CsvLine.{CsvLine};
+ghost use Rattle.a429_import.specs.FirstRows.{AreFirstRows};
+ghost use Rattle.a429_import.specs.ImportReading.{HaveRows, StandsFor};
+ghost use Rattle.a429_import.specs.ImportRows.{rows_stated};
+ghost use Rattle.a429_import.specs.Imports.{IsImport, IsImportOf};
+
+use crate::fault::{ImportColumn, ImportFault};
+use crate::firsts::FirstRows;
+use crate::limits::limit_fault;
+use crate::reading::{LinesRead, read_lines, wrong_heading};
+use crate::rows::ImportRow;
+use crate::tables::table_text;
+use a429_table::{TableFault, read_equipment};
+use std::alloc::Global;
+
+/// The table that rows describe.
+fn table_of_rows(
+    alloc: Global,
+    rows: &[ImportRow],
+    firsts: &FirstRows,
+) -> Result<Vec<u8>, ImportFault>
+    requires { AreFirstRows firsts.now rows.now }
+    ensures { (lines : List CsvLine) → rows_stated lines ≡ Ok rows.now → IsImportOf lines result }
+{
+    if let Some((kind, place)) = limit_fault(alloc, rows, firsts)? {
+        return Err(ImportFault::Table(TableFault::At(kind, place)));
+    }
+    let text = table_text(alloc, rows)?;
+    match read_equipment(alloc, text.as_str().as_bytes()) {
+        Ok(_) => Ok(text.into_bytes()),
+        Err(fault) => Err(ImportFault::from(fault)),
+    }
+}
+
+/// The table that lines without a fault describe.
+fn table_below_heading(alloc: Global, read: &LinesRead) -> Result<Vec<u8>, ImportFault>
+    requires { (lines : List CsvLine) × HaveRows read.now.heading read.now lines }
+    ensures { (lines : List CsvLine) → HaveRows read.now.heading read.now lines → IsImportOf lines result }
+{
+    match &read.heading {
+        None => Err(wrong_heading(ImportColumn::Group)),
+        Some(_) => table_of_rows(alloc, &read.rows, &read.firsts),
+    }
+}
+
+/// The table that lines describe.
+fn table_of_lines(alloc: Global, read: &mut LinesRead) -> Result<Vec<u8>, ImportFault>
+    requires { (lines : List CsvLine) × StandsFor read.old lines }
+    ensures { (lines : List CsvLine) → StandsFor read.old lines → IsImportOf lines result }
+{
+    match read.fault.take() {
+        Some(fault) => Err(fault),
+        None => table_below_heading(alloc, read),
+    }
+}
+
+/// The equipment table, as TOML of version 2, that rows of comma-separated values describe (profile: import): a row of
+/// column names, and a row for each output. Columns may come in any order; columns that `ImportColumn` does not have are
+/// skipped. Receivers, sources and groups are in the order of their first rows, outputs in the order of the rows of their
+/// group. `read_equipment` reads the answer. Error: the first fault of the rows, otherwise the first of the table.
+pub fn import_table(alloc: Global, bytes: &[u8]) -> Result<Vec<u8>, ImportFault>
+    ensures { IsImport bytes.now result }
+{
+    let mut read = LinesRead::new(alloc);
+    read_lines(alloc, bytes, &mut read)?;
+    table_of_lines(alloc, &mut read)
+}

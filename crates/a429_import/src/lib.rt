@@ -1,0 +1,38 @@
+//! An equipment table from rows of comma-separated values, as a spreadsheet writes them.
+//!
+//! `import_table` takes a heading with the names of columns, and below it a row for each output. It gives an equipment table
+//! as TOML. `csv_lines` gives the rows with their lines, and `IMPORT_COLUMNS` the columns that are read.
+//!
+//! Errors: an allocation failed, or the rows or their table have a fault. `ImportFault` has the first fault of the rows,
+//! with its line and its column; otherwise the first fault of the table.
+//!
+//! ```text
+//! match import_table(alloc, &bytes) {
+//!     Ok(text) => Ok(Reply::done(text)),
+//!     Err(fault) => {
+//!         ..
+//!     }
+//! }
+//! ```
+#![tactic(auto)]
+
+mod building;
+mod clashes;
+mod columns;
+mod fault;
+mod fields;
+mod firsts;
+mod import;
+pub mod laws;
+mod limits;
+mod lines;
+mod reading;
+mod row_index;
+mod rows;
+mod tables;
+mod words;
+
+pub use columns::COLUMNS as IMPORT_COLUMNS;
+pub use fault::{CsvFaultKind, ImportColumn, ImportFault};
+pub use import::import_table;
+pub use lines::{CsvLine, LineCount, csv_lines};

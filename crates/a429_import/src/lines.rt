@@ -1,0 +1,126 @@
+//! The rows of a text of comma-separated values.
+ghost use Rattle.std.specs.Prelude.{◌≡◌, IfOk, length, option_map};
+ghost use Rattle.std.specs.Result.{result_ok};
+ghost use Rattle.csv.specs.Records.{fields_of};
+ghost use Rattle.a429_import.specs.ImportFields.{field_in};
+ghost use Rattle.a429_import.specs.Imports.{AreLines};
+
+use csv::{ByteRecord, Error, ReaderBuilder};
+use std::alloc::{AllocError, Global};
+
+/// A row with the line on which it begins, counted from 1.
+#[derive(Drop)]
+pub struct CsvLine {
+    pub number: u64,
+    pub fields: ByteRecord,
+}
+
+impl CsvLine {
+    /// The number of fields.
+    pub fn len(&self) -> usize
+        ensures { result ≡ length (fields_of self.now.fields) }
+    {
+        self.fields.len()
+    }
+
+    /// The field in a column, counted from 0; empty if there is no such field.
+    pub fn field(&self, column: usize) -> &[u8]
+        ensures { result.now ≡ field_in column (fields_of self.now.fields) }
+    {
+        match self.fields.get(column) {
+            Some(field) => field,
+            None => &[],
+        }
+    }
+}
+
+/// Counts the lines of a text. A line ends with a line feed, with a carriage return, or with both in this order.
+#[derive(Clone, Copy)]
+pub struct LineCount {
+    at: usize,
+    line: u64,
+    is_after_return: bool,
+}
+
+impl LineCount {
+    /// Before the first byte of a text.
+    pub fn new() -> LineCount {
+        LineCount {
+            at: 0,
+            line: 1,
+            is_after_return: false,
+        }
+    }
+
+    /// The line of the next byte, counted from 1.
+    pub fn line(&self) -> u64 {
+        self.line
+    }
+
+    /// Counts one more byte.
+    pub fn pass(&mut self, byte: u8) {
+        let ends_line = byte == b'\r' || byte == b'\n' && !self.is_after_return;
+        if ends_line {
+            self.line = self.line.saturating_add(1);
+        }
+        self.is_after_return = byte == b'\r';
+        self.at = self.at.saturating_add(1);
+    }
+
+    /// Counts the bytes up to a byte of the text, and the line ends that follow.
+    fn pass_to(&mut self, text: &[u8], byte: usize) {
+        for passed in text.get(self.at..byte).unwrap_or(&[]) {
+            self.pass(*passed);
+        }
+        for passed in text.get(byte..).unwrap_or(&[]) {
+            if !matches!(passed, b'\r' | b'\n') {
+                return;
+            }
+            self.pass(*passed);
+        }
+    }
+
+    /// The line on which a row begins, after the rows before it. The library `csv` reports the place at which it began to
+    /// read the row; empty lines may follow that place.
+    fn line_of_row(&mut self, text: &[u8], fields: &ByteRecord) -> u64 {
+        if let Some(position) = fields.position() {
+            self.pass_to(text, position.byte() as usize);
+        }
+        self.line
+    }
+}
+
+/// A line, from what the library `csv` reads. The library refuses no row, so its only error is that an allocation failed.
+pub fn line_of(
+    text: &[u8],
+    count: &mut LineCount,
+    row: Result<ByteRecord, Error>,
+) -> Result<CsvLine, AllocError>
+    ensures { option_map (λ line. line.fields) (result_ok result) ≡ result_ok row }
+{
+    match row {
+        Ok(fields) => Ok(CsvLine {
+            number: count.line_of_row(text, &fields),
+            fields,
+        }),
+        Err(_) => Err(AllocError),
+    }
+}
+
+/// The rows of a text, as the library `csv` reads them. A byte order mark and empty lines are skipped, a carriage return
+/// may come before a line feed, and fields may have quotes. Error: an allocation failed.
+pub fn csv_lines(alloc: Global, text: &[u8]) -> Result<Vec<CsvLine>, AllocError>
+    ensures { IfOk result (λ lines. AreLines text.now lines.items) }
+{
+    let reader = ReaderBuilder::new()
+        .has_headers(false)
+        .flexible(true)
+        .from_reader(alloc, text);
+    let mut count = LineCount::new();
+    let mut lines = Vec::new(alloc);
+    for row in reader.into_byte_records() {
+        let line = line_of(text, &mut count, row)?;
+        lines.push(line)?;
+    }
+    Ok(lines)
+}

@@ -1,0 +1,185 @@
+//! What a row says by itself.
+ghost use Rattle.std.specs.Prelude.{◌≡◌, IfOk};
+ghost use Rattle.std.specs.Result.{result_map_both};
+ghost use Rattle.csv.specs.Records.{fields_of};
+ghost use Rattle.a429_import.specs.ImportFields.{filters_in, hold_in, label_in, number_in, sdi_in, text_in};
+ghost use Rattle.a429_import.specs.ImportRows.{numbers_of, row_of, stated_at, texts_of};
+ghost use Rattle.a429_import.specs.ImportTexts.{text_view, texts_view};
+ghost use Rattle.a429_import.specs.Imports.{States};
+
+use crate::columns::field_of;
+use crate::fault::{CsvFaultKind, ImportColumn, ImportFault};
+use crate::fields::{filters_in, hold_in, label_in, number_in, sdi_in, text_in};
+use crate::lines::CsvLine;
+use a429_equipment::Name;
+use a429_word::{Label, Sdi};
+use std::alloc::{AllocError, Global};
+
+/// The texts of a row. Their form is not checked here.
+#[derive(Drop)]
+pub struct RowTexts {
+    pub group: Name,
+    pub source: Name,
+    pub receiver: Name,
+    /// Filters, separated by spaces.
+    pub filters: Name,
+}
+
+/// The texts, as the fields have them.
+#[derive(Clone, Copy)]
+pub struct TextFields<'a> {
+    group: &'a str,
+    source: &'a str,
+    receiver: &'a str,
+    filters: &'a str,
+}
+
+/// The numbers of a row.
+#[derive(Clone, Copy)]
+pub struct RowNumbers {
+    /// In bit/s.
+    pub rate: u32,
+    pub label: Label,
+    /// `None` if the SDI is any.
+    pub sdi: Option<Sdi>,
+    /// In microseconds.
+    pub min_us: u32,
+    /// In microseconds.
+    pub max_us: u32,
+    /// `None` if there is no limit.
+    pub hold: Option<u32>,
+}
+
+/// What a row says: an output of a group, with its source, the source's receiver, and the receiver's filters.
+#[derive(Drop)]
+pub struct ImportRow {
+    pub texts: RowTexts,
+    pub numbers: RowNumbers,
+}
+
+fn number_at(heading: &CsvLine, line: &CsvLine, column: ImportColumn) -> Result<u32, ImportColumn>
+    ensures { result ≡ stated_at number_in (fields_of heading.now.fields) (fields_of line.now.fields) column }
+{
+    number_in(field_of(heading, line, column)).ok_or(column)
+}
+
+fn label_at(heading: &CsvLine, line: &CsvLine) -> Result<Label, ImportColumn>
+    ensures { result ≡ stated_at label_in (fields_of heading.now.fields) (fields_of line.now.fields) ImportColumn.Label }
+{
+    label_in(field_of(heading, line, ImportColumn::Label)).ok_or(ImportColumn::Label)
+}
+
+fn sdi_at(heading: &CsvLine, line: &CsvLine) -> Result<Option<Sdi>, ImportColumn>
+    ensures { result ≡ stated_at sdi_in (fields_of heading.now.fields) (fields_of line.now.fields) ImportColumn.Sdi }
+{
+    sdi_in(field_of(heading, line, ImportColumn::Sdi)).ok_or(ImportColumn::Sdi)
+}
+
+fn hold_at(heading: &CsvLine, line: &CsvLine) -> Result<Option<u32>, ImportColumn>
+    ensures { result ≡ stated_at hold_in (fields_of heading.now.fields) (fields_of line.now.fields) ImportColumn.Hold }
+{
+    hold_in(field_of(heading, line, ImportColumn::Hold)).ok_or(ImportColumn::Hold)
+}
+
+fn text_at<'a>(
+    heading: &CsvLine,
+    line: &'a CsvLine,
+    column: ImportColumn,
+) -> Result<&'a str, ImportColumn>
+    ensures { text_view result ≡ stated_at text_in (fields_of heading.now.fields) (fields_of line.now.fields) column }
+{
+    text_in(field_of(heading, line, column)).ok_or(column)
+}
+
+fn filters_at<'a>(heading: &CsvLine, line: &'a CsvLine) -> Result<&'a str, ImportColumn>
+    ensures { text_view result ≡ stated_at filters_in (fields_of heading.now.fields) (fields_of line.now.fields) ImportColumn.Filters }
+{
+    filters_in(field_of(heading, line, ImportColumn::Filters)).ok_or(ImportColumn::Filters)
+}
+
+/// The numbers of a row. Error: the first column with a wrong form.
+#[tactic(auto, unfolding(crate::specs::ImportRows::numbers_of))]
+fn row_numbers(heading: &CsvLine, line: &CsvLine) -> Result<RowNumbers, ImportColumn>
+    ensures { result ≡ numbers_of (fields_of heading.now.fields) (fields_of line.now.fields) }
+{
+    let rate = number_at(heading, line, ImportColumn::Rate)?;
+    let label = label_at(heading, line)?;
+    let sdi = sdi_at(heading, line)?;
+    let min_us = number_at(heading, line, ImportColumn::MinUs)?;
+    let max_us = number_at(heading, line, ImportColumn::MaxUs)?;
+    let hold = hold_at(heading, line)?;
+    Ok(RowNumbers {
+        rate,
+        label,
+        sdi,
+        min_us,
+        max_us,
+        hold,
+    })
+}
+
+/// The texts of a row. Error: the first column that is not UTF-8, or whose filters have a wrong form.
+#[tactic(auto, unfolding(crate::specs::ImportRows::texts_of))]
+fn text_fields<'a>(heading: &CsvLine, line: &'a CsvLine) -> Result<TextFields<'a>, ImportColumn>
+    ensures { result_map_both texts_view (λ c. c) result ≡ texts_of (fields_of heading.now.fields) (fields_of line.now.fields) }
+{
+    let group = text_at(heading, line, ImportColumn::Group)?;
+    let source = text_at(heading, line, ImportColumn::Source)?;
+    let receiver = text_at(heading, line, ImportColumn::Receiver)?;
+    let filters = filters_at(heading, line)?;
+    Ok(TextFields {
+        group,
+        source,
+        receiver,
+        filters,
+    })
+}
+
+/// A copy of texts. Error: an allocation failed.
+fn row_texts(alloc: Global, fields: TextFields<'_>) -> Result<RowTexts, AllocError>
+    ensures { IfOk result (λ texts. texts ≡ texts_view fields.entry) }
+{
+    let group = Name::copy_of(alloc, fields.group)?;
+    let source = Name::copy_of(alloc, fields.source)?;
+    let receiver = Name::copy_of(alloc, fields.receiver)?;
+    let filters = Name::copy_of(alloc, fields.filters)?;
+    Ok(RowTexts {
+        group,
+        source,
+        receiver,
+        filters,
+    })
+}
+
+/// The fault of a row with a wrong form.
+fn wrong_form(line: &CsvLine, column: Option<ImportColumn>) -> ImportFault
+    ensures { result ≡ ImportFault.Csv line.now.number CsvFaultKind.Form column }
+{
+    ImportFault::Csv {
+        line: line.number,
+        kind: CsvFaultKind::Form,
+        column,
+    }
+}
+
+/// What a row says, without the other rows. Error: the row or a field is not of its form, or an allocation
+/// failed.
+#[tactic(auto, unfolding(crate::specs::ImportRows::row_of))]
+pub fn row_of(alloc: Global, heading: &CsvLine, line: &CsvLine) -> Result<ImportRow, ImportFault>
+    ensures { States (λ row. row) result (row_of (fields_of heading.now.fields) line.now) }
+{
+    if line.len() != heading.len() {
+        return Err(wrong_form(line, None));
+    }
+    let numbers = match row_numbers(heading, line) {
+        Ok(numbers) => numbers,
+        Err(column) => return Err(wrong_form(line, Some(column))),
+    };
+    match text_fields(heading, line) {
+        Ok(fields) => Ok(ImportRow {
+            texts: row_texts(alloc, fields)?,
+            numbers,
+        }),
+        Err(column) => Err(wrong_form(line, Some(column))),
+    }
+}

@@ -1,0 +1,269 @@
+//! The equipment table that rows describe, as TOML.
+ghost use Rattle.std.specs.Prelude.{◌≡◌, IfOk, [], ◌∷◌, Some, codes, if◌then◌else◌, map, slice_get, string_bytes, take};
+ghost use Rattle.toml.specs.Data.{string};
+ghost use Rattle.toml.specs.View.{table_view, view};
+ghost use Rattle.a429_word.specs.Texts.{octal};
+ghost use Rattle.a429_word.specs.Written.{Gains};
+ghost use Rattle.toml.specs.Parse.{parse_document};
+ghost use Rattle.a429_import.specs.ImportBuilding.{GainsTables, Puts, PutsFilters, PutsHold};
+ghost use Rattle.a429_import.specs.ImportTables.{group_tree, is_word, listed, output_tree, part_tree, part_trees, receiver_tree, root_members, rows_of_group, sdi_data, source_tree, unless_known, words};
+ghost use Rattle.a429_import.specs.NextRows.{IsFirst, outputs_at};
+
+use crate::building::{put, put_number, put_text};
+use crate::firsts::Part;
+use crate::row_index::RowIndex;
+use crate::rows::ImportRow;
+use crate::words::parts;
+use std::alloc::{AllocError, Global};
+use toml::{Table, Value};
+
+/// Adds a word, if it is not empty.
+fn push_word(alloc: Global, words: &mut Vec<Value>, word: &str) -> Result<(), AllocError>
+    ensures { GainsTables result words.old words.new (if is_word word.now then string word.now ∷ [] else []) }
+{
+    if word.is_empty() {
+        return Ok(());
+    }
+    words.push(Value::string(alloc, word)?)?;
+    Ok(())
+}
+
+/// The words of a text, which are separated by spaces.
+#[tactic(auto, unfolding(crate::specs::ImportTables::words))]
+fn words(alloc: Global, text: &str) -> Result<Vec<Value>, AllocError>
+    ensures { IfOk result (λ values. map view values.items ≡ map (λ word. string word) (words text.now)) }
+{
+    let mut values = Vec::new(alloc);
+    let parts = parts(alloc, text)?;
+    for part in &parts {
+        push_word(alloc, &mut values, part)?;
+    }
+    Ok(values)
+}
+
+/// Puts the filters of a receiver, if it has any.
+fn put_filters(alloc: Global, table: &mut Table, text: &str) -> Result<(), AllocError>
+    ensures { PutsFilters result (table_view table.old) (table_view table.new) (words text.now) }
+{
+    let words = words(alloc, text)?;
+    if words.is_empty() {
+        return Ok(());
+    }
+    put(alloc, table, "filters", Value::Array(words))
+}
+
+/// The table of the receiver of a row.
+#[tactic(auto, unfolding(crate::specs::ImportTables::receiver_tree))]
+fn receiver_table(alloc: Global, row: &ImportRow) -> Result<Value, AllocError>
+    ensures { IfOk result (λ value. view value ≡ receiver_tree row.now) }
+{
+    let mut table = Table::new(alloc);
+    put_text(alloc, &mut table, "name", row.texts.receiver.as_str())?;
+    put_filters(alloc, &mut table, row.texts.filters.as_str())?;
+    Ok(Value::Table(table))
+}
+
+/// Puts the SDI of a source, or `any`.
+fn put_sdi(alloc: Global, table: &mut Table, row: &ImportRow) -> Result<(), AllocError>
+    ensures { Puts result (table_view table.old) (table_view table.new) (codes "sdi") (sdi_data row.now.numbers.sdi) }
+{
+    match row.numbers.sdi {
+        None => put_text(alloc, table, "sdi", "any"),
+        Some(sdi) => put_number(alloc, table, "sdi", u32::from(sdi.value())),
+    }
+}
+
+/// Puts the label of a source.
+fn put_label(alloc: Global, table: &mut Table, row: &ImportRow) -> Result<(), AllocError>
+    ensures { Puts result (table_view table.old) (table_view table.new) (codes "label") (string (octal row.now.numbers.label)) }
+{
+    let label = row.numbers.label.to_string(alloc)?;
+    put_text(alloc, table, "label", label.as_str())
+}
+
+/// The table of the source of a row.
+#[tactic(auto, unfolding(crate::specs::ImportTables::source_tree))]
+fn source_table(alloc: Global, row: &ImportRow) -> Result<Value, AllocError>
+    ensures { IfOk result (λ value. view value ≡ source_tree row.now) }
+{
+    let mut table = Table::new(alloc);
+    put_sdi(alloc, &mut table, row)?;
+    put_text(alloc, &mut table, "receiver", row.texts.receiver.as_str())?;
+    put_text(alloc, &mut table, "name", row.texts.source.as_str())?;
+    put_label(alloc, &mut table, row)?;
+    Ok(Value::Table(table))
+}
+
+/// Puts the hold of an output, if it has one.
+fn put_hold(alloc: Global, table: &mut Table, hold: Option<u32>) -> Result<(), AllocError>
+    ensures { PutsHold result (table_view table.old) (table_view table.new) hold }
+{
+    match hold {
+        None => Ok(()),
+        Some(hold) => put_number(alloc, table, "hold", hold),
+    }
+}
+
+/// The table of the output of a row.
+#[tactic(auto, unfolding(crate::specs::ImportTables::output_tree))]
+fn output_table(alloc: Global, row: &ImportRow) -> Result<Value, AllocError>
+    ensures { IfOk result (λ value. view value ≡ output_tree row.now) }
+{
+    let mut table = Table::new(alloc);
+    put_text(alloc, &mut table, "source", row.texts.source.as_str())?;
+    put_number(alloc, &mut table, "min_us", row.numbers.min_us)?;
+    put_number(alloc, &mut table, "max_us", row.numbers.max_us)?;
+    put_hold(alloc, &mut table, row.numbers.hold)?;
+    Ok(Value::Table(table))
+}
+
+/// Adds the table of the output of the row of a number, if there is one.
+fn push_output(
+    alloc: Global,
+    outputs: &mut Vec<Value>,
+    rows: &[ImportRow],
+    number: usize,
+) -> Result<(), AllocError>
+    ensures { GainsTables result outputs.old outputs.new (outputs_at rows.now number) }
+{
+    if let Some(row) = rows.get(number) {
+        outputs.push(output_table(alloc, row)?)?;
+    }
+    Ok(())
+}
+
+/// The tables of the outputs of the group of a row, which is the first of its group.
+fn output_tables(
+    alloc: Global,
+    index: &RowIndex<'_>,
+    first: usize,
+    group: &ImportRow,
+) -> Result<Vec<Value>, AllocError>
+    requires { IsFirst Part.Groups index.now.rows.now first group.now }
+    ensures { IfOk result (λ values. map view values.items ≡ map output_tree (rows_of_group index.now.rows.now group.now)) }
+{
+    let mut outputs = Vec::new(alloc);
+    let mut next = Some(first);
+    while let Some(number) = next {
+        push_output(alloc, &mut outputs, index.rows, number)?;
+        next = index.next(number);
+    }
+    Ok(outputs)
+}
+
+/// The table of the group of a row, which is the first of its group.
+#[tactic(auto, unfolding(crate::specs::ImportTables::group_tree))]
+fn group_table(
+    alloc: Global,
+    index: &RowIndex<'_>,
+    first: usize,
+    row: &ImportRow,
+) -> Result<Value, AllocError>
+    requires { IsFirst Part.Groups index.now.rows.now first row.now }
+    ensures { IfOk result (λ value. view value ≡ group_tree index.now.rows.now row.now) }
+{
+    let outputs = output_tables(alloc, index, first, row)?;
+    let mut table = Table::new(alloc);
+    put_number(alloc, &mut table, "rate", row.numbers.rate)?;
+    put(alloc, &mut table, "output", Value::Array(outputs))?;
+    put_text(alloc, &mut table, "name", row.texts.group.as_str())?;
+    Ok(Value::Table(table))
+}
+
+/// The table of the receiver, the source or the group of a row, which is the first of it.
+fn part_table(
+    alloc: Global,
+    part: Part,
+    index: &RowIndex<'_>,
+    first: usize,
+    row: &ImportRow,
+) -> Result<Value, AllocError>
+    requires { IsFirst part index.now.rows.now first row.now }
+    ensures { IfOk result (λ value. view value ≡ part_tree part index.now.rows.now row.now) }
+{
+    match part {
+        Part::Receivers => receiver_table(alloc, row),
+        Part::Sources => source_table(alloc, row),
+        Part::Groups => group_table(alloc, index, first, row),
+    }
+}
+
+/// Adds the table of the receiver, the source or the group of a row, if no earlier row has the same.
+fn push_first(
+    alloc: Global,
+    tables: &mut Vec<Value>,
+    part: Part,
+    index: &RowIndex<'_>,
+    number: usize,
+    row: &ImportRow,
+) -> Result<(), AllocError>
+    requires { slice_get index.now.rows.now number ≡ Some row.now }
+    ensures { GainsTables result tables.old tables.new
+        (map (part_tree part index.now.rows.now) (unless_known part (take number index.now.rows.now) row.now)) }
+{
+    if index.is_first(part, number, row) {
+        tables.push(part_table(alloc, part, index, number, row)?)?;
+    }
+    Ok(())
+}
+
+/// The tables of the receivers, the sources or the groups, in the order of their first rows.
+fn part_tables(alloc: Global, part: Part, index: &RowIndex<'_>) -> Result<Vec<Value>, AllocError>
+    ensures { IfOk result (λ values. map view values.items ≡ part_trees part index.now.rows.now) }
+{
+    let mut tables = Vec::new(alloc);
+    let rows = index.rows;
+    for number in 0..rows.len() {
+        push_first(alloc, &mut tables, part, index, number, &rows[number])?;
+    }
+    Ok(tables)
+}
+
+/// Puts the receivers, the sources or the groups at a key that comes before those of the table.
+fn put_part(
+    alloc: Global,
+    table: &mut Table,
+    key: &str,
+    part: Part,
+    index: &RowIndex<'_>,
+) -> Result<(), AllocError>
+    ensures { Puts result (table_view table.old) (table_view table.new) key.now (listed (part_trees part index.now.rows.now)) }
+{
+    let tables = part_tables(alloc, part, index)?;
+    put(alloc, table, key, Value::Array(tables))
+}
+
+/// The root table.
+#[tactic(auto, unfolding(crate::specs::ImportTables::root_members))]
+fn root_table(alloc: Global, index: &RowIndex<'_>) -> Result<Table, AllocError>
+    ensures { IfOk result (λ root. table_view root ≡ root_members index.now.rows.now) }
+{
+    let mut root = Table::new(alloc);
+    put_number(alloc, &mut root, "version", 2)?;
+    put_part(alloc, &mut root, "source", Part::Sources, index)?;
+    put_part(alloc, &mut root, "receiver", Part::Receivers, index)?;
+    put_part(alloc, &mut root, "group", Part::Groups, index)?;
+    Ok(root)
+}
+
+/// The root table that rows describe.
+fn stated_root(alloc: Global, rows: &[ImportRow]) -> Result<Table, AllocError>
+    ensures { IfOk result (λ root. table_view root ≡ root_members rows.now) }
+{
+    let index = RowIndex::of(alloc, rows)?;
+    let root = root_table(alloc, &index);
+    // One call, instead of a drop of each of its parts at each return.
+    std::mem::drop(index);
+    root
+}
+
+/// The equipment table that rows describe, as TOML of version 2. Error: an allocation failed.
+pub fn table_text(alloc: Global, rows: &[ImportRow]) -> Result<String, AllocError>
+    ensures { IfOk result (λ text. parse_document (string_bytes text) ≡ Some (root_members rows.now)) }
+{
+    let root = stated_root(alloc, rows)?;
+    match toml::table_to_string(alloc, &root) {
+        Ok(text) => Ok(text),
+        Err(_) => Err(AllocError),
+    }
+}

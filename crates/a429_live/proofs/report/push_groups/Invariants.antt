@@ -1,0 +1,6 @@
+use Rattle.std.proofs.Common.{◌≡◌, ◌++◌, drop}
+use Rattle.a429_live.specs.LiveReplies.{group_lines}
+use Rattle.a429_live.proofs.report.push_groups.Given as goal
+
+abbrev pub invariant-loop-place : goal.invariant-loop-place
+invariant-loop-place l = l.text.items ++ group_lines (drop l.place l.rows) (drop l.place l.totals) ≡ l.initial.text.items ++ group_lines l.rows l.totals

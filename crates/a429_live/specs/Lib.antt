@@ -1,0 +1,4 @@
+pub mod WordsFile
+pub mod LiveReplies
+pub mod Resubmitted
+pub mod ProgressLines

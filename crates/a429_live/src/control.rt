@@ -1,0 +1,220 @@
+//! Further tables, resubmitted while a station runs.
+ghost use Rattle.std.specs.Prelude.{◌≡◌, ◌≢◌, false, Ok, [], IfOk};
+ghost use Rattle.a429_table.specs.Reading.{reading};
+ghost use Rattle.std.specs.List.{list_any};
+ghost use Rattle.a429_live.specs.Resubmitted.{AnswersFault, IsAnswer, is_refused};
+ghost use Rattle.a429_live.specs.declared.control.SubmitAnswer.TheVariants.{Refused};
+ghost use Rattle.a429_console.specs.declared.refusals.CommandRefusal.TheVariants.{Memory};
+ghost use Rattle.a429_station.specs.Resubmitting.{GoesOn};
+
+use a429_console::hints::{FurtherCause, FurtherFault, SeenTable};
+use a429_console::refusals::CommandRefusal;
+use a429_console::refusals::tables::{read_table, too_many_buses, unfit};
+use a429_equipment::Equipment;
+use a429_station::{Control, ReplanFault, Station};
+use std::alloc::{AllocError, Global};
+use std::mem::swap;
+use std::sync::Wait;
+
+/// What a table is answered that is submitted to a running station.
+#[derive(Drop)]
+pub enum SubmitAnswer {
+    /// Its plan is published under this number.
+    Published(u64),
+    /// The table or its plan has a fault.
+    Refused(CommandRefusal),
+    /// It is of another station.
+    OtherStation,
+    /// No number is left for its plan.
+    NumbersSpent,
+}
+
+/// Resubmits tables one after another, and keeps what each is answered.
+#[derive(Drop)]
+pub struct Resubmits<'a> {
+    alloc: Global,
+    running: &'a Equipment,
+    tables: &'a [Vec<u8>],
+    pub answers: Vec<SubmitAnswer>,
+    /// The tables that are refused, for a hint.
+    faults: Vec<FurtherFault>,
+}
+
+impl<'a> Resubmits<'a> {
+    /// None was resubmitted yet to the station of this equipment.
+    pub fn new(alloc: Global, running: &'a Equipment, tables: &'a [Vec<u8>]) -> Resubmits<'a>
+        ensures tables { result.tables.now ≡ tables.now }
+        ensures none { result.answers.items ≡ [] }
+    {
+        Resubmits {
+            alloc,
+            running,
+            tables,
+            answers: Vec::new(alloc),
+            faults: Vec::new(alloc),
+        }
+    }
+
+    /// Hands on what was noted for a hint, if a table was refused.
+    pub fn hand_faults(&mut self, faults: &mut Vec<FurtherFault>)
+        ensures taken { list_any is_refused self.old.answers.items ≡ false → faults.new.items ≡ faults.old.items }
+        ensures answers { self.new.answers.items ≡ self.old.answers.items }
+    {
+        if self.answers.iter().any(is_refused) {
+            swap(&mut self.faults, faults);
+        }
+    }
+}
+
+/// The answer of a refusal. Error: the refusal is that an allocation failed.
+fn refused(refusal: CommandRefusal) -> Result<SubmitAnswer, AllocError>
+    ensures { IfOk result (λ answer. (answer ≡ Refused refusal) × (refusal ≢ Memory)) }
+{
+    match refusal {
+        CommandRefusal::Memory => Err(AllocError),
+        other => Ok(SubmitAnswer::Refused(other)),
+    }
+}
+
+/// The answer by the fault of a table whose equipment was read. Error: an allocation fails.
+fn answer_of_fault(
+    alloc: Global,
+    equipment: &Equipment,
+    fault: ReplanFault,
+) -> Result<SubmitAnswer, AllocError>
+    ensures { AnswersFault equipment.now fault result }
+{
+    match fault {
+        ReplanFault::Unfit { group, output } => refused(unfit(alloc, equipment, group, output)),
+        ReplanFault::TooManyBuses { group, needed } => {
+            refused(too_many_buses(alloc, equipment, group, needed))
+        }
+        ReplanFault::StationDiffers => Ok(SubmitAnswer::OtherStation),
+        ReplanFault::CountSpent => Ok(SubmitAnswer::NumbersSpent),
+        // a table that was read has no fault
+        ReplanFault::Table(_) | ReplanFault::NoMemory => Err(AllocError),
+    }
+}
+
+/// Resubmits a table whose equipment was read. Error: an allocation fails.
+fn answer_read<R: Wait>(
+    alloc: Global,
+    station: &mut Station<'_, R>,
+    table: &[u8],
+    equipment: &Equipment,
+) -> Result<SubmitAnswer, AllocError>
+    requires read { reading table.now ≡ Ok equipment.now }
+    ensures answer { IfOk result (λ answer. IsAnswer station.old table.now answer station.new) }
+    ensures on { GoesOn station.old station.new }
+{
+    match station.resubmit_read(table, equipment) {
+        Ok(number) => Ok(SubmitAnswer::Published(number)),
+        Err(fault) => answer_of_fault(alloc, equipment, fault),
+    }
+}
+
+/// Resubmits a table. What was read of it is kept in `seen`. Error: an allocation fails.
+fn answer_to<R: Wait>(
+    alloc: Global,
+    station: &mut Station<'_, R>,
+    table: &[u8],
+    seen: &mut SeenTable,
+) -> Result<SubmitAnswer, AllocError>
+    ensures answer { IfOk result (λ answer. IsAnswer station.old table.now answer station.new) }
+    ensures on { GoesOn station.old station.new }
+{
+    match read_table(alloc, table, seen) {
+        Ok(equipment) => {
+            let answer = answer_read(alloc, station, table, &equipment);
+            seen.keep_equipment(equipment);
+            answer
+        }
+        Err(refusal) => refused(refusal),
+    }
+}
+
+/// Why the table of an answer was not taken, for a hint. `None` if it was, or if an allocation fails.
+fn cause_of(
+    alloc: Global,
+    running: &Equipment,
+    answer: &SubmitAnswer,
+    seen: &SeenTable,
+) -> Option<FurtherCause> {
+    match (answer, &seen.equipment) {
+        (SubmitAnswer::Refused(refusal), _) => FurtherCause::of(alloc, refusal),
+        (SubmitAnswer::OtherStation, Some(other)) => FurtherCause::of_stations(
+            alloc, running, other,
+        ),
+        _ => None,
+    }
+}
+
+/// Notes the table of this number, from 1, if its answer is a refusal.
+fn note_answer(
+    alloc: Global,
+    running: &Equipment,
+    number: usize,
+    answer: &Result<SubmitAnswer, AllocError>,
+    table: SeenTable,
+    faults: &mut Vec<FurtherFault>,
+) {
+    let Ok(answer) = answer else {
+        return;
+    };
+    if let Some(cause) = cause_of(alloc, running, answer, &table) {
+        FurtherFault::note(faults, number, cause, table);
+    }
+}
+
+/// Resubmits the table of this number, from 1, and notes it if it is refused. Error: an allocation fails.
+fn answer_and_note<R: Wait>(
+    alloc: Global,
+    station: &mut Station<'_, R>,
+    running: &Equipment,
+    table: &[u8],
+    number: usize,
+    faults: &mut Vec<FurtherFault>,
+) -> Result<SubmitAnswer, AllocError>
+    ensures answer { IfOk result (λ answer. IsAnswer station.old table.now answer station.new) }
+    ensures on { GoesOn station.old station.new }
+{
+    let mut seen = SeenTable::nothing();
+    let answer = answer_to(alloc, station, table, &mut seen);
+    note_answer(alloc, running, number, &answer, seen, faults);
+    answer
+}
+
+/// Whether a table was refused.
+fn is_refused(answer: &SubmitAnswer) -> bool
+    ensures { result ≡ is_refused answer.now }
+{
+    matches!(
+        answer,
+        SubmitAnswer::Refused(_) | SubmitAnswer::OtherStation
+    )
+}
+
+impl<'a, R: Wait> Control<R> for Resubmits<'a> {
+    ghost use Rattle.std.specs.Prelude.{◌≡◌, []};
+    ghost use Rattle.a429_console.specs.Files.{bytes_of};
+    ghost use Rattle.a429_live.specs.Resubmitted.{AreAnswers};
+
+    // from none on, its answers are those of the station to its tables
+    ghost did = { λ before begin end after. before.answers.items ≡ [] → AreAnswers begin (bytes_of before.tables.now) after.answers.items end };
+
+    fn run(&mut self, station: &mut Station<'_, R>) -> Result<(), AllocError> {
+        for table in self.tables {
+            let number = self.answers.len().saturating_add(1);
+            let answer = answer_and_note(
+                self.alloc,
+                station,
+                self.running,
+                table,
+                number,
+                &mut self.faults,
+            )?;
+            self.answers.push(answer)?;
+        }
+        Ok(())
+    }
+}

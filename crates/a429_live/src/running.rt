@@ -1,0 +1,217 @@
+//! A run of the station, from files to its report.
+ghost use Rattle.std.specs.Prelude.{◌≡◌, ◌≤◌, IfOk, IsTrue, MatchResult, OnOk, vec_len};
+ghost use Rattle.a429_console.specs.Files.{bytes_of};
+ghost use Rattle.a429_slots.specs.Planned.{IsPlanOf};
+ghost use Rattle.a429_live.specs.LiveReplies.{HasToldRun, IsLiveReading, IsLiving, IsNoLiveStart, IsPreparedLive, IsRunResult, TakesLive, files_of, refusal_of};
+ghost use Rattle.a429_live.specs.WordsFile.{IsWordsReading};
+ghost use Rattle.a429_console.specs.Names.{naming_of};
+ghost use Rattle.a429_console.specs.Requests.{asked_of};
+ghost use Rattle.a429_console.specs.Outputs.{CountsFault};
+ghost use Rattle.a429_console.specs.Readings.{HasRead};
+ghost use Rattle.a429_console.specs.RefusalText.{OrMemory};
+ghost use Rattle.a429_console.specs.Tables.{IsTakenBy};
+ghost use Rattle.std.specs.List.{AllByRecursion};
+
+use crate::control::Resubmits;
+use crate::progress::{Progress, ProgressGate};
+use crate::report::report_text;
+use crate::words::{Arrival, line_sources, read_words};
+use a429_console::arguments::requests::Asked;
+use a429_console::files::FileReader;
+use a429_console::files::reading::{read_file, read_files};
+use a429_console::hints::{FurtherFault, Seen};
+use a429_console::output::endings::finish;
+use a429_console::output::{Output, OutputFault};
+use a429_console::refusals::tables::propose;
+use a429_console::refusals::{CommandRefusal, refuse};
+use a429_equipment::Equipment;
+use a429_replay::Names;
+use a429_slots::laws::plans_are_unique;
+use a429_slots::{OUTPUTS, Plan, Proposal};
+use a429_station::{LiveFault, live_planned};
+use a429_workers::CountSink;
+use std::alloc::{AllocError, Global};
+use std::sync::Wait;
+use std::thread::Threads;
+
+/// The bytes of the files that a run reads.
+#[derive(Drop)]
+struct LiveInput {
+    table: Vec<u8>,
+    words: Vec<u8>,
+    further: Vec<Vec<u8>>,
+}
+
+/// A station and the words that come in.
+#[derive(Drop)]
+struct PreparedRun {
+    proposal: Proposal<OUTPUTS>,
+    arrivals: Vec<Arrival>,
+}
+
+/// Reads the files of a run, in the order of the command line.
+fn read_input<F: FileReader>(
+    alloc: Global,
+    files: &mut F,
+    asked: &Asked,
+    seen: &mut Seen,
+) -> Result<LiveInput, CommandRefusal>
+    ensures { HasRead F.answers (λ file. IsLiveReading file (asked_of asked.now) result) files.old files.new }
+{
+    let table = read_file(alloc, files, asked.first, seen)?;
+    let words = read_file(alloc, files, asked.second, seen)?;
+    let further = read_files(alloc, files, &asked.more, seen)?;
+    Ok(LiveInput {
+        table,
+        words,
+        further,
+    })
+}
+
+/// The words of a file for the receivers of a station. Error: the file is refused.
+fn read_arrivals(
+    alloc: Global,
+    equipment: &Equipment,
+    words: &[u8],
+    seen: &mut Seen,
+) -> Result<Vec<Arrival>, CommandRefusal>
+    ensures { IsWordsReading (naming_of equipment.now) words.now result }
+{
+    let names = Names::of(alloc, equipment)?;
+    read_words(alloc, &names, words, seen)
+}
+
+/// The station and the words that are given. Error: the table, its plan, or the file of words is refused.
+fn prepare(alloc: Global, input: &LiveInput, seen: &mut Seen) -> Result<PreparedRun, CommandRefusal>
+    ensures { MatchResult result (IsPreparedLive (files_of input.now)) (OrMemory (IsNoLiveStart (files_of input.now))) }
+{
+    let proposal = propose(alloc, &input.table, &mut seen.table)?;
+    let arrivals = read_arrivals(alloc, proposal.equipment(), &input.words, seen)?;
+    Ok(PreparedRun { proposal, arrivals })
+}
+
+/// This number of sinks, which count their cells.
+fn count_sinks(alloc: Global, groups: usize) -> Result<Vec<CountSink>, AllocError>
+    ensures { IfOk result (λ sinks. vec_len sinks ≡ groups) }
+{
+    let mut sinks = Vec::new(alloc);
+    while sinks.len() < groups {
+        sinks.push(CountSink::new())?;
+    }
+    Ok(sinks)
+}
+
+/// The refusal for a fault of a run. The plan was made before, so a fault of it now means that an allocation failed.
+fn run_refusal(fault: LiveFault) -> CommandRefusal
+    ensures { result ≡ refusal_of fault }
+{
+    match fault {
+        LiveFault::TooMuch => CommandRefusal::TooMuch,
+        LiveFault::Join => CommandRefusal::Join,
+        LiveFault::Source => CommandRefusal::Source,
+        LiveFault::Gate => CommandRefusal::Gate,
+        LiveFault::Sink => CommandRefusal::Sink,
+        LiveFault::Plan(_) | LiveFault::NoMemory => CommandRefusal::Memory,
+    }
+}
+
+/// Runs a station with the words of its receivers for this number of frames, and resubmits further tables during the
+/// run. Answers the text of the report. The further tables whose plans the station does not take are noted.
+fn run<'a, R: Threads + Wait, P: Progress + Sync>(
+    rt: &R,
+    alloc: Global,
+    equipment: &'a Equipment,
+    plan: &Plan<OUTPUTS>,
+    arrivals: &[Arrival],
+    frames: u32,
+    further: &'a [Vec<u8>],
+    gate: &ProgressGate<P>,
+    faults: &mut Vec<FurtherFault>,
+) -> Result<Vec<u8>, CommandRefusal>
+    requires planned { IsPlanOf equipment.now plan.now }
+    ensures report { IsRunResult equipment.now arrivals.now frames (bytes_of further.now) result }
+    ensures taken { AllByRecursion (IsTakenBy equipment.now) (bytes_of further.now) → faults.new.items ≡ faults.old.items }
+{
+    plans_are_unique();
+    let sources = line_sources(alloc, arrivals, equipment.receivers().len())?;
+    let sinks = count_sinks(alloc, equipment.groups().len())?;
+    let mut control = Resubmits::new(alloc, equipment, further);
+    match live_planned(
+        rt,
+        alloc,
+        equipment,
+        *plan,
+        sources,
+        sinks,
+        frames,
+        gate,
+        &mut control,
+    ) {
+        Ok(report) => {
+            control.hand_faults(faults);
+            report_text(alloc, equipment, further, &control.answers, &report)
+        }
+        Err(fault) => Err(run_refusal(fault)),
+    }
+}
+
+/// How many threads a run needs, for a hint: one for each receiver and each group.
+fn threads_of(equipment: &Equipment) -> usize {
+    equipment.receivers().len() + equipment.groups().len()
+}
+
+/// The text of the report of a run. Error: a file, the table, its plan, the file of words, or the run is refused. The
+/// run is refused as `TooMuch` for more than a million frames or words of a receiver, and as `Join` if a thread could
+/// not be started or joined.
+fn run_report<R: Threads + Wait, F: FileReader, P: Progress + Sync>(
+    rt: &R,
+    alloc: Global,
+    files: &mut F,
+    asked: &Asked,
+    seen: &mut Seen,
+    faults: &mut Vec<FurtherFault>,
+    progress: &P,
+) -> Result<Vec<u8>, CommandRefusal>
+    ensures report { HasRead F.answers (λ file. IsLiving file (asked_of asked.now) result) files.old files.new }
+    ensures taken { HasRead F.answers (λ file. TakesLive file (asked_of asked.now)
+        → faults.new.items ≡ faults.old.items) files.old files.new }
+{
+    let input = read_input(alloc, files, asked, seen)?;
+    let prepared = prepare(alloc, &input, seen)?;
+    let equipment = prepared.proposal.equipment();
+    seen.threads = threads_of(equipment);
+    let (arrivals, further) = (&prepared.arrivals, &input.further);
+    let frames = asked.number;
+    let plan = prepared.proposal.plan();
+    let gate = ProgressGate::begin(progress, plan, frames);
+    let result = run(
+        rt, alloc, equipment, plan, arrivals, frames, further, &gate, faults,
+    );
+    progress.end();
+    result
+}
+
+/// Runs the station of a table on threads of its own, and prints the report of the run, or one refusal line. The status
+/// is 0, or 1 after a refusal. While the station runs, `progress` gets reports of its progress.
+pub fn run_station<R: Threads + Wait, F: FileReader, O: Output, P: Progress + Sync>(
+    rt: &R,
+    alloc: Global,
+    files: &mut F,
+    asked: &Asked,
+    seen: &mut Seen,
+    faults: &mut Vec<FurtherFault>,
+    out: &mut O,
+    progress: &P,
+) -> Result<u8, OutputFault>
+    ensures replied { HasToldRun F.answers O.contents (asked_of asked.now) files.old files.new out.old out.new result }
+    ensures taken { HasRead F.answers (λ file. TakesLive file (asked_of asked.now)
+        → faults.new.items ≡ faults.old.items) files.old files.new }
+    ensures status { IfOk result (λ status. status ≤ 1) }
+    ensures flushed { OnOk result (IsTrue (O.is_flushed out.new)) }
+    ensures faults { CountsFault result (O.failures out.old) (O.failures out.new) }
+{
+    match run_report(rt, alloc, files, asked, seen, faults, progress) {
+        Ok(text) => finish(&text, true, out),
+        Err(refusal) => refuse(alloc, refusal, seen, out),
+    }
+}

@@ -1,0 +1,17 @@
+pub mod LogLines
+pub mod Timelines
+pub mod SimulatedSteps
+pub mod Played
+pub mod ShortNames
+pub mod SentCells
+pub mod TrackOrder
+pub mod SimulationEnds
+pub mod SimulationPrinted
+pub mod SendFigures
+pub mod FigureSteps
+pub mod SummedUp
+pub mod SlotTimes
+pub mod StepOrder
+pub mod LastAccepted
+pub mod LateWords
+pub mod LateRows

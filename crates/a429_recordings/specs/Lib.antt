@@ -1,0 +1,10 @@
+pub mod SimulationLog
+pub mod Timeline
+pub mod Tracks
+pub mod Simulating
+pub mod SimulationRuns
+pub mod CellLines
+pub mod Summary
+pub mod SummaryRuns
+pub mod SummaryLaws
+pub mod SimulationReplies

@@ -1,0 +1,190 @@
+-- The command `simulate`: what it writes, and its status.
+use Rattle.std.specs.Prelude.{◌≡◌, ◌∷◌, [], ◌++◌, ◌⊎◌, ℕ, List, Bool, true, false, Option, None, Some, Ok, Result, MatchResult, IfOk, codes, take}
+use Rattle.a429_text.specs.declared.sheets.SheetForm.{SheetForm}
+use Rattle.a429_console.specs.declared.arguments.times.LogOrigin.{LogOrigin}
+use Rattle.a429_console.specs.declared.arguments.times.LogOrigin.TheVariants as origin
+use Rattle.a429_logs.specs.declared.clocks.Clock.{Clock}
+use Rattle.a429_logs.specs.declared.reading.Reading.{Reading}
+use Rattle.a429_slots.specs.Proposed.{Proposed}
+use Rattle.a429_console.specs.FileReadings.{AreRead, IsFirstUnread}
+use Rattle.a429_console.specs.Names.{naming_of}
+use Rattle.a429_console.specs.Outputs.{AppendsPending, IsPut, OrNoMemory, memory_refused}
+use Rattle.a429_console.specs.RefusalText.{OrMemory, refusal_line}
+use Rattle.a429_console.specs.Requests.{OptionBytes, is_csv}
+use Rattle.a429_console.specs.Tables.{IsProposedBy, IsTableRefusal}
+use Rattle.a429_console.specs.declared.refusals.CommandRefusal.{CommandRefusal}
+use Rattle.a429_console.specs.declared.refusals.CommandRefusal.TheVariants as refused
+use Rattle.a429_recordings.specs.SimulationLog.{IsLogFault, log_words}
+use Rattle.a429_recordings.specs.Timeline.{TimelineIsBegun, IsTimeline, SendsTooMuch, end_of}
+use Rattle.a429_recordings.specs.Simulating.{happenings_of, steps_of, text_of}
+use Rattle.a429_recordings.specs.SimulationRuns.{AreHappenings, CanBePlayed, HasPlayed, HasStationNames, IsBegin}
+use Rattle.a429_recordings.specs.Summary.{summary_text}
+use Rattle.a429_recordings.specs.declared.simulate.Simulation.{Simulation}
+use Rattle.a429_recordings.specs.declared.simulate.SimulationForm.{SimulationForm}
+use Rattle.a429_recordings.specs.declared.simulate.SimulationInput.{SimulationInput}
+use Rattle.a429_recordings.specs.declared.simulate.lines.Setting.{Setting}
+use Rattle.a429_recordings.specs.declared.simulate.log.LogWord.{LogWord}
+use Rattle.a429_recordings.specs.declared.simulate.machine.Happening.{Happening}
+use Rattle.a429_recordings.specs.declared.simulate.moments.Moment.{Moment}
+use Rattle.a429_recordings.specs.declared.simulate.playing.Player.{Player}
+
+-- times are counted from a time on, or from that of the first word
+abbrev pub clock_from : LogOrigin → Clock
+clock_from (origin.Time base) = record { base = Some base; last = 0 }
+clock_from origin.First = record { base = None; last = 0 }
+
+-- what the options ask for
+abbrev pub simulation_form : OptionBytes → SimulationForm
+simulation_form o =
+    record { until = o.until; summary = o.summary; form = o.form; reading = record { unit = o.time; shape = None; clock = clock_from o.from } }
+
+-- the bytes of the files that a simulation reads
+pub record SimulationFiles : Type 0 where
+  pub table : List ℕ
+  pub log : List ℕ
+
+-- they are those of the files of these names, which are both read before any is looked at
+abbrev pub AreSimulationFiles : (List ℕ → Option (List ℕ)) → List ℕ → List ℕ → SimulationFiles → Type 0
+AreSimulationFiles file table log i = AreRead file (table ∷ log ∷ []) (i.table ∷ i.log ∷ [])
+
+-- the table has a plan, at whose slot 0 the station opens, and the log these words
+pub record IsSimulated (i : SimulationFiles) (reading : Reading) (q : Proposed) (words : List LogWord) : Type 0 where
+  pub proposed : IsProposedBy i.table q
+  pub words_are : log_words (naming_of q.station) reading i.log ≡ Ok words
+
+-- of a table with a plan, the log has a fault
+abbrev pub IsLogRefusal : SimulationFiles → Reading → CommandRefusal → Type 0
+IsLogRefusal i reading refusal = (q : Proposed) × IsProposedBy i.table q × IsLogFault (naming_of q.station) reading i.log refusal
+
+-- why there is no simulation of these bytes: the table or its plan, or the log
+abbrev pub IsNoSimulation : SimulationFiles → Reading → CommandRefusal → Type 0
+IsNoSimulation i reading refusal = IsTableRefusal i.table refusal ⊎ IsLogRefusal i reading refusal
+
+-- a group would send too much up to the last time
+abbrev pub IsLongRefusal : SimulationFiles → SimulationForm → CommandRefusal → Type 0
+IsLongRefusal i form refusal =
+    (q : Proposed) × (words : List LogWord) × IsSimulated i form.reading q words × (refusal ≡ refused.TooMuch)
+    × SendsTooMuch q (end_of q words form.until)
+
+-- why nothing is simulated: the bytes, or that it would be too long
+abbrev pub IsUnsimulated : SimulationFiles → SimulationForm → CommandRefusal → Type 0
+IsUnsimulated i form refusal = IsNoSimulation i form.reading refusal ⊎ IsLongRefusal i form refusal
+
+-- why there is no simulation: a file, the bytes, or that it would be too long
+abbrev pub IsSimulationRefusal : (List ℕ → Option (List ℕ)) → List ℕ → List ℕ → SimulationForm → CommandRefusal → Type 0
+IsSimulationRefusal file table log form refusal =
+    IsFirstUnread file (table ∷ log ∷ []) refusal
+    ⊎ ((i : SimulationFiles) × AreSimulationFiles file table log i × IsUnsimulated i form refusal)
+
+-- what comes before the lines: with commas the names of the fields
+abbrev pub heading : Bool → List ℕ
+heading true = codes "time,group,bus,word,source,age_us" ++ 10 ∷ []
+heading false = []
+
+-- the lines of what happens in the whole timeline were printed
+abbrev pub IsPrinted : Proposed → List LogWord → ℕ → Bool → List ℕ → Type 0
+IsPrinted q words last csv bytes =
+    (moments : List Moment) × IsTimeline q words last moments × (bytes ≡ heading csv ++ text_of q csv (happenings_of q (steps_of q moments)))
+
+-- the lines of what happens first in a timeline were printed
+abbrev pub IsPrintedInPart : Proposed → List LogWord → ℕ → Bool → List ℕ → Type 0
+IsPrintedInPart q words last csv bytes =
+    (moments : List Moment) × (n : ℕ) × TimelineIsBegun q words last moments
+    × (bytes ≡ heading csv ++ text_of q csv (take n (happenings_of q (steps_of q moments))))
+
+-- what a simulation that began writes, and its status: all lines, or the first ones and then that an allocation failed
+abbrev pub IsPrinting : Proposed → List LogWord → ℕ → Bool → ℕ → List ℕ → Type 0
+IsPrinting q words last csv status bytes =
+    (IsPrinted q words last csv bytes × (status ≡ 0))
+    ⊎ ((lines : List ℕ) × IsPrintedInPart q words last csv lines × (status ≡ 1) × (bytes ≡ lines ++ memory_refused ++ 10 ∷ []))
+
+-- what a simulation that began writes instead of its lines, and its status: the summary of the whole timeline
+abbrev pub IsSummary : Proposed → List LogWord → ℕ → SheetForm → ℕ → List ℕ → Type 0
+IsSummary q words last form status bytes =
+    (moments : List Moment) × IsTimeline q words last moments × (bytes ≡ summary_text q (happenings_of q (steps_of q moments)) form) × (status ≡ 0)
+
+-- what it writes in a form, by whether the summary is asked for
+abbrev pub IsWritten : Proposed → List LogWord → ℕ → Bool → SheetForm → ℕ → List ℕ → Type 0
+IsWritten q words last true form = IsSummary q words last form
+IsWritten q words last false form = IsPrinting q words last (is_csv form)
+
+-- what `simulate` writes, and its status: the line of a refusal, or what the simulation prints
+abbrev pub IsSimulation : (List ℕ → Option (List ℕ)) → List ℕ → List ℕ → SimulationForm → ℕ → List ℕ → Type 0
+IsSimulation file table log form status bytes =
+    ((refusal : CommandRefusal) × OrMemory (IsSimulationRefusal file table log form) refusal × (status ≡ 1) × (bytes ≡ refusal_line refusal ++ 10 ∷ []))
+    ⊎ ((i : SimulationFiles) × (q : Proposed) × (words : List LogWord) × AreSimulationFiles file table log i × IsSimulated i form.reading q words
+    × IsWritten q words (end_of q words form.until) form.summary form.form status bytes)
+
+-- ---- by the values of the program
+
+abbrev pub files_of : SimulationInput → SimulationFiles
+files_of i = record { table = i.table.items; log = i.log.items }
+
+-- what reading the files gives: their bytes, or the first that cannot be read
+abbrev pub IsSimulationReading : (List ℕ → Option (List ℕ)) → List ℕ → List ℕ → Result SimulationInput CommandRefusal → Type 0
+IsSimulationReading file table log result =
+    MatchResult result (λ i. AreSimulationFiles file table log (files_of i)) (OrMemory (IsFirstUnread file (table ∷ log ∷ [])))
+
+-- a station of a table's bytes, with its names
+abbrev pub IsSettingOf : List ℕ → Bool → Setting → Type 0
+IsSettingOf table csv s = IsProposedBy table s.proposal × HasStationNames s.names s.proposal × (s.csv ≡ csv)
+
+-- a beginning with the words of a log
+abbrev pub BeginsLog : Setting → List ℕ → SimulationForm → Player → Type 0
+BeginsLog s log form p =
+    (words : List LogWord) × (log_words s.names form.reading log ≡ Ok words) × IsBegin s.proposal words (end_of s.proposal words form.until) p
+
+-- why there is none: the log, or that a group would send too much
+abbrev pub BeginsNoLog : Setting → List ℕ → SimulationForm → CommandRefusal → Type 0
+BeginsNoLog s log form refusal =
+    IsLogFault s.names form.reading log refusal
+    ⊎ ((words : List LogWord) × (log_words s.names form.reading log ≡ Ok words) × (refusal ≡ refused.TooMuch)
+    × SendsTooMuch s.proposal (end_of s.proposal words form.until))
+
+-- it has the names of its station, and can be played
+pub record SimulationIsReady (s : Simulation) : Type 0 where
+  pub names : HasStationNames s.setting.names s.setting.proposal
+  pub playable : CanBePlayed s.setting.proposal s.player
+
+-- what these bytes simulate, at its begin
+pub record IsPreparedFor (i : SimulationFiles) (form : SimulationForm) (s : Simulation) : Type 0 where
+  pub words : List LogWord
+  pub simulated : IsSimulated i form.reading s.setting.proposal words
+  pub csv : s.setting.csv ≡ is_csv form.form
+  pub begin : HasPlayed s.setting.proposal words (end_of s.setting.proposal words form.until) [] s.player
+  pub ready : SimulationIsReady s
+
+-- these lines were printed by a simulation to its end, or if an allocation failed those of what happened first
+abbrev pub ArePrinted : Proposed → List LogWord → ℕ → Bool → Bool → List ℕ → Type 0
+ArePrinted q words last csv true bytes = (told : List Happening) × AreHappenings q words last told × (bytes ≡ text_of q csv told)
+ArePrinted q words last csv false bytes =
+    (moments : List Moment) × (n : ℕ) × TimelineIsBegun q words last moments × (bytes ≡ text_of q csv (take n (happenings_of q (steps_of q moments))))
+
+-- a timeline is played on a station to which nothing has happened: the lines are put out, or appended to those that are yet to be; the answer says
+-- whether memory sufficed
+abbrev pub PutsLines : {X E : Type 0} → (X → Option (List ℕ)) → Proposed → Bool → Player → X → X → List ℕ → List ℕ → Result Bool E → Type 0
+PutsLines contents q csv player out out' text text' result =
+    (words : List LogWord) (last : ℕ) → HasPlayed q words last [] player
+    → IfOk result (λ sufficed. (bytes : List ℕ) × ArePrinted q words last csv sufficed bytes × AppendsPending (contents out) text (contents out') text' bytes)
+
+-- the lines of a simulation that begins so were put, or that an allocation failed before that
+abbrev pub HasPrintedLines : {E : Type 0} → Simulation → Option (List ℕ) → Option (List ℕ) → Result ℕ E → Type 0
+HasPrintedLines s old new result =
+    (words : List LogWord) (last : ℕ) → HasPlayed s.setting.proposal words last [] s.player
+    → IfOk result (λ status. IsPut (OrNoMemory (IsPrinting s.setting.proposal words last s.setting.csv)) old new status)
+
+-- the summary of a simulation that begins so was put in a form, or that an allocation failed before that
+abbrev pub HasPrintedSummary : {E : Type 0} → Simulation → SheetForm → Option (List ℕ) → Option (List ℕ) → Result ℕ E → Type 0
+HasPrintedSummary s form old new result =
+    (words : List LogWord) (last : ℕ) → HasPlayed s.setting.proposal words last [] s.player
+    → IfOk result (λ status. IsPut (OrNoMemory (IsSummary s.setting.proposal words last form)) old new status)
+
+-- what it prints was put, or that an allocation failed before that
+abbrev pub HasPrinted : {E : Type 0} → Simulation → SimulationForm → Option (List ℕ) → Option (List ℕ) → Result ℕ E → Type 0
+HasPrinted s form old new result =
+    (words : List LogWord) (last : ℕ) → HasPlayed s.setting.proposal words last [] s.player
+    → IfOk result (λ status. IsPut (OrNoMemory (IsWritten s.setting.proposal words last form.summary form.form)) old new status)
+
+-- the text is the summary of a simulation that begins so, in a form
+abbrev pub HasSummary : Setting → Player → SheetForm → List ℕ → Type 0
+HasSummary s player form text = (words : List LogWord) (last : ℕ) → HasPlayed s.proposal words last [] player → IsSummary s.proposal words last form 0 text

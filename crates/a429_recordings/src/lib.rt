@@ -1,0 +1,13 @@
+//! Commands on recordings of words.
+//!
+//! `simulate` plays the words of a log on the station of a table, at their times. It puts a line for each word that is sent
+//! or refused, or the summary of what each output sent, in the form that a `SimulationForm` says.
+//!
+//! ```text
+//! let form = SimulationForm::of(options);
+//! simulate(alloc, files, first, second, form, seen, out)
+//! ```
+#![tactic(auto)]
+
+pub mod laws;
+pub mod simulate;

@@ -1,0 +1,293 @@
+//! The command `simulate`.
+ghost use Rattle.std.specs.Prelude.{◌≡◌, ◌≤◌, true, IfOk, IsTrue, MatchResult, OnOk};
+ghost use Rattle.a429_console.specs.Readings.{HasRead};
+ghost use Rattle.a429_console.specs.Outputs.{CountsFault};
+ghost use Rattle.a429_console.specs.RefusalText.{OrMemory};
+ghost use Rattle.a429_console.specs.Replying.{HasReplied};
+ghost use Rattle.a429_console.specs.Requests.{is_csv};
+ghost use Rattle.a429_console.specs.Tables.{IsTableRefusal};
+ghost use Rattle.a429_recordings.specs.CellLines.{IsBeginOfSlot};
+ghost use Rattle.a429_recordings.specs.SimulationReplies.{BeginsLog, BeginsNoLog, HasPrinted, HasPrintedLines, HasPrintedSummary, HasSummary, IsPreparedFor, IsSettingOf, IsSimulation, IsSimulationReading, IsUnsimulated, PutsLines, SimulationIsReady, clock_from, files_of};
+ghost use Rattle.a429_recordings.specs.SimulationRuns.{CanBePlayed, HasStationNames};
+
+mod figures;
+mod lines;
+mod log;
+mod machine;
+mod moments;
+mod playing;
+mod summary_rows;
+mod tracks;
+
+use crate::simulate::figures::Summary;
+use crate::simulate::lines::{PendingLines, Setting};
+use crate::simulate::log::read_log;
+use crate::simulate::playing::Player;
+use crate::simulate::summary_rows::summary_sheet;
+use a429_console::arguments::requests::Options;
+use a429_console::arguments::times::LogOrigin;
+use a429_console::files::FileReader;
+use a429_console::files::reading::read_file;
+use a429_console::hints::Seen;
+use a429_console::output::endings::{finish, refuse_memory};
+use a429_console::output::{Output, OutputFault};
+use a429_console::refusals::tables::propose;
+use a429_console::refusals::{CommandRefusal, refuse};
+use a429_logs::{Clock, Reading};
+use a429_replay::{Names, put_if_full};
+use a429_text::SheetForm;
+use std::alloc::{AllocError, Global};
+
+/// What a simulation prints, the summary or all lines, and in which form; and until when in microseconds it asks for cells.
+/// Lines have no form as JSON.
+#[derive(Clone, Copy)]
+pub struct SimulationForm {
+    pub until: Option<u64>,
+    pub summary: bool,
+    pub form: SheetForm,
+    /// How the first line of the log is read.
+    pub reading: Reading,
+}
+
+/// The clock that counts from this time on.
+fn clock_from(from: LogOrigin) -> Clock
+    ensures { result ≡ clock_from from }
+{
+    match from {
+        LogOrigin::Time(base) => Clock::from_time(base),
+        LogOrigin::First => Clock::from_first(),
+    }
+}
+
+impl SimulationForm {
+    ghost use Rattle.std.specs.Prelude.{◌≡◌};
+    ghost use Rattle.a429_console.specs.Requests.{given_of};
+    ghost use Rattle.a429_recordings.specs.SimulationReplies.{simulation_form};
+
+    /// The form that these options ask for.
+    pub fn of(options: &Options) -> SimulationForm
+        ensures { result ≡ simulation_form (given_of options.now) }
+    {
+        SimulationForm {
+            until: options.until,
+            summary: options.summary,
+            form: options.form,
+            reading: Reading::new(options.time, clock_from(options.from)),
+        }
+    }
+}
+
+/// Whether fields are separated by commas.
+fn is_csv(form: SheetForm) -> bool
+    ensures { result ≡ is_csv form }
+{
+    match form {
+        SheetForm::Csv => true,
+        _ => false,
+    }
+}
+
+/// The bytes of the files that a simulation reads.
+#[derive(Drop)]
+struct SimulationInput {
+    table: Vec<u8>,
+    log: Vec<u8>,
+}
+
+/// What is simulated, before anything has happened: what the lines are written with, and a timeline on a station.
+#[derive(Drop)]
+struct Simulation {
+    setting: Setting,
+    player: Player,
+}
+
+/// Reads the files of these names.
+fn read_input<F: FileReader>(
+    alloc: Global,
+    files: &mut F,
+    table: &str,
+    log: &str,
+    seen: &mut Seen,
+) -> Result<SimulationInput, CommandRefusal>
+    ensures { HasRead F.answers (λ file. IsSimulationReading file table.now log.now result) files.old files.new }
+{
+    let table = read_file(alloc, files, table, seen)?;
+    let log = read_file(alloc, files, log, seen)?;
+    Ok(SimulationInput { table, log })
+}
+
+/// The station of a table's bytes. Error: the table, or its plan, is refused.
+fn read_station(
+    alloc: Global,
+    table: &[u8],
+    csv: bool,
+    seen: &mut Seen,
+) -> Result<Setting, CommandRefusal>
+    ensures { MatchResult result (IsSettingOf table.now csv) (OrMemory (IsTableRefusal table.now)) }
+{
+    let proposal = propose(alloc, table, &mut seen.table)?;
+    let names = Names::of(alloc, proposal.equipment())?;
+    Ok(Setting {
+        proposal,
+        names,
+        csv,
+    })
+}
+
+/// A log on a station, with slots up to the time that the form asks for. Error: the log is refused, or a group would send too much.
+fn read_player(
+    alloc: Global,
+    setting: &Setting,
+    log: &[u8],
+    form: SimulationForm,
+    seen: &mut Seen,
+) -> Result<Player, CommandRefusal>
+    ensures { MatchResult result (BeginsLog setting.now log.now form) (OrMemory (BeginsNoLog setting.now log.now form)) }
+{
+    let words = read_log(alloc, &setting.names, form.reading, log, seen)?;
+    Player::open(alloc, &setting.proposal, words, form.until)
+}
+
+/// What is simulated. Error: the table, its plan or the log is refused, or a group would send too much.
+fn prepare(
+    alloc: Global,
+    input: &SimulationInput,
+    form: SimulationForm,
+    seen: &mut Seen,
+) -> Result<Simulation, CommandRefusal>
+    ensures { MatchResult result (IsPreparedFor (files_of input.now) form) (OrMemory (IsUnsimulated (files_of input.now) form)) }
+{
+    let setting = read_station(alloc, &input.table, is_csv(form.form), seen)?;
+    let player = read_player(alloc, &setting, &input.log, form, seen)?;
+    Ok(Simulation { setting, player })
+}
+
+/// Plays what is simulated to its end, and puts lines out when they have become many; those that are left are in `lines`.
+/// Whether memory sufficed for all.
+fn put_lines<O: Output>(
+    setting: &Setting,
+    player: &mut Player,
+    lines: &mut PendingLines,
+    out: &mut O,
+) -> Result<bool, OutputFault>
+    requires names { HasStationNames setting.now.names setting.now.proposal }
+    requires playable { CanBePlayed setting.now.proposal player.old }
+    requires begin { IsBeginOfSlot setting.now.proposal setting.now.csv lines.old.begin }
+    ensures put { PutsLines O.contents setting.now.proposal setting.now.csv player.old out.old out.new
+        lines.old.text.items lines.new.text.items result }
+    ensures faults { CountsFault result (O.failures out.old) (O.failures out.new) }
+{
+    while let Some(happening) = player.next(&setting.proposal) {
+        let Ok(()) = setting.push(lines, happening) else {
+            return Ok(false);
+        };
+        put_if_full(&mut lines.text, out)?;
+    }
+    Ok(true)
+}
+
+/// Plays what is simulated, and puts the lines of that. If an allocation fails before the end, these lines end with
+/// `refused memory`.
+fn print_lines<O: Output>(
+    alloc: Global,
+    simulation: &mut Simulation,
+    out: &mut O,
+) -> Result<u8, OutputFault>
+    requires { SimulationIsReady simulation.old }
+    ensures printed { HasPrintedLines simulation.old (O.contents out.old) (O.contents out.new) result }
+    ensures status { IfOk result (λ status. status ≤ 1) }
+    ensures flushed { OnOk result (IsTrue (O.is_flushed out.new)) }
+    ensures faults { CountsFault result (O.failures out.old) (O.failures out.new) }
+{
+    let setting = &simulation.setting;
+    let Ok(mut lines) = PendingLines::open(alloc, setting.csv) else {
+        return refuse_memory(out);
+    };
+    let sufficed = put_lines(setting, &mut simulation.player, &mut lines, out)?;
+    finish(&lines.text, sufficed, out)
+}
+
+/// Plays what is simulated to its end: the summary of that in a form. Error: an allocation failed.
+fn summarize(
+    alloc: Global,
+    setting: &Setting,
+    player: &mut Player,
+    form: SheetForm,
+) -> Result<Vec<u8>, AllocError>
+    requires { CanBePlayed setting.now.proposal player.old }
+    ensures { IfOk result (λ text. HasSummary setting.now player.old form text.items) }
+{
+    let mut summary = Summary::open(alloc)?;
+    while let Some(happening) = player.next(&setting.proposal) {
+        summary.note(&setting.proposal, happening);
+    }
+    summary_sheet(alloc, &setting.proposal, &summary).render(alloc, form)
+}
+
+/// Plays what is simulated, and puts the summary of that in a form.
+fn print_summary<O: Output>(
+    alloc: Global,
+    simulation: &mut Simulation,
+    form: SheetForm,
+    out: &mut O,
+) -> Result<u8, OutputFault>
+    requires { SimulationIsReady simulation.old }
+    ensures printed { HasPrintedSummary simulation.old form (O.contents out.old) (O.contents out.new) result }
+    ensures status { IfOk result (λ status. status ≤ 1) }
+    ensures flushed { OnOk result (IsTrue (O.is_flushed out.new)) }
+    ensures faults { CountsFault result (O.failures out.old) (O.failures out.new) }
+{
+    match summarize(alloc, &simulation.setting, &mut simulation.player, form) {
+        Ok(text) => finish(&text, true, out),
+        Err(_) => refuse_memory(out),
+    }
+}
+
+/// Plays what is simulated, and puts the summary of that, or its lines.
+fn print_simulation<O: Output>(
+    alloc: Global,
+    simulation: &mut Simulation,
+    form: SimulationForm,
+    out: &mut O,
+) -> Result<u8, OutputFault>
+    requires ready { SimulationIsReady simulation.old }
+    requires csv { simulation.old.setting.csv ≡ is_csv form.form }
+    ensures printed { HasPrinted simulation.old form (O.contents out.old) (O.contents out.new) result }
+    ensures status { IfOk result (λ status. status ≤ 1) }
+    ensures flushed { OnOk result (IsTrue (O.is_flushed out.new)) }
+    ensures faults { CountsFault result (O.failures out.old) (O.failures out.new) }
+{
+    if form.summary {
+        print_summary(alloc, simulation, form.form, out)
+    } else {
+        print_lines(alloc, simulation, out)
+    }
+}
+
+/// Plays the words of a log on the station of a table, at their times. It puts a line for each word that is sent or
+/// refused, or instead the summary of what each output sent. A refusal is one line instead. The status is 0, or 1 after
+/// a refusal, or if an allocation fails after the first lines.
+pub fn simulate<F: FileReader, O: Output>(
+    alloc: Global,
+    files: &mut F,
+    table: &str,
+    log: &str,
+    form: SimulationForm,
+    seen: &mut Seen,
+    out: &mut O,
+) -> Result<u8, OutputFault>
+    ensures simulated { HasReplied F.answers O.contents (λ file. IsSimulation file table.now log.now form)
+        files.old files.new out.old out.new result }
+    ensures status { IfOk result (λ status. status ≤ 1) }
+    ensures flushed { OnOk result (IsTrue (O.is_flushed out.new)) }
+    ensures faults { CountsFault result (O.failures out.old) (O.failures out.new) }
+{
+    let input = match read_input(alloc, files, table, log, seen) {
+        Ok(input) => input,
+        Err(refusal) => return refuse(alloc, refusal, seen, out),
+    };
+    match prepare(alloc, &input, form, seen) {
+        Ok(mut simulation) => print_simulation(alloc, &mut simulation, form, out),
+        Err(refusal) => refuse(alloc, refusal, seen, out),
+    }
+}

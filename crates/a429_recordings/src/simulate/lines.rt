@@ -1,0 +1,264 @@
+//! Lines of a simulation.
+ghost use Rattle.std.specs.Prelude.{◌≡◌, ◌+◌, ◌<◌, ◌≤◌, ◌++◌, drop, length, IfOk, OnErr};
+ghost use Rattle.a429_word.specs.Written.{Gains};
+ghost use Rattle.a429_console.specs.Names.{name_at, naming_of};
+ghost use Rattle.a429_replay.specs.AnswerLines.{refusal_text};
+ghost use Rattle.a429_recordings.specs.CellLines.{BeginsSlot, IsBeginOfSlot, IsHeading, PushesLine, rest_of};
+ghost use Rattle.a429_recordings.specs.Simulating.{refused_line, sent_line, separator};
+ghost use Rattle.a429_recordings.specs.SimulationRuns.{HasPlannedGroup, HasStationNames, IsKnown};
+ghost use Rattle.a429_recordings.specs.declared.simulate.machine.Happening.TheVariants.{Sends};
+
+use crate::simulate::log::LogWord;
+use crate::simulate::machine::{Happening, SentWord};
+use crate::simulate::tracks::{micros_of, rate_of};
+use a429_console::output::from_end::{put_decimal, put_hex, put_text};
+use a429_core::Refusal;
+use a429_replay::Names;
+use a429_slots::{OUTPUTS, Proposal};
+use std::alloc::{AllocError, Global};
+
+/// How many bytes the room has in which a line is written. The longest line has fewer.
+const ROOM: usize = 128;
+
+/// What lines are written with: the proposal of the station, its names, and whether fields have commas between them.
+#[derive(Drop)]
+pub struct Setting {
+    pub proposal: Proposal<OUTPUTS>,
+    pub names: Names,
+    pub csv: bool,
+}
+
+/// What the lines of a group's cells in a slot begin with, from a place in the room on, and when the slot ends, in
+/// microseconds.
+#[derive(Clone, Copy)]
+pub struct SlotBegin {
+    group: usize,
+    slot: u64,
+    end: u64,
+    at: usize,
+    room: [u8; 64],
+}
+
+/// Lines that are not yet put out, of which one is appended whole or not at all, and what those of the last slot begin with.
+#[derive(Drop)]
+pub struct PendingLines {
+    pub text: Vec<u8>,
+    begin: SlotBegin,
+}
+
+impl PendingLines {
+    /// The lines before those of what happens: with commas between fields the names of these. Error: an allocation
+    /// failed.
+    pub fn open(alloc: Global, csv: bool) -> Result<PendingLines, AllocError>
+        ensures { IfOk result (IsHeading csv) }
+    {
+        let mut text = Vec::new(alloc);
+        if csv {
+            text.extend_from_slice(b"time,group,bus,word,source,age_us\n")?;
+        }
+        // no slot of a simulation has this number
+        let begin = SlotBegin {
+            group: 0,
+            slot: u64::MAX,
+            end: 0,
+            at: 64,
+            room: [0; 64],
+        };
+        Ok(PendingLines { text, begin })
+    }
+}
+
+/// Writes what separates the fields of a line before the bytes that begin at `end`, and gives its start.
+#[inline(always)]
+fn put_separator(room: &mut [u8], end: usize, csv: bool) -> usize
+    requires { (1 ≤ end) × (end ≤ length room.old) }
+    ensures start { result + 1 ≡ end }
+    ensures written { drop result room.new ≡ separator csv ++ drop end room.old }
+    ensures size { length room.new ≡ length room.old }
+{
+    if csv {
+        put_text(room, end, b",")
+    } else {
+        put_text(room, end, b" ")
+    }
+}
+
+/// The name of the reason for which a word is refused.
+fn reason(refusal: Refusal) -> &'static [u8]
+    ensures name { result.now ≡ refusal_text refusal }
+    ensures short { length result.now ≤ 16 }
+{
+    match refusal {
+        Refusal::NoSuch => b"no-such",
+        Refusal::Parity => b"parity",
+        Refusal::Filtered => b"filtered",
+        Refusal::NoSource => b"no-source",
+        Refusal::CountSpent => b"count-spent",
+        Refusal::FrameEnd => b"frame-end",
+        Refusal::MidFrame => b"mid-frame",
+        Refusal::SlotsSpent => b"slots-spent",
+        Refusal::StationDiffers => b"station-differs",
+    }
+}
+
+impl Setting {
+    /// The name of a group; nothing if there is none. It has few bytes.
+    #[tactic(auto, using(crate::proofs::ShortNames::group_short))]
+    fn group_name(&self, group: usize) -> &[u8]
+        requires names { HasStationNames self.now.names self.now.proposal }
+        ensures name { result.now ≡ name_at (naming_of self.now.proposal.station).groups group }
+        ensures short { length result.now ≤ 16 }
+    {
+        prove!(self.proposal.equipment().groups().len() <= 8);
+        self.names.group_name(group)
+    }
+
+    /// The name of a source; nothing if there is none. It has few bytes.
+    #[tactic(auto, using(crate::proofs::ShortNames::source_short))]
+    #[inline(always)]
+    fn source_name(&self, source: usize) -> &[u8]
+        requires names { HasStationNames self.now.names self.now.proposal }
+        ensures name { result.now ≡ name_at (naming_of self.now.proposal.station).sources source }
+        ensures short { length result.now ≤ 16 }
+    {
+        prove!(self.proposal.equipment().sources().len() <= 256);
+        self.names.source_name(source)
+    }
+
+    /// The name of a receiver; nothing if there is none. It has few bytes.
+    #[tactic(auto, using(crate::proofs::ShortNames::receiver_short))]
+    fn receiver_name(&self, receiver: usize) -> &[u8]
+        requires names { HasStationNames self.now.names self.now.proposal }
+        ensures name { result.now ≡ name_at (naming_of self.now.proposal.station).receivers receiver }
+        ensures short { length result.now ≤ 16 }
+    {
+        prove!(self.proposal.equipment().receivers().len() <= 16);
+        self.names.receiver_name(receiver)
+    }
+
+    /// What the lines of a group's cells in a slot begin with.
+    fn slot_begin(&self, group: usize, slot: u64) -> SlotBegin
+        requires names { HasStationNames self.now.names self.now.proposal }
+        requires known { HasPlannedGroup self.now.proposal group }
+        requires few { slot < 8192000000 }
+        ensures { BeginsSlot self.now.proposal self.now.csv group slot result }
+    {
+        let rate = rate_of(&self.proposal, group);
+        let start = micros_of(rate, slot);
+        let end = micros_of(rate, slot + 1);
+        let mut room = [0u8; 64];
+        let at = put_separator(&mut room, 64, self.csv);
+        let at = put_text(&mut room, at, self.group_name(group));
+        let at = put_separator(&mut room, at, self.csv);
+        let at = put_decimal(&mut room, at, start);
+        SlotBegin {
+            group,
+            slot,
+            end,
+            at,
+            room,
+        }
+    }
+
+    /// Writes the rest of the line of a sent word, of this age in microseconds, before the bytes that begin at `end`, and
+    /// gives its start.
+    #[inline(always)]
+    fn put_rest(&self, room: &mut [u8], end: usize, sent: SentWord, age: u64) -> usize
+        requires names { HasStationNames self.now.names self.now.proposal }
+        requires room { (80 ≤ end) × (end ≤ length room.old) }
+        ensures start { (result ≤ end) × (end ≤ result + 80) }
+        ensures written { drop result room.new
+            ≡ rest_of self.now.proposal self.now.csv sent.bus sent.raw sent.source age ++ drop end room.old }
+        ensures size { length room.new ≡ length room.old }
+    {
+        let at = put_text(room, end, b"\n");
+        let at = put_decimal(room, at, age);
+        let at = put_separator(room, at, self.csv);
+        let at = put_text(room, at, self.source_name(sent.source));
+        let at = put_separator(room, at, self.csv);
+        let at = put_hex(room, at, sent.raw);
+        let at = put_separator(room, at, self.csv);
+        put_decimal(room, at, u64::from(sent.bus))
+    }
+
+    /// Appends the line of a word that is sent in the slot that lines begin with. If an allocation fails, nothing is
+    /// appended.
+    #[inline(always)]
+    fn push_rest(
+        &self,
+        text: &mut Vec<u8>,
+        begin: &SlotBegin,
+        sent: SentWord,
+    ) -> Result<(), AllocError>
+        requires names { HasStationNames self.now.names self.now.proposal }
+        requires begin { BeginsSlot self.now.proposal self.now.csv sent.group sent.send.slot begin.now }
+        ensures line { Gains result text.old.items text.new.items (sent_line self.now.proposal self.now.csv sent) }
+        ensures kept { OnErr result (text.new.items ≡ text.old.items) }
+    {
+        let mut room = [0u8; ROOM];
+        let age = begin.end.saturating_sub(sent.send.time);
+        let at = self.put_rest(&mut room, ROOM, sent, age);
+        let at = put_text(&mut room, at, &begin.room[begin.at..]);
+        text.extend_from_slice(&room[at..])
+    }
+
+    /// Appends the line of a word that is sent. If an allocation fails, nothing is appended.
+    #[inline(always)]
+    fn push_sent(&self, lines: &mut PendingLines, sent: SentWord) -> Result<(), AllocError>
+        requires names { HasStationNames self.now.names self.now.proposal }
+        requires known { IsKnown self.now.proposal (Sends sent) }
+        requires begin { IsBeginOfSlot self.now.proposal self.now.csv lines.old.begin }
+        ensures { PushesLine self.now.proposal self.now.csv (Sends sent) lines.old lines.new result }
+    {
+        if lines.begin.slot != sent.send.slot || lines.begin.group != sent.group {
+            lines.begin = self.slot_begin(sent.group, sent.send.slot);
+        }
+        self.push_rest(&mut lines.text, &lines.begin, sent)
+    }
+
+    /// Appends the line of a word that is refused. If an allocation fails, nothing is appended.
+    pub fn push_refused(
+        &self,
+        text: &mut Vec<u8>,
+        word: LogWord,
+        refusal: Refusal,
+    ) -> Result<(), AllocError>
+        requires names { HasStationNames self.now.names self.now.proposal }
+        ensures line { Gains result text.old.items text.new.items
+            (refused_line self.now.proposal word (refusal_text refusal)) }
+        ensures kept { OnErr result (text.new.items ≡ text.old.items) }
+    {
+        let mut room = [0u8; ROOM];
+        let at = put_text(&mut room, ROOM, b"\n");
+        let at = put_text(&mut room, at, reason(refusal));
+        let at = put_text(&mut room, at, b" refused ");
+        let at = put_hex(&mut room, at, word.raw);
+        let at = put_text(&mut room, at, b" ");
+        let at = put_text(
+            &mut room,
+            at,
+            self.receiver_name(usize::from(word.receiver)),
+        );
+        let at = put_text(&mut room, at, b" ");
+        let at = put_decimal(&mut room, at, word.time);
+        text.extend_from_slice(&room[at..])
+    }
+
+    /// Appends the line of what happens: of a word that is sent, and without commas of one that is refused. If an
+    /// allocation fails, nothing is appended.
+    #[inline(always)]
+    pub fn push(&self, lines: &mut PendingLines, happening: Happening) -> Result<(), AllocError>
+        requires names { HasStationNames self.now.names self.now.proposal }
+        requires known { IsKnown self.now.proposal happening }
+        requires begin { IsBeginOfSlot self.now.proposal self.now.csv lines.old.begin }
+        ensures { PushesLine self.now.proposal self.now.csv happening lines.old lines.new result }
+    {
+        match happening {
+            Happening::Sends(sent) => self.push_sent(lines, sent),
+            Happening::Refuses(_, _) if self.csv => Ok(()),
+            Happening::Refuses(word, refusal) => {
+                self.push_refused(&mut lines.text, word, refusal)
+            }
+        }
+    }
+}

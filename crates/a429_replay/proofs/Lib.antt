@@ -1,0 +1,9 @@
+pub mod PutLines
+pub mod PlayedLines
+pub mod PlainTexts
+pub mod KeptEvents
+pub mod ShortNumbers
+pub mod QuickLines
+pub mod FirstFrames
+pub mod Numbered
+pub mod Taken

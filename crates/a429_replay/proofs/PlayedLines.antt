@@ -1,0 +1,47 @@
+-- Lines of events that are played one after another.
+use Rattle.std.proofs.Common.{◌≡◌, ◌∙◌, ℕ, Bool, true, false, List, [], ◌∷◌, ◌++◌, refl, sym, ap, subst, append_assoc, append-nil, arith, inl, inr, length, take}
+use Rattle.std.specs.Prelude.{IsTrue}
+use Rattle.std.proofs.lemmas.List.{take_all}
+use Rattle.a429_slots.specs.Events.{Event}
+use Rattle.a429_slots.specs.History.{Opening}
+use Rattle.a429_slots.specs.Proposed.{Proposed}
+use Rattle.a429_equipment.specs.Limits.{count_bits}
+use Rattle.a429_slots.specs.Answers.{answer}
+use Rattle.a429_slots.specs.declared.answers.Answer.{Answer}
+use Rattle.a429_core.specs.MachineStates.{GoesOnByEvents, IsWholeEvent, MachineState, StandsForHistory}
+use Rattle.a429_core.specs.MachineSteps.{CallsAreAnswered, stepped}
+use Rattle.a429_console.specs.Outputs.{ending, memory_refused, status_of}
+use Rattle.a429_replay.specs.AnswerLines.{answer_line}
+use Rattle.a429_replay.specs.Playing.{Happens, IsEventOf, Played, PlaysOne}
+use Rattle.a429_replay.specs.Replaying.{IsOutcome, IsPlayed, ReplayInput}
+use Rattle.a429_replay.specs.declared.script.ScriptEvent.{ScriptEvent}
+
+-- one more event
+pub played_push : (o : Opening) (names further : List (List ℕ)) (E : List Event) (events : List ScriptEvent) (event : ScriptEvent) (M N : List Event) (bytes line : List ℕ)
+    → Played o names further E events M bytes → Happens o names further M event N line → Played o names further E (events ++ event ∷ []) N (bytes ++ line)
+played_push o names further E [] event M N bytes line (same, none) h =
+    (N, line, [], subst (λ (H : List Event). Happens o names further H event N line) same h, (refl, refl), ap (λ (bs : List ℕ). bs ++ line) none ∙ sym (append-nil line))
+played_push o names further E (x ∷ xs) event M N bytes line (next, first, rest, here, later, whole) h =
+    (next, first, rest ++ line, here, played_push o names further next xs event M N rest line later h, ap (λ (bs : List ℕ). bs ++ line) whole ∙ append_assoc first rest line)
+
+-- the outcome of an event whose answer the machine gives
+pub played_answer : CallsAreAnswered → ((C : ℕ) (e : Event) (v : MachineState) → IsWholeEvent e → GoesOnByEvents C v (e ∷ []) (stepped C v e).1)
+    → (names further : List (List ℕ)) (event : ScriptEvent) (e : Event) (old new : MachineState) (a : Answer) (before after : List ℕ)
+    → IsWholeEvent e → IsEventOf further event e → a ≡ (stepped count_bits old e).0 → new ≡ (stepped count_bits old e).1 → after ≡ before ++ answer_line names a
+    → PlaysOne names further event old new before after
+played_answer calls goes names further event e old new a before after whole of answers next line = λ o E s.
+    let told : a ≡ answer count_bits o E e = answers ∙ calls count_bits o E e old whole s in (
+      E ++ e ∷ [],
+      answer_line names (answer count_bits o E e),
+      inl (e, of, refl, refl),
+      subst (λ (v : MachineState). StandsForHistory count_bits o (E ++ e ∷ []) v) (sym next) (goes count_bits e old whole o E s),
+      line ∙ ap (λ (given : Answer). before ++ answer_line names given) told,
+    )
+
+-- the lines of some events, or of all, with their end
+pub played_ended : (i : ReplayInput) (q : Proposed) (events : List ScriptEvent) (n : ℕ) (lines : List ℕ) (all : Bool) → IsPlayed i q (take n events) lines → (IsTrue all → n ≡ length events)
+    → IsOutcome i q events (status_of all) (lines ++ ending all)
+played_ended i q events n lines true played whole =
+    let every : take n events ≡ events = rw (whole refl) (take_all (length events) events (omega arith)) in
+    inl (subst (λ (bytes : List ℕ). IsPlayed i q events bytes) (sym (append-nil lines)) (rw every at played), refl)
+played_ended i q events n lines false played whole = inr (n, lines, played, refl, sym (append_assoc lines (memory_refused) (10 ∷ [])))

@@ -1,0 +1,72 @@
+-- The command `replay`: what it writes, and its status.
+use Rattle.std.specs.Prelude.{◌≡◌, ◌∷◌, [], ◌++◌, ◌⊎◌, ℕ, List, Option, Ok, Result, take, length}
+use Rattle.std.specs.Borrow.{Bor}
+use Rattle.a429_slots.specs.Events.{Event}
+use Rattle.a429_slots.specs.Proposed.{Proposed}
+use Rattle.a429_console.specs.Outputs.{memory_refused}
+use Rattle.a429_console.specs.Names.{naming_of}
+use Rattle.a429_console.specs.FileReadings.{AreRead, IsFirstUnread}
+use Rattle.a429_console.specs.Files.{texts_of}
+use Rattle.a429_console.specs.Replying.{HasReplied}
+use Rattle.a429_console.specs.declared.files.FileFault.{FileFault}
+use Rattle.a429_console.specs.declared.output.OutputFault.{OutputFault}
+use Rattle.a429_console.specs.Tables.{IsProposedBy, IsTableRefusal, TakesAll}
+use Rattle.a429_replay.specs.Script.{script_events, IsScriptFault}
+use Rattle.a429_replay.specs.Playing.{Played}
+use Rattle.a429_console.specs.RefusalText.{OrMemory, refusal_line}
+use Rattle.a429_console.specs.declared.refusals.CommandRefusal.{CommandRefusal}
+use Rattle.a429_replay.specs.declared.script.ScriptEvent.{ScriptEvent}
+
+-- the bytes of the files that a replay reads
+pub record ReplayInput : Type 0 where
+  pub table : List ℕ
+  pub script : List ℕ
+  pub further : List (List ℕ)
+
+-- they are those of the files of these names, which are all read before any is looked at
+abbrev pub IsInput : (List ℕ → Option (List ℕ)) → List ℕ → List ℕ → List (List ℕ) → ReplayInput → Type 0
+IsInput file table script further i = AreRead file (table ∷ script ∷ further) (i.table ∷ i.script ∷ i.further)
+
+-- the station of the first of these files takes the plans of the further ones
+abbrev pub TakesFurther : (List ℕ → Option (List ℕ)) → List ℕ → List ℕ → List (List ℕ) → Type 0
+TakesFurther file table script further = (i : ReplayInput) → IsInput file table script further i → TakesAll i.table i.further
+
+-- the table has a plan, at whose slot 0 the station opens, and the script these events
+pub record IsStart (i : ReplayInput) (q : Proposed) (events : List ScriptEvent) : Type 0 where
+  pub proposed : IsProposedBy i.table q
+  pub events_are : script_events (naming_of q.station) (length i.further) i.script ≡ Ok events
+
+-- of a table with a plan, the script has a fault
+abbrev pub IsScriptRefusal : ReplayInput → CommandRefusal → Type 0
+IsScriptRefusal i refusal = (q : Proposed) × IsProposedBy i.table q × IsScriptFault (naming_of q.station) (length i.further) i.script refusal
+
+-- why a replay of these bytes does not begin: the table or its plan, or the script
+abbrev pub IsNoStart : ReplayInput → CommandRefusal → Type 0
+IsNoStart i refusal = IsTableRefusal i.table refusal ⊎ IsScriptRefusal i refusal
+
+-- why a replay does not begin: a file, or the bytes
+abbrev pub IsReplayRefusal : (List ℕ → Option (List ℕ)) → List ℕ → List ℕ → List (List ℕ) → CommandRefusal → Type 0
+IsReplayRefusal file table script further refusal =
+    IsFirstUnread file (table ∷ script ∷ further) refusal
+    ⊎ ((i : ReplayInput) × IsInput file table script further i × IsNoStart i refusal)
+
+-- from the opening these of the script's events happened, and these bytes were printed
+abbrev pub IsPlayed : ReplayInput → Proposed → List ScriptEvent → List ℕ → Type 0
+IsPlayed i q events bytes =
+    (E : List Event) × Played (record { proposal = q; first = 0 }) (naming_of q.station).sources i.further [] events E bytes
+
+-- what a replay that began writes, and its status: the lines of all events, or those of some and then that an allocation failed
+abbrev pub IsOutcome : ReplayInput → Proposed → List ScriptEvent → ℕ → List ℕ → Type 0
+IsOutcome i q events status bytes =
+    (IsPlayed i q events bytes × (status ≡ 0))
+    ⊎ ((n : ℕ) × (lines : List ℕ) × IsPlayed i q (take n events) lines × (status ≡ 1) × (bytes ≡ lines ++ memory_refused ++ 10 ∷ []))
+
+-- what a replay writes, and its status: the line of a refusal, or its outcome from its beginning
+abbrev pub IsReplay : (List ℕ → Option (List ℕ)) → List ℕ → List ℕ → List (List ℕ) → ℕ → List ℕ → Type 0
+IsReplay file table script further status bytes =
+    ((refusal : CommandRefusal) × OrMemory (IsReplayRefusal file table script further) refusal × (status ≡ 1) × (bytes ≡ refusal_line refusal ++ 10 ∷ []))
+    ⊎ ((i : ReplayInput) × (q : Proposed) × (events : List ScriptEvent) × IsInput file table script further i × IsStart i q events × IsOutcome i q events status bytes)
+
+-- what `replay` answers of the files of a reader: the files are those that give what the reader answered in the call
+abbrev pub HasReplayed : {S X : Type 0} → (S → List ℕ → Result (List ℕ) FileFault → S → Type 0) → (X → Option (List ℕ)) → List ℕ → List ℕ → List (Bor (List ℕ)) → S → S → X → X → Result ℕ OutputFault → Type 0
+HasReplayed Answers contents table script further = HasReplied Answers contents (λ file. IsReplay file table script (texts_of further))

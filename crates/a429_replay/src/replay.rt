@@ -1,0 +1,160 @@
+//! The command `replay`.
+ghost use Rattle.std.specs.Prelude.{◌≡◌, ◌≤◌, IfOk, IsTrue, MatchResult, OnOk, length};
+ghost use Rattle.a429_console.specs.Files.{texts_of};
+ghost use Rattle.a429_console.specs.Readings.{HasRead};
+ghost use Rattle.a429_console.specs.Outputs.{CountsFault};
+ghost use Rattle.a429_console.specs.RefusalText.{OrMemory};
+ghost use Rattle.a429_console.specs.Tables.{TakesAll};
+ghost use Rattle.a429_replay.specs.Kept.{TakesAllTables};
+ghost use Rattle.a429_replay.specs.Replaying.{HasReplayed, IsNoStart, TakesFurther};
+ghost use Rattle.a429_replay.specs.Opened.{AreTablesRead, IsInputReading, IsOutcomePut, IsPreparedFor, input_of};
+
+use crate::further::{FurtherTable, hand_published, none_published, plan_tables};
+use crate::kept::KeptEvent;
+use crate::pending::Pending;
+use crate::playing::play_all;
+use crate::script::{ScriptForm, read_script};
+use crate::station::ReplayStation;
+use a429_console::files::FileReader;
+use a429_console::files::reading::{read_file, read_files};
+use a429_console::hints::{FurtherFault, Seen};
+use a429_console::output::endings::finish;
+use a429_console::output::{Output, OutputFault};
+use a429_console::refusals::{CommandRefusal, refuse};
+use std::alloc::Global;
+
+/// The bytes of the files that a replay reads, and the further tables, each with its proposal or refusal.
+#[derive(Drop)]
+struct Input {
+    table: Vec<u8>,
+    script: Vec<u8>,
+    further: Vec<FurtherTable>,
+}
+
+/// Reads the further tables of these names, and plans them.
+fn read_further<F: FileReader>(
+    alloc: Global,
+    files: &mut F,
+    names: &[&str],
+    seen: &mut Seen,
+) -> Result<Vec<FurtherTable>, CommandRefusal>
+    ensures { HasRead F.answers (λ file. AreTablesRead file (texts_of names.now) result) files.old files.new }
+{
+    let tables = read_files(alloc, files, names, seen)?;
+    Ok(plan_tables(alloc, tables, seen)?)
+}
+
+/// Reads the files of these names.
+fn read_input<F: FileReader>(
+    alloc: Global,
+    files: &mut F,
+    table: &str,
+    script: &str,
+    further: &[&str],
+    seen: &mut Seen,
+) -> Result<Input, CommandRefusal>
+    ensures { HasRead F.answers (λ file. IsInputReading file table.now script.now (texts_of further.now) result) files.old files.new }
+{
+    let table = read_file(alloc, files, table, seen)?;
+    let script = read_file(alloc, files, script, seen)?;
+    let further = read_further(alloc, files, further, seen)?;
+    Ok(Input {
+        table,
+        script,
+        further,
+    })
+}
+
+/// A station, and the events that are to happen to it.
+#[derive(Drop)]
+struct PreparedReplay {
+    station: ReplayStation,
+    events: Vec<KeptEvent>,
+}
+
+/// The station that is given, with the events of the script, if that is one of it. Error: the table, its plan, or the
+/// script is refused. The further tables whose plans the station does not take are noted.
+fn prepare(
+    alloc: Global,
+    input: &Input,
+    seen: &mut Seen,
+    faults: &mut Vec<FurtherFault>,
+) -> Result<PreparedReplay, CommandRefusal>
+    ensures prepared { MatchResult result (IsPreparedFor (input_of input.now)) (OrMemory (IsNoStart (input_of input.now))) }
+    ensures taken { TakesAll (input_of input.now).table (input_of input.now).further → faults.new.items ≡ faults.old.items }
+{
+    let station = ReplayStation::open(alloc, &input.table, &input.further, seen, faults)?;
+    let form = ScriptForm {
+        names: &station.names,
+        further: input.further.len(),
+    };
+    let events = read_script(alloc, &form, &input.script, seen)?;
+    Ok(PreparedReplay { station, events })
+}
+
+/// Plays events on the station, and puts their lines. If an allocation fails before the end, these lines end with
+/// `refused memory`.
+fn play_prepared<O: Output>(
+    alloc: Global,
+    prepared: &mut PreparedReplay,
+    input: &Input,
+    published: &mut [bool],
+    out: &mut O,
+) -> Result<u8, OutputFault>
+    requires { TakesAllTables (length (input_of input.now).further) prepared.old.events.items }
+    ensures played { IfOk result (IsOutcomePut (input_of input.now) prepared.old (O.contents out.old) (O.contents out.new)) }
+    ensures status { IfOk result (λ status. status ≤ 1) }
+    ensures flushed { OnOk result (IsTrue (O.is_flushed out.new)) }
+    ensures faults { CountsFault result (O.failures out.old) (O.failures out.new) }
+{
+    let mut lines = Pending::new(alloc);
+    let further = &input.further;
+    let station = &mut prepared.station;
+    let sufficed = play_all(
+        alloc,
+        &mut station.state,
+        &station.names,
+        further,
+        &prepared.events,
+        published,
+        &mut lines,
+        out,
+    )?;
+    finish(&lines.text, sufficed, out)
+}
+
+/// Plays a script on the station of a table, and puts one line for each event. A refusal is one line instead. The
+/// status is 0, or 1 after a refusal, or if an allocation fails after the first lines. The further tables that were
+/// published, and that the station did not take, are noted.
+pub fn replay<F: FileReader, O: Output>(
+    alloc: Global,
+    files: &mut F,
+    table: &str,
+    script: &str,
+    further: &[&str],
+    seen: &mut Seen,
+    faults: &mut Vec<FurtherFault>,
+    out: &mut O,
+) -> Result<u8, OutputFault>
+    ensures replayed { HasReplayed F.answers O.contents table.now script.now further.now files.old files.new out.old out.new result }
+    ensures taken { HasRead F.answers (λ file. TakesFurther file table.now script.now (texts_of further.now)
+        → faults.new.items ≡ faults.old.items) files.old files.new }
+    ensures status { IfOk result (λ status. status ≤ 1) }
+    ensures flushed { OnOk result (IsTrue (O.is_flushed out.new)) }
+    ensures faults { CountsFault result (O.failures out.old) (O.failures out.new) }
+{
+    let input = match read_input(alloc, files, table, script, further, seen) {
+        Ok(input) => input,
+        Err(refusal) => return refuse(alloc, refusal, seen, out),
+    };
+    let mut found = Vec::new(alloc);
+    match prepare(alloc, &input, seen, &mut found) {
+        Ok(mut prepared) => {
+            let mut published = none_published(alloc, input.further.len());
+            let status = play_prepared(alloc, &mut prepared, &input, &mut published, out);
+            hand_published(found, &published, faults);
+            status
+        }
+        Err(refusal) => refuse(alloc, refusal, seen, out),
+    }
+}

@@ -1,0 +1,52 @@
+//! The station of a table, opened for a script.
+ghost use Rattle.std.specs.Prelude.{◌≡◌, MatchResult};
+ghost use Rattle.a429_slots.specs.Planned.{IsPlanOf};
+ghost use Rattle.a429_replay.specs.Opened.{IsOpenedFrom, OpensStation};
+ghost use Rattle.a429_console.specs.RefusalText.{OrMemory};
+ghost use Rattle.a429_console.specs.Tables.{IsTableRefusal, TakesAll};
+
+use crate::further::{FurtherTable, note_faults};
+use crate::names::Names;
+use crate::opening::open_machine;
+use a429_console::hints::{FurtherFault, Seen};
+use a429_console::refusals::CommandRefusal;
+use a429_console::refusals::tables::propose;
+use a429_core::StationState;
+use a429_slots::{OUTPUTS, Proposal};
+use std::alloc::Global;
+
+/// A station in operation, with its names.
+#[derive(Drop)]
+pub struct ReplayStation {
+    pub names: Names,
+    pub state: StationState,
+}
+
+impl ReplayStation {
+    /// Opens the station of a table's bytes at slot 0, with no event yet. Error: the table's fault, otherwise the first
+    /// fault of its plan. The further tables whose plans the station does not take are noted.
+    pub fn open(
+        alloc: Global,
+        table: &[u8],
+        further: &[FurtherTable],
+        seen: &mut Seen,
+        faults: &mut Vec<FurtherFault>,
+    ) -> Result<ReplayStation, CommandRefusal>
+        ensures opened { MatchResult result (IsOpenedFrom table.now) (OrMemory (IsTableRefusal table.now)) }
+        ensures taken { TakesAll table.now further.now → faults.new.items ≡ faults.old.items }
+    {
+        let proposal = propose(alloc, table, &mut seen.table)?;
+        note_faults(alloc, proposal.equipment(), further, seen, faults);
+        ReplayStation::of(alloc, proposal)
+    }
+
+    /// Opens the station of a proposal at slot 0, with no event yet. Error: an allocation failed.
+    fn of(alloc: Global, proposal: Proposal<OUTPUTS>) -> Result<ReplayStation, CommandRefusal>
+        requires planned { IsPlanOf proposal.station proposal.plan }
+        ensures { OpensStation proposal result }
+    {
+        let names = Names::of(alloc, proposal.equipment())?;
+        let state = open_machine(alloc, proposal)?;
+        Ok(ReplayStation { names, state })
+    }
+}
