@@ -6,6 +6,7 @@ pub mod LineReplies
 pub mod PlanReplies
 pub mod Drawings
 pub mod SlotReplies
+pub mod SurveyReplies
 pub mod Loads
 pub mod Findings
 pub mod Importing

@@ -1,5 +1,5 @@
 -- What is answered to what is asked for.
-use Rattle.std.specs.Prelude.{⊤, ℕ, List, Bool, true, false, Option, Result}
+use Rattle.std.specs.Prelude.{◌∷◌, ⊤, ℕ, List, Bool, true, false, Option, Result}
 use Rattle.a429_console.specs.Outputs.{FailedCalls, OrNoMemory}
 use Rattle.a429_console.specs.Replying.{RepliesByReader, RepliesToWords}
 use Rattle.a429_console.specs.Requests.{AskedBytes}
@@ -19,6 +19,8 @@ use Rattle.a429_cli.specs.Importing.{IsImported, IsNoImport}
 use Rattle.a429_live.specs.LiveReplies.{IsLiveReply, TakesLive}
 use Rattle.a429_replay.specs.Replaying.{IsReplay, TakesFurther}
 use Rattle.a429_recordings.specs.SimulationReplies.{IsSimulation, simulation_form}
+use Rattle.a429_recordings.specs.Surveys.{IsNoSurvey, survey_form}
+use Rattle.a429_cli.specs.SurveyReplies.{IsSurveyed}
 use Rattle.a429_cli.specs.WholeReplies.{IsReplyBy}
 use Rattle.a429_cli.specs.declared.plan_texts.PlanText.TheVariants as told
 
@@ -51,6 +53,7 @@ IsAnswerOf verb.Slots file r = IsSlotsOf file (slots_form r.options) r.first r.o
 IsAnswerOf verb.Lint file r = IsLinted file r.options.form r.first
 IsAnswerOf verb.Diff file r = IsDiffOf file r.options.all r.options.form r.first r.second
 IsAnswerOf verb.Draw file r = IsImageOf file r.first r.options.group (picture_of r.options)
+IsAnswerOf verb.Survey file r = IsSurveyed file (r.first ∷ r.more) (survey_form r.options)
 IsAnswerOf _ file r = λ status bytes. ⊥
 
 -- why there is none
@@ -63,13 +66,14 @@ IsNoAnswer verb.Slots file r = IsNoSlots file r.first r.options.group
 IsNoAnswer verb.Lint file r = IsNoLint file r.first
 IsNoAnswer verb.Diff file r = IsNoDiff file r.first r.second
 IsNoAnswer verb.Draw file r = IsNoImage file r.first r.options.group (picture_of r.options)
+IsNoAnswer verb.Survey file r = IsNoSurvey file (r.first ∷ r.more) (survey_form r.options)
 IsNoAnswer _ file r = IsNoPlan file r.first
 
 -- the status and the bytes that answer a command, by these files and by what it is given
 abbrev pub IsReplyOf : Verb → (List ℕ → Option (List ℕ)) → AskedBytes → ℕ → List ℕ → Type 0
 IsReplyOf verb.Lines file r = IsLinesReply file r.first r.more
 IsReplyOf verb.Replay file r = IsReplay file r.first r.second r.more
-IsReplyOf verb.Simulate file r = IsSimulation file r.first r.second (simulation_form r.options)
+IsReplyOf verb.Simulate file r = IsSimulation file r.first (r.second ∷ r.more) (simulation_form r.options)
 IsReplyOf verb.Live file r = IsLiveReply file r
 IsReplyOf v file r = IsReplyBy (trouble_of v) (IsAnswerOf v file r) (IsNoAnswer v file r)
 

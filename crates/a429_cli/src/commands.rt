@@ -21,6 +21,7 @@ use crate::replies::put_reply;
 use crate::replies::reply::Reply;
 use crate::runs::{is_run, is_whole, trouble_of};
 use crate::slots::{SlotsForm, slots_reply};
+use crate::surveys::survey_reply;
 use crate::word::word_reply;
 use a429_console::arguments::forms::Verb;
 use a429_console::arguments::replies::explain;
@@ -31,6 +32,7 @@ use a429_console::output::endings::tell_fault;
 use a429_console::output::{Output, OutputFault};
 use a429_console::refusals::CommandRefusal;
 use a429_recordings::simulate::{SimulationForm, simulate};
+use a429_recordings::survey::SurveyForm;
 use a429_replay::replay::replay;
 use std::alloc::Global;
 
@@ -182,6 +184,7 @@ fn reply_to<F: FileReader>(
     let Asked {
         first,
         second,
+        more,
         options,
         ..
     } = asked;
@@ -204,6 +207,10 @@ fn reply_to<F: FileReader>(
         Verb::Draw => {
             let picture = Picture::of(options);
             drawing_reply(alloc, files, first, options.group, picture, seen)
+        }
+        Verb::Survey => {
+            let survey = SurveyForm::of(options);
+            survey_reply(alloc, files, first, more, survey, seen)
         }
         Verb::Lines | Verb::Replay | Verb::Simulate | Verb::Live => unreachable!(),
     }
@@ -260,7 +267,7 @@ fn answer_by_lines<F: FileReader, O: Output>(
         Verb::Replay => replay(alloc, files, first, second, more, seen, faults, out),
         Verb::Simulate => {
             let form = SimulationForm::of(options);
-            simulate(alloc, files, first, second, form, seen, out)
+            simulate(alloc, files, first, second, more, form, seen, out)
         }
         _ => unreachable!(),
     }

@@ -31,6 +31,7 @@ mod program;
 mod replies;
 mod runs;
 mod slots;
+mod surveys;
 mod word;
 
 pub use a429_console::arguments::given::{Arguments, given_words};

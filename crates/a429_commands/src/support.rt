@@ -69,7 +69,7 @@ impl FileReader for TextFiles<'_> {
 
     ghost known = { λ _ _ _ _ told _. not_told told };
 
-    fn read(&mut self, name: &str) -> Result<Vec<u8>, FileFault> {
+    fn read(&mut self, name: &str, _most: usize) -> Result<Vec<u8>, FileFault> {
         self.reads = self.reads.saturating_add(1);
         if self.reads > self.given {
             return Err(self.fault);

@@ -1,6 +1,6 @@
 -- The plain form of a request asks for it.
 use Rattle.std.proofs.Common.{◌≡◌, ◌∙◌, ap, refl, subst, sym, true, false, codes, Bool, List, [], ◌∷◌, ◌++◌, map, append-nil, append_assoc, arith}
-use Rattle.std.specs.Prelude.{◌^◌, ◌<◌, ◌≤◌, ◌+◌, ◌&&◌, ℕ, Option, min, Some, None, IfSome, MatchOption, ⊤, if◌then◌else◌, is_some, not, option_map}
+use Rattle.std.specs.Prelude.{◌^◌, ◌<◌, ◌≤◌, ◌+◌, ◌&&◌, ◌||◌, ℕ, Option, min, Some, None, IfSome, MatchOption, ⊤, if◌then◌else◌, is_some, not, option_map}
 use Rattle.std.specs.Fmt.{decimal}
 use Rattle.std.specs.List.{AllByRecursion, list_all}
 use Rattle.std.specs.Str.{bytes_eq}
@@ -14,7 +14,7 @@ use Rattle.clap.specs.Words.{Row, Rule, Shape, Text, first_of, one_of}
 use Rattle.clap.specs.Takes.{value_passes}
 use Rattle.clap.specs.Walk.{Held, finished, has_row, idle, nothing_held, walk_from}
 use Rattle.a429_equipment.specs.Limits.{most_frames}
-use Rattle.a429_console.specs.CommandLine.{All, Bcd, Bits, Bnr, Code, CommandRow, Csv, Data, From, Group, Html, Json, Limit, OptionName, Sdi, Slots, Ssm, Summary, Time, Until, Width, last_time, most_bits, most_pair, most_percent, most_slots, options_of, row_of}
+use Rattle.a429_console.specs.CommandLine.{All, Bcd, Bits, Bnr, Code, CommandRow, Csv, Data, From, Group, Html, Json, Limit, OptionName, Rate, Rows, Sdi, Slack, Slots, Ssm, Summary, Time, Until, Width, last_time, least_rate, most_bits, most_pair, most_percent, most_rate, most_slack, most_slots, options_of, row_of}
 use Rattle.a429_console.specs.Requests.{AskedBytes, HasWords, IsName, OptionBytes, flag_word, has_one_value, has_option, is_csv, is_flag, is_json, origin_word, unit_word, word_given, words_if, words_of, words_of_options, words_with}
 use Rattle.a429_console.specs.RequestRows.{AreFields, AreOptions, AsksFor, IsAskedBy, form_of, is_set, is_value_given, number_of, origin_given, unit_given, values_of, width_given}
 use Rattle.a429_text.specs.declared.sheets.SheetForm.{SheetForm}
@@ -107,25 +107,28 @@ more_read s o names (Some id) more i ids h rows passes found (at, by) words new 
 -- ---- what is found at the end
 
 at_option : (Q : OptionName → Type 0) → AllByRecursion Q all_options → (name : OptionName) → Q name
-at_option Q (a, (b, (c, (d, (e, (f, (g, (h, (i, (j, (k, (l, (m, (n, (o, (p, (q, (r, (s, _))))))))))))))))))) Csv = a
-at_option Q (a, (b, (c, (d, (e, (f, (g, (h, (i, (j, (k, (l, (m, (n, (o, (p, (q, (r, (s, _))))))))))))))))))) Json = b
-at_option Q (a, (b, (c, (d, (e, (f, (g, (h, (i, (j, (k, (l, (m, (n, (o, (p, (q, (r, (s, _))))))))))))))))))) All = c
-at_option Q (a, (b, (c, (d, (e, (f, (g, (h, (i, (j, (k, (l, (m, (n, (o, (p, (q, (r, (s, _))))))))))))))))))) Group = d
-at_option Q (a, (b, (c, (d, (e, (f, (g, (h, (i, (j, (k, (l, (m, (n, (o, (p, (q, (r, (s, _))))))))))))))))))) Slots = e
-at_option Q (a, (b, (c, (d, (e, (f, (g, (h, (i, (j, (k, (l, (m, (n, (o, (p, (q, (r, (s, _))))))))))))))))))) Width = f
-at_option Q (a, (b, (c, (d, (e, (f, (g, (h, (i, (j, (k, (l, (m, (n, (o, (p, (q, (r, (s, _))))))))))))))))))) Html = g
-at_option Q (a, (b, (c, (d, (e, (f, (g, (h, (i, (j, (k, (l, (m, (n, (o, (p, (q, (r, (s, _))))))))))))))))))) Time = h
-at_option Q (a, (b, (c, (d, (e, (f, (g, (h, (i, (j, (k, (l, (m, (n, (o, (p, (q, (r, (s, _))))))))))))))))))) From = i
-at_option Q (a, (b, (c, (d, (e, (f, (g, (h, (i, (j, (k, (l, (m, (n, (o, (p, (q, (r, (s, _))))))))))))))))))) Until = j
-at_option Q (a, (b, (c, (d, (e, (f, (g, (h, (i, (j, (k, (l, (m, (n, (o, (p, (q, (r, (s, _))))))))))))))))))) Summary = k
-at_option Q (a, (b, (c, (d, (e, (f, (g, (h, (i, (j, (k, (l, (m, (n, (o, (p, (q, (r, (s, _))))))))))))))))))) Code = l
-at_option Q (a, (b, (c, (d, (e, (f, (g, (h, (i, (j, (k, (l, (m, (n, (o, (p, (q, (r, (s, _))))))))))))))))))) Limit = m
-at_option Q (a, (b, (c, (d, (e, (f, (g, (h, (i, (j, (k, (l, (m, (n, (o, (p, (q, (r, (s, _))))))))))))))))))) Sdi = n
-at_option Q (a, (b, (c, (d, (e, (f, (g, (h, (i, (j, (k, (l, (m, (n, (o, (p, (q, (r, (s, _))))))))))))))))))) Ssm = o
-at_option Q (a, (b, (c, (d, (e, (f, (g, (h, (i, (j, (k, (l, (m, (n, (o, (p, (q, (r, (s, _))))))))))))))))))) Data = p
-at_option Q (a, (b, (c, (d, (e, (f, (g, (h, (i, (j, (k, (l, (m, (n, (o, (p, (q, (r, (s, _))))))))))))))))))) Bnr = q
-at_option Q (a, (b, (c, (d, (e, (f, (g, (h, (i, (j, (k, (l, (m, (n, (o, (p, (q, (r, (s, _))))))))))))))))))) Bits = r
-at_option Q (a, (b, (c, (d, (e, (f, (g, (h, (i, (j, (k, (l, (m, (n, (o, (p, (q, (r, (s, _))))))))))))))))))) Bcd = s
+at_option Q (a, (b, (c, (d, (e, (f, (g, (h, (i, (j, (k, (l, (m, (n, (o, (p, (q, (r, (s, (t, (u, (v, _)))))))))))))))))))))) Csv = a
+at_option Q (a, (b, (c, (d, (e, (f, (g, (h, (i, (j, (k, (l, (m, (n, (o, (p, (q, (r, (s, (t, (u, (v, _)))))))))))))))))))))) Json = b
+at_option Q (a, (b, (c, (d, (e, (f, (g, (h, (i, (j, (k, (l, (m, (n, (o, (p, (q, (r, (s, (t, (u, (v, _)))))))))))))))))))))) All = c
+at_option Q (a, (b, (c, (d, (e, (f, (g, (h, (i, (j, (k, (l, (m, (n, (o, (p, (q, (r, (s, (t, (u, (v, _)))))))))))))))))))))) Group = d
+at_option Q (a, (b, (c, (d, (e, (f, (g, (h, (i, (j, (k, (l, (m, (n, (o, (p, (q, (r, (s, (t, (u, (v, _)))))))))))))))))))))) Slots = e
+at_option Q (a, (b, (c, (d, (e, (f, (g, (h, (i, (j, (k, (l, (m, (n, (o, (p, (q, (r, (s, (t, (u, (v, _)))))))))))))))))))))) Width = f
+at_option Q (a, (b, (c, (d, (e, (f, (g, (h, (i, (j, (k, (l, (m, (n, (o, (p, (q, (r, (s, (t, (u, (v, _)))))))))))))))))))))) Html = g
+at_option Q (a, (b, (c, (d, (e, (f, (g, (h, (i, (j, (k, (l, (m, (n, (o, (p, (q, (r, (s, (t, (u, (v, _)))))))))))))))))))))) Time = h
+at_option Q (a, (b, (c, (d, (e, (f, (g, (h, (i, (j, (k, (l, (m, (n, (o, (p, (q, (r, (s, (t, (u, (v, _)))))))))))))))))))))) From = i
+at_option Q (a, (b, (c, (d, (e, (f, (g, (h, (i, (j, (k, (l, (m, (n, (o, (p, (q, (r, (s, (t, (u, (v, _)))))))))))))))))))))) Until = j
+at_option Q (a, (b, (c, (d, (e, (f, (g, (h, (i, (j, (k, (l, (m, (n, (o, (p, (q, (r, (s, (t, (u, (v, _)))))))))))))))))))))) Summary = k
+at_option Q (a, (b, (c, (d, (e, (f, (g, (h, (i, (j, (k, (l, (m, (n, (o, (p, (q, (r, (s, (t, (u, (v, _)))))))))))))))))))))) Code = l
+at_option Q (a, (b, (c, (d, (e, (f, (g, (h, (i, (j, (k, (l, (m, (n, (o, (p, (q, (r, (s, (t, (u, (v, _)))))))))))))))))))))) Limit = m
+at_option Q (a, (b, (c, (d, (e, (f, (g, (h, (i, (j, (k, (l, (m, (n, (o, (p, (q, (r, (s, (t, (u, (v, _)))))))))))))))))))))) Rate = n
+at_option Q (a, (b, (c, (d, (e, (f, (g, (h, (i, (j, (k, (l, (m, (n, (o, (p, (q, (r, (s, (t, (u, (v, _)))))))))))))))))))))) Rows = o
+at_option Q (a, (b, (c, (d, (e, (f, (g, (h, (i, (j, (k, (l, (m, (n, (o, (p, (q, (r, (s, (t, (u, (v, _)))))))))))))))))))))) Slack = p
+at_option Q (a, (b, (c, (d, (e, (f, (g, (h, (i, (j, (k, (l, (m, (n, (o, (p, (q, (r, (s, (t, (u, (v, _)))))))))))))))))))))) Sdi = q
+at_option Q (a, (b, (c, (d, (e, (f, (g, (h, (i, (j, (k, (l, (m, (n, (o, (p, (q, (r, (s, (t, (u, (v, _)))))))))))))))))))))) Ssm = r
+at_option Q (a, (b, (c, (d, (e, (f, (g, (h, (i, (j, (k, (l, (m, (n, (o, (p, (q, (r, (s, (t, (u, (v, _)))))))))))))))))))))) Data = s
+at_option Q (a, (b, (c, (d, (e, (f, (g, (h, (i, (j, (k, (l, (m, (n, (o, (p, (q, (r, (s, (t, (u, (v, _)))))))))))))))))))))) Bnr = t
+at_option Q (a, (b, (c, (d, (e, (f, (g, (h, (i, (j, (k, (l, (m, (n, (o, (p, (q, (r, (s, (t, (u, (v, _)))))))))))))))))))))) Bits = u
+at_option Q (a, (b, (c, (d, (e, (f, (g, (h, (i, (j, (k, (l, (m, (n, (o, (p, (q, (r, (s, (t, (u, (v, _)))))))))))))))))))))) Bcd = v
 
 each_of : (P : OptionName → Bool) (names : List OptionName) → list_all P names ≡ true → AllByRecursion (λ (name : OptionName). P name ≡ true) names
 each_of P [] all = tt
@@ -148,9 +151,9 @@ all_parts : (P : Rule × Text → Type 0) (us vs : List (Rule × Text)) → AllB
 all_parts P [] vs all = (tt, all)
 all_parts P (u ∷ us) vs all = let parts = all_parts P us vs all.1 in ((all.0, parts.0), parts.1)
 
--- a form is the one that its options ask for, if they do not ask for lines as JSON, nor for a header in another form
-form_is : (f : SheetForm) (lines code : Bool) → (is_json f ≡ true → lines ≡ false) → (code ≡ true → f ≡ form.Columns) → (if is_json f && lines then None else form_of code (is_csv f) (is_json f)) ≡ Some f
-form_is form.Columns lines code none plain = refl
+-- a form is the one that its options ask for, if they do not ask for lines as JSON, nor for a form of its own in another one
+form_is : (f : SheetForm) (lines own : Bool) → (is_json f ≡ true → lines ≡ false) → (own ≡ true → f ≡ form.Columns) → (if is_json f && lines then None else form_of own (is_csv f) (is_json f)) ≡ Some f
+form_is form.Columns lines own none plain = refl
 form_is form.Csv lines false none plain = refl
 form_is form.Csv lines true none plain = absurd (cc (plain refl))
 form_is form.Json lines false none plain = rw (none refl) refl
@@ -160,6 +163,11 @@ form_is form.Json lines true none plain = absurd (cc (plain refl))
 lines_of : (v : Verb) (summary : Bool) → (v ≡ verb.Simulate → summary ≡ true) → (bytes_eq (row_of v).name (codes "simulate") && not summary) ≡ false
 lines_of verb.Simulate summary all = rw (all refl) refl
 lines_of _ summary all = refl
+
+-- intervals are widened only of rows that are asked for
+widened_of : (slack : Option Text) (rows : Bool) → (is_some slack ≡ true → rows ≡ true) → (is_some slack && not rows) ≡ false
+widened_of None rows asked = refl
+widened_of (Some text) rows asked = rw (asked refl) refl
 
 -- no command but `encode` needs a value
 made_of : (v : Verb) (given : Bool) → (v ≡ verb.Encode → given ≡ true) → (bytes_eq (row_of v).name (codes "encode") && not given) ≡ false
@@ -272,11 +280,14 @@ module _ (r : AskedBytes) (us : List (Rule × Text)) (f : Facts r.verb us) (has 
         some_mapped decimal r.options.fields.bits,
       ) refl
 
+  slack_is : first_of (id_of Slack) end_rows ≡ option_map decimal r.options.slack
+  slack_is = first_field Slack (option_map decimal r.options.slack) refl refl
+
   pub options_are_read : AreOptions (row_of v).name end_rows r.options
   options_are_read = record {
     form =
-        rw (flag_field Csv (is_csv r.options.form) refl, flag_field Json (is_json r.options.form) refl, flag_field Code r.options.code refl)
-        (form_is r.options.form (bytes_eq (row_of v).name (codes "simulate") && not (is_set (one_of (codes "summary") end_rows))) r.options.code
+        rw (flag_field Csv (is_csv r.options.form) refl, flag_field Json (is_json r.options.form) refl, flag_field Code r.options.code refl, flag_field Rows r.options.rows refl)
+        (form_is r.options.form (bytes_eq (row_of v).name (codes "simulate") && not (is_set (one_of (codes "summary") end_rows))) (r.options.code || r.options.rows)
         (λ json. lines_of v (is_set (one_of (codes "summary") end_rows)) (λ simulates. flag_field Summary r.options.summary refl ∙ has.summarized simulates json)) has.coded);
     all = flag_field All r.options.all refl;
     group = first_field Group r.options.group refl refl;
@@ -293,8 +304,17 @@ module _ (r : AskedBytes) (us : List (Rule × Text)) (f : Facts r.verb us) (has 
     limit =
         ap (number_of 1 most_percent) (one_field Limit (option_map decimal r.options.limit) refl refl)
         ∙ number_of_decimal 1 most_percent r.options.limit (omega arith) (has.options Limit);
+    rate =
+        ap (number_of least_rate most_rate) (one_field Rate (option_map decimal r.options.rate) refl refl)
+        ∙ number_of_decimal least_rate most_rate r.options.rate (omega arith) (has.options Rate);
+    rows_asked = flag_field Rows r.options.rows refl;
+    slack =
+        ap (number_of 0 most_slack) (one_field Slack (option_map decimal r.options.slack) refl refl)
+        ∙ number_of_decimal 0 most_slack r.options.slack (omega arith) (from_zero most_slack r.options.slack (has.options Slack));
     fields = fields_are_read;
-    value = made_of v (is_value_given end_rows) (λ made. value_is ∙ has.encoded made);
+    value =
+        rw (made_of v (is_value_given end_rows) (λ made. value_is ∙ has.encoded made), slack_is, flag_field Rows r.options.rows refl)
+        (widened_of (option_map decimal r.options.slack) r.options.rows (λ given. has.widened (sym (some_mapped decimal r.options.slack) ∙ given)));
   }
 
   -- ---- the other values

@@ -8,7 +8,7 @@ use Rattle.clap.specs.Simple.{filled}
 use Rattle.clap.specs.Takes.{value_passes}
 use Rattle.clap.specs.Walk.{Held, Waiting, arg_by_id, arg_by_long, has_row, idle}
 use Rattle.clap.proofs.OnLiterals.{clap_on_literals}
-use Rattle.a429_console.specs.CommandLine.{All, Bcd, Bits, Bnr, Code, Csv, Data, From, Group, Html, Json, Limit, OptionName, Sdi, Slots, Ssm, Summary, Time, Until, Width, option_rule}
+use Rattle.a429_console.specs.CommandLine.{All, Bcd, Bits, Bnr, Code, Csv, Data, From, Group, Html, Json, Limit, OptionName, Rate, Rows, Sdi, Slack, Slots, Ssm, Summary, Time, Until, Width, option_rule}
 use Rattle.a429_console.specs.Requests.{OptionBytes, flag_word, is_csv, is_flag, is_json, option_words, word_given, words_of_options}
 use Rattle.a429_console.proofs.CommandWords.{row}
 use Rattle.a429_console.proofs.PlainWords.{IsPlainWord, TakesValues, at_word, for_none}
@@ -39,6 +39,9 @@ is_option Until = record { no_end = refl; long = refl }
 is_option Summary = record { no_end = refl; long = refl }
 is_option Code = record { no_end = refl; long = refl }
 is_option Limit = record { no_end = refl; long = refl }
+is_option Rate = record { no_end = refl; long = refl }
+is_option Rows = record { no_end = refl; long = refl }
+is_option Slack = record { no_end = refl; long = refl }
 is_option Sdi = record { no_end = refl; long = refl }
 is_option Ssm = record { no_end = refl; long = refl }
 is_option Data = record { no_end = refl; long = refl }
@@ -59,6 +62,7 @@ kind_of_option All = record { range = refl; action = refl; reading = refl; missi
 kind_of_option Html = record { range = refl; action = refl; reading = refl; missing = refl; passes = refl }
 kind_of_option Summary = record { range = refl; action = refl; reading = refl; missing = refl; passes = refl }
 kind_of_option Code = record { range = refl; action = refl; reading = refl; missing = refl; passes = refl }
+kind_of_option Rows = record { range = refl; action = refl; reading = refl; missing = refl; passes = refl }
 kind_of_option _ = record { range = refl; action = refl; reading = refl; trailing = refl }
 
 -- no two have one name
@@ -76,6 +80,9 @@ same_option Until Until is = refl
 same_option Summary Summary is = refl
 same_option Code Code is = refl
 same_option Limit Limit is = refl
+same_option Rate Rate is = refl
+same_option Rows Rows is = refl
+same_option Slack Slack is = refl
 same_option Sdi Sdi is = refl
 same_option Ssm Ssm is = refl
 same_option Data Data is = refl
@@ -95,6 +102,7 @@ flag_is_true All o word flag given = flag_text o.all word given
 flag_is_true Html o word flag given = flag_text o.html word given
 flag_is_true Summary o word flag given = flag_text o.summary word given
 flag_is_true Code o word flag given = flag_text o.code word given
+flag_is_true Rows o word flag given = flag_text o.rows word given
 flag_is_true _ o word flag given = absurd (cc flag)
 
 -- ---- the words of several

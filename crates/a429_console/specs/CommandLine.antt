@@ -47,6 +47,17 @@ most_slots = 8192
 abbrev pub most_percent : ℕ
 most_percent = 100
 
+-- the bit rates of a line that can be asked for, in bit/s (ARINC 429 Part 1: low speed and high speed)
+abbrev pub least_rate : ℕ
+least_rate = 12000
+
+abbrev pub most_rate : ℕ
+most_rate = 100000
+
+-- by how much an interval can be widened, in per cent
+abbrev pub most_slack : ℕ
+most_slack = 99
+
 -- the greatest SDI, and the greatest SSM (ARINC 429 Part 1: two bits each)
 abbrev pub most_pair : ℕ
 most_pair = 3
@@ -73,6 +84,9 @@ pub data OptionName : Type 0 where
   Summary : OptionName
   Code : OptionName
   Limit : OptionName
+  Rate : OptionName
+  Rows : OptionName
+  Slack : OptionName
   Sdi : OptionName
   Ssm : OptionName
   Data : OptionName
@@ -94,6 +108,9 @@ option_rule Until = number_value_rule (codes "until") 0 last_time
 option_rule Summary = flag_rule (codes "summary")
 option_rule Code = flag_rule (codes "c")
 option_rule Limit = number_value_rule (codes "limit") 1 most_percent
+option_rule Rate = number_value_rule (codes "rate") least_rate most_rate
+option_rule Rows = flag_rule (codes "rows")
+option_rule Slack = number_value_rule (codes "slack") 0 most_slack
 option_rule Sdi = number_value_rule (codes "sdi") 0 most_pair
 option_rule Ssm = number_value_rule (codes "ssm") 0 most_pair
 option_rule Data = value_rule (codes "data")
@@ -114,6 +131,7 @@ options_of verb.Lint = Csv ∷ Json ∷ []
 options_of verb.Diff = All ∷ Csv ∷ Json ∷ []
 options_of verb.Draw = Group ∷ Slots ∷ Width ∷ Html ∷ []
 options_of verb.Simulate = Time ∷ From ∷ Until ∷ Summary ∷ Csv ∷ Json ∷ []
+options_of verb.Survey = Time ∷ From ∷ Rate ∷ Rows ∷ Slack ∷ Csv ∷ Json ∷ []
 options_of _ = []
 
 -- what a command is given: a name or two, perhaps a number up to the most, perhaps as many names as one likes, and options
@@ -148,7 +166,8 @@ row_of verb.Lint = with_table verb.Lint (codes "lint")
 row_of verb.Diff = record (with_table verb.Diff (codes "diff")) { second = Some (codes "OTHER") }
 row_of verb.Draw = with_table verb.Draw (codes "draw")
 row_of verb.Replay = record (with_table verb.Replay (codes "replay")) { second = Some (codes "SCRIPT"); more = Some (codes "FURTHER") }
-row_of verb.Simulate = record (with_table verb.Simulate (codes "simulate")) { second = Some (codes "LOG") }
+row_of verb.Simulate = record (with_table verb.Simulate (codes "simulate")) { second = Some (codes "LOG"); more = Some (codes "LOGS") }
+row_of verb.Survey = record (with_one verb.Survey (codes "survey") (codes "LOG")) { more = Some (codes "LOGS") }
 row_of verb.Live =
     record (with_table verb.Live (codes "live")) { second = Some (codes "WORDS"); number = Some (codes "FRAMES", most_frames); more = Some (codes "FURTHER") }
 
@@ -156,7 +175,7 @@ row_of verb.Live =
 abbrev pub verbs : List Verb
 verbs =
     verb.Word ∷ verb.Encode ∷ verb.Lines ∷ verb.Import ∷ verb.Plan ∷ verb.Check ∷ verb.Icd ∷ verb.Margin ∷ verb.Load ∷ verb.Slots ∷ verb.Lint ∷ verb.Diff ∷ verb.Draw
-    ∷ verb.Replay ∷ verb.Simulate ∷ verb.Live ∷ []
+    ∷ verb.Replay ∷ verb.Simulate ∷ verb.Survey ∷ verb.Live ∷ []
 
 -- ---- the command line
 

@@ -9,14 +9,31 @@ use Rattle.a429_console.specs.RefusalText.{OrMemory}
 use Rattle.a429_console.specs.declared.refusals.CommandRefusal.{CommandRefusal}
 use Rattle.a429_console.specs.declared.refusals.CommandRefusal.TheVariants as refused
 
--- the bytes of a file that can be read: it has at most 16 MiB
+-- how many bytes a file may have, and how many a log: 16 MiB and 1 GiB
+abbrev pub largest_file : ℕ
+largest_file = 16777216
+
+abbrev pub largest_log : ℕ
+largest_log = 1073741824
+
+-- the bytes of a file that can be read: there are at most `most`
+abbrev pub readable_in : ℕ → Option (List ℕ) → Option (List ℕ)
+readable_in most None = None
+readable_in most (Some bytes) = if nat_le (length bytes) most then Some bytes else None
+
 abbrev pub readable : Option (List ℕ) → Option (List ℕ)
-readable None = None
-readable (Some bytes) = if nat_le (length bytes) 16777216 then Some bytes else None
+readable bytes = readable_in largest_file bytes
 
 -- these are the bytes of the files of these names
+abbrev pub AreReadIn : ℕ → (List ℕ → Option (List ℕ)) → List (List ℕ) → List (List ℕ) → Type 0
+AreReadIn most file names contents = AllZip (λ name bytes. readable_in most (file name) ≡ Some bytes) names contents
+
 abbrev pub AreRead : (List ℕ → Option (List ℕ)) → List (List ℕ) → List (List ℕ) → Type 0
-AreRead file names contents = AllZip (λ name bytes. readable (file name) ≡ Some bytes) names contents
+AreRead file names contents = AreReadIn largest_file file names contents
+
+-- and of these logs
+abbrev pub AreReadLogs : (List ℕ → Option (List ℕ)) → List (List ℕ) → List (List ℕ) → Type 0
+AreReadLogs file names contents = AreReadIn largest_log file names contents
 
 -- a character as a refusal prints it; a control character, such as a line feed, is `?`
 abbrev pub printable_char : ℕ → ℕ
@@ -27,20 +44,40 @@ unfoldable pub printable_name : List ℕ → List ℕ
 printable_name name = encode_utf8_all (map printable_char (chars name))
 
 -- the file of this name cannot be read
+abbrev pub IsFileRefusalIn : ℕ → (List ℕ → Option (List ℕ)) → List ℕ → CommandRefusal → Type 0
+IsFileRefusalIn most file name (refused.File told) = (string_bytes told ≡ printable_name name) × (readable_in most (file name) ≡ None)
+IsFileRefusalIn most file name _ = ⊥
+
 abbrev pub IsFileRefusal : (List ℕ → Option (List ℕ)) → List ℕ → CommandRefusal → Type 0
-IsFileRefusal file name (refused.File told) = (string_bytes told ≡ printable_name name) × (readable (file name) ≡ None)
-IsFileRefusal file name _ = ⊥
+IsFileRefusal file name refusal = IsFileRefusalIn largest_file file name refusal
 
 -- of these files the first that cannot be read
+abbrev pub IsFirstUnreadIn : ℕ → (List ℕ → Option (List ℕ)) → List (List ℕ) → CommandRefusal → Type 0
+IsFirstUnreadIn most file [] refusal = ⊥
+IsFirstUnreadIn most file (name ∷ names) refusal =
+    IsFileRefusalIn most file name refusal ⊎ ((bytes : List ℕ) × (readable_in most (file name) ≡ Some bytes) × IsFirstUnreadIn most file names refusal)
+
 abbrev pub IsFirstUnread : (List ℕ → Option (List ℕ)) → List (List ℕ) → CommandRefusal → Type 0
-IsFirstUnread file [] refusal = ⊥
-IsFirstUnread file (name ∷ names) refusal =
-    IsFileRefusal file name refusal ⊎ ((bytes : List ℕ) × (readable (file name) ≡ Some bytes) × IsFirstUnread file names refusal)
+IsFirstUnread file names refusal = IsFirstUnreadIn largest_file file names refusal
+
+-- and of these logs
+abbrev pub IsFirstUnreadLog : (List ℕ → Option (List ℕ)) → List (List ℕ) → CommandRefusal → Type 0
+IsFirstUnreadLog file names refusal = IsFirstUnreadIn largest_log file names refusal
 
 -- what reading a file gives: its bytes, or that it cannot be read
+abbrev pub IsReadingIn : ℕ → (List ℕ → Option (List ℕ)) → List ℕ → Result (Vec ℕ Global) CommandRefusal → Type 0
+IsReadingIn most file name result = MatchResult result (λ bytes. readable_in most (file name) ≡ Some bytes.items) (OrMemory (IsFileRefusalIn most file name))
+
 abbrev pub IsReading : (List ℕ → Option (List ℕ)) → List ℕ → Result (Vec ℕ Global) CommandRefusal → Type 0
-IsReading file name result = MatchResult result (λ bytes. readable (file name) ≡ Some bytes.items) (OrMemory (IsFileRefusal file name))
+IsReading file name result = IsReadingIn largest_file file name result
 
 -- what reading several files gives: their bytes, or the first that cannot be read
+abbrev pub AreReadingsIn : ℕ → (List ℕ → Option (List ℕ)) → List (List ℕ) → Result (Vec (Vec ℕ Global) Global) CommandRefusal → Type 0
+AreReadingsIn most file names result = MatchResult result (λ all. AreReadIn most file names (bytes_of all.items)) (OrMemory (IsFirstUnreadIn most file names))
+
 abbrev pub AreReadings : (List ℕ → Option (List ℕ)) → List (List ℕ) → Result (Vec (Vec ℕ Global) Global) CommandRefusal → Type 0
-AreReadings file names result = MatchResult result (λ all. AreRead file names (bytes_of all.items)) (OrMemory (IsFirstUnread file names))
+AreReadings file names result = AreReadingsIn largest_file file names result
+
+-- and logs
+abbrev pub AreLogReadings : (List ℕ → Option (List ℕ)) → List (List ℕ) → Result (Vec (Vec ℕ Global) Global) CommandRefusal → Type 0
+AreLogReadings file names result = AreReadingsIn largest_log file names result

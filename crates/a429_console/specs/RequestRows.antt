@@ -5,7 +5,7 @@ use Rattle.std.specs.Str.Parse.{digits_value, without_leading_plus}
 use Rattle.clap.specs.ValueTests.{is_unsigned_in}
 use Rattle.clap.specs.Words.{Row, Text, first_of, one_of, all_of, subcommand_of, takes}
 use Rattle.a429_equipment.specs.Limits.{most_frames}
-use Rattle.a429_console.specs.CommandLine.{command_line, last_time, most_bits, most_pair, most_percent, most_slots, row_of}
+use Rattle.a429_console.specs.CommandLine.{command_line, last_time, least_rate, most_bits, most_pair, most_percent, most_rate, most_slack, most_slots, row_of}
 use Rattle.a429_console.specs.Requests.{AskedBytes, FieldBytes, HasWords, IsName, OptionBytes, is_one_alone, last_origin, words_of, words_with}
 use Rattle.a429_console.specs.declared.arguments.choices.Choices.{Choices}
 use Rattle.a429_console.specs.declared.arguments.forms.Verb.TheVariants as verb
@@ -51,9 +51,9 @@ abbrev pub origin_given : Option Text → Option LogOrigin
 origin_given None = Some (origin.Time 0)
 origin_given (Some text) = if bytes_eq text (codes "first") then Some origin.First else option_map origin.Time (number_up_to last_origin text)
 
--- the form of what is printed, by whether `--c`, `--csv` and `--json` are given; nothing if two of them are
+-- the form of what is printed, by whether a form of its own is asked for (`--c` or `--rows`), and whether `--csv` and `--json` are given; nothing if two are
 abbrev pub form_of : Bool → Bool → Bool → Option SheetForm
-form_of code false false = Some form.Columns
+form_of own false false = Some form.Columns
 form_of false true false = Some form.Csv
 form_of false false true = Some form.Json
 form_of _ _ _ = None
@@ -66,7 +66,7 @@ prints_lines name rows = bytes_eq name (codes "simulate") && not (is_set (one_of
 abbrev pub form_given : Text → List Row → Option SheetForm
 form_given name rows =
     if is_set (one_of (codes "json") rows) && prints_lines name rows then None
-    else form_of (is_set (one_of (codes "c") rows)) (is_set (one_of (codes "csv") rows)) (is_set (one_of (codes "json") rows))
+    else form_of (is_set (one_of (codes "c") rows) || is_set (one_of (codes "rows") rows)) (is_set (one_of (codes "csv") rows)) (is_set (one_of (codes "json") rows))
 
 -- the data of a word are given in one way, and a number of bits only with a BNR number
 abbrev pub is_value_given : List Row → Bool
@@ -78,6 +78,10 @@ is_value_given rows =
 abbrev pub lacks_value : Text → List Row → Bool
 lacks_value name rows = bytes_eq name (codes "encode") && not (is_value_given rows)
 
+-- widened intervals are asked for, but no rows that have them
+abbrev pub lacks_rows : List Row → Bool
+lacks_rows rows = is_some (first_of (codes "slack") rows) && not (is_set (one_of (codes "rows") rows))
+
 -- the choices, if each of them is there
 abbrev pub choices_of : Option (Option ℕ) → Option TimeUnit → Option LogOrigin → Option SheetForm → Option Choices
 choices_of (Some width) (Some time) (Some from) (Some form) = Some (record { width = width; time = time; from = from; form = form })
@@ -86,7 +90,7 @@ choices_of _ _ _ _ = None
 -- all choices that the rules of the command line do not state; nothing if one of them is none
 unfoldable pub choices_given : Text → List Row → Option Choices
 choices_given name rows =
-    if lacks_value name rows then None
+    if lacks_value name rows || lacks_rows rows then None
     else choices_of (width_given (first_of (codes "width") rows)) (unit_given (first_of (codes "time") rows)) (origin_given (first_of (codes "from") rows)) (form_given name rows)
 
 -- an options' record has these choices
@@ -116,8 +120,11 @@ pub record AreOptions (name : Text) (rows : List Row) (o : OptionBytes) : Type 0
   pub summary : is_set (one_of (codes "summary") rows) ≡ o.summary
   pub code : is_set (one_of (codes "c") rows) ≡ o.code
   pub limit : number_of 1 most_percent (one_of (codes "limit") rows) ≡ Some o.limit
+  pub rate : number_of least_rate most_rate (one_of (codes "rate") rows) ≡ Some o.rate
+  pub rows_asked : is_set (one_of (codes "rows") rows) ≡ o.rows
+  pub slack : number_of 0 most_slack (one_of (codes "slack") rows) ≡ Some o.slack
   pub fields : AreFields rows o.fields
-  pub value : lacks_value name rows ≡ false
+  pub value : lacks_value name rows || lacks_rows rows ≡ false
 
 -- ---- all that is asked for
 

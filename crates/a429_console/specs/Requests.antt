@@ -8,7 +8,7 @@ use Rattle.clap.specs.declared.builder.action.ArgAction.{ArgAction}
 use Rattle.clap.specs.declared.builder.action.ArgAction.TheVariants.{SetTrue}
 use Rattle.clap.specs.declared.error.Error.{Error}
 use Rattle.clap.specs.declared.error.kind.ErrorKind.TheVariants.{OutOfMemory}
-use Rattle.a429_console.specs.CommandLine.{All, Bcd, Bits, Bnr, Code, Csv, Data, From, Group, Html, Json, Limit, OptionName, Sdi, Slots, Ssm, Summary, Time, Until, Width, last_time, most_bits, most_pair, most_percent, most_slots, option_rule, options_of, row_of}
+use Rattle.a429_console.specs.CommandLine.{All, Bcd, Bits, Bnr, Code, Csv, Data, From, Group, Html, Json, Limit, OptionName, Rate, Rows, Sdi, Slack, Slots, Ssm, Summary, Time, Until, Width, last_time, least_rate, most_bits, most_pair, most_percent, most_rate, most_slack, most_slots, option_rule, options_of, row_of}
 use Rattle.a429_console.specs.Files.{texts_of}
 use Rattle.a429_text.specs.declared.sheets.SheetForm.{SheetForm}
 use Rattle.a429_text.specs.declared.sheets.SheetForm.TheVariants as form
@@ -56,6 +56,11 @@ pub record OptionBytes : Type 0 where
   pub code : Bool
   -- the greatest load of a bus, in per cent
   pub limit : Option ℕ
+  -- the bit rate of a recorded line, in bit/s
+  pub rate : Option ℕ
+  -- rows for `import`, and by how much their intervals are wider than those of the recording, in per cent
+  pub rows : Bool
+  pub slack : Option ℕ
   pub fields : FieldBytes
 
 -- What is asked for, by the bytes of its texts: what contracts see of an `Asked`. A command that is given one name has no second one, and so with the
@@ -86,6 +91,9 @@ no_options = record {
   summary = false;
   code = false;
   limit = None;
+  rate = None;
+  rows = false;
+  slack = None;
   fields = no_fields;
 }
 
@@ -134,6 +142,9 @@ word_given o Until = option_map decimal o.until
 word_given o Summary = flag_word o.summary
 word_given o Code = flag_word o.code
 word_given o Limit = option_map decimal o.limit
+word_given o Rate = option_map decimal o.rate
+word_given o Rows = flag_word o.rows
+word_given o Slack = option_map decimal o.slack
 word_given o Sdi = option_map decimal o.fields.sdi
 word_given o Ssm = option_map decimal o.fields.ssm
 word_given o Data = o.fields.hex
@@ -216,6 +227,8 @@ CanBeGiven o Width = IfSome o.width IsWidth
 CanBeGiven o From = IsOrigin o.from
 CanBeGiven o Until = IfSome o.until (λ n. n ≤ last_time)
 CanBeGiven o Limit = IfSome o.limit (λ n. (1 ≤ n) × (n ≤ most_percent))
+CanBeGiven o Rate = IfSome o.rate (λ n. (least_rate ≤ n) × (n ≤ most_rate))
+CanBeGiven o Slack = IfSome o.slack (λ n. n ≤ most_slack)
 CanBeGiven o Sdi = IfSome o.fields.sdi (λ n. n ≤ most_pair)
 CanBeGiven o Ssm = IfSome o.fields.ssm (λ n. n ≤ most_pair)
 CanBeGiven o Data = IfSome o.fields.hex IsName
@@ -236,8 +249,10 @@ pub record HasWords (r : AskedBytes) : Type 0 where
   pub options : (name : OptionName) → CanBeGiven r.options name
   -- the lines of `simulate` have no form as JSON
   pub summarized : r.verb ≡ verb.Simulate → is_json r.options.form ≡ true → r.options.summary ≡ true
-  -- a header for C has no other form
-  pub coded : r.options.code ≡ true → r.options.form ≡ form.Columns
+  -- a header for C and rows for `import` have no other form
+  pub coded : r.options.code || r.options.rows ≡ true → r.options.form ≡ form.Columns
+  -- only the intervals of rows for `import` are widened
+  pub widened : is_some r.options.slack ≡ true → r.options.rows ≡ true
   -- `encode` is given the data of the word
   pub encoded : r.verb ≡ verb.Encode → has_one_value r.options.fields ≡ true
   pub others : (name : OptionName) → has_option (options_of r.verb) name ≡ false → word_given r.options name ≡ None
@@ -268,6 +283,9 @@ given_of o = record {
   summary = o.summary;
   code = o.code;
   limit = o.limit;
+  rate = o.rate;
+  rows = o.rows;
+  slack = o.slack;
   fields = fields_of o.fields;
 }
 

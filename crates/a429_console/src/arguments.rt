@@ -5,6 +5,7 @@ pub mod command_line;
 pub mod forms;
 pub mod given;
 mod help;
+mod options;
 pub mod replies;
 pub mod requests;
 pub mod times;

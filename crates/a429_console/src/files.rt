@@ -13,6 +13,9 @@ use thiserror::Error;
 /// How many bytes a file may have: 16 MiB (profile).
 pub const LARGEST_FILE: usize = 16_777_216;
 
+/// How many bytes a log may have: 1 GiB (profile).
+pub const LARGEST_LOG: usize = 1_073_741_824;
+
 /// Why the bytes of a file cannot be read.
 #[derive(Clone, Copy, Debug, PartialEq, Eq, Error)]
 pub enum FileFault {
@@ -33,8 +36,8 @@ pub enum FileTrouble {
     Folder,
     /// It is there, and may not be read.
     Forbidden,
-    /// It has more bytes than a file may have.
-    TooLarge,
+    /// It has more bytes than this, which is as many as it may have.
+    TooLarge(usize),
     /// Another cause, or one that the reader does not report.
     Unknown,
 }
@@ -50,8 +53,9 @@ pub trait FileReader {
     /// One call of `read`: what it was, the name, the answer, and what it is.
     ghost answers: { Self → List ℕ → Result (List ℕ) FileFault → Self → Type 0 };
 
-    /// All bytes of a file. Error: `Refused` if there are none, or `NoMemory`.
-    fn read(&mut self, name: &str) -> Result<Vec<u8>, FileFault>
+    /// All bytes of a file. A reader may refuse a file of more than `most` bytes. Error: `Refused` if there are none, or
+    /// `NoMemory`.
+    fn read(&mut self, name: &str, most: usize) -> Result<Vec<u8>, FileFault>
         ensures answered { answers self.old name.now (answer_of result) self.new }
         ensures bytes { IsTrue (tells self.old) → IfOk result (λ bytes. file self.old name.now ≡ Some bytes.items) }
         ensures refused { IsTrue (tells self.old) → result ≡ Err FileFault.Refused → file self.old name.now ≡ None }

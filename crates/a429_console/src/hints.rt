@@ -87,6 +87,8 @@ pub enum LogRefusal {
     Line(LineFault),
     /// No receiver has the name of its word.
     Receiver,
+    /// The name of its word is not UTF-8.
+    Name,
     /// Its time is too late.
     Late,
 }
@@ -95,6 +97,8 @@ pub enum LogRefusal {
 #[derive(Clone, Copy)]
 pub struct SeenLog {
     pub why: LogRefusal,
+    /// The number of the log, from 0.
+    pub number: usize,
     /// The form of the log's rows. `None` if the line is the first that states something.
     pub shape: Option<Shape>,
     /// The unit of times.

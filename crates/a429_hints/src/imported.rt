@@ -3,9 +3,9 @@
 use crate::faults::SAME_SOURCE;
 use crate::hint::HintText;
 use crate::sheets::{Sheet, begin_column, begin_row, form_in, tell_field};
-use a429_import::CsvLine;
 use a429_equipment::{GROUPS, OUTPUTS, RECEIVERS, SOURCES};
 use a429_filter::FILTERS;
+use a429_import::CsvLine;
 use a429_table::{FaultKind, TablePlace};
 
 /// Says which row has the fault for which the table is refused.

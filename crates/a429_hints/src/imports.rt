@@ -7,8 +7,8 @@ use crate::nearest::Nearest;
 use crate::sheets::{Sheet, begin_column, begin_row, tell_field};
 use a429_console::hints::SeenRows;
 use a429_console::refusals::{CommandRefusal, CsvKind};
-use a429_import::{CsvLine, IMPORT_COLUMNS, ImportColumn, LineCount, csv_lines};
 use a429_filter::Filter;
+use a429_import::{CsvLine, IMPORT_COLUMNS, ImportColumn, LineCount, csv_lines};
 use std::cmp::min;
 
 /// Says what is wrong with the rows of a file.

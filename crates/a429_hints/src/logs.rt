@@ -48,6 +48,7 @@ pub fn tell_log_line(line: &SeenLine, log: &SeenLog, hint: &mut HintText) {
         LogRefusal::Line(LineFault::Heading(fault)) => tell_heading(fault, hint),
         LogRefusal::Line(LineFault::Row(fault)) => tell_row(line, &read, fault, hint),
         LogRefusal::Receiver => tell_names("receiver", name_in(&read), &line.receivers, hint),
+        LogRefusal::Name => hint.say_line(NOT_UTF8),
         LogRefusal::Late => hint.say_line(
             "the time is 100000000000000 us or more; to count times from the first word, give --from first",
         ),
@@ -222,7 +223,15 @@ fn tell_fall(line: &SeenLine, read: &ReadLine<'_>, hint: &mut HintText) {
     });
     hint.begin(": the time ");
     hint.say_short("", time_in(read));
-    hint.say_short(" is less than the time before it, ", earlier);
+    if earlier
+        .bytes()
+        .next()
+        .is_some_and(|byte| byte.is_ascii_digit())
+    {
+        hint.say_short(" is less than the time before it, ", earlier);
+    } else {
+        hint.say(" is less than that of the last word in the logs before");
+    }
     hint.end("; times must not decrease");
 }
 

@@ -137,12 +137,15 @@ fn tell_of_line(asked: &Asked, seen: &Seen, hint: &mut HintText) {
     let Some(line) = &seen.line else {
         return;
     };
-    hint.turn_to(text_name(asked));
+    hint.turn_to(match &seen.log {
+        Some(log) => log_name(asked, log.number),
+        None => text_name(asked),
+    });
     hint.turn_to_line(line.number);
     match (asked.verb, seen.byte) {
         (_, Some(byte)) => tell_line_byte(line, byte, hint),
         (Verb::Live, None) => tell_words_line(line, hint),
-        (Verb::Simulate, None) => {
+        (Verb::Simulate | Verb::Survey, None) => {
             if let Some(log) = &seen.log {
                 tell_log_line(line, log, hint);
             }
@@ -279,6 +282,15 @@ fn text_name<'a>(asked: &Asked<'a>) -> &'a str {
         asked.second
     } else {
         asked.first
+    }
+}
+
+/// The name of the log with this number, counted from 0.
+fn log_name<'a>(asked: &Asked<'a>, number: usize) -> &'a str {
+    if number == 0 {
+        text_name(asked)
+    } else {
+        nth(&asked.more, number)
     }
 }
 

@@ -13,7 +13,7 @@ use Rattle.a429_import.specs.FirstRows.{AreFirstRows, NotesRow, first_named}
 use Rattle.a429_import.specs.ImportTables.{name_in}
 
 -- the first place in a list with one added element
-position_from-push : {X : Type 0} (p : X → Bool) (i n : ℕ) (xs : List X) (y : X) → i + length xs ≡ n
+pub position_from-push : {X : Type 0} (p : X → Bool) (i n : ℕ) (xs : List X) (y : X) → i + length xs ≡ n
     → position_from p i (xs ++ y ∷ []) ≡ option_or (position_from p i xs) (cond (p y) (Some n) None)
 position_from-push p i n [] y e = let same : i ≡ n = omega arith in ap (λ m. cond (p y) (Some m) None) same
 position_from-push p i n (x ∷ xs) y e = by (p x) (position_from-push p (i + 1) n xs y (omega arith))

@@ -1,6 +1,6 @@
 -- What is known of lines, after one more line.
 use Rattle.std.proofs.Common.{◌≡◌, ◌∙◌, ℕ, List, [], ◌∷◌, ◌++◌, Option, None, Some, option_map, Result, Ok, Err, true, ap, refl, subst, sym}
-use Rattle.std.specs.Prelude.{OnOk, is_some}
+use Rattle.std.specs.Prelude.{is_some}
 use Rattle.std.specs.Result.{result_err, result_ok}
 use Rattle.csv.specs.Records.{fields_of}
 use Rattle.a429_import.specs.declared.fault.CsvFaultKind.TheVariants.{Column}
@@ -11,9 +11,8 @@ use Rattle.a429_import.specs.declared.fault.ImportFault.TheVariants.{NoMemory, C
 use Rattle.a429_import.specs.declared.lines.CsvLine.{CsvLine}
 use Rattle.a429_import.specs.declared.reading.LinesRead.{LinesRead}
 use Rattle.a429_import.specs.declared.rows.ImportRow.{ImportRow}
-use Rattle.a429_import.specs.FirstRows.{AreFirstRows}
 use Rattle.a429_import.specs.ImportClashes.{Agree}
-use Rattle.a429_import.specs.ImportReading.{AreRead, HaveFault, HaveRows, SayRows, with_line}
+use Rattle.a429_import.specs.ImportReading.{AreRead, HasRows, HaveFault, HaveRows, IsTaken, SayRows, with_line}
 use Rattle.a429_import.specs.ImportRows.{◌>>=◌, CsvFault, next_row, rows_after, rows_stated, unless_wrong, wrong_column}
 use Rattle.a429_import.specs.Imports.{IsImportOf, States}
 
@@ -60,65 +59,52 @@ fault_stays (Table f) (heading ∷ below) line h = absurd h
 abbrev fault_of : Option ImportColumn → Option ImportFault
 fault_of o = option_map (λ column. Csv 1 Column (Some column)) o
 
-heading_by : (new : LinesRead) (line : CsvLine) (wrong : Option ImportColumn) → wrong_column (fields_of line.fields) ≡ wrong → new.heading ≡ Some line → new.rows.items ≡ [] → AreFirstRows new.firsts []
-    → AreRead (fault_of wrong) new (line ∷ [])
+heading_by : (new : LinesRead) (line : CsvLine) (wrong : Option ImportColumn) → wrong_column (fields_of line.fields) ≡ wrong → new.heading ≡ Some line → HasRows new.rows [] → AreRead (fault_of wrong) new (line ∷ [])
 unfolding rows_stated
-heading_by new line None is headed empty firsts =
+heading_by new line None is headed empty =
     let P : Option CsvLine → Type 0 = λ o. HaveRows o new (line ∷ []) in
-    let none : List ImportRow = [] in
-    subst P (sym headed) (
-      [],
-      refl,
-      record {
-        named = is;
-        rows = ap (λ rows. Ok rows) (sym empty);
-        agree = subst Agree (sym empty) tt;
-        firsts = subst (AreFirstRows new.firsts) (sym empty) firsts;
-      },
-    )
-heading_by new line (Some column) is headed empty firsts = ap (unless_wrong (fields_of line.fields) []) is
+    subst P (sym headed) ([], refl, record { named = is; rows = []; stated = refl; agree = tt; has = empty })
+heading_by new line (Some column) is headed empty = ap (unless_wrong (fields_of line.fields) []) is
 
-pub heading_read : (old new : LinesRead) (line : CsvLine) (lines : List CsvLine) (fault : Option ImportFault) → HaveRows None old lines → new.heading ≡ Some line → new.rows ≡ old.rows → new.firsts ≡ old.firsts
+pub heading_read : (old new : LinesRead) (line : CsvLine) (lines : List CsvLine) (fault : Option ImportFault) → HaveRows None old lines → new.heading ≡ Some line → new.rows ≡ old.rows
     → fault ≡ fault_of (wrong_column (fields_of line.fields)) → AreRead fault new (lines ++ line ∷ [])
-heading_read old new line lines fault known headed rows firsts is =
-    let empty : new.rows.items ≡ [] = ap (λ v. v.items) rows ∙ known.1 in
-    let first : AreFirstRows new.firsts [] = subst (λ f. AreFirstRows f []) (sym firsts) known.2 in
+heading_read old new line lines fault known headed rows is =
+    let empty : HasRows new.rows [] = subst (λ r. HasRows r []) (sym rows) known.1 in
     let P : Option ImportFault → Type 0 = λ f. AreRead f new (line ∷ []) in
-    subst (λ ls. AreRead fault new (ls ++ line ∷ [])) (sym known.0) (subst P (sym is) (heading_by new line (wrong_column (fields_of line.fields)) refl headed empty first))
+    subst (λ ls. AreRead fault new (ls ++ line ∷ [])) (sym known.0) (subst P (sym is) (heading_by new line (wrong_column (fields_of line.fields)) refl headed empty))
 
 -- ---- a row
 
 module _ (heading : CsvLine) (below : List CsvLine) (old : LinesRead) (line : CsvLine) (known : SayRows heading below old) where
-  stated : rows_stated (heading ∷ below ++ line ∷ []) ≡ with_line (fields_of heading.fields) old.rows.items line
+  stated : rows_stated (heading ∷ below ++ line ∷ []) ≡ with_line (fields_of heading.fields) known.rows line
   unfolding rows_stated
   stated =
       ap (unless_wrong (fields_of heading.fields) (below ++ line ∷ [])) known.named ∙ rows_after-push (fields_of heading.fields) [] below line
-      ∙ ap (λ (r : Result (List ImportRow) CsvFault). r >>= λ rows. with_line (fields_of heading.fields) rows line) known.rows
+      ∙ ap (λ (r : Result (List ImportRow) CsvFault). r >>= λ rows. with_line (fields_of heading.fields) rows line) known.stated
 
   -- a row without a fault
-  row_said : (new : LinesRead) → with_line (fields_of heading.fields) old.rows.items line ≡ Ok new.rows.items → Agree new.rows.items → AreFirstRows new.firsts new.rows.items → SayRows heading (below ++ line ∷ []) new
-  row_said new is agree firsts = record {
+  row_said : (new : LinesRead) (rows : List ImportRow) → with_line (fields_of heading.fields) known.rows line ≡ Ok rows → Agree rows → HasRows new.rows rows → SayRows heading (below ++ line ∷ []) new
+  row_said new rows is agree has = record {
     named = known.named;
-    rows = rows_after-push (fields_of heading.fields) [] below line ∙ ap (λ (r : Result (List ImportRow) CsvFault). r >>= λ rows. with_line (fields_of heading.fields) rows line) known.rows ∙ is;
+    rows = rows;
+    stated = rows_after-push (fields_of heading.fields) [] below line ∙ ap (λ (r : Result (List ImportRow) CsvFault). r >>= λ rows. with_line (fields_of heading.fields) rows line) known.stated ∙ is;
     agree = agree;
-    firsts = firsts;
+    has = has;
   }
 
-  row_refused : {X : Type 0} (view : X → List ImportRow) (e : ImportFault) → States view (Err e) (with_line (fields_of heading.fields) old.rows.items line) → HaveFault e (heading ∷ below ++ line ∷ [])
-  row_refused view NoMemory h = tt
-  row_refused view (Csv number kind column) h = stated ∙ h
-  row_refused view (Table f) h = absurd h
+  row_refused : (e : ImportFault) → States {X = List ImportRow} (λ rows. rows) (Err e) (with_line (fields_of heading.fields) known.rows line) → HaveFault e (heading ∷ below ++ line ∷ [])
+  row_refused NoMemory h = tt
+  row_refused (Csv number kind column) h = stated ∙ h
+  row_refused (Table f) h = absurd h
 
 -- one more line, which may have a fault
-pub line_read : (heading : CsvLine) (old new : LinesRead) (line : CsvLine) (lines : List CsvLine) (result : Result (Unit {0}) ImportFault) → HaveRows (Some heading) old lines → new.heading ≡ Some heading
-    → States (λ _. new.rows.items) result (with_line (fields_of heading.fields) old.rows.items line) → OnOk result (Agree new.rows.items) → OnOk result (AreFirstRows new.firsts new.rows.items)
-    → AreRead (result_err result) new (lines ++ line ∷ [])
-line_read heading old new line lines (Ok u) known headed is agree firsts =
+pub line_read : (heading : CsvLine) (old new : LinesRead) (line : CsvLine) (lines : List CsvLine) (result : Result (Unit {0}) ImportFault) (known : HaveRows (Some heading) old lines) → new.heading ≡ Some heading
+    → IsTaken result new.rows (with_line (fields_of heading.fields) known.2.rows line) → AreRead (result_err result) new (lines ++ line ∷ [])
+line_read heading old new line lines (Ok u) known headed (rows, is, agree, has) =
     let P : Option CsvLine → Type 0 = λ o. HaveRows o new (heading ∷ known.0 ++ line ∷ []) in
-    subst (λ ls. AreRead None new (ls ++ line ∷ [])) (sym known.1) (subst P (sym headed) (known.0 ++ line ∷ [], refl, row_said heading known.0 old line known.2 new is agree firsts))
-line_read heading old new line lines (Err e) known headed is agree firsts =
-    let view : Unit {0} → List ImportRow = λ _. new.rows.items in
-    subst (λ ls. HaveFault e (ls ++ line ∷ [])) (sym known.1) (row_refused heading known.0 old line known.2 view e is)
+    subst (λ ls. AreRead None new (ls ++ line ∷ [])) (sym known.1) (subst P (sym headed) (known.0 ++ line ∷ [], refl, row_said heading known.0 old line known.2 new rows is agree has))
+line_read heading old new line lines (Err e) known headed is =
+    subst (λ ls. HaveFault e (ls ++ line ∷ [])) (sym known.1) (row_refused heading known.0 old line known.2 e is)
 
 -- lines after one with a fault
 pub line_skipped : (fault : Option ImportFault) (old new : LinesRead) (lines : List CsvLine) (line : CsvLine) → is_some fault ≡ true → AreRead fault old lines → AreRead fault new (lines ++ line ∷ [])
@@ -134,11 +120,12 @@ no_lines read lines e known is =
     let empty : IsImportOf none (Err (Csv 1 Column (Some Group))) = refl in
     subst (λ ls. IsImportOf ls (Err e)) (sym known.0) (subst (λ (x : ImportFault). IsImportOf none (Err x)) (sym is) empty)
 
-pub rows_read : (heading : CsvLine) (read : LinesRead) (lines : List CsvLine) → HaveRows (Some heading) read lines → rows_stated lines ≡ Ok read.rows.items
+pub rows_read : (heading : CsvLine) (read : LinesRead) (lines : List CsvLine) (known : HaveRows (Some heading) read lines) → rows_stated lines ≡ Ok known.2.rows
 unfolding rows_stated
-rows_read heading read lines known = ap rows_stated known.1 ∙ ap (unless_wrong (fields_of heading.fields) known.0) known.2.named ∙ known.2.rows
+rows_read heading read lines known = ap rows_stated known.1 ∙ ap (unless_wrong (fields_of heading.fields) known.0) known.2.named ∙ known.2.stated
 
 -- the fault makes no difference
 pub other_fault : (heading : Option CsvLine) (read : LinesRead) (fault : Option ImportFault) (lines : List CsvLine) → HaveRows heading read lines → HaveRows heading (record read { fault = fault }) lines
 other_fault None read fault lines known = known
-other_fault (Some heading) read fault lines known = (known.0, known.1, record { named = known.2.named; rows = known.2.rows; agree = known.2.agree; firsts = known.2.firsts })
+other_fault (Some heading) read fault lines known =
+    (known.0, known.1, record { named = known.2.named; rows = known.2.rows; stated = known.2.stated; agree = known.2.agree; has = known.2.has })

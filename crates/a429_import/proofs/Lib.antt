@@ -10,3 +10,8 @@ pub mod NextRows
 pub mod ImportLimits
 pub mod ImportReading
 mod FirstPlaces
+pub mod NameChains
+pub mod Knowing
+pub mod KnownClashes
+pub mod KnownRows
+pub mod FullRows

@@ -1,5 +1,5 @@
 -- What is known of lines that were read: what the rows among them say, or their first fault (profile: import).
-use Rattle.std.specs.Prelude.{◌≡◌, ℕ, List, [], ◌∷◌, ◌++◌, Option, None, Some, option_map, Result, Ok, Err}
+use Rattle.std.specs.Prelude.{◌≡◌, ℕ, Bool, true, false, List, [], ◌∷◌, ◌++◌, Option, None, Some, option_map, Result, Ok, Err}
 use Rattle.csv.specs.Records.{fields_of}
 use Rattle.a429_import.specs.declared.fault.CsvFaultKind.TheVariants.{Column}
 use Rattle.a429_import.specs.declared.fault.ImportColumn.{ImportColumn}
@@ -7,11 +7,12 @@ use Rattle.a429_import.specs.declared.fault.ImportFault.{ImportFault}
 use Rattle.a429_import.specs.declared.fault.ImportFault.TheVariants.{Csv}
 use Rattle.a429_import.specs.declared.lines.CsvLine.{CsvLine}
 use Rattle.a429_import.specs.declared.reading.LinesRead.{LinesRead}
+use Rattle.a429_import.specs.declared.reading.RowsRead.{RowsRead}
 use Rattle.a429_import.specs.declared.rows.ImportRow.{ImportRow}
-use Rattle.a429_import.specs.FirstRows.{AreFirstRows}
 use Rattle.a429_import.specs.ImportClashes.{Agree}
 use Rattle.a429_import.specs.ImportRows.{◌>>=◌, CsvFault, next_row, rows_after, rows_stated, wrong_column}
 use Rattle.a429_import.specs.Imports.{States}
+use Rattle.a429_import.specs.Known.{Knows, are_full}
 
 -- a heading that lacks a column or has it twice is a fault of line 1
 abbrev pub heading_fault : List (List ℕ) → Option ImportFault
@@ -26,16 +27,32 @@ abbrev pub HaveFault : ImportFault → List CsvLine → Type 0
 HaveFault fault [] = ⊥
 HaveFault fault (heading ∷ below) = States {X = List ImportRow} (λ rows. rows) (Err fault) (rows_stated (heading ∷ below))
 
--- the rows that lines below a heading say, and which of them are the first of their receiver, source or group
+-- the rows that are kept are all rows, unless there are too many groups, or too many outputs of a group
+abbrev pub IsKept : Bool → List ImportRow → List ImportRow → Type 0
+IsKept false kept rows = kept ≡ rows
+IsKept true kept rows = are_full rows ≡ true
+
+-- what was read says these rows
+pub record HasRows (read : RowsRead) (rows : List ImportRow) : Type 0 where
+  pub known : Knows read.known rows
+  pub kept : IsKept read.is_full read.kept.items rows
+
+-- one more row is read, or refused
+abbrev pub IsTaken : Result (Unit {0}) ImportFault → RowsRead → Result (List ImportRow) CsvFault → Type 0
+IsTaken (Ok u) read stated = (rows : List ImportRow) × (stated ≡ Ok rows) × Agree rows × HasRows read rows
+IsTaken (Err fault) read stated = States {X = List ImportRow} (λ rows. rows) (Err fault) stated
+
+-- the rows that lines below a heading say
 pub record SayRows (heading : CsvLine) (below : List CsvLine) (read : LinesRead) : Type 0 where
   pub named : wrong_column (fields_of heading.fields) ≡ None
-  pub rows : rows_after (fields_of heading.fields) [] below ≡ Ok read.rows.items
-  pub agree : Agree read.rows.items
-  pub firsts : AreFirstRows read.firsts read.rows.items
+  pub rows : List ImportRow
+  pub stated : rows_after (fields_of heading.fields) [] below ≡ Ok rows
+  pub agree : Agree rows
+  pub has : HasRows read.rows rows
 
 -- nothing was read yet, or a heading and the lines below it
 abbrev pub HaveRows : Option CsvLine → LinesRead → List CsvLine → Type 0
-HaveRows None read lines = (lines ≡ []) × (read.rows.items ≡ []) × AreFirstRows read.firsts []
+HaveRows None read lines = (lines ≡ []) × HasRows read.rows []
 HaveRows (Some heading) read lines = (below : List CsvLine) × (lines ≡ heading ∷ below) × SayRows heading below read
 
 abbrev pub AreRead : Option ImportFault → LinesRead → List CsvLine → Type 0

@@ -11,3 +11,5 @@ pub mod ImportClashes
 pub mod ImportLimits
 pub mod ImportReading
 pub mod NextRows
+pub mod Names
+pub mod Known

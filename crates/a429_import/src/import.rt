@@ -1,33 +1,28 @@
 //! An equipment table from rows of comma-separated values.
 ghost use Rattle.std.specs.Prelude.{◌≡◌, List, Ok};
 ghost use Rattle.a429_import.specs.declared.lines.CsvLine.{CsvLine};
-ghost use Rattle.a429_import.specs.FirstRows.{AreFirstRows};
-ghost use Rattle.a429_import.specs.ImportReading.{HaveRows, StandsFor};
+ghost use Rattle.a429_import.specs.declared.rows.ImportRow.{ImportRow};
+ghost use Rattle.a429_import.specs.ImportReading.{HasRows, HaveRows, StandsFor};
 ghost use Rattle.a429_import.specs.ImportRows.{rows_stated};
 ghost use Rattle.a429_import.specs.Imports.{IsImport, IsImportOf};
 
 use crate::fault::{ImportColumn, ImportFault};
-use crate::firsts::FirstRows;
 use crate::limits::limit_fault;
-use crate::reading::{LinesRead, read_lines, wrong_heading};
-use crate::rows::ImportRow;
+use crate::reading::{LinesRead, RowsRead, read_lines, wrong_heading};
 use crate::tables::table_text;
 use a429_table::{TableFault, read_equipment};
 use std::alloc::Global;
 
 /// The table that rows describe.
-fn table_of_rows(
-    alloc: Global,
-    rows: &[ImportRow],
-    firsts: &FirstRows,
-) -> Result<Vec<u8>, ImportFault>
-    requires { AreFirstRows firsts.now rows.now }
-    ensures { (lines : List CsvLine) → rows_stated lines ≡ Ok rows.now → IsImportOf lines result }
+fn table_of_rows(alloc: Global, read: &RowsRead) -> Result<Vec<u8>, ImportFault>
+    ensures { (rows : List ImportRow) (lines : List CsvLine) → HasRows read.now rows
+        → rows_stated lines ≡ Ok rows → IsImportOf lines result }
 {
-    if let Some((kind, place)) = limit_fault(alloc, rows, firsts)? {
-        return Err(ImportFault::Table(TableFault::At(kind, place)));
+    match limit_fault(&read.known) {
+        Some((kind, place)) => return Err(ImportFault::Table(TableFault::At(kind, place))),
+        None => {}
     }
-    let text = table_text(alloc, rows)?;
+    let text = table_text(alloc, &read.kept)?;
     match read_equipment(alloc, text.as_str().as_bytes()) {
         Ok(_) => Ok(text.into_bytes()),
         Err(fault) => Err(ImportFault::from(fault)),
@@ -36,18 +31,16 @@ fn table_of_rows(
 
 /// The table that lines without a fault describe.
 fn table_below_heading(alloc: Global, read: &LinesRead) -> Result<Vec<u8>, ImportFault>
-    requires { (lines : List CsvLine) × HaveRows read.now.heading read.now lines }
     ensures { (lines : List CsvLine) → HaveRows read.now.heading read.now lines → IsImportOf lines result }
 {
     match &read.heading {
         None => Err(wrong_heading(ImportColumn::Group)),
-        Some(_) => table_of_rows(alloc, &read.rows, &read.firsts),
+        Some(_) => table_of_rows(alloc, &read.rows),
     }
 }
 
 /// The table that lines describe.
 fn table_of_lines(alloc: Global, read: &mut LinesRead) -> Result<Vec<u8>, ImportFault>
-    requires { (lines : List CsvLine) × StandsFor read.old lines }
     ensures { (lines : List CsvLine) → StandsFor read.old lines → IsImportOf lines result }
 {
     match read.fault.take() {
@@ -63,7 +56,9 @@ fn table_of_lines(alloc: Global, read: &mut LinesRead) -> Result<Vec<u8>, Import
 pub fn import_table(alloc: Global, bytes: &[u8]) -> Result<Vec<u8>, ImportFault>
     ensures { IsImport bytes.now result }
 {
-    let mut read = LinesRead::new(alloc);
+    // Three names that are new need a row of 22 bytes. So a chain has 23 names on average at most, and 16 MiB of rows
+    // take 64 MiB of memory.
+    let mut read = LinesRead::new(alloc, bytes.len() / 512)?;
     read_lines(alloc, bytes, &mut read)?;
     table_of_lines(alloc, &mut read)
 }

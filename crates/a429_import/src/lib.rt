@@ -23,13 +23,18 @@ mod fault;
 mod fields;
 mod firsts;
 mod import;
+mod known;
 pub mod laws;
 mod limits;
 mod lines;
+mod named_rows;
+mod names;
 mod reading;
 mod row_index;
 mod rows;
+mod short_numbers;
 mod tables;
+mod texts;
 mod words;
 
 pub use columns::COLUMNS as IMPORT_COLUMNS;

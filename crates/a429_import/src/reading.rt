@@ -1,102 +1,134 @@
 //! What rows say, one line after the other. No line is kept.
-ghost use Rattle.std.specs.Prelude.{◌≡◌, ◌++◌, [], ◌∷◌, List, OnOk, Some, length};
+ghost use Rattle.std.specs.Prelude.{◌≡◌, ◌++◌, [], ◌∷◌, IfOk, List, OnOk, Some};
+ghost use Rattle.std.specs.Result.{result_map_both};
 ghost use Rattle.csv.specs.Records.{fields_of};
 ghost use Rattle.a429_import.specs.declared.lines.CsvLine.{CsvLine};
-ghost use Rattle.a429_import.specs.FirstRows.{AreFirstRows, NotesRow};
+ghost use Rattle.a429_import.specs.declared.rows.ImportRow.{ImportRow};
 ghost use Rattle.a429_import.specs.ImportClashes.{Agree};
-ghost use Rattle.a429_import.specs.ImportReading.{AreRead, HaveRows, StandsFor, heading_fault, with_line};
+ghost use Rattle.a429_import.specs.ImportReading.{AreRead, HasRows, HaveRows, IsKept, IsTaken, StandsFor, heading_fault, with_line};
 ghost use Rattle.a429_import.specs.ImportRows.{next_row};
-ghost use Rattle.a429_import.specs.Imports.{AreLines, States};
+ghost use Rattle.a429_import.specs.ImportTexts.{row_view};
+ghost use Rattle.a429_import.specs.Imports.{AreLines};
+ghost use Rattle.a429_import.specs.Known.{Knows, KnowsGroups};
 
 use crate::clashes::first_clash;
 use crate::columns::wrong_column;
 use crate::fault::{CsvFaultKind, ImportColumn, ImportFault};
-use crate::firsts::FirstRows;
+use crate::known::Known;
+use crate::known::groups::KnownGroups;
 use crate::lines::{CsvLine, LineCount, line_of};
-use crate::rows::{ImportRow, row_of};
+use crate::rows::{ImportRow, RowFields, copy_of, row_of};
 use csv::ReaderBuilder;
 use std::alloc::{AllocError, Global};
+
+/// What rows say.
+#[derive(Drop)]
+pub struct RowsRead {
+    pub known: Known,
+    /// The rows, up to the first with which there are too many groups, or too many outputs of a group.
+    pub kept: Vec<ImportRow>,
+    /// Whether there is such a row.
+    pub is_full: bool,
+}
 
 /// What is known of lines that were read.
 #[derive(Drop)]
 pub struct LinesRead {
     pub heading: Option<CsvLine>,
-    /// What the rows below the heading say.
-    pub rows: Vec<ImportRow>,
-    pub firsts: FirstRows,
+    /// What the lines below the heading say.
+    pub rows: RowsRead,
     /// The first fault, after which lines are not looked at.
     pub fault: Option<ImportFault>,
 }
 
 impl LinesRead {
-    /// Before the first line.
-    pub fn new(alloc: Global) -> LinesRead
-        ensures { StandsFor result [] }
+    /// Before the first line. Error: an allocation failed.
+    pub fn new(alloc: Global, chains: usize) -> Result<LinesRead, AllocError>
+        ensures { IfOk result (λ read. StandsFor read []) }
     {
-        LinesRead {
+        let known = Known::new(alloc, chains)?;
+        Ok(LinesRead {
             heading: None,
-            rows: Vec::new(alloc),
-            firsts: FirstRows::new(alloc),
+            rows: RowsRead {
+                known,
+                kept: Vec::new(alloc),
+                is_full: false,
+            },
             fault: None,
-        }
+        })
     }
 }
 
-/// What a row says, after these rows.
-fn next_row(
-    alloc: Global,
+/// What a row says, if it has its form and agrees with all earlier ones. Error: what is wrong with it, and the column.
+fn next_row<'a>(
+    known: &Known,
     heading: &CsvLine,
-    earlier: &[ImportRow],
-    firsts: &FirstRows,
-    line: &CsvLine,
-) -> Result<ImportRow, ImportFault>
-    requires agree { Agree earlier.now }
-    requires firsts { AreFirstRows firsts.now earlier.now }
-    ensures { States (λ row. row) result (next_row (fields_of heading.now.fields) earlier.now line.now) }
+    line: &'a CsvLine,
+) -> Result<RowFields<'a>, (CsvFaultKind, Option<ImportColumn>)>
+    requires { (rows : List ImportRow) × Knows known.now rows }
+    ensures { (rows : List ImportRow) → Agree rows → Knows known.now rows
+        → result_map_both row_view (λ f. (line.now.number, f.0, f.1)) result ≡ next_row (fields_of heading.now.fields) rows line.now }
 {
-    let row = row_of(alloc, heading, line)?;
-    match first_clash(earlier, firsts, &row) {
-        None => Ok(row),
-        Some(column) => Err(ImportFault::Csv {
-            line: line.number,
-            kind: CsvFaultKind::Differs,
-            column: Some(column),
-        }),
+    match row_of(heading, line) {
+        Ok(row) => match first_clash(known, &row) {
+            None => Ok(row),
+            Some(column) => Err((CsvFaultKind::Differs, Some(column))),
+        },
+        Err(column) => Err((CsvFaultKind::Form, column)),
     }
 }
 
-/// Adds a row, and records its number if it is the first of its receiver, source or group.
-fn push_row(
+/// Keeps a row, unless the table has too much with it or before it. The answer is whether it has.
+fn keep(
     alloc: Global,
-    rows: &mut Vec<ImportRow>,
-    firsts: &mut FirstRows,
-    row: ImportRow,
-) -> Result<(), AllocError>
-    ensures rows { OnOk result (rows.new.items ≡ rows.old.items ++ row ∷ []) }
-    ensures firsts { OnOk result (NotesRow firsts.old firsts.new row (length rows.old.items)) }
+    kept: &mut Vec<ImportRow>,
+    is_full: bool,
+    groups: &KnownGroups,
+    row: &RowFields<'_>,
+) -> Result<bool, AllocError>
+    ensures { IfOk result (λ full. (rows : List ImportRow) → KnowsGroups groups.now (rows ++ row_view row.now ∷ [])
+        → IsKept is_full kept.old.items rows → IsKept full kept.new.items (rows ++ row_view row.now ∷ [])) }
 {
-    firsts.note(alloc, &row, rows.len())?;
-    rows.push(row)?;
+    if is_full || groups.are_full() {
+        return Ok(true);
+    }
+    kept.push(copy_of(alloc, row)?)?;
+    Ok(false)
+}
+
+/// Takes a row.
+fn take_row(alloc: Global, read: &mut RowsRead, row: &RowFields<'_>) -> Result<(), AllocError>
+    requires { (rows : List ImportRow) × Knows read.old.known rows }
+    ensures { OnOk result ((rows : List ImportRow) → HasRows read.old rows → HasRows read.new (rows ++ row_view row.now ∷ [])) }
+{
+    read.known.note(row)?;
+    let is_full = keep(alloc, &mut read.kept, read.is_full, &read.known.groups, row)?;
+    read.is_full = is_full;
     Ok(())
 }
 
-/// Adds what a line says.
-fn push_line(
+/// Takes a line below the heading.
+fn take_below(
     alloc: Global,
-    rows: &mut Vec<ImportRow>,
-    firsts: &mut FirstRows,
+    read: &mut RowsRead,
     heading: &CsvLine,
     line: &CsvLine,
 ) -> Result<(), ImportFault>
-    requires agree { Agree rows.old.items }
-    requires firsts { AreFirstRows firsts.old rows.old.items }
-    ensures rows { States (λ _. rows.new.items) result (with_line (fields_of heading.now.fields) rows.old.items line.now) }
-    ensures agree { OnOk result (Agree rows.new.items) }
-    ensures firsts { OnOk result (AreFirstRows firsts.new rows.new.items) }
+    requires { (rows : List ImportRow) × Knows read.old.known rows }
+    ensures { (rows : List ImportRow) → Agree rows → HasRows read.old rows
+        → IsTaken result read.new (with_line (fields_of heading.now.fields) rows line.now) }
 {
-    let row = next_row(alloc, heading, rows, firsts, line)?;
-    push_row(alloc, rows, firsts, row)?;
-    Ok(())
+    match next_row(&read.known, heading, line) {
+        Ok(row) => {
+            take_row(alloc, read, &row)?;
+            Ok(())
+        }
+        Err((kind, column)) => Err(ImportFault::Csv {
+            line: line.number,
+            kind,
+            column,
+        }),
+    }
 }
 
 /// The fault of a heading that lacks a column, or has it twice.
@@ -131,7 +163,7 @@ fn next_line(alloc: Global, read: &mut LinesRead, line: CsvLine) -> Option<Impor
             read.heading = Some(line);
             fault
         }
-        Some(heading) => push_line(alloc, &mut read.rows, &mut read.firsts, heading, &line).err(),
+        Some(heading) => take_below(alloc, &mut read.rows, heading, &line).err(),
     }
 }
 

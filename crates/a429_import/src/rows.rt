@@ -4,11 +4,10 @@ ghost use Rattle.std.specs.Result.{result_map_both};
 ghost use Rattle.csv.specs.Records.{fields_of};
 ghost use Rattle.a429_import.specs.ImportFields.{filters_in, hold_in, label_in, number_in, sdi_in, text_in};
 ghost use Rattle.a429_import.specs.ImportRows.{numbers_of, row_of, stated_at, texts_of};
-ghost use Rattle.a429_import.specs.ImportTexts.{text_view, texts_view};
-ghost use Rattle.a429_import.specs.Imports.{States};
+ghost use Rattle.a429_import.specs.ImportTexts.{row_view, text_view, texts_view};
 
 use crate::columns::field_of;
-use crate::fault::{CsvFaultKind, ImportColumn, ImportFault};
+use crate::fault::{CsvFaultKind, ImportColumn};
 use crate::fields::{filters_in, hold_in, label_in, number_in, sdi_in, text_in};
 use crate::lines::CsvLine;
 use a429_equipment::Name;
@@ -28,10 +27,10 @@ pub struct RowTexts {
 /// The texts, as the fields have them.
 #[derive(Clone, Copy)]
 pub struct TextFields<'a> {
-    group: &'a str,
-    source: &'a str,
-    receiver: &'a str,
-    filters: &'a str,
+    pub group: &'a str,
+    pub source: &'a str,
+    pub receiver: &'a str,
+    pub filters: &'a str,
 }
 
 /// The numbers of a row.
@@ -54,6 +53,13 @@ pub struct RowNumbers {
 #[derive(Drop)]
 pub struct ImportRow {
     pub texts: RowTexts,
+    pub numbers: RowNumbers,
+}
+
+/// The same, with the texts as the fields have them.
+#[derive(Clone, Copy)]
+pub struct RowFields<'a> {
+    pub texts: TextFields<'a>,
     pub numbers: RowNumbers,
 }
 
@@ -135,6 +141,29 @@ fn text_fields<'a>(heading: &CsvLine, line: &'a CsvLine) -> Result<TextFields<'a
     })
 }
 
+/// What a row says, without the other rows. Error: the column with a wrong form; `None` if the row has more or fewer
+/// fields than the heading.
+#[tactic(auto, unfolding(crate::specs::ImportRows::row_of))]
+pub fn row_of<'a>(
+    heading: &CsvLine,
+    line: &'a CsvLine,
+) -> Result<RowFields<'a>, Option<ImportColumn>>
+    ensures { result_map_both row_view (λ column. (line.now.number, CsvFaultKind.Form, column)) result
+        ≡ row_of (fields_of heading.now.fields) line.now }
+{
+    if line.len() != heading.len() {
+        return Err(None);
+    }
+    let numbers = match row_numbers(heading, line) {
+        Ok(numbers) => numbers,
+        Err(column) => return Err(Some(column)),
+    };
+    match text_fields(heading, line) {
+        Ok(texts) => Ok(RowFields { texts, numbers }),
+        Err(column) => Err(Some(column)),
+    }
+}
+
 /// A copy of texts. Error: an allocation failed.
 fn row_texts(alloc: Global, fields: TextFields<'_>) -> Result<RowTexts, AllocError>
     ensures { IfOk result (λ texts. texts ≡ texts_view fields.entry) }
@@ -151,35 +180,12 @@ fn row_texts(alloc: Global, fields: TextFields<'_>) -> Result<RowTexts, AllocErr
     })
 }
 
-/// The fault of a row with a wrong form.
-fn wrong_form(line: &CsvLine, column: Option<ImportColumn>) -> ImportFault
-    ensures { result ≡ ImportFault.Csv line.now.number CsvFaultKind.Form column }
+/// A copy of what a row says. Error: an allocation failed.
+pub fn copy_of(alloc: Global, row: &RowFields<'_>) -> Result<ImportRow, AllocError>
+    ensures { IfOk result (λ copy. copy ≡ row_view row.now) }
 {
-    ImportFault::Csv {
-        line: line.number,
-        kind: CsvFaultKind::Form,
-        column,
-    }
-}
-
-/// What a row says, without the other rows. Error: the row or a field is not of its form, or an allocation
-/// failed.
-#[tactic(auto, unfolding(crate::specs::ImportRows::row_of))]
-pub fn row_of(alloc: Global, heading: &CsvLine, line: &CsvLine) -> Result<ImportRow, ImportFault>
-    ensures { States (λ row. row) result (row_of (fields_of heading.now.fields) line.now) }
-{
-    if line.len() != heading.len() {
-        return Err(wrong_form(line, None));
-    }
-    let numbers = match row_numbers(heading, line) {
-        Ok(numbers) => numbers,
-        Err(column) => return Err(wrong_form(line, Some(column))),
-    };
-    match text_fields(heading, line) {
-        Ok(fields) => Ok(ImportRow {
-            texts: row_texts(alloc, fields)?,
-            numbers,
-        }),
-        Err(column) => Err(wrong_form(line, Some(column))),
-    }
+    Ok(ImportRow {
+        texts: row_texts(alloc, row.texts)?,
+        numbers: row.numbers,
+    })
 }

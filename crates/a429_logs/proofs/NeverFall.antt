@@ -5,7 +5,7 @@ use Rattle.std.proofs.lemmas.Bool.Decides.{nat_tests}
 use Rattle.a429_logs.specs.LogColumns.{is_heading, places_of, plain_places}
 use Rattle.a429_logs.specs.LogFields.{fields_of, mark_in}
 use Rattle.a429_logs.specs.LogRows.{Stated, row_of}
-use Rattle.a429_logs.specs.Logs.{LineRead, NoneBefore, WordAt, base_of, entries_from, entry_then, is_passed_over, on_clock, read_first, read_line, read_stated, with_clock, with_heading, with_row}
+use Rattle.a429_logs.specs.Logs.{LineRead, NoneBefore, WordAt, and_then, base_of, entries_from, entry_then, is_passed_over, log_entries, on_clock, reading_after, reading_past, series_entries, read_first, read_line, read_stated, with_clock, with_heading, with_row}
 use Rattle.a429_logs.specs.declared.columns.HeadingFault.{HeadingFault}
 use Rattle.a429_logs.specs.declared.columns.Places.{Places}
 use Rattle.a429_logs.specs.declared.fields.Mark.{Mark}
@@ -71,3 +71,27 @@ never_fall reading [] = tt
 never_fall reading ((n, line) ∷ lines) =
     with_entry reading n (read_line reading line) (entries_from (read_line reading line).next lines) (by_passed reading line _ refl)
     (never_fall (read_line reading line).next lines)
+
+-- ---- several logs
+
+with_then : (reading : Reading) (n : ℕ) (read : LineRead) (entries later : List (Result WordAt LogFault)) → Keeps reading read
+    → NoneBefore read.next.clock.last (and_then entries later) → NoneBefore reading.clock.last (and_then (entry_then n read.states entries) later)
+with_then reading n read entries later keeps below = by_states reading.clock.last read.next.clock.last n read.states keeps below
+  where
+    by_states : (last next n : ℕ) (states : Result (Option Stated) LineFault) → KeepsTime last next states → NoneBefore next (and_then entries later)
+        → NoneBefore last (and_then (entry_then n states entries) later)
+    by_states last next n (Err why) keeps below = tt
+    by_states last next n (Ok None) keeps below = subst (λ (t : ℕ). NoneBefore t (and_then entries later)) (sym keeps) below
+    by_states last next n (Ok (Some w)) keeps below = (keeps.0, subst (λ (t : ℕ). NoneBefore t (and_then entries later)) (sym keeps.1) below)
+
+then_fall : (reading : Reading) (lines : List (ℕ × List ℕ)) (later : List (Result WordAt LogFault)) → NoneBefore (reading_past reading lines).clock.last later
+    → NoneBefore reading.clock.last (and_then (entries_from reading lines) later)
+then_fall reading [] later below = below
+then_fall reading ((n, line) ∷ lines) later below =
+    with_then reading n (read_line reading line) (entries_from (read_line reading line).next lines) later (by_passed reading line _ refl)
+    (then_fall (read_line reading line).next lines later below)
+
+pub series_fall : (reading : Reading) (texts : List (List ℕ)) → NoneBefore reading.clock.last (series_entries reading texts)
+unfolding log_entries reading_after
+series_fall reading [] = tt
+series_fall reading (text ∷ texts) = then_fall reading _ (series_entries (reading_after reading text) texts) (series_fall (reading_after reading text) texts)

@@ -113,6 +113,32 @@ entries_from reading ((n, line) ∷ lines) =
 unfoldable pub log_entries : Reading → List ℕ → List (Result WordAt LogFault)
 log_entries reading text = entries_from reading (enumerate_from 1 (parts_of LineFeed (without_byte_order_mark text)))
 
+-- ---- several logs, read as if they were one
+
+-- how the first line of the next log is read: times go on, and the form is found again
+abbrev pub next_log : Reading → Reading
+next_log reading = record { unit = reading.unit; shape = None; clock = reading.clock }
+
+-- how the line after some lines is read
+abbrev pub reading_past : Reading → List (ℕ × List ℕ) → Reading
+reading_past reading [] = reading
+reading_past reading ((n, line) ∷ lines) = reading_past (read_line reading line).next lines
+
+-- how the first line is read of the log that follows another one
+unfoldable pub reading_after : Reading → List ℕ → Reading
+reading_after reading text = next_log (reading_past reading (enumerate_from 1 (parts_of LineFeed (without_byte_order_mark text))))
+
+-- what a log states, and then this, unless the log has a fault
+abbrev pub and_then : List (Result WordAt LogFault) → List (Result WordAt LogFault) → List (Result WordAt LogFault)
+and_then [] later = later
+and_then (Err fault ∷ _) later = Err fault ∷ []
+and_then (Ok word ∷ words) later = Ok word ∷ and_then words later
+
+-- what several logs state, in order, up to the first fault; each has its own heading, and its own numbers of lines
+abbrev pub series_entries : Reading → List (List ℕ) → List (Result WordAt LogFault)
+series_entries reading [] = []
+series_entries reading (text ∷ texts) = and_then (log_entries reading text) (series_entries (reading_after reading text) texts)
+
 -- ---- what follows
 
 -- no word comes before the one above it, nor before this time
@@ -121,6 +147,6 @@ NoneBefore last [] = ⊤
 NoneBefore last (Err fault ∷ later) = ⊤
 NoneBefore last (Ok w ∷ later) = (last ≤ w.word.time) × NoneBefore w.word.time later
 
--- times never fall
+-- times never fall, in one log and from one log to the next
 abbrev pub TimesNeverFall : Type 0
-TimesNeverFall = (reading : Reading) (text : List ℕ) → NoneBefore reading.clock.last (log_entries reading text)
+TimesNeverFall = (reading : Reading) (texts : List (List ℕ)) → NoneBefore reading.clock.last (series_entries reading texts)

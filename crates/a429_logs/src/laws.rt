@@ -1,7 +1,7 @@
 //! What follows from the definitions.
 ghost use Rattle.a429_logs.specs.Logs.{TimesNeverFall};
 
-/// The times of the words of a log never fall.
+/// The times of the words of a log never fall, nor do they from one log to the next.
 pub fn times_never_fall()
     ensures { TimesNeverFall }
 {}

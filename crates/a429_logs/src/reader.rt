@@ -1,5 +1,5 @@
 //! Logs of words.
-ghost use Rattle.std.specs.Prelude.{◌≡◌, ◌+◌, ◌≤◌, ◌∷◌, [], MatchOption, length};
+ghost use Rattle.std.specs.Prelude.{◌≡◌, ◌+◌, ◌≤◌, ◌∷◌, [], MatchOption, None, length};
 ghost use Rattle.a429_logs.specs.LogFields.{parts_left};
 
 use crate::fields::{Mark, Parts, without_byte_order_mark};
@@ -35,13 +35,14 @@ pub struct LogReader<'a> {
 
 impl<'a> LogReader<'a> {
     ghost use Rattle.a429_logs.specs.LogFields.{Takes};
-    ghost use Rattle.a429_logs.specs.Logs.{log_entries};
-    ghost use Rattle.a429_logs.specs.LogsLeft.{entries_left, entry_of, lines_left, shape_now};
+    ghost use Rattle.a429_logs.specs.Logs.{log_entries, reading_after};
+    ghost use Rattle.a429_logs.specs.LogsLeft.{GoesOn, entries_left, entry_of, lines_left, reading_left, shape_now};
 
     /// All words of a log.
-    #[tactic(auto, unfolding(crate::specs::Logs::log_entries, crate::specs::LogsLeft::lines_left))]
+    #[tactic(auto, unfolding(crate::specs::Logs::log_entries, crate::specs::Logs::reading_after, crate::specs::LogsLeft::lines_left))]
     pub fn open(reading: Reading, text: &'a [u8]) -> LogReader<'a>
-        ensures { entries_left result ≡ log_entries reading text.now }
+        ensures entries { entries_left result ≡ log_entries reading text.now }
+        ensures after { reading_left result ≡ reading_after reading text.now }
     {
         let text = without_byte_order_mark(text);
         LogReader {
@@ -58,6 +59,13 @@ impl<'a> LogReader<'a> {
         ensures { result ≡ shape_now self.now }
     {
         self.reading.shape
+    }
+
+    /// How the first line of the next log is read, once no word is left of this one.
+    pub fn for_next_log(&self) -> Reading
+        ensures { lines_left self.now ≡ [] → result ≡ reading_left self.now }
+    {
+        self.reading.for_next_log()
     }
 
     /// Takes the next line, with its number from 1.
@@ -84,7 +92,9 @@ impl<'a> LogReader<'a> {
 
     /// Takes the next word. Error: the first faulty line, after which nothing is left.
     pub fn next(&mut self) -> Option<Result<LogWord<'a>, LogFault>>
-        ensures { Takes entry_of result (entries_left self.old) (entries_left self.new) }
+        ensures taken { Takes entry_of result (entries_left self.old) (entries_left self.new) }
+        ensures after { GoesOn result (reading_left self.old) (reading_left self.new) }
+        ensures ended { result ≡ None → lines_left self.new ≡ [] }
     {
         while let Some((line, text)) = self.next_line() {
             match self.reading.read(text) {

@@ -1,8 +1,9 @@
 //! The lines of a log.
-ghost use Rattle.std.specs.Prelude.{◌≡◌, None};
+ghost use Rattle.std.specs.Prelude.{◌≡◌, None, Some};
 ghost use Rattle.a429_logs.specs.LogColumns.{plain_places};
 ghost use Rattle.a429_logs.specs.LogFields.{mark_in};
-ghost use Rattle.a429_logs.specs.Logs.{is_passed_over, read_first, read_line, read_row, shown_line};
+ghost use Rattle.a429_logs.specs.LogRows.{stated_by};
+ghost use Rattle.a429_logs.specs.Logs.{is_passed_over, on_clock, read_first, read_line, read_row, next_log, shown_line, with_clock};
 
 use crate::clocks::Clock;
 use crate::columns::{Heading, HeadingFault, Places, WordPlaces};
@@ -63,6 +64,8 @@ fn is_passed_over(line: &[u8]) -> bool
 }
 
 impl Reading {
+    ghost use Rattle.a429_logs.specs.declared.reading.Shape.{Shape};
+
     /// How the first line of a log is read.
     pub fn new(unit: TimeUnit, clock: Clock) -> Reading
         ensures { result ≡ record { unit = unit; shape = None; clock = clock } }
@@ -71,6 +74,17 @@ impl Reading {
             unit,
             shape: None,
             clock,
+        }
+    }
+
+    /// How the first line of the next log is read, after this one: times go on, and the form is found again.
+    pub fn for_next_log(self) -> Reading
+        ensures { result ≡ next_log self }
+    {
+        Reading {
+            unit: self.unit,
+            shape: None,
+            clock: self.clock,
         }
     }
 
@@ -87,6 +101,17 @@ impl Reading {
                 self.shape = Some(shape);
                 Ok(Some(word))
             }
+            Err(why) => Err(LineFault::Row(why)),
+        }
+    }
+
+    /// The word of a row, by its time on the clock.
+    fn timed<'a>(&mut self, word: StatedWord<'a>) -> Result<Option<StatedWord<'a>>, LineFault>
+        ensures { (shape : Shape) → self.old.shape ≡ Some shape → shown_line self.new result
+            ≡ with_clock self.old shape (stated_by word.entry) (on_clock self.old.clock (stated_by word.entry)) }
+    {
+        match self.clock.read(word) {
+            Ok(word) => Ok(Some(word)),
             Err(why) => Err(LineFault::Row(why)),
         }
     }
@@ -117,9 +142,13 @@ impl Reading {
         if is_passed_over(line) {
             return Ok(None);
         }
-        match self.shape {
-            Some(shape) => self.row(line, shape),
-            None => self.first(line),
+        // by reference, since a copy of the form costs more than the rest of the line
+        let Some(shape) = &self.shape else {
+            return self.first(line);
+        };
+        match row_of(self.unit, shape.mark, &shape.places, line) {
+            Ok(word) => self.timed(word),
+            Err(why) => Err(LineFault::Row(why)),
         }
     }
 }

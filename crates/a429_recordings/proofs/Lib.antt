@@ -1,4 +1,5 @@
 pub mod LogLines
+pub mod NotedWords
 pub mod Timelines
 pub mod SimulatedSteps
 pub mod Played

@@ -1,12 +1,12 @@
 -- What the lines of a slot's cells have in common.
-use Rattle.std.specs.Prelude.{◌≡◌, ◌+◌, ◌<◌, ◌≤◌, ◌++◌, ◌∷◌, [], ℕ, Bool, List, Result, OnErr, drop, length}
+use Rattle.std.specs.Prelude.{◌≡◌, ◌+◌, ◌<◌, ◌≤◌, ◌++◌, ℕ, Bool, List, Result, OnErr, drop, length}
 use Rattle.std.specs.Fmt.{decimal}
 use Rattle.a429_word.specs.Hexadecimal.{hex}
 use Rattle.a429_word.specs.Written.{Gains}
 use Rattle.a429_documents.specs.Document.{slots_us}
 use Rattle.a429_slots.specs.Proposed.{Proposed}
 use Rattle.a429_console.specs.Names.{name_at, naming_of}
-use Rattle.a429_recordings.specs.Simulating.{line_of, separator}
+use Rattle.a429_recordings.specs.Simulating.{line_of, sent_end, separator}
 use Rattle.a429_recordings.specs.SimulationReplies.{heading}
 use Rattle.a429_recordings.specs.Timeline.{rate_of}
 use Rattle.a429_recordings.specs.declared.simulate.lines.PendingLines.{PendingLines}
@@ -20,7 +20,7 @@ begin_of q csv g t = decimal (slots_us (rate_of q g) t) ++ separator csv ++ name
 -- and the rest of one: the bus, the word, its source, and its age
 abbrev pub rest_of : Proposed → Bool → ℕ → ℕ → ℕ → ℕ → List ℕ
 rest_of q csv bus raw source age =
-    decimal bus ++ separator csv ++ hex raw ++ separator csv ++ name_at (naming_of q.station).sources source ++ separator csv ++ decimal age ++ 10 ∷ []
+    decimal bus ++ separator csv ++ hex raw ++ separator csv ++ name_at (naming_of q.station).sources source ++ separator csv ++ decimal age ++ sent_end csv
 
 -- this is what those of this slot begin with, which is short, and when the slot ends
 pub record BeginsSlot (q : Proposed) (csv : Bool) (g t : ℕ) (b : SlotBegin) : Type 0 where

@@ -1,3 +1,4 @@
+pub mod LogItems
 pub mod SimulationLog
 pub mod Timeline
 pub mod Tracks
@@ -8,3 +9,4 @@ pub mod Summary
 pub mod SummaryRuns
 pub mod SummaryLaws
 pub mod SimulationReplies
+pub mod Surveys

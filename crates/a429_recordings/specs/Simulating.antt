@@ -140,21 +140,31 @@ abbrev pub separator : Bool → List ℕ
 separator true = codes ","
 separator false = codes " "
 
+-- what ends the line of a word that is sent: with commas the two fields of words that are not taken are empty
+abbrev pub sent_end : Bool → List ℕ
+sent_end true = codes ",," ++ 10 ∷ []
+sent_end false = 10 ∷ []
+
 -- the slot's beginning, the group, the bus, the word, its source, and its age at the slot's end
 abbrev pub sent_line : Proposed → Bool → SentWord → List ℕ
 sent_line q csv s =
     decimal (slots_us (rate_of q s.group) s.send.slot) ++ separator csv ++ name_at (naming_of q.station).groups s.group ++ separator csv ++ decimal s.bus
     ++ separator csv ++ hex s.raw ++ separator csv ++ name_at (naming_of q.station).sources s.source ++ separator csv
-    ++ decimal (slots_us (rate_of q s.group) (s.send.slot + 1) - s.send.time) ++ 10 ∷ []
+    ++ decimal (slots_us (rate_of q s.group) (s.send.slot + 1) - s.send.time) ++ sent_end csv
 
 -- its time, the receiver, the word, and why it is refused
 abbrev pub refused_line : Proposed → LogWord → List ℕ → List ℕ
 refused_line q w reason =
     decimal w.time ++ codes " " ++ name_at (naming_of q.station).receivers w.receiver ++ codes " " ++ hex w.raw ++ codes " refused " ++ reason ++ 10 ∷ []
 
--- the line of a word that is sent, and of one that is refused, which comma-separated values leave out
+-- the same with commas, in which the fields of a word that is sent are empty
+abbrev pub refused_row : Proposed → LogWord → List ℕ → List ℕ
+refused_row q w reason =
+    decimal w.time ++ codes ",,," ++ hex w.raw ++ codes ",,," ++ name_at (naming_of q.station).receivers w.receiver ++ codes "," ++ reason ++ 10 ∷ []
+
+-- the line of a word that is sent, and of one that is refused
 abbrev pub line_of : Proposed → Bool → Happening → List ℕ
-line_of q csv (Refuses w why) = if csv then [] else refused_line q w (refusal_text why)
+line_of q csv (Refuses w why) = if csv then refused_row q w (refusal_text why) else refused_line q w (refusal_text why)
 line_of q csv (Sends s) = sent_line q csv s
 
 -- the lines of what happens

@@ -6,7 +6,8 @@ use Rattle.a429_console.specs.declared.arguments.times.LogOrigin.TheVariants as 
 use Rattle.a429_logs.specs.declared.clocks.Clock.{Clock}
 use Rattle.a429_logs.specs.declared.reading.Reading.{Reading}
 use Rattle.a429_slots.specs.Proposed.{Proposed}
-use Rattle.a429_console.specs.FileReadings.{AreRead, IsFirstUnread}
+use Rattle.a429_console.specs.FileReadings.{AreReadLogs, IsFileRefusal, IsFirstUnreadLog, readable}
+use Rattle.a429_console.specs.Files.{bytes_of}
 use Rattle.a429_console.specs.Names.{naming_of}
 use Rattle.a429_console.specs.Outputs.{AppendsPending, IsPut, OrNoMemory, memory_refused}
 use Rattle.a429_console.specs.RefusalText.{OrMemory, refusal_line}
@@ -33,28 +34,37 @@ abbrev pub clock_from : LogOrigin → Clock
 clock_from (origin.Time base) = record { base = Some base; last = 0 }
 clock_from origin.First = record { base = None; last = 0 }
 
+-- how the first line of a log is read
+abbrev pub reading_for : OptionBytes → Reading
+reading_for o = record { unit = o.time; shape = None; clock = clock_from o.from }
+
 -- what the options ask for
 abbrev pub simulation_form : OptionBytes → SimulationForm
 simulation_form o =
-    record { until = o.until; summary = o.summary; form = o.form; reading = record { unit = o.time; shape = None; clock = clock_from o.from } }
+    record { until = o.until; summary = o.summary; form = o.form; reading = reading_for o }
 
 -- the bytes of the files that a simulation reads
 pub record SimulationFiles : Type 0 where
   pub table : List ℕ
-  pub log : List ℕ
+  pub logs : List (List ℕ)
 
--- they are those of the files of these names, which are both read before any is looked at
-abbrev pub AreSimulationFiles : (List ℕ → Option (List ℕ)) → List ℕ → List ℕ → SimulationFiles → Type 0
-AreSimulationFiles file table log i = AreRead file (table ∷ log ∷ []) (i.table ∷ i.log ∷ [])
+-- they are those of the files of these names, which are all read before any is looked at
+abbrev pub AreSimulationFiles : (List ℕ → Option (List ℕ)) → List ℕ → List (List ℕ) → SimulationFiles → Type 0
+AreSimulationFiles file table logs i = (readable (file table) ≡ Some i.table) × AreReadLogs file logs i.logs
+
+-- of these files the first that cannot be read
+abbrev pub IsUnreadFile : (List ℕ → Option (List ℕ)) → List ℕ → List (List ℕ) → CommandRefusal → Type 0
+IsUnreadFile file table logs refusal =
+    IsFileRefusal file table refusal ⊎ ((bytes : List ℕ) × (readable (file table) ≡ Some bytes) × IsFirstUnreadLog file logs refusal)
 
 -- the table has a plan, at whose slot 0 the station opens, and the log these words
 pub record IsSimulated (i : SimulationFiles) (reading : Reading) (q : Proposed) (words : List LogWord) : Type 0 where
   pub proposed : IsProposedBy i.table q
-  pub words_are : log_words (naming_of q.station) reading i.log ≡ Ok words
+  pub words_are : log_words (naming_of q.station) reading i.logs ≡ Ok words
 
 -- of a table with a plan, the log has a fault
 abbrev pub IsLogRefusal : SimulationFiles → Reading → CommandRefusal → Type 0
-IsLogRefusal i reading refusal = (q : Proposed) × IsProposedBy i.table q × IsLogFault (naming_of q.station) reading i.log refusal
+IsLogRefusal i reading refusal = (q : Proposed) × IsProposedBy i.table q × IsLogFault (naming_of q.station) reading i.logs refusal
 
 -- why there is no simulation of these bytes: the table or its plan, or the log
 abbrev pub IsNoSimulation : SimulationFiles → Reading → CommandRefusal → Type 0
@@ -71,14 +81,14 @@ abbrev pub IsUnsimulated : SimulationFiles → SimulationForm → CommandRefusal
 IsUnsimulated i form refusal = IsNoSimulation i form.reading refusal ⊎ IsLongRefusal i form refusal
 
 -- why there is no simulation: a file, the bytes, or that it would be too long
-abbrev pub IsSimulationRefusal : (List ℕ → Option (List ℕ)) → List ℕ → List ℕ → SimulationForm → CommandRefusal → Type 0
-IsSimulationRefusal file table log form refusal =
-    IsFirstUnread file (table ∷ log ∷ []) refusal
-    ⊎ ((i : SimulationFiles) × AreSimulationFiles file table log i × IsUnsimulated i form refusal)
+abbrev pub IsSimulationRefusal : (List ℕ → Option (List ℕ)) → List ℕ → List (List ℕ) → SimulationForm → CommandRefusal → Type 0
+IsSimulationRefusal file table logs form refusal =
+    IsUnreadFile file table logs refusal
+    ⊎ ((i : SimulationFiles) × AreSimulationFiles file table logs i × IsUnsimulated i form refusal)
 
 -- what comes before the lines: with commas the names of the fields
 abbrev pub heading : Bool → List ℕ
-heading true = codes "time,group,bus,word,source,age_us" ++ 10 ∷ []
+heading true = codes "time,group,bus,word,source,age_us,receiver,refused" ++ 10 ∷ []
 heading false = []
 
 -- the lines of what happens in the whole timeline were printed
@@ -109,36 +119,36 @@ IsWritten q words last true form = IsSummary q words last form
 IsWritten q words last false form = IsPrinting q words last (is_csv form)
 
 -- what `simulate` writes, and its status: the line of a refusal, or what the simulation prints
-abbrev pub IsSimulation : (List ℕ → Option (List ℕ)) → List ℕ → List ℕ → SimulationForm → ℕ → List ℕ → Type 0
-IsSimulation file table log form status bytes =
-    ((refusal : CommandRefusal) × OrMemory (IsSimulationRefusal file table log form) refusal × (status ≡ 1) × (bytes ≡ refusal_line refusal ++ 10 ∷ []))
-    ⊎ ((i : SimulationFiles) × (q : Proposed) × (words : List LogWord) × AreSimulationFiles file table log i × IsSimulated i form.reading q words
+abbrev pub IsSimulation : (List ℕ → Option (List ℕ)) → List ℕ → List (List ℕ) → SimulationForm → ℕ → List ℕ → Type 0
+IsSimulation file table logs form status bytes =
+    ((refusal : CommandRefusal) × OrMemory (IsSimulationRefusal file table logs form) refusal × (status ≡ 1) × (bytes ≡ refusal_line refusal ++ 10 ∷ []))
+    ⊎ ((i : SimulationFiles) × (q : Proposed) × (words : List LogWord) × AreSimulationFiles file table logs i × IsSimulated i form.reading q words
     × IsWritten q words (end_of q words form.until) form.summary form.form status bytes)
 
 -- ---- by the values of the program
 
 abbrev pub files_of : SimulationInput → SimulationFiles
-files_of i = record { table = i.table.items; log = i.log.items }
+files_of i = record { table = i.table.items; logs = bytes_of i.logs.items }
 
 -- what reading the files gives: their bytes, or the first that cannot be read
-abbrev pub IsSimulationReading : (List ℕ → Option (List ℕ)) → List ℕ → List ℕ → Result SimulationInput CommandRefusal → Type 0
-IsSimulationReading file table log result =
-    MatchResult result (λ i. AreSimulationFiles file table log (files_of i)) (OrMemory (IsFirstUnread file (table ∷ log ∷ [])))
+abbrev pub IsSimulationReading : (List ℕ → Option (List ℕ)) → List ℕ → List (List ℕ) → Result SimulationInput CommandRefusal → Type 0
+IsSimulationReading file table logs result =
+    MatchResult result (λ i. AreSimulationFiles file table logs (files_of i)) (OrMemory (IsUnreadFile file table logs))
 
 -- a station of a table's bytes, with its names
 abbrev pub IsSettingOf : List ℕ → Bool → Setting → Type 0
 IsSettingOf table csv s = IsProposedBy table s.proposal × HasStationNames s.names s.proposal × (s.csv ≡ csv)
 
 -- a beginning with the words of a log
-abbrev pub BeginsLog : Setting → List ℕ → SimulationForm → Player → Type 0
-BeginsLog s log form p =
-    (words : List LogWord) × (log_words s.names form.reading log ≡ Ok words) × IsBegin s.proposal words (end_of s.proposal words form.until) p
+abbrev pub BeginsLog : Setting → List (List ℕ) → SimulationForm → Player → Type 0
+BeginsLog s logs form p =
+    (words : List LogWord) × (log_words s.names form.reading logs ≡ Ok words) × IsBegin s.proposal words (end_of s.proposal words form.until) p
 
 -- why there is none: the log, or that a group would send too much
-abbrev pub BeginsNoLog : Setting → List ℕ → SimulationForm → CommandRefusal → Type 0
-BeginsNoLog s log form refusal =
-    IsLogFault s.names form.reading log refusal
-    ⊎ ((words : List LogWord) × (log_words s.names form.reading log ≡ Ok words) × (refusal ≡ refused.TooMuch)
+abbrev pub BeginsNoLog : Setting → List (List ℕ) → SimulationForm → CommandRefusal → Type 0
+BeginsNoLog s logs form refusal =
+    IsLogFault s.names form.reading logs refusal
+    ⊎ ((words : List LogWord) × (log_words s.names form.reading logs ≡ Ok words) × (refusal ≡ refused.TooMuch)
     × SendsTooMuch s.proposal (end_of s.proposal words form.until))
 
 -- it has the names of its station, and can be played

@@ -5,9 +5,13 @@
 //!
 //! ```text
 //! let form = SimulationForm::of(options);
-//! simulate(alloc, files, first, second, form, seen, out)
+//! simulate(alloc, files, first, second, more, form, seen, out)
 //! ```
+//!
+//! `survey_logs` needs no table: its answer is the text of a sheet that says what is on the lines of a log.
 #![tactic(auto)]
 
 pub mod laws;
+mod logs;
 pub mod simulate;
+pub mod survey;

@@ -1,5 +1,6 @@
 //! The command `simulate`.
-ghost use Rattle.std.specs.Prelude.{◌≡◌, ◌≤◌, true, IfOk, IsTrue, MatchResult, OnOk};
+ghost use Rattle.std.specs.Prelude.{◌≡◌, ◌≤◌, ◌∷◌, true, IfOk, IsTrue, MatchResult, OnOk};
+ghost use Rattle.a429_console.specs.Files.{bytes_of, texts_of};
 ghost use Rattle.a429_console.specs.Readings.{HasRead};
 ghost use Rattle.a429_console.specs.Outputs.{CountsFault};
 ghost use Rattle.a429_console.specs.RefusalText.{OrMemory};
@@ -7,7 +8,7 @@ ghost use Rattle.a429_console.specs.Replying.{HasReplied};
 ghost use Rattle.a429_console.specs.Requests.{is_csv};
 ghost use Rattle.a429_console.specs.Tables.{IsTableRefusal};
 ghost use Rattle.a429_recordings.specs.CellLines.{IsBeginOfSlot};
-ghost use Rattle.a429_recordings.specs.SimulationReplies.{BeginsLog, BeginsNoLog, HasPrinted, HasPrintedLines, HasPrintedSummary, HasSummary, IsPreparedFor, IsSettingOf, IsSimulation, IsSimulationReading, IsUnsimulated, PutsLines, SimulationIsReady, clock_from, files_of};
+ghost use Rattle.a429_recordings.specs.SimulationReplies.{BeginsLog, BeginsNoLog, HasPrinted, HasPrintedLines, HasPrintedSummary, HasSummary, IsPreparedFor, IsSettingOf, IsSimulation, IsSimulationReading, IsUnsimulated, PutsLines, SimulationIsReady, files_of};
 ghost use Rattle.a429_recordings.specs.SimulationRuns.{CanBePlayed, HasStationNames};
 
 mod figures;
@@ -19,21 +20,21 @@ mod playing;
 mod summary_rows;
 mod tracks;
 
+use crate::logs::reading_for;
 use crate::simulate::figures::Summary;
 use crate::simulate::lines::{PendingLines, Setting};
-use crate::simulate::log::read_log;
+use crate::simulate::log::read_words;
 use crate::simulate::playing::Player;
 use crate::simulate::summary_rows::summary_sheet;
 use a429_console::arguments::requests::Options;
-use a429_console::arguments::times::LogOrigin;
 use a429_console::files::FileReader;
-use a429_console::files::reading::read_file;
+use a429_console::files::reading::{read_file, read_logs};
 use a429_console::hints::Seen;
 use a429_console::output::endings::{finish, refuse_memory};
 use a429_console::output::{Output, OutputFault};
 use a429_console::refusals::tables::propose;
 use a429_console::refusals::{CommandRefusal, refuse};
-use a429_logs::{Clock, Reading};
+use a429_logs::Reading;
 use a429_replay::{Names, put_if_full};
 use a429_text::SheetForm;
 use std::alloc::{AllocError, Global};
@@ -49,16 +50,6 @@ pub struct SimulationForm {
     pub reading: Reading,
 }
 
-/// The clock that counts from this time on.
-fn clock_from(from: LogOrigin) -> Clock
-    ensures { result ≡ clock_from from }
-{
-    match from {
-        LogOrigin::Time(base) => Clock::from_time(base),
-        LogOrigin::First => Clock::from_first(),
-    }
-}
-
 impl SimulationForm {
     ghost use Rattle.std.specs.Prelude.{◌≡◌};
     ghost use Rattle.a429_console.specs.Requests.{given_of};
@@ -72,7 +63,7 @@ impl SimulationForm {
             until: options.until,
             summary: options.summary,
             form: options.form,
-            reading: Reading::new(options.time, clock_from(options.from)),
+            reading: reading_for(options),
         }
     }
 }
@@ -91,7 +82,7 @@ fn is_csv(form: SheetForm) -> bool
 #[derive(Drop)]
 struct SimulationInput {
     table: Vec<u8>,
-    log: Vec<u8>,
+    logs: Vec<Vec<u8>>,
 }
 
 /// What is simulated, before anything has happened: what the lines are written with, and a timeline on a station.
@@ -102,18 +93,19 @@ struct Simulation {
 }
 
 /// Reads the files of these names.
-fn read_input<F: FileReader>(
+fn read_input<'a, F: FileReader>(
     alloc: Global,
     files: &mut F,
     table: &str,
-    log: &str,
+    log: &'a str,
+    more: &'a [&'a str],
     seen: &mut Seen,
 ) -> Result<SimulationInput, CommandRefusal>
-    ensures { HasRead F.answers (λ file. IsSimulationReading file table.now log.now result) files.old files.new }
+    ensures { HasRead F.answers (λ file. IsSimulationReading file table.now (log.now ∷ texts_of more.now) result) files.old files.new }
 {
     let table = read_file(alloc, files, table, seen)?;
-    let log = read_file(alloc, files, log, seen)?;
-    Ok(SimulationInput { table, log })
+    let logs = read_logs(alloc, files, log, more, seen)?;
+    Ok(SimulationInput { table, logs })
 }
 
 /// The station of a table's bytes. Error: the table, or its plan, is refused.
@@ -134,17 +126,18 @@ fn read_station(
     })
 }
 
-/// A log on a station, with slots up to the time that the form asks for. Error: the log is refused, or a group would send too much.
+/// Logs on a station, with slots up to the time that the form asks for. Error: the log is refused, or a group would send too much.
 fn read_player(
     alloc: Global,
     setting: &Setting,
-    log: &[u8],
+    logs: &[Vec<u8>],
     form: SimulationForm,
     seen: &mut Seen,
 ) -> Result<Player, CommandRefusal>
-    ensures { MatchResult result (BeginsLog setting.now log.now form) (OrMemory (BeginsNoLog setting.now log.now form)) }
+    ensures { MatchResult result (BeginsLog setting.now (bytes_of logs.now) form)
+        (OrMemory (BeginsNoLog setting.now (bytes_of logs.now) form)) }
 {
-    let words = read_log(alloc, &setting.names, form.reading, log, seen)?;
+    let words = read_words(alloc, &setting.names, form.reading, logs, seen)?;
     Player::open(alloc, &setting.proposal, words, form.until)
 }
 
@@ -158,7 +151,7 @@ fn prepare(
     ensures { MatchResult result (IsPreparedFor (files_of input.now) form) (OrMemory (IsUnsimulated (files_of input.now) form)) }
 {
     let setting = read_station(alloc, &input.table, is_csv(form.form), seen)?;
-    let player = read_player(alloc, &setting, &input.log, form, seen)?;
+    let player = read_player(alloc, &setting, &input.logs, form, seen)?;
     Ok(Simulation { setting, player })
 }
 
@@ -264,25 +257,26 @@ fn print_simulation<O: Output>(
     }
 }
 
-/// Plays the words of a log on the station of a table, at their times. It puts a line for each word that is sent or
+/// Plays the words of a log, and of those that follow it, on the station of a table, at their times. It puts a line for each word that is sent or
 /// refused, or instead the summary of what each output sent. A refusal is one line instead. The status is 0, or 1 after
 /// a refusal, or if an allocation fails after the first lines.
-pub fn simulate<F: FileReader, O: Output>(
+pub fn simulate<'a, F: FileReader, O: Output>(
     alloc: Global,
     files: &mut F,
     table: &str,
-    log: &str,
+    log: &'a str,
+    more: &'a [&'a str],
     form: SimulationForm,
     seen: &mut Seen,
     out: &mut O,
 ) -> Result<u8, OutputFault>
-    ensures simulated { HasReplied F.answers O.contents (λ file. IsSimulation file table.now log.now form)
+    ensures simulated { HasReplied F.answers O.contents (λ file. IsSimulation file table.now (log.now ∷ texts_of more.now) form)
         files.old files.new out.old out.new result }
     ensures status { IfOk result (λ status. status ≤ 1) }
     ensures flushed { OnOk result (IsTrue (O.is_flushed out.new)) }
     ensures faults { CountsFault result (O.failures out.old) (O.failures out.new) }
 {
-    let input = match read_input(alloc, files, table, log, seen) {
+    let input = match read_input(alloc, files, table, log, more, seen) {
         Ok(input) => input,
         Err(refusal) => return refuse(alloc, refusal, seen, out),
     };

@@ -1,6 +1,7 @@
 -- The rows by figures are those of the words.
-use Rattle.std.proofs.Common.{◌≡◌, ℕ, zero, suc, ◌+◌, ◌-◌, ◌*◌, ◌<◌, List, [], ◌∷◌, ◌++◌, Bool, true, false, cond, length, map, refl, ap, ap₂, ◌∙◌, arith, zero-add}
+use Rattle.std.proofs.Common.{◌≡◌, ℕ, zero, suc, ◌+◌, ◌-◌, ◌*◌, ◌<◌, List, [], ◌∷◌, ◌++◌, Bool, true, false, cond, length, map, refl, ap, ap₂, ◌∙◌, arith, zero-add, append-nil}
 use Rattle.std.specs.Prelude.{count_by, filter, flat_map, fold, if◌then◌else◌, max, nat_lt, ◌==◌, ◌&&◌}
+use Rattle.std.specs.Int.{div_ceil}
 use Rattle.std.specs.List.{range_with_len}
 use Rattle.std.proofs.lemmas.Bool.Decides.{nat_tests}
 use Rattle.std.proofs.lemmas.List.FromFn.{get_or-map-range_with_len}
@@ -10,8 +11,11 @@ use Rattle.a429_word.proofs.Ones.{number_is}
 use Rattle.a429_word.specs.Bits.{label_of, sdi_of}
 use Rattle.a429_word.specs.Hexadecimal.{hex}
 use Rattle.a429_survey.specs.Figures.{Noted, first_of, greatest_field, intervals, intervals_after, is_even, last_of, least_field, load_field, mean_field, times_of}
-use Rattle.a429_survey.specs.Survey.{label_rows, name_rows, names_of, rows_if_any, survey_row, survey_rows, words_of, words_with}
-use Rattle.a429_survey.specs.Kept.{LineKept, figures_of, label_in, least_of, line_of, lines_of, load_in, no_figures, pair_in, place_of, row_in, rows_by, rows_in, words_at}
+use Rattle.a429_survey.specs.Survey.{label_rows, name_rows, names_of, pair_row, pair_rows, rows_if_any, survey_row, survey_rows, words_of, words_with}
+use Rattle.a429_survey.specs.Starts.{interval_field, longer_field, shorter_field, source_name, start_row, start_rows}
+use Rattle.a429_survey.specs.Kept.{LineKept, figures_of, label_in, least_of, line_of, lines_of, load_in, longer_in, no_figures, pair_by, pair_in, place_of, row_in, rows_by, rows_in, shorter_in, start_in, words_at}
+use Rattle.a429_survey.specs.declared.rows.RowKind.{RowKind}
+use Rattle.a429_survey.specs.declared.rows.RowKind.TheVariants as kind
 
 -- ---- a row
 
@@ -39,13 +43,47 @@ row_is name label sdi load ws =
     Text name ∷ label ∷ sdi ∷ Number (length ws) ∷ Number (count_by is_even ws) ∷ least ∷ mean_field ws ∷ greatest ∷ Number (first_of (times_of ws)) ∷ Number (last_of (times_of ws))
     ∷ Text (hex (last_of (map (λ w. w.raw) ws))) ∷ load ∷ []) (least_is ws) (greatest_is ws)
 
-rows_by_is : (name : List ℕ) (label sdi : ℕ) (ws : List Noted) → rows_by name label sdi (figures_of ws) ≡ rows_if_any name label sdi ws
+-- ---- a row for `import`
+
+shorter_is : (slack : ℕ) (ws : List Noted) → shorter_in slack (figures_of ws) ≡ shorter_field slack (intervals (times_of ws))
 unfolding figures_of
-rows_by_is name label sdi [] = refl
-rows_by_is name label sdi (w ∷ ws) =
+shorter_is slack [] = refl
+shorter_is slack (w ∷ []) = refl
+shorter_is slack (w ∷ v ∷ ws) =
+    let several : nat_lt 1 (length (w ∷ v ∷ ws)) ≡ true = grind (arith, nat_tests) in
+    rw several refl
+
+longer_is : (slack : ℕ) (ws : List Noted) → longer_in slack (figures_of ws) ≡ longer_field slack (intervals (times_of ws))
+unfolding figures_of
+longer_is slack [] = refl
+longer_is slack (w ∷ []) = refl
+longer_is slack (w ∷ v ∷ ws) =
+    let several : nat_lt 1 (length (w ∷ v ∷ ws)) ≡ true = grind (arith, nat_tests) in
+    rw several (ap (λ (n : ℕ). interval_field (div_ceil (n * (100 + slack)) 100)) (from_zero (v.time - w.time) (intervals_after v.time (times_of ws))))
+
+start_is : (slack rate : ℕ) (name : List ℕ) (label sdi : ℕ) (ws : List Noted) → start_in slack rate name label sdi (figures_of ws) ≡ start_row slack rate name label sdi ws
+unfolding start_in
+start_is slack rate name label sdi ws =
+    ap₂ (λ (shorter longer : Field).
+    Absent ∷ Number rate ∷ Text (source_name name label sdi) ∷ Text name ∷ Text (octal label) ∷ Number sdi ∷ shorter ∷ longer ∷ []) (shorter_is slack ws) (longer_is slack ws)
+
+-- ---- the row of a label and an SDI, by what is asked for
+
+abbrev pair_of : RowKind → ℕ → List ℕ → ℕ → ℕ → List Noted → List Field
+pair_of kind.Figures rate name = pair_row name
+pair_of (kind.Starts slack) rate name = start_row slack rate name
+
+pair_by_is : (k : RowKind) (rate : ℕ) (name : List ℕ) (label sdi : ℕ) (ws : List Noted) → pair_by k rate name label sdi (figures_of ws) ≡ pair_of k rate name label sdi ws
+pair_by_is kind.Figures rate name label sdi ws = row_is name (Text (octal label)) (Number sdi) Absent ws
+pair_by_is (kind.Starts slack) rate name label sdi ws = start_is slack rate name label sdi ws
+
+rows_by_is : (k : RowKind) (rate : ℕ) (name : List ℕ) (label sdi : ℕ) (ws : List Noted) → rows_by k rate name label sdi (figures_of ws) ≡ rows_if_any (pair_of k rate name label sdi) ws
+unfolding figures_of
+rows_by_is k rate name label sdi [] = refl
+rows_by_is k rate name label sdi (w ∷ ws) =
     let some : (length (w ∷ ws) == 0) ≡ false = grind (arith, nat_tests) in
-    ap (λ (b : Bool). if b then [] else row_in name (Text (octal label)) (Number sdi) Absent (figures_of (w ∷ ws)) ∷ []) some
-    ∙ ap (λ (r : List Field). r ∷ []) (row_is name (Text (octal label)) (Number sdi) Absent (w ∷ ws))
+    ap (λ (b : Bool). if b then [] else pair_by k rate name label sdi (figures_of (w ∷ ws)) ∷ []) some
+    ∙ ap (λ (r : List Field). r ∷ []) (pair_by_is k rate name label sdi (w ∷ ws))
 
 -- ---- the words of a row
 
@@ -62,14 +100,15 @@ words_same label sdi ws small =
     filter_same (λ (w : Noted). place_of w.raw == 4 * label + sdi) (λ (w : Noted). label_of w.raw == label && sdi_of w.raw == sdi) ws
     (λ w. place_tests (label_of w.raw) (sdi_of w.raw) label sdi (omega (arith, number_is 8 2 w.raw)) small)
 
-pair_is : (name : List ℕ) (ws : List Noted) (label sdi : ℕ) → label < 256 → sdi < 4 → pair_in (line_of name ws) label sdi ≡ rows_if_any name label sdi (words_with label sdi ws)
+pair_is : (k : RowKind) (rate : ℕ) (name : List ℕ) (ws : List Noted) (label sdi : ℕ) → label < 256 → sdi < 4
+    → pair_in k rate (line_of name ws) label sdi ≡ rows_if_any (pair_of k rate name label sdi) (words_with label sdi ws)
 unfolding pair_in line_of
-pair_is name ws label sdi within small =
+pair_is k rate name ws label sdi within small =
     let place : ℕ = 4 * label + sdi in
-    ap (rows_by name label sdi)
-    (get_or-map-range_with_len (λ (k : ℕ). figures_of (words_at k ws)) 0 1024 (4 * label + sdi) (4 * label + sdi) no_figures (omega (arith, within, small)) (zero-add (4 * label + sdi))
+    ap (rows_by k rate name label sdi)
+    (get_or-map-range_with_len (λ (i : ℕ). figures_of (words_at i ws)) 0 1024 (4 * label + sdi) (4 * label + sdi) no_figures (omega (arith, within, small)) (zero-add (4 * label + sdi))
     ∙ ap figures_of (words_same label sdi ws small))
-    ∙ rows_by_is name label sdi (words_with label sdi ws)
+    ∙ rows_by_is k rate name label sdi (words_with label sdi ws)
 
 -- ---- all rows
 
@@ -79,25 +118,44 @@ flat_range {Y} f g from (suc n) same =
     ap (λ (ys : List Y). ys ++ flat_map f (range_with_len (from + 1) n)) (same from (omega arith))
     ∙ ap (λ (ys : List Y). g from ++ ys) (flat_range f g (from + 1) n (λ k within. same k (omega (arith, within))))
 
-label_is : (name : List ℕ) (ws : List Noted) (label : ℕ) → label < 256 → label_in (line_of name ws) label ≡ label_rows name ws label
-label_is name ws label within =
-    flat_range (pair_in (line_of name ws) label) (λ (sdi : ℕ). rows_if_any name label sdi (words_with label sdi ws)) 0 4 (λ sdi small. pair_is name ws label sdi within (omega (arith, small)))
+label_is : (k : RowKind) (rate : ℕ) (name : List ℕ) (ws : List Noted) (label : ℕ) → label < 256 → label_in k rate (line_of name ws) label ≡ label_rows (pair_of k rate name) ws label
+label_is k rate name ws label within =
+    flat_range (pair_in k rate (line_of name ws) label) (λ (sdi : ℕ). rows_if_any (pair_of k rate name label sdi) (words_with label sdi ws)) 0 4
+    (λ sdi small. pair_is k rate name ws label sdi within (omega (arith, small)))
+
+labels_are : (k : RowKind) (rate : ℕ) (name : List ℕ) (ws : List Noted) → flat_map (label_in k rate (line_of name ws)) (range_with_len 0 256) ≡ pair_rows (pair_of k rate name) ws
+labels_are k rate name ws =
+    flat_range (label_in k rate (line_of name ws)) (label_rows (pair_of k rate name) ws) 0 256 (λ label within. label_is k rate name ws label (omega (arith, within)))
 
 last_row : (rate : ℕ) (name : List ℕ) (ws : List Noted) → row_in name Absent Absent (load_in rate (figures_of ws)) (figures_of ws) ≡ survey_row name Absent Absent (load_field rate ws) ws
 unfolding figures_of
 last_row rate name ws = row_is name Absent Absent (load_field rate ws) ws
 
-line_is : (rate : ℕ) (name : List ℕ) (ws : List Noted) → rows_in rate (line_of name ws) ≡ name_rows rate name ws
+-- the rows of a name, by what is asked for
+abbrev asked_rows : RowKind → ℕ → List ℕ → List Noted → List (List Field)
+asked_rows kind.Figures rate name ws = name_rows rate name ws
+asked_rows (kind.Starts slack) rate name ws = pair_rows (start_row slack rate name) ws
+
+line_is : (k : RowKind) (rate : ℕ) (name : List ℕ) (ws : List Noted) → rows_in k rate (line_of name ws) ≡ asked_rows k rate name ws
 unfolding line_of
-line_is rate name ws =
-    ap₂ (λ (rs : List (List Field)) (r : List Field). rs ++ r ∷ [])
-    (flat_range (label_in (line_of name ws)) (label_rows name ws) 0 256 (λ label within. label_is name ws label (omega (arith, within))))
-    (last_row rate name ws)
+line_is kind.Figures rate name ws =
+    ap₂ (λ (rs : List (List Field)) (r : List Field). rs ++ r ∷ []) (labels_are kind.Figures rate name ws) (last_row rate name ws)
+line_is (kind.Starts slack) rate name ws =
+    append-nil (flat_map (label_in (kind.Starts slack) rate (line_of name ws)) (range_with_len 0 256)) ∙ labels_are (kind.Starts slack) rate name ws
 
-flat_mapped : (rate : ℕ) (ws : List Noted) (names : List (List ℕ)) → flat_map (rows_in rate) (lines_of names ws) ≡ flat_map (λ name. name_rows rate name (words_of name ws)) names
-flat_mapped rate ws [] = refl
-flat_mapped rate ws (n ∷ names) = ap₂ (λ (rs qs : List (List Field)). rs ++ qs) (line_is rate n (words_of n ws)) (flat_mapped rate ws names)
+flat_mapped : (k : RowKind) (rate : ℕ) (ws : List Noted) (names : List (List ℕ)) → flat_map (rows_in k rate) (lines_of names ws) ≡ flat_map (λ name. asked_rows k rate name (words_of name ws)) names
+flat_mapped k rate ws [] = refl
+flat_mapped k rate ws (n ∷ names) = ap₂ (λ (rs qs : List (List Field)). rs ++ qs) (line_is k rate n (words_of n ws)) (flat_mapped k rate ws names)
 
-pub sheet_is : (rate : ℕ) (ws : List Noted) (lines : List LineKept) → lines ≡ lines_of (names_of ws) ws → flat_map (rows_in rate) lines ≡ survey_rows rate ws
+asked_are : (k : RowKind) (rate : ℕ) (ws : List Noted) (lines : List LineKept) → lines ≡ lines_of (names_of ws) ws
+    → flat_map (rows_in k rate) lines ≡ flat_map (λ name. asked_rows k rate name (words_of name ws)) (names_of ws)
+asked_are k rate ws lines is = ap (flat_map (rows_in k rate)) is ∙ flat_mapped k rate ws (names_of ws)
+
+pub sheet_is : (rate : ℕ) (ws : List Noted) (lines : List LineKept) → lines ≡ lines_of (names_of ws) ws → flat_map (rows_in kind.Figures rate) lines ≡ survey_rows rate ws
 unfolding survey_rows
-sheet_is rate ws lines is = ap (flat_map (rows_in rate)) is ∙ flat_mapped rate ws (names_of ws)
+sheet_is rate ws lines is = asked_are kind.Figures rate ws lines is
+
+pub starts_are : (slack rate : ℕ) (ws : List Noted) (lines : List LineKept) → lines ≡ lines_of (names_of ws) ws
+    → flat_map (rows_in (kind.Starts slack) rate) lines ≡ start_rows slack rate ws
+unfolding start_rows
+starts_are slack rate ws lines is = asked_are (kind.Starts slack) rate ws lines is

@@ -12,7 +12,10 @@ use Rattle.a429_word.specs.Bits.{has_odd_parity, label_of, sdi_of}
 use Rattle.a429_word.specs.Hexadecimal.{hex}
 use Rattle.a429_survey.specs.declared.figures.Figures.{Figures}
 use Rattle.a429_survey.specs.Figures.{Noted, first_of, intervals, is_even, last_of, tenths_field, times_of}
+use Rattle.a429_survey.specs.Starts.{interval_field, source_name}
 use Rattle.a429_survey.specs.Survey.{names_of, words_of}
+use Rattle.a429_survey.specs.declared.rows.RowKind.{RowKind}
+use Rattle.a429_survey.specs.declared.rows.RowKind.TheVariants as kind
 
 -- ---- figures
 
@@ -166,16 +169,36 @@ row_in name label sdi load f =
 abbrev pub row_with : List ℕ → Cell → Cell → Cell → Figures → List Field
 row_with name label sdi load f = row_in name (field_of label) (field_of sdi) (field_of load) f
 
+-- the row of a label and an SDI for `import`
+abbrev pub shorter_in : ℕ → Figures → Field
+shorter_in slack f = if nat_lt 1 f.words then interval_field (f.least * (100 - slack) / 100) else Absent
+
+abbrev pub longer_in : ℕ → Figures → Field
+longer_in slack f = if nat_lt 1 f.words then interval_field (div_ceil (f.greatest * (100 + slack)) 100) else Absent
+
+unfoldable pub start_in : ℕ → ℕ → List ℕ → ℕ → ℕ → Figures → List Field
+start_in slack rate name label sdi f =
+    Absent ∷ Number rate ∷ Text (source_name name label sdi) ∷ Text name ∷ Text (octal label) ∷ Number sdi ∷ shorter_in slack f ∷ longer_in slack f ∷ []
+
+-- the row of a label and an SDI of a name, and what follows the rows of a name, by what is asked for
+abbrev pub pair_by : RowKind → ℕ → List ℕ → ℕ → ℕ → Figures → List Field
+pair_by kind.Figures rate name label sdi f = row_in name (Text (octal label)) (Number sdi) Absent f
+pair_by (kind.Starts slack) rate name label sdi f = start_in slack rate name label sdi f
+
+abbrev pub end_by : RowKind → ℕ → LineKept → List (List Field)
+end_by kind.Figures rate l = row_in l.name Absent Absent (load_in rate l.all) l.all ∷ []
+end_by (kind.Starts slack) rate l = []
+
 -- the row of a label and an SDI, if there are such words
-abbrev pub rows_by : List ℕ → ℕ → ℕ → Figures → List (List Field)
-rows_by name label sdi f = if f.words == 0 then [] else row_in name (Text (octal label)) (Number sdi) Absent f ∷ []
+abbrev pub rows_by : RowKind → ℕ → List ℕ → ℕ → ℕ → Figures → List (List Field)
+rows_by kind rate name label sdi f = if f.words == 0 then [] else pair_by kind rate name label sdi f ∷ []
 
-unfoldable pub pair_in : LineKept → ℕ → ℕ → List (List Field)
-pair_in l label sdi = rows_by l.name label sdi (slice_index_or l.each (4 * label + sdi) no_figures)
+unfoldable pub pair_in : RowKind → ℕ → LineKept → ℕ → ℕ → List (List Field)
+pair_in kind rate l label sdi = rows_by kind rate l.name label sdi (slice_index_or l.each (4 * label + sdi) no_figures)
 
-abbrev pub label_in : LineKept → ℕ → List (List Field)
-label_in l label = flat_map (pair_in l label) (range_with_len 0 4)
+abbrev pub label_in : RowKind → ℕ → LineKept → ℕ → List (List Field)
+label_in kind rate l label = flat_map (pair_in kind rate l label) (range_with_len 0 4)
 
 -- the rows of a line
-abbrev pub rows_in : ℕ → LineKept → List (List Field)
-rows_in rate l = flat_map (label_in l) (range_with_len 0 256) ++ row_in l.name Absent Absent (load_in rate l.all) l.all ∷ []
+abbrev pub rows_in : RowKind → ℕ → LineKept → List (List Field)
+rows_in kind rate l = flat_map (label_in kind rate l) (range_with_len 0 256) ++ end_by kind rate l

@@ -2,3 +2,4 @@ pub mod Figures
 pub mod Kept
 pub mod Past
 pub mod Survey
+pub mod Starts

@@ -47,19 +47,26 @@ survey_row name label sdi load words =
     ∷ greatest_field (intervals (times_of words)) ∷ Number (first_of (times_of words)) ∷ Number (last_of (times_of words))
     ∷ Text (hex (last_of (map (λ w. w.raw) words))) ∷ load ∷ []
 
--- the row of a label and an SDI, if these words of a name are some
-abbrev pub rows_if_any : List ℕ → ℕ → ℕ → List Noted → List (List Field)
-rows_if_any name label sdi [] = []
-rows_if_any name label sdi (w ∷ words) = survey_row name (Text (octal label)) (Number sdi) Absent (w ∷ words) ∷ []
+-- this row of some words, if they are some
+abbrev pub rows_if_any : (List Noted → List Field) → List Noted → List (List Field)
+rows_if_any row [] = []
+rows_if_any row (w ∷ words) = row (w ∷ words) ∷ []
 
--- the rows of the words of a name that have a label, by SDI
-abbrev pub label_rows : List ℕ → List Noted → ℕ → List (List Field)
-label_rows name words label = flat_map (λ sdi. rows_if_any name label sdi (words_with label sdi words)) (range_with_len 0 4)
+-- the rows of the words that have a label, by SDI, each by its label and SDI
+abbrev pub label_rows : (ℕ → ℕ → List Noted → List Field) → List Noted → ℕ → List (List Field)
+label_rows row words label = flat_map (λ sdi. rows_if_any (row label sdi) (words_with label sdi words)) (range_with_len 0 4)
 
--- the rows of the words of a name, by label, and then that of all these words
+-- the rows of words, by label and then by SDI
+abbrev pub pair_rows : (ℕ → ℕ → List Noted → List Field) → List Noted → List (List Field)
+pair_rows row words = flat_map (label_rows row words) (range_with_len 0 256)
+
+-- the row of a label and an SDI of a name
+abbrev pub pair_row : List ℕ → ℕ → ℕ → List Noted → List Field
+pair_row name label sdi words = survey_row name (Text (octal label)) (Number sdi) Absent words
+
+-- the rows of the words of a name, and then that of all these words
 abbrev pub name_rows : ℕ → List ℕ → List Noted → List (List Field)
-name_rows rate name words =
-    flat_map (label_rows name words) (range_with_len 0 256) ++ survey_row name Absent Absent (load_field rate words) words ∷ []
+name_rows rate name words = pair_rows (pair_row name) words ++ survey_row name Absent Absent (load_field rate words) words ∷ []
 
 -- the rows of a survey of some words, oldest first, at a bit rate in bit/s
 unfoldable pub survey_rows : ℕ → List Noted → List (List Field)

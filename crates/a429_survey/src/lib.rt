@@ -19,6 +19,7 @@ mod lines;
 mod names;
 mod past;
 mod rows;
+mod starts;
 mod survey;
 #[cfg(test)]
 mod tests;

@@ -1,11 +1,12 @@
 //! The survey of a recording.
 ghost use Rattle.std.specs.Prelude.{◌≡◌, ◌↔◌, ◌++◌, ◌∷◌, ◌-◌, ◌^◌, [], length, map, IfOk, OnOk, OnErr, IsErrOf};
+ghost use Rattle.a429_survey.specs.Starts.{start_columns, start_rows};
 ghost use Rattle.a429_survey.specs.Survey.{survey_columns, survey_rows};
 
 use crate::lines::Line;
 use crate::names::{line_for, note_at};
 use crate::past::Past;
-use crate::rows::rows_of;
+use crate::rows::{RowKind, rows_of};
 use a429_text::Sheet;
 use std::alloc::{AllocError, Global};
 use std::marker::Model;
@@ -25,6 +26,11 @@ const COLUMNS: &[&str] = &[
     "last_us",
     "last_word",
     "load",
+];
+
+/// The names of the columns of rows that start a table.
+const START_COLUMNS: &[&str] = &[
+    "group", "rate", "source", "receiver", "label", "sdi", "min_us", "max_us",
 ];
 
 /// Why a word was not noted. Then the survey is as before.
@@ -109,9 +115,25 @@ impl Survey {
         ensures columns { IfOk result (λ sheet. map (λ name. name.now) sheet.columns.now ≡ survey_columns) }
         ensures rows { IfOk result (λ sheet. sheet.rows ≡ survey_rows rate self.now) }
     {
-        let rows = rows_of(alloc, rate, &self.lines)?;
+        let rows = rows_of(alloc, RowKind::Figures, rate, &self.lines)?;
         Ok(Sheet {
             columns: COLUMNS,
+            rows,
+        })
+    }
+
+    /// The start of a table, as rows for `import`: one for each label and SDI of each name, in the order of `sheet`. The
+    /// group is empty, `rate` is the bit rate in bit/s, and the name is that of the receiver. The source is named for the
+    /// receiver, the label, and the SDI if that is not 0. Minimum and maximum transmit interval are the least and the
+    /// greatest interval that was seen, shortened and lengthened by `slack` per cent, in microseconds; nothing is said of
+    /// one word, or of 2^32 or more. Error: an allocation failed.
+    pub fn start_sheet(&self, alloc: Global, rate: u32, slack: u32) -> Result<Sheet, AllocError>
+        ensures columns { IfOk result (λ sheet. map (λ name. name.now) sheet.columns.now ≡ start_columns) }
+        ensures rows { IfOk result (λ sheet. sheet.rows ≡ start_rows slack rate self.now) }
+    {
+        let rows = rows_of(alloc, RowKind::Starts(slack), rate, &self.lines)?;
+        Ok(Sheet {
+            columns: START_COLUMNS,
             rows,
         })
     }

@@ -31,12 +31,42 @@ wide,001,0,2,0,18446744073709551615,1844674407370955161.5,18446744073709551615,0
 wide,,,2,0,18446744073709551615,1844674407370955161.5,18446744073709551615,0,18446744073709551615,00000080,0.1
 ";
 
-#[test]
-fn sheet_is_as_by_hand(rt: HostRuntime) {
+/// The start of a table at 12500 bit/s with intervals widened by 25 per cent, reckoned by hand: 279 * 75 / 100 = 209.25 and
+/// 279 * 125 / 100 = 348.75; 1360 * 75 / 100 = 1020 and 1360 * 125 / 100 = 1700.
+const STARTS: &str = "\
+group,rate,source,receiver,label,sdi,min_us,max_us
+,12500,left-001-1,left,001,1,209,349
+,12500,left-203,left,203,0,,
+,12500,right-200,right,200,0,1020,1700
+,12500,right-200-1,right,200,1,,
+,12500,right2-377-3,right2,377,3,,
+,12500,wide-001,wide,001,0,,
+";
+
+/// A survey of these words.
+fn survey_of_words(rt: &HostRuntime) -> Survey {
     let mut survey = Survey::new(rt.alloc());
     for (time, name, raw) in WORDS {
-        survey.note(name, time, raw).expect(&rt, "a word");
+        survey.note(name, time, raw).expect(rt, "a word");
     }
+    survey
+}
+
+#[test]
+fn starts_are_as_by_hand(rt: HostRuntime) {
+    let survey = survey_of_words(&rt);
+    let sheet = survey
+        .start_sheet(rt.alloc(), 12500, 25)
+        .expect(&rt, "a sheet");
+    let text = sheet
+        .render(rt.alloc(), SheetForm::Csv)
+        .expect(&rt, "a text");
+    assert!(rt; text.as_slice() == STARTS.as_bytes());
+}
+
+#[test]
+fn sheet_is_as_by_hand(rt: HostRuntime) {
+    let survey = survey_of_words(&rt);
     let sheet = survey.sheet(rt.alloc(), 100000).expect(&rt, "a sheet");
     let text = sheet
         .render(rt.alloc(), SheetForm::Csv)

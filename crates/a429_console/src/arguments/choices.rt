@@ -2,9 +2,11 @@
 ghost use Rattle.std.specs.Prelude.{◌≡◌, None, Some, codes, false, true, is_some, IfErr, IfOk};
 ghost use Rattle.a429_console.specs.Requests.{is_one_alone};
 ghost use Rattle.clap.specs.Words.{first_of, found_of, one_of, rows_of};
-ghost use Rattle.a429_console.specs.RequestRows.{choices_given, form_given, form_of, is_set, is_value_given, lacks_value, width_given};
+ghost use Rattle.a429_console.specs.RequestRows.{choices_given, form_given, form_of, is_set, is_value_given, lacks_rows, lacks_value, width_given};
 
-use crate::arguments::forms::{BCD, BITS, BNR, CODE, CSV, DATA, JSON, SUMMARY, WIDTH};
+use crate::arguments::options::{
+    BCD, BITS, BNR, CODE, CSV, DATA, JSON, ROWS, SLACK, SUMMARY, WIDTH,
+};
 use crate::arguments::times::{LogOrigin, origin_given, unit_given};
 use a429_logs::TimeUnit;
 use a429_text::SheetForm;
@@ -74,20 +76,21 @@ fn form_given(name: &str, found: &ArgMatches<'_>) -> Result<SheetForm, &'static 
     if is_json && name == SIMULATE && !is_given(found, SUMMARY.id) {
         return Err("'--json' needs '--summary'");
     }
-    one_form(is_given(found, CODE.id), is_csv, is_json)
+    let has_own = is_given(found, CODE.id) || is_given(found, ROWS.id);
+    one_form(has_own, is_csv, is_json)
 }
 
-/// The form by whether `--c` is given, or one of the other two.
-fn one_form(is_code: bool, is_csv: bool, is_json: bool) -> Result<SheetForm, &'static str>
+/// The form by whether a form of its own is asked for (`--c` or `--rows`), or one of the other two.
+fn one_form(has_own: bool, is_csv: bool, is_json: bool) -> Result<SheetForm, &'static str>
     requires { is_csv ≡ true → is_json ≡ false }
-    ensures given { IfOk result (λ form. form_of is_code is_csv is_json ≡ Some form) }
-    ensures none { IfErr result (λ _. form_of is_code is_csv is_json ≡ None) }
+    ensures given { IfOk result (λ form. form_of has_own is_csv is_json ≡ Some form) }
+    ensures none { IfErr result (λ _. form_of has_own is_csv is_json ≡ None) }
 {
     if !is_csv && !is_json {
         return Ok(SheetForm::Columns);
     }
-    if is_code {
-        return Err("'--c' cannot be used with '--csv' or '--json'");
+    if has_own {
+        return Err("'--c' and '--rows' cannot be used with '--csv' or '--json'");
     }
     Ok(if is_csv {
         SheetForm::Csv
@@ -128,6 +131,17 @@ fn value_given(found: &ArgMatches<'_>) -> Result<(), &'static str>
     Ok(())
 }
 
+/// Whether intervals are widened only of rows that are asked for. The error says what is wrong.
+fn slack_given(found: &ArgMatches<'_>) -> Result<(), &'static str>
+    ensures given { IfOk result (λ _. lacks_rows (rows_of (found_of found.now)) ≡ false) }
+    ensures none { IfErr result (λ _. lacks_rows (rows_of (found_of found.now)) ≡ true) }
+{
+    if has_text(found, SLACK.id) && !is_given(found, ROWS.id) {
+        return Err("'--slack' needs '--rows'");
+    }
+    Ok(())
+}
+
 /// The same, if the command of this name makes a word.
 fn value_if_made(name: &str, found: &ArgMatches<'_>) -> Result<(), &'static str>
     ensures given { IfOk result (λ _. lacks_value name.now (rows_of (found_of found.now)) ≡ false) }
@@ -147,6 +161,7 @@ pub fn choices_in(name: &str, found: &ArgMatches<'_>) -> Result<Choices, &'stati
     ensures none { IfErr result (λ _. choices_given name.now (rows_of (found_of found.now)) ≡ None) }
 {
     value_if_made(name, found)?;
+    slack_given(found)?;
     let Some(width) = width_given(found) else {
         return Err("'--width <N>' must be 64, 128 or 256");
     };

@@ -5,22 +5,11 @@ ghost use Rattle.std.specs.List.{AllByRecursion};
 ghost use Rattle.a429_console.specs.CommandLine.{IsRow, form_row, row_of, verbs};
 
 use crate::arguments::help;
+use crate::arguments::options::{
+    ALL, ALL_CELLS, BCD, BITS, BNR, CODE, CSV, DATA, FROM, GROUP, HTML, JSON, LIMIT, RATE, ROWS,
+    SDI, SLACK, SLOTS, SSM, SUMMARY, SUMMARY_JSON, TIME, UNTIL, WIDTH,
+};
 use a429_equipment::FRAMES;
-
-/// How many slots of a bus may be asked for (profile).
-const MOST_SLOTS: u64 = 8192;
-
-/// The last microsecond until which cells may be asked for: fourteen digits (profile).
-const LAST_TIME: u64 = 99_999_999_999_999;
-
-/// The greatest load of a bus that may be asked for, in per cent (profile).
-const MOST_PERCENT: u64 = 100;
-
-/// The greatest SDI and the greatest SSM (ARINC 429 Part 1: two bits each).
-const MOST_PAIR: u64 = 3;
-
-/// The most bits of a BNR number below its sign (ARINC 429 Part 1).
-const MOST_BITS: u64 = 18;
 
 /// A command of the program.
 #[derive(Clone, Copy, PartialEq, Eq)]
@@ -40,6 +29,7 @@ pub enum Verb {
     Draw,
     Replay,
     Simulate,
+    Survey,
     Live,
 }
 
@@ -96,145 +86,6 @@ pub struct CommandForm {
     pub options: &'static [OptionForm],
 }
 
-/// The form of an option without a value.
-macro_rules! flag {
-    ($id:literal, $help:expr) => {
-        OptionForm {
-            id: $id,
-            kind: OptionKind::Flag,
-            help: $help,
-        }
-    };
-}
-
-/// The form of an option with a text, which help calls by this name.
-macro_rules! text {
-    ($id:literal, $value:literal, $help:expr) => {
-        OptionForm {
-            id: $id,
-            kind: OptionKind::Text { value: $value },
-            help: $help,
-        }
-    };
-}
-
-/// `--csv`
-pub const CSV: OptionForm = flag!("csv", help::CSV);
-
-/// `--json`
-pub const JSON: OptionForm = flag!("json", help::JSON);
-
-/// `--json` of a command whose lines have no such form: only its summary has.
-const SUMMARY_JSON: OptionForm = OptionForm {
-    help: help::SUMMARY_JSON,
-    ..JSON
-};
-
-/// `--all`
-pub const ALL: OptionForm = flag!("all", help::ALL);
-
-/// `--group`
-pub const GROUP: OptionForm = text!("group", "NAME", help::GROUP);
-
-/// `--slots`
-pub const SLOTS: OptionForm = OptionForm {
-    id: "slots",
-    kind: OptionKind::Number {
-        value: "N",
-        least: 1,
-        most: MOST_SLOTS,
-    },
-    help: help::DRAWN_SLOTS,
-};
-
-/// `--width`
-pub const WIDTH: OptionForm = text!("width", "N", help::WIDTH);
-
-/// `--html`
-pub const HTML: OptionForm = flag!("html", help::HTML);
-
-/// `--time`
-pub const TIME: OptionForm = text!("time", "UNIT", help::TIME);
-
-/// `--from`
-pub const FROM: OptionForm = text!("from", "TIME", help::FROM);
-
-/// `--until`
-pub const UNTIL: OptionForm = OptionForm {
-    id: "until",
-    kind: OptionKind::Number {
-        value: "US",
-        least: 0,
-        most: LAST_TIME,
-    },
-    help: help::UNTIL,
-};
-
-/// `--summary`
-pub const SUMMARY: OptionForm = flag!("summary", help::SUMMARY);
-
-/// `--all` of a command that prints cells.
-const ALL_CELLS: OptionForm = OptionForm {
-    help: help::ALL_CELLS,
-    ..ALL
-};
-
-/// `--c`
-pub const CODE: OptionForm = flag!("c", help::CODE);
-
-/// `--limit`
-pub const LIMIT: OptionForm = OptionForm {
-    id: "limit",
-    kind: OptionKind::Number {
-        value: "PERCENT",
-        least: 1,
-        most: MOST_PERCENT,
-    },
-    help: help::LIMIT,
-};
-
-/// `--sdi`
-pub const SDI: OptionForm = OptionForm {
-    id: "sdi",
-    kind: OptionKind::Number {
-        value: "N",
-        least: 0,
-        most: MOST_PAIR,
-    },
-    help: help::SDI,
-};
-
-/// `--ssm`
-pub const SSM: OptionForm = OptionForm {
-    id: "ssm",
-    kind: OptionKind::Number {
-        value: "N",
-        least: 0,
-        most: MOST_PAIR,
-    },
-    help: help::SSM,
-};
-
-/// `--data`
-pub const DATA: OptionForm = text!("data", "HEX", help::DATA);
-
-/// `--bnr`
-pub const BNR: OptionForm = text!("bnr", "N", help::BNR);
-
-/// `--bits`
-pub const BITS: OptionForm = OptionForm {
-    id: "bits",
-    kind: OptionKind::Number {
-        value: "K",
-        least: 1,
-        most: MOST_BITS,
-    },
-    help: help::BITS,
-};
-
-/// `--bcd`
-pub const BCD: OptionForm = text!("bcd", "DIGITS", help::BCD);
-
 /// The form of a name.
 macro_rules! name {
     ($id:literal, $help:expr) => {
@@ -262,7 +113,7 @@ const OF_TABLE: CommandForm = CommandForm {
     options: &[],
 };
 
-static COMMANDS: [CommandForm; 16] = [
+static COMMANDS: [CommandForm; 17] = [
     CommandForm {
         verb: Verb::Word,
         name: "word",
@@ -354,7 +205,16 @@ static COMMANDS: [CommandForm; 16] = [
         verb: Verb::Simulate,
         name: "simulate",
         second: Some(name!("LOG", help::LOG)),
+        more: Some(name!("LOGS", help::LOGS)),
         options: &[TIME, FROM, UNTIL, SUMMARY, CSV, SUMMARY_JSON],
+        ..OF_TABLE
+    },
+    CommandForm {
+        verb: Verb::Survey,
+        name: "survey",
+        first: name!("LOG", help::LOG),
+        more: Some(name!("LOGS", help::LOGS)),
+        options: &[TIME, FROM, RATE, ROWS, SLACK, CSV, JSON],
         ..OF_TABLE
     },
     CommandForm {

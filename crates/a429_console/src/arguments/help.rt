@@ -27,6 +27,7 @@ pub fn help_of(verb: Verb) -> CommandHelp {
         Verb::Draw => (DRAW, DRAW_END),
         Verb::Replay => (REPLAY, REPLAY_END),
         Verb::Simulate => (SIMULATE, SIMULATE_END),
+        Verb::Survey => (SURVEY, SURVEY_END),
         Verb::Live => (LIVE, LIVE_END),
     };
     CommandHelp { about, end }
@@ -230,6 +231,8 @@ pub const SIMULATE: &str = "Simulate a station on a log of received words with t
 
 pub const LOG: &str = "Received words, `TIME RECEIVER HEX` on each line";
 
+pub const LOGS: &str = "Further logs, read after the first as if they were one";
+
 pub const TIME: &str = "Unit of times in the log: us, ms or s [default: us]";
 
 pub const FROM: &str = "\
@@ -251,6 +254,27 @@ lines that begin with #, are ignored. US is in microseconds. Output lines:
 
 Example:
   a429 simulate examples/displays/table.toml examples/displays/log";
+
+pub const SURVEY: &str = "Print which words are on recorded lines, and how often each comes";
+
+pub const RATE: &str = "\
+Bit rate of the lines, 12000 to 100000 bit/s
+[default: 100000]";
+
+pub const IMPORT_ROWS: &str = "Rows for `import` instead: the start of a table";
+
+pub const SLACK: &str = "\
+Widen the intervals of --rows by PERCENT, 0 to 99
+[default: 25]";
+
+pub const SURVEY_END: &str = "\
+A log has a word on each line. Blanks, commas or semicolons separate its fields,
+and a heading may name its columns. There is a row for each name, label and SDI,
+and a row for each name with all its words. `load` is in per cent of the bit
+rate. An interval, in microseconds, is the time from one word to the next.
+
+Example:
+  a429 survey examples/displays/log";
 
 pub const LIVE: &str = "Run a station on threads, and print how many words and cells passed";
 

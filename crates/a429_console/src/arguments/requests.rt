@@ -9,9 +9,10 @@ ghost use Rattle.a429_console.specs.Usage.{ComesTo, elsewhere, found_kinds, is_l
 
 use crate::arguments::choices::{Choices, choices_in, is_given};
 use crate::arguments::command_line::{build_command, words_error};
-use crate::arguments::forms::{
-    ALL, BCD, BITS, BNR, CODE, CommandForm, DATA, GROUP, HTML, LIMIT, NameForm, NumberForm, SDI,
-    SLOTS, SSM, SUMMARY, UNTIL, Verb, command_named,
+use crate::arguments::forms::{CommandForm, NameForm, NumberForm, Verb, command_named};
+use crate::arguments::options::{
+    ALL, BCD, BITS, BNR, CODE, DATA, GROUP, HTML, LIMIT, RATE, ROWS, SDI, SLACK, SLOTS, SSM,
+    SUMMARY, UNTIL,
 };
 use crate::arguments::times::LogOrigin;
 use a429_logs::TimeUnit;
@@ -64,6 +65,12 @@ pub struct Options<'a> {
     pub code: bool,
     /// The limit of the load of a bus, 1 to 100 per cent (`--limit`).
     pub limit: Option<u32>,
+    /// The bit rate of a recorded line, 12000 to 100000 bit/s (`--rate`).
+    pub rate: Option<u32>,
+    /// Rows for `import` are printed (`--rows`).
+    pub rows: bool,
+    /// By how much their intervals are wider than those of the recording, 0 to 99 per cent (`--slack`).
+    pub slack: Option<u32>,
     pub fields: FieldOptions<'a>,
 }
 
@@ -76,7 +83,7 @@ pub struct Asked<'a> {
     pub second: &'a str,
     /// How many frames; 0, if the command is given no number.
     pub number: u32,
-    /// Filters, or further tables.
+    /// Filters, further tables, or further logs.
     pub more: Vec<&'a str>,
     pub options: Options<'a>,
 }
@@ -205,6 +212,9 @@ fn options_in<'a>(found: &ArgMatches<'a>, choices: Choices) -> Options<'a>
         summary: is_given(found, SUMMARY.id),
         code: is_given(found, CODE.id),
         limit: asked_number(found, LIMIT.id),
+        rate: asked_number(found, RATE.id),
+        rows: is_given(found, ROWS.id),
+        slack: asked_number(found, SLACK.id),
         fields: fields_in(found),
     }
 }

@@ -4,7 +4,7 @@ ghost use Rattle.clap.specs.Words.{first_of, found_of, rows_of};
 ghost use Rattle.a429_console.specs.RequestRows.{number_up_to, origin_given, unit_given};
 ghost use Rattle.a429_console.specs.Requests.{last_origin};
 
-use crate::arguments::forms::{FROM, TIME};
+use crate::arguments::options::{FROM, TIME};
 use a429_logs::TimeUnit;
 use clap::ArgMatches;
 

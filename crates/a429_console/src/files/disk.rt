@@ -1,30 +1,56 @@
 //! Files of the system.
 
-use crate::files::{FileFault, FileReader, FileTrouble, LARGEST_FILE};
+use crate::files::{FileFault, FileReader, FileTrouble};
+use std::alloc::Global;
 use std::fs::File;
 use std::io;
-use std::io::{ErrorKind, Read};
+use std::io::{ErrorKind, Input, Read};
 use std::rt::Files;
 
-/// The system's files, by their paths. A missing file, a directory, and a file of more than 16 MiB are refused. Reading
-/// stops as soon as a file is too large.
+/// The system's files, by their paths. `-` is what the program is given on its standard input, once. A missing file, a
+/// directory, and a file of more bytes than it may have are refused. Reading stops as soon as a file is too large.
 #[derive(Drop)]
-pub struct DiskFiles<'a, R: Files + AllocGlobal> {
+pub struct DiskFiles<'a, R: Files + Input + AllocGlobal> {
     rt: &'a R,
+    /// Whether the standard input was read.
+    is_input_read: bool,
     trouble: FileTrouble,
 }
 
-impl<'a, R: Files + AllocGlobal> DiskFiles<'a, R> {
+impl<'a, R: Files + Input + AllocGlobal> DiskFiles<'a, R> {
     /// The files that this runtime reaches.
     pub fn new(rt: &'a R) -> DiskFiles<'a, R> {
         DiskFiles {
             rt,
+            is_input_read: false,
             trouble: FileTrouble::Unknown,
         }
     }
+
+    /// The bytes of a file, or of a larger one the first, one more than it may have.
+    fn first_bytes(&mut self, name: &str, most: usize) -> io::Result<Vec<u8>> {
+        if name != "-" {
+            let file = File::open(self.rt, name)?;
+            return first_of(self.rt.alloc(), file, most);
+        }
+        if self.is_input_read {
+            return Err(io::Error::from(ErrorKind::NotFound));
+        }
+        self.is_input_read = true;
+        first_of(self.rt.alloc(), self.rt.reader(), most)
+    }
 }
 
-impl<R: Files + AllocGlobal> FileReader for DiskFiles<'_, R> {
+/// The first bytes that are left of a reader, at most one more than these.
+fn first_of<I: Read + Drop>(alloc: Global, reader: I, most: usize) -> io::Result<Vec<u8>> {
+    let mut bytes = Vec::new(alloc);
+    reader
+        .take((most as u64).saturating_add(1))
+        .read_to_end(&mut bytes)?;
+    Ok(bytes)
+}
+
+impl<R: Files + Input + AllocGlobal> FileReader for DiskFiles<'_, R> {
     ghost use Rattle.std.specs.Prelude.{false, None, ⊤};
     ghost use Rattle.a429_console.specs.Readings.{not_told};
 
@@ -36,11 +62,11 @@ impl<R: Files + AllocGlobal> FileReader for DiskFiles<'_, R> {
 
     ghost known = { λ _ _ _ _ told _. not_told told };
 
-    fn read(&mut self, name: &str) -> Result<Vec<u8>, FileFault> {
-        match first_bytes(self.rt, name) {
-            Ok(bytes) if bytes.len() <= LARGEST_FILE => Ok(bytes),
+    fn read(&mut self, name: &str, most: usize) -> Result<Vec<u8>, FileFault> {
+        match self.first_bytes(name, most) {
+            Ok(bytes) if bytes.len() <= most => Ok(bytes),
             Ok(_) => {
-                self.trouble = FileTrouble::TooLarge;
+                self.trouble = FileTrouble::TooLarge(most);
                 Err(FileFault::Refused)
             }
             Err(error) => {
@@ -71,12 +97,4 @@ fn trouble_of(kind: ErrorKind) -> FileTrouble {
         ErrorKind::PermissionDenied => FileTrouble::Forbidden,
         _ => FileTrouble::Unknown,
     }
-}
-
-/// The bytes of a file, or of a larger one the first, one more than a file may have.
-fn first_bytes<R: Files + AllocGlobal>(rt: &R, name: &str) -> io::Result<Vec<u8>> {
-    let file = File::open(rt, name)?;
-    let mut bytes = Vec::new(rt.alloc());
-    file.take(LARGEST_FILE as u64 + 1).read_to_end(&mut bytes)?;
-    Ok(bytes)
 }

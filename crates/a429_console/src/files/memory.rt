@@ -24,7 +24,7 @@ impl FileReader for MemoryFiles {
 
     ghost known = { λ m n name answer _ is. (is.1, (λ other. ap (λ k. file_of k.files.items other) is.0), refl) };
 
-    fn read(&mut self, name: &str) -> Result<Vec<u8>, FileFault> {
+    fn read(&mut self, name: &str, _most: usize) -> Result<Vec<u8>, FileFault> {
         match find_file(&self.files, name) {
             None => Err(FileFault::Refused),
             Some(bytes) => match bytes.clone() {
@@ -37,7 +37,7 @@ impl FileReader for MemoryFiles {
     fn trouble(&self, name: &str) -> FileTrouble {
         match find_file(&self.files, name) {
             None => FileTrouble::Missing,
-            Some(bytes) if bytes.len() > LARGEST_FILE => FileTrouble::TooLarge,
+            Some(bytes) if bytes.len() > LARGEST_FILE => FileTrouble::TooLarge(LARGEST_FILE),
             Some(_) => FileTrouble::Unknown,
         }
     }

@@ -1,10 +1,10 @@
 //! Files as the commands read them.
-ghost use Rattle.std.specs.Prelude.{◌≡◌, List, ℕ, Option, IfOk, string_bytes};
+ghost use Rattle.std.specs.Prelude.{◌≡◌, ◌∷◌, List, ℕ, Option, IfOk, string_bytes};
 ghost use Rattle.a429_console.specs.Files.{texts_of};
 ghost use Rattle.a429_console.specs.Readings.{HasRead, IsAnswerOf, answer_of};
-ghost use Rattle.a429_console.specs.FileReadings.{AreReadings, IsReading, printable_char, printable_name};
+ghost use Rattle.a429_console.specs.FileReadings.{AreLogReadings, AreReadings, AreReadingsIn, IsReading, IsReadingIn, printable_char, printable_name};
 
-use crate::files::{FileFault, FileReader, LARGEST_FILE};
+use crate::files::{FileFault, FileReader, LARGEST_FILE, LARGEST_LOG};
 use crate::hints::Seen;
 use crate::refusals::CommandRefusal;
 use std::alloc::{AllocError, Global};
@@ -24,22 +24,38 @@ pub fn printable_name(alloc: Global, name: &str) -> Result<String, AllocError>
     name.chars().map(|c| printable_char(c)).collect(alloc)
 }
 
-/// What a command takes of the answer to a file's name: at most 16 MiB.
+/// What a command takes of the answer to a file's name: at most `most` bytes.
 fn bytes_of_answer(
     alloc: Global,
     name: &str,
+    most: usize,
     answer: Result<Vec<u8>, FileFault>,
 ) -> Result<Vec<u8>, CommandRefusal>
-    ensures { (file : List ℕ → Option (List ℕ)) → IsAnswerOf file name.now (answer_of answer) → IsReading file name.now result }
+    ensures { (file : List ℕ → Option (List ℕ)) → IsAnswerOf file name.now (answer_of answer) → IsReadingIn most file name.now result }
 {
     match answer {
-        Ok(bytes) if bytes.len() <= LARGEST_FILE => Ok(bytes),
+        Ok(bytes) if bytes.len() <= most => Ok(bytes),
         Ok(_) | Err(FileFault::Refused) => match printable_name(alloc, name) {
             Ok(name) => Err(CommandRefusal::File(name)),
             Err(_) => Err(CommandRefusal::Memory),
         },
         Err(FileFault::NoMemory) => Err(CommandRefusal::Memory),
     }
+}
+
+/// The bytes of a file, at most `most`. Error: the file cannot be read or is larger, or an allocation failed.
+fn read_up_to<F: FileReader>(
+    alloc: Global,
+    files: &mut F,
+    name: &str,
+    most: usize,
+    seen: &mut Seen,
+) -> Result<Vec<u8>, CommandRefusal>
+    ensures { HasRead F.answers (λ file. IsReadingIn most file name.now result) files.old files.new }
+{
+    let answer = files.read(name, most);
+    seen.trouble = files.trouble(name);
+    bytes_of_answer(alloc, name, most, answer)
 }
 
 /// The bytes of a file, at most 16 MiB. Error: the file cannot be read or is larger, or an allocation failed.
@@ -51,12 +67,27 @@ pub fn read_file<F: FileReader>(
 ) -> Result<Vec<u8>, CommandRefusal>
     ensures { HasRead F.answers (λ file. IsReading file name.now result) files.old files.new }
 {
-    let answer = files.read(name);
-    seen.trouble = files.trouble(name);
-    bytes_of_answer(alloc, name, answer)
+    read_up_to(alloc, files, name, LARGEST_FILE, seen)
 }
 
-/// The bytes of several files. Error: that of the first file that has one.
+/// The bytes of several files, at most `most` of each. Error: that of the first file that has one.
+fn read_all_up_to<F: FileReader>(
+    alloc: Global,
+    files: &mut F,
+    names: &[&str],
+    most: usize,
+    seen: &mut Seen,
+) -> Result<Vec<Vec<u8>>, CommandRefusal>
+    ensures { HasRead F.answers (λ file. AreReadingsIn most file (texts_of names.now) result) files.old files.new }
+{
+    let mut all = Vec::new(alloc);
+    for name in names {
+        all.push(read_up_to(alloc, files, name, most, seen)?)?;
+    }
+    Ok(all)
+}
+
+/// The bytes of several files, at most 16 MiB each. Error: that of the first file that has one.
 pub fn read_files<F: FileReader>(
     alloc: Global,
     files: &mut F,
@@ -65,9 +96,35 @@ pub fn read_files<F: FileReader>(
 ) -> Result<Vec<Vec<u8>>, CommandRefusal>
     ensures { HasRead F.answers (λ file. AreReadings file (texts_of names.now) result) files.old files.new }
 {
-    let mut all = Vec::new(alloc);
-    for name in names {
-        all.push(read_file(alloc, files, name, seen)?)?;
+    read_all_up_to(alloc, files, names, LARGEST_FILE, seen)
+}
+
+/// The name of a log, and those of the logs that follow it.
+fn log_names<'a>(
+    alloc: Global,
+    first: &'a str,
+    more: &'a [&'a str],
+) -> Result<Vec<&'a str>, AllocError>
+    ensures { IfOk result (λ names. texts_of names.items ≡ first.now ∷ texts_of more.now) }
+{
+    let mut names = Vec::new(alloc);
+    names.push(first)?;
+    names.extend_from_slice(more)?;
+    Ok(names)
+}
+
+/// The bytes of a log and of those that follow it, at most 1 GiB each. Error: that of the first that has one.
+pub fn read_logs<'a, F: FileReader>(
+    alloc: Global,
+    files: &mut F,
+    first: &'a str,
+    more: &'a [&'a str],
+    seen: &mut Seen,
+) -> Result<Vec<Vec<u8>>, CommandRefusal>
+    ensures { HasRead F.answers (λ file. AreLogReadings file (first.now ∷ texts_of more.now) result) files.old files.new }
+{
+    match log_names(alloc, first, more) {
+        Ok(names) => read_all_up_to(alloc, files, &names, LARGEST_LOG, seen),
+        Err(_) => Err(CommandRefusal::Memory),
     }
-    Ok(all)
 }

@@ -4,7 +4,7 @@ ghost use Rattle.a429_word.specs.Written.{Gains};
 ghost use Rattle.a429_console.specs.Names.{name_at, naming_of};
 ghost use Rattle.a429_replay.specs.AnswerLines.{refusal_text};
 ghost use Rattle.a429_recordings.specs.CellLines.{BeginsSlot, IsBeginOfSlot, IsHeading, PushesLine, rest_of};
-ghost use Rattle.a429_recordings.specs.Simulating.{refused_line, sent_line, separator};
+ghost use Rattle.a429_recordings.specs.Simulating.{refused_line, refused_row, sent_end, sent_line, separator};
 ghost use Rattle.a429_recordings.specs.SimulationRuns.{HasPlannedGroup, HasStationNames, IsKnown};
 ghost use Rattle.a429_recordings.specs.declared.simulate.machine.Happening.TheVariants.{Sends};
 
@@ -54,7 +54,7 @@ impl PendingLines {
     {
         let mut text = Vec::new(alloc);
         if csv {
-            text.extend_from_slice(b"time,group,bus,word,source,age_us\n")?;
+            text.extend_from_slice(b"time,group,bus,word,source,age_us,receiver,refused\n")?;
         }
         // no slot of a simulation has this number
         let begin = SlotBegin {
@@ -80,6 +80,21 @@ fn put_separator(room: &mut [u8], end: usize, csv: bool) -> usize
         put_text(room, end, b",")
     } else {
         put_text(room, end, b" ")
+    }
+}
+
+/// Writes what ends the line of a word that is sent before the bytes that begin at `end`, and gives its start.
+#[inline(always)]
+fn put_end(room: &mut [u8], end: usize, csv: bool) -> usize
+    requires { (3 ≤ end) × (end ≤ length room.old) }
+    ensures start { (result ≤ end) × (end ≤ result + 3) }
+    ensures written { drop result room.new ≡ sent_end csv ++ drop end room.old }
+    ensures size { length room.new ≡ length room.old }
+{
+    if csv {
+        put_text(room, end, b",,\n")
+    } else {
+        put_text(room, end, b"\n")
     }
 }
 
@@ -171,7 +186,7 @@ impl Setting {
             ≡ rest_of self.now.proposal self.now.csv sent.bus sent.raw sent.source age ++ drop end room.old }
         ensures size { length room.new ≡ length room.old }
     {
-        let at = put_text(room, end, b"\n");
+        let at = put_end(room, end, self.csv);
         let at = put_decimal(room, at, age);
         let at = put_separator(room, at, self.csv);
         let at = put_text(room, at, self.source_name(sent.source));
@@ -244,8 +259,35 @@ impl Setting {
         text.extend_from_slice(&room[at..])
     }
 
-    /// Appends the line of what happens: of a word that is sent, and without commas of one that is refused. If an
-    /// allocation fails, nothing is appended.
+    /// The same with commas between the fields.
+    pub fn push_refused_row(
+        &self,
+        text: &mut Vec<u8>,
+        word: LogWord,
+        refusal: Refusal,
+    ) -> Result<(), AllocError>
+        requires names { HasStationNames self.now.names self.now.proposal }
+        ensures line { Gains result text.old.items text.new.items
+            (refused_row self.now.proposal word (refusal_text refusal)) }
+        ensures kept { OnErr result (text.new.items ≡ text.old.items) }
+    {
+        let mut room = [0u8; ROOM];
+        let at = put_text(&mut room, ROOM, b"\n");
+        let at = put_text(&mut room, at, reason(refusal));
+        let at = put_text(&mut room, at, b",");
+        let at = put_text(
+            &mut room,
+            at,
+            self.receiver_name(usize::from(word.receiver)),
+        );
+        let at = put_text(&mut room, at, b",,,");
+        let at = put_hex(&mut room, at, word.raw);
+        let at = put_text(&mut room, at, b",,,");
+        let at = put_decimal(&mut room, at, word.time);
+        text.extend_from_slice(&room[at..])
+    }
+
+    /// Appends the line of what happens. If an allocation fails, nothing is appended.
     #[inline(always)]
     pub fn push(&self, lines: &mut PendingLines, happening: Happening) -> Result<(), AllocError>
         requires names { HasStationNames self.now.names self.now.proposal }
@@ -255,7 +297,9 @@ impl Setting {
     {
         match happening {
             Happening::Sends(sent) => self.push_sent(lines, sent),
-            Happening::Refuses(_, _) if self.csv => Ok(()),
+            Happening::Refuses(word, refusal) if self.csv => {
+                self.push_refused_row(&mut lines.text, word, refusal)
+            }
             Happening::Refuses(word, refusal) => {
                 self.push_refused(&mut lines.text, word, refusal)
             }

@@ -1,14 +1,16 @@
 //! Logs of words at receivers of a station.
-ghost use Rattle.std.specs.Prelude.{◌≡◌, ◌<◌, IfOk, IfSome};
+ghost use Rattle.std.specs.Prelude.{◌≡◌, IfOk};
 ghost use Rattle.a429_logs.specs.LogRows.{stated_by};
-ghost use Rattle.a429_recordings.specs.SimulationLog.{AreInTime, IsFaultAt, IsLogReading, ReadsLog, word_for};
-ghost use Rattle.a429_recordings.specs.declared.simulate.log.ReadFault.TheVariants.{NoMemory};
+ghost use Rattle.a429_console.specs.Files.{bytes_of};
+ghost use Rattle.a429_recordings.specs.LogItems.{AddsLog, refusal_for};
+ghost use Rattle.a429_recordings.specs.SimulationLog.{AreInTime, IsLogReading, word_for};
 
+use crate::logs::{ReadFault, faulty};
 use a429_console::hints::{LogRefusal, Seen, SeenLog};
 use a429_console::refusals::CommandRefusal;
 use a429_logs::{LogReader, Reading, StatedWord};
 use a429_replay::Names;
-use std::alloc::{AllocFailed, Global};
+use std::alloc::Global;
 
 /// A word of a log: when it comes in, in microseconds, less than 10^14; at which receiver; and its 32 bits. Receivers are
 /// numbered from 0 in table order.
@@ -19,39 +21,10 @@ pub struct LogWord {
     pub raw: u32,
 }
 
-/// The first faulty line of a log, by its number from 1, and what a hint needs of it.
-#[derive(Clone, Copy)]
-pub struct FaultyLine {
-    pub line: usize,
-    pub seen: SeenLog,
-}
-
-/// Why the words of a log cannot be read.
-#[derive(Clone, Copy)]
-pub enum ReadFault {
-    /// This line is the first that is faulty.
-    Line(FaultyLine),
-    /// An allocation failed.
-    NoMemory,
-}
-
-impl<T: Drop> From<AllocFailed<T>> for ReadFault {
-    ghost use Rattle.std.specs.Prelude.{◌≡◌};
-    ghost use Rattle.a429_recordings.specs.declared.simulate.log.ReadFault.TheVariants.{NoMemory};
-
-    ghost from_gives = { λ _ e. e ≡ NoMemory };
-
-    fn from(_error: AllocFailed<T>) -> ReadFault {
-        ReadFault::NoMemory
-    }
-}
-
 /// A word at a receiver of a station. `None` if no receiver has the name of the word, or its time is not below 10^14 us.
 #[tactic(auto, unfolding(crate::specs::SimulationLog::word_for))]
 fn word_for(names: &Names, word: StatedWord<'_>) -> Option<LogWord>
-    ensures word { result ≡ word_for names.now (stated_by word.entry) }
-    ensures time { IfSome result (λ w. w.time ≡ word.entry.time) }
-    ensures few { IfSome result (λ w. w.time < 100000000000000) }
+    ensures { result ≡ word_for names.now (stated_by word.entry) }
 {
     if word.time >= 100_000_000_000_000 {
         return None;
@@ -64,18 +37,16 @@ fn word_for(names: &Names, word: StatedWord<'_>) -> Option<LogWord>
     })
 }
 
-/// The words of a log for the receivers of these names. Error: the number of its first faulty line, from 1, or an
-/// allocation fails.
-fn read_words(
-    alloc: Global,
+/// Adds the words of a log for the receivers of these names; the answer is how the next log is read. Error: the number
+/// of its first faulty line, from 1, or an allocation failed.
+fn add_words(
     names: &Names,
     reading: Reading,
     log: &[u8],
-) -> Result<Vec<LogWord>, ReadFault>
-    ensures words { ReadsLog names.now reading log.now result }
-    ensures in_time { IfOk result (λ words. AreInTime words.items) }
+    words: &mut Vec<LogWord>,
+) -> Result<Reading, ReadFault>
+    ensures { AddsLog (word_for names.now) reading log.now words.old.items words.new.items result }
 {
-    let mut words = Vec::new(alloc);
     let mut reader = LogReader::open(reading, log);
     while let Some(entry) = reader.next() {
         let entry = match entry {
@@ -92,21 +63,7 @@ fn read_words(
         };
         words.push(word)?;
     }
-    Ok(words)
-}
-
-/// A faulty line of a log that is read so.
-fn faulty(reader: &LogReader<'_>, reading: Reading, line: usize, why: LogRefusal) -> ReadFault
-    ensures { IsFaultAt line result }
-{
-    ReadFault::Line(FaultyLine {
-        line,
-        seen: SeenLog {
-            why,
-            shape: reader.shape(),
-            unit: reading.unit,
-        },
-    })
+    Ok(reader.for_next_log())
 }
 
 /// Why a word is at no receiver.
@@ -117,26 +74,52 @@ fn refusal_of(names: &Names, word: StatedWord<'_>) -> LogRefusal {
     }
 }
 
-/// Reads a log for the receivers of these names. Error: the number of its first faulty line, from 1. A line is faulty as
-/// the reader of logs says, or if its word is at no receiver, or at 10^14 us or later. The faulty line is kept in `seen`.
-pub fn read_log(
+/// The refusal for a fault of a log, by the number of the log from 0. A faulty line is kept in `seen`.
+fn refusal_for(
+    alloc: Global,
+    names: &Names,
+    number: usize,
+    log: &[u8],
+    fault: ReadFault,
+    seen: &mut Seen,
+) -> CommandRefusal
+    ensures { result ≡ refusal_for fault }
+{
+    match fault {
+        ReadFault::Line(fault) => {
+            let line = fault.line;
+            names.keep_line(alloc, log, line, 0, seen);
+            seen.log = Some(SeenLog {
+                number,
+                ..fault.seen
+            });
+            CommandRefusal::LogLine { line }
+        }
+        ReadFault::NoMemory => CommandRefusal::Memory,
+    }
+}
+
+/// Reads logs, one after another as if they were one, for the receivers of these names. Error: the number of the first
+/// faulty line, from 1 in its log. A line is faulty as the reader of logs says, or if its word is at no receiver, or at
+/// 10^14 us or later. The faulty line is kept in `seen`.
+pub fn read_words(
     alloc: Global,
     names: &Names,
     reading: Reading,
-    log: &[u8],
+    logs: &[Vec<u8>],
     seen: &mut Seen,
 ) -> Result<Vec<LogWord>, CommandRefusal>
-    ensures words { IsLogReading names.now reading log.now result }
+    ensures words { IsLogReading names.now reading (bytes_of logs.now) result }
     ensures in_time { IfOk result (λ words. AreInTime words.items) }
 {
-    match read_words(alloc, names, reading, log) {
-        Ok(words) => Ok(words),
-        Err(ReadFault::Line(fault)) => {
-            let line = fault.line;
-            names.keep_line(alloc, log, line, 0, seen);
-            seen.log = Some(fault.seen);
-            Err(CommandRefusal::LogLine { line })
+    let mut words = Vec::new(alloc);
+    let mut next = reading;
+    for number in 0..logs.len() {
+        let log = logs[number].as_slice();
+        match add_words(names, next, log, &mut words) {
+            Ok(after) => next = after,
+            Err(fault) => return Err(refusal_for(alloc, names, number, log, fault, seen)),
         }
-        Err(ReadFault::NoMemory) => Err(CommandRefusal::Memory),
     }
+    Ok(words)
 }

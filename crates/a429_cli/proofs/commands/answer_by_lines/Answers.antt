@@ -1,7 +1,9 @@
 use Rattle.a429_console.proofs.ReadingParts.{read_weaker}
-use Rattle.std.proofs.Common.{inl, refl}
+use Rattle.std.proofs.Common.{◌∷◌, inl, refl}
 use Rattle.std.proofs.lemmas.Result.{IfOk-weaker}
 use Rattle.a429_console.specs.Files.{texts_of}
+use Rattle.a429_console.specs.Requests.{given_of}
+use Rattle.a429_recordings.specs.SimulationReplies.{IsSimulation, simulation_form}
 use Rattle.a429_cli.specs.LineReplies.{IsLinesReply}
 use Rattle.a429_replay.specs.Replaying.{IsReplay, TakesFurther}
 use Rattle.a429_cli.proofs.commands.answer_by_lines.Goals as goal
@@ -24,7 +26,11 @@ returns-in-Replay-clause-read g c =
 
 pub returns-in-Simulate-clause-read : goal.returns-in-Simulate-clause-read
 returns-in-Simulate-clause-read g c =
-    rw c.in-Simulate.is (read_weaker c.simulate.ensures.simulated (λ file is. IfOk-weaker c.simulate.result _ _ (λ status told. (told.0, inl (rw c.of-form.ensures at told.1), told.2)) is))
+    rw c.in-Simulate.is (read_weaker c.simulate.ensures.simulated (λ file is. IfOk-weaker c.simulate.result _ _ (λ status told.
+    let names = c.args.asked.now.second.now ∷ texts_of c.args.asked.now.more.items in
+    let reply : IsSimulation file c.args.asked.now.first.now names (simulation_form (given_of c.args.asked.now.options)) status told.0 = rw (c.of-form.ensures, c.deref-in-Simulate.ensures.value) at told.1 in
+    (told.0, inl reply, told.2))
+    is))
 
 pub returns-in-Lines-clause-taken : goal.returns-in-Lines-clause-taken
 returns-in-Lines-clause-taken g c = read_weaker c.tell_lines.ensures.told (λ file is takes. refl)

@@ -1,5 +1,5 @@
-use Rattle.std.proofs.Common.{◌∙◌, ap, Ok, subst, sym}
 use Rattle.a429_import.specs.ImportReading.{HaveRows}
+use Rattle.std.proofs.Common.{Some, subst}
 use Rattle.a429_import.proofs.ImportReading.{no_lines, rows_read}
 use Rattle.a429_import.proofs.import.table_below_heading.Goals as goal
 
@@ -8,4 +8,5 @@ returns-in-None c = λ lines known. no_lines c.args.read.now lines c.wrong_headi
 
 pub returns-in-Some : goal.returns-in-Some
 returns-in-Some c = λ lines known.
-    c.table_of_rows.ensures lines (rows_read _ c.args.read.now lines (subst (λ o. HaveRows o c.args.read.now lines) c.in-Some.is known) ∙ ap (λ rows. Ok rows) (sym c.deref.ensures.value))
+    let there : HaveRows (Some _) c.args.read.now lines = subst (λ o. HaveRows o c.args.read.now lines) c.in-Some.is known in
+    c.table_of_rows.ensures there.2.rows lines there.2.has (rows_read _ c.args.read.now lines there)

@@ -1,28 +1,28 @@
 use Rattle.std.proofs.Common.{◌≡◌, ◌∙◌, ap, string_bytes, subst, sym, List, ℕ, Some, Ok}
 use Rattle.toml.specs.Parse.{parse_document}
 use Rattle.a429_table.specs.Reading.{reading}
-use Rattle.a429_import.specs.declared.rows.ImportRow.{ImportRow}
 use Rattle.a429_import.specs.ImportTables.{record_stated, root_members}
+use Rattle.a429_import.proofs.FullRows.{all_kept}
 use Rattle.a429_import.proofs.ImportLimits.{limit_fault_is_first}
 use Rattle.a429_import.proofs.Imports.{record_read, table_refused}
 use Rattle.a429_import.proofs.import.table_of_rows.Goals as goal
 
 pub returns-in-Some : goal.returns-in-Some
-returns-in-Some c = λ lines are. (c.args.rows.now, are, limit_fault_is_first c.args.rows.now (c.in-Some.kind, c.in-Some.place) (sym c.in_ok-kind.ensures ∙ c.in-Some.is))
+returns-in-Some c = λ rows lines has are. (rows, are, limit_fault_is_first rows (c.in-Some.kind, c.in-Some.place) (sym (c.limit_fault.ensures rows has.known) ∙ c.in-Some.is))
 
 pub returns-in-Ok : goal.returns-in-Ok
-returns-in-Ok c = λ lines are.
-    let rows : List ImportRow = c.args.rows.now in
+returns-in-Ok c = λ rows lines has are.
+    let kept : c.deref.result.now ≡ rows = c.deref.ensures.value ∙ all_kept c.args.read.now.is_full c.args.read.now.kept.items rows has.kept (sym (c.limit_fault.ensures rows has.known) ∙ c.in-None.is) in
     let bytes : List ℕ = c.as_bytes.result.now in
     let same : bytes ≡ string_bytes c.in_ok-text.text = c.as_bytes.ensures.value ∙ c.as_str.ensures.value in
-    let parsed : parse_document bytes ≡ Some (root_members rows) = ap parse_document same ∙ c.in_ok-text.ensures in
+    let parsed : parse_document bytes ≡ Some (root_members rows) = ap parse_document same ∙ c.in_ok-text.ensures ∙ ap (λ rs. Some (root_members rs)) kept in
     let read = record_read lines rows are bytes c.as_bytes.ensures.utf8 parsed _ c.in-Ok.ensures in
     (rows, are, rw c.into_bytes.ensures.value (subst (λ (bs : List ℕ). reading bs ≡ Ok (record_stated rows)) same read))
 
 pub returns-in-Err : goal.returns-in-Err
-returns-in-Err c = λ lines are.
-    let rows : List ImportRow = c.args.rows.now in
+returns-in-Err c = λ rows lines has are.
+    let kept : c.deref.result.now ≡ rows = c.deref.ensures.value ∙ all_kept c.args.read.now.is_full c.args.read.now.kept.items rows has.kept (sym (c.limit_fault.ensures rows has.known) ∙ c.in-None.is) in
     let bytes : List ℕ = c.as_bytes.result.now in
     let same : bytes ≡ string_bytes c.in_ok-text.text = c.as_bytes.ensures.value ∙ c.as_str.ensures.value in
-    let parsed : parse_document bytes ≡ Some (root_members rows) = ap parse_document same ∙ c.in_ok-text.ensures in
+    let parsed : parse_document bytes ≡ Some (root_members rows) = ap parse_document same ∙ c.in_ok-text.ensures ∙ ap (λ rs. Some (root_members rs)) kept in
     table_refused lines rows are bytes c.as_bytes.ensures.utf8 parsed c.in-Err.fault c.from.result c.in-Err.ensures c.from.ensures

@@ -1,5 +1,5 @@
-use Rattle.std.proofs.Common.{◌≡◌, ◌==◌, ◌∙◌, ap, lit<, rules, subst, sym, tests}
-use Rattle.std.specs.Prelude.{length, nat_lt}
+use Rattle.std.proofs.Common.{◌≡◌, ◌==◌, ap, lit<, rules, subst, sym, tests}
+use Rattle.std.specs.Prelude.{nat_lt}
 use Rattle.std.specs.List.{slice_split}
 use Rattle.std.specs.Str.Iter.{split_steps}
 use Rattle.std.specs.Str.Pattern.{FindsChar}
@@ -14,7 +14,6 @@ unfolding words
 returns c =
     ap (nat_lt 32) (count_from_yields_List c.filter.result c.count.result c.count.ensures.ran
     (YieldsList-from_filter {s = c.filter.result} _ is_word
-    (subst (λ i. YieldsList (split_steps FindsChar (λ a b. b ≡ a)) (λ x. x.now) i (slice_split (λ b. b == 32) c.as_str-text.result.now)) (sym c.filter.ensures.source)
-    (YieldsList-from_str_split 32 c.as_str-text.result.now (lit< tt) c.split.ensures.text c.split.ensures.has_more c.split.ensures.pattern))
+    (subst (λ i. YieldsList (split_steps FindsChar (λ a b. b ≡ a)) (λ x. x.now) i (slice_split (λ b. b == 32) c.args.text.now)) (sym c.filter.ensures.source)
+    (YieldsList-from_str_split 32 c.args.text.now (lit< tt) c.split.ensures.text c.split.ensures.has_more c.split.ensures.pattern))
     c.filter.ensures.closure (λ x b q k. search (rules, tests))))
-    ∙ ap (λ text. nat_lt 32 (length (words text))) c.as_str-text.ensures

@@ -7,13 +7,13 @@ use Rattle.a429_import.proofs.reading.next_line.Goals as goal
 pub returns-in-None : goal.returns-in-None
 returns-in-None c = λ lines known.
     let old : LinesRead = c.args.read.now in
-    let new : LinesRead = record { heading = Some c.args.line; rows = old.rows; firsts = old.firsts; fault = old.fault } in
-    heading_read old new c.args.line lines c.heading_fault-fault.result (subst (λ o. HaveRows o old lines) c.in-None.is known) refl refl refl c.heading_fault-fault.ensures
+    let new : LinesRead = record { heading = Some c.args.line; rows = old.rows; fault = old.fault } in
+    heading_read old new c.args.line lines c.heading_fault-fault.result (subst (λ o. HaveRows o old lines) c.in-None.is known) refl refl c.heading_fault-fault.ensures
 
 pub returns-in-Some : goal.returns-in-Some
 returns-in-Some c = λ lines known.
     let old : LinesRead = c.args.read.now in
-    let new : LinesRead = record { heading = old.heading; rows = c.push_line.new.rows; firsts = c.push_line.new.firsts; fault = old.fault } in
+    let new : LinesRead = record { heading = old.heading; rows = c.take_below.new.read; fault = old.fault } in
     let there : HaveRows (Some c.in-Some.heading) old lines = subst (λ o. HaveRows o old lines) c.in-Some.is known in
     subst (λ f. AreRead f new (lines ++ c.args.line ∷ [])) (sym c.err.ensures.value)
-    (line_read c.in-Some.heading old new c.args.line lines c.push_line.result there c.in-Some.is c.push_line.ensures.rows c.push_line.ensures.agree c.push_line.ensures.firsts)
+    (line_read c.in-Some.heading old new c.args.line lines c.take_below.result there c.in-Some.is (c.take_below.ensures there.2.rows there.2.agree there.2.has))

@@ -1,6 +1,7 @@
 use Rattle.std.proofs.Common.{◌≡◌, ◌∙◌, ap, inl, inr, subst, List, ℕ}
 use Rattle.std.specs.Prelude.{Err, Ok}
 use Rattle.std.proofs.lemmas.Result.{err_from_is_err_and}
+use Rattle.a429_console.specs.Files.{bytes_of}
 use Rattle.a429_console.specs.RefusalText.{OrMemory}
 use Rattle.a429_console.specs.Names.{Naming}
 use Rattle.a429_console.specs.Tables.{IsProposedBy, IsTableRefusal}
@@ -27,19 +28,19 @@ returns-in_err-player c =
     let q = s.proposal in
     let names = c.in_ok-setting.ensures.1 in
     let proposed = subst (λ (t : List ℕ). IsProposedBy t q) c.deref.ensures.value c.in_ok-setting.ensures.0 in
-    let fault = subst (λ (t : List ℕ). OrMemory (BeginsNoLog s t c.args.form) e) c.deref-2.ensures.value c.in_err-player.ensures in
-    let why : BeginsNoLog s i.log c.args.form e → IsUnsimulated i c.args.form e = λ why. elim why [
-      | inl one ↦ inl (inr (q, proposed, subst (λ (n : Naming). IsLogFault n c.args.form.reading i.log e) names one))
+    let fault = subst (λ (ts : List (List ℕ)). OrMemory (BeginsNoLog s ts c.args.form) e) (ap bytes_of c.deref-2.ensures.value) c.in_err-player.ensures in
+    let why : BeginsNoLog s i.logs c.args.form e → IsUnsimulated i c.args.form e = λ why. elim why [
+      | inl one ↦ inl (inr (q, proposed, subst (λ (n : Naming). IsLogFault n c.args.form.reading i.logs e) names one))
       | inr more ↦ inr (
         q,
         more.0,
-        record { proposed = proposed; words_are = subst (λ (n : Naming). log_words n c.args.form.reading i.log ≡ Ok more.0) names more.1 },
+        record { proposed = proposed; words_are = subst (λ (n : Naming). log_words n c.args.form.reading i.logs ≡ Ok more.0) names more.1 },
         more.2,
         more.3,
       )
     ] in
     failed c.from_residual-in_err-player.result _ (OrMemory (IsUnsimulated i c.args.form)) e (p.1 ∙ ap Err p.2)
-    (or_memory_weaker (BeginsNoLog s i.log c.args.form) (IsUnsimulated i c.args.form) e why fault)
+    (or_memory_weaker (BeginsNoLog s i.logs c.args.form) (IsUnsimulated i c.args.form) e why fault)
 
 pub returns : goal.returns
 returns c =
@@ -47,10 +48,10 @@ returns c =
     let s = c.in_ok-setting.setting in
     let names = c.in_ok-setting.ensures.1 in
     let proposed = subst (λ (t : List ℕ). IsProposedBy t s.proposal) c.deref.ensures.value c.in_ok-setting.ensures.0 in
-    let start = subst (λ (t : List ℕ). BeginsLog s t c.args.form c.in_ok-player.player) c.deref-2.ensures.value c.in_ok-player.ensures in
+    let start = subst (λ (ts : List (List ℕ)). BeginsLog s ts c.args.form c.in_ok-player.player) (ap bytes_of c.deref-2.ensures.value) c.in_ok-player.ensures in
     record {
       words = start.0;
-      simulated = record { proposed = proposed; words_are = subst (λ (n : Naming). log_words n c.args.form.reading i.log ≡ Ok start.0) names start.1 };
+      simulated = record { proposed = proposed; words_are = subst (λ (n : Naming). log_words n c.args.form.reading i.logs ≡ Ok start.0) names start.1 };
       csv = c.in_ok-setting.ensures.2 ∙ c.is_csv.ensures;
       begin = start.2.0;
       ready = record { names = names; playable = start.2.1 };

@@ -1,6 +1,7 @@
 use Rattle.std.proofs.Common.{◌≡◌, ◌∙◌, ap, inl, inr}
 use Rattle.std.specs.Prelude.{Err}
 use Rattle.std.proofs.lemmas.Result.{err_from_is_err_and}
+use Rattle.a429_console.specs.Files.{bytes_of}
 use Rattle.a429_console.specs.RefusalText.{OrMemory}
 use Rattle.a429_console.proofs.Refused.{failed, matched_both, or_memory_weaker}
 use Rattle.a429_console.specs.declared.refusals.CommandRefusal.{CommandRefusal}
@@ -14,7 +15,7 @@ use Rattle.a429_recordings.proofs.simulate.read_player.Goals as goal
 pub returns-in_err-words : goal.returns-in_err-words
 returns-in_err-words c =
     let s = c.args.setting.now in
-    let log = c.args.log.now in
+    let log = bytes_of c.args.logs.now in
     let e = c.in_err-words.field-0.0 in
     let p = err_from_is_err_and c.from_residual.result c.from_residual.ensures.1 in
     failed c.from_residual.result _ (OrMemory (BeginsNoLog s log c.args.form)) e (p.1 ∙ ap Err p.2)
@@ -23,7 +24,7 @@ returns-in_err-words c =
 pub returns : goal.returns
 returns c =
     let s = c.args.setting.now in
-    let log = c.args.log.now in
+    let log = bytes_of c.args.logs.now in
     let form = c.args.form in
     let words = c.in_ok-words.words.items in
     let last = end_of s.proposal words form.until in

@@ -5,4 +5,4 @@ use Rattle.a429_survey.specs.Kept.{label_in}
 use Rattle.a429_survey.proofs.rows.add_labels.Given as goal
 
 abbrev pub invariant-loop-label : goal.invariant-loop-label
-invariant-loop-label l = l.rows ≡ l.fn.rows ++ flat_map (label_in l.line) (range_with_len 0 l.label)
+invariant-loop-label l = l.rows ≡ l.fn.rows ++ flat_map (label_in l.fn.kind l.fn.rate l.line) (range_with_len 0 l.label)

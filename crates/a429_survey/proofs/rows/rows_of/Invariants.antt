@@ -4,4 +4,4 @@ use Rattle.a429_survey.specs.Kept.{rows_in}
 use Rattle.a429_survey.proofs.rows.rows_of.Given as goal
 
 abbrev pub invariant-loop-line : goal.invariant-loop-line
-invariant-loop-line l = l.rows ≡ flat_map (rows_in l.rate) (take l.line-index l.lines)
+invariant-loop-line l = l.rows ≡ flat_map (rows_in l.fn.kind l.fn.rate) (take l.line-index l.lines)

@@ -1,9 +1,12 @@
 use Rattle.std.proofs.Common.{◌≡◌, length}
-use Rattle.a429_logs.specs.LogsLeft.{entries_left, lines_left}
+use Rattle.a429_logs.specs.LogsLeft.{entries_left, lines_left, reading_left}
 use Rattle.a429_logs.proofs.reader.LogReader.next.Given as goal
 
 abbrev pub invariant-loop-line : goal.invariant-loop-line
-invariant-loop-line l = entries_left l.self ≡ entries_left l.initial.self
+invariant-loop-line l = record {
+  entries : entries_left l.self ≡ entries_left l.initial.self;
+  after : reading_left l.self ≡ reading_left l.initial.self;
+}
 
 abbrev pub decreases-loop-line : goal.decreases-loop-line
 decreases-loop-line l = length (lines_left l.self)

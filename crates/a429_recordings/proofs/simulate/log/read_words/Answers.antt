@@ -1,76 +1,55 @@
-use Rattle.std.proofs.Common.{◌≡◌, ◌∙◌, ◌<◌, ◌∷◌, ◌++◌, [], List, rules, sym, ap, subst, append-nil}
-use Rattle.std.specs.Prelude.{None, Some, Ok, Err, Result}
-use Rattle.a429_console.specs.Lines.{entries_before}
-use Rattle.a429_console.proofs.EntryLines.{entries_before-nil}
-use Rattle.a429_logs.specs.LogRows.{stated_by}
-use Rattle.a429_logs.specs.Logs.{NoneBefore, WordAt, log_entries}
-use Rattle.a429_logs.specs.LogsLeft.{entries_left}
-use Rattle.a429_logs.specs.declared.reader.LogFault.{LogFault}
-use Rattle.a429_logs.proofs.NeverFall.{never_fall}
-use Rattle.a429_recordings.specs.SimulationLog.{log_words, word_for, words_from}
-use Rattle.a429_recordings.proofs.LogLines.{fault_at, so_far_more, so_far_none, words_fault, words_more, words_none}
+use Rattle.std.proofs.Common.{◌≡◌, ◌+◌, ◌∷◌, [], List, ℕ, ap, drop, subst, sym}
+use Rattle.std.specs.Prelude.{Ok}
+use Rattle.std.proofs.Math.ListN.{drop_of_length-le}
+use Rattle.a429_logs.specs.Logs.{series_entries}
+use Rattle.a429_logs.proofs.NeverFall.{series_fall}
+use Rattle.a429_console.specs.Files.{bytes_of}
+use Rattle.a429_console.specs.RefusalText.{OrMemory}
+use Rattle.a429_recordings.specs.LogItems.{items_of}
+use Rattle.a429_recordings.specs.SimulationLog.{IsLogFault, log_words, word_for}
+use Rattle.a429_recordings.proofs.LogLines.{AreBefore, before_all, before_more, fault_told, in_time_all, logs_left}
 use Rattle.a429_recordings.proofs.simulate.log.read_words.Goals as goal
-
-pub loop-entry-init : goal.loop-entry-init
-unfolding log_words log_entries
-loop-entry-init c =
-    let names = c.args.names.now in
-    let last = c.args.reading.clock.last in
-    let left = entries_left c.open-reader.result in
-    let before : NoneBefore last left = subst (λ (l : List (Result WordAt LogFault)). NoneBefore last l) (sym c.open-reader.ensures) (never_fall c.args.reading _) in
-    record {
-      read =
-          rw c.new-words.ensures.items (ap (λ (l : List (Result WordAt LogFault)). words_from names l) (sym c.open-reader.ensures) ∙ sym (entries_before-nil (words_from names left)));
-      times = rw c.new-words.ensures.items (so_far_none last left before);
-    }
-
-pub loop-entry-preserved : goal.loop-entry-preserved
-loop-entry-preserved c =
-    let names = c.args.names.now in
-    let old = c.loop-entry.words.items in
-    let left = entries_left c.loop-entry.reader in
-    let rest = entries_left c.next.new.self in
-    let v = c.in-Some-word_for.word in
-    let w : WordAt = record { line = c.in-Ok.entry.line; word = stated_by c.in-Ok.entry.word } in
-    let first : left ≡ Ok w ∷ rest = search rules in
-    let is : Some v ≡ word_for names w.word = search rules in
-    let words : c.push.new.self.items ≡ old ++ v ∷ [] = search rules in
-    let time : v.time ≡ w.word.time = search rules in
-    let few : v.time < 100000000000000 = search rules in
-    record {
-      read = rw words (c.loop-entry.invariant.read ∙ words_more names old left rest w v first is);
-      times = rw words (so_far_more old left rest w v c.loop-entry.invariant.times first time few);
-    }
 
 pub returns-in-Err-clause-words : goal.returns-in-Err-clause-words
 returns-in-Err-clause-words c =
-    let names = c.args.names.now in
-    let left = entries_left c.loop-entry.reader in
-    let rest = entries_left c.next.new.self in
-    let fault = c.in-Err.fault in
-    let first : left ≡ Err fault ∷ rest = search rules in
-    fault_at names c.args.reading c.args.log.now fault.line c.faulty.result c.faulty.ensures
-    (c.loop-entry.invariant.read ∙ words_fault names c.loop-entry.words.items left rest fault first)
+    let f = word_for c.args.names.now in
+    let logs = c.args.logs.now in
+    let all = bytes_of logs in
+    let k = c.loop-number.number in
+    let text = c.as_slice-log.result.now in
+    let words = c.loop-number.words.items in
+    let here : bytes_of (drop k logs) ≡ text ∷ bytes_of (drop (k + 1) logs) = logs_left logs k c.index-logs-number.result text c.loop-number-test.true c.index-logs-number.is c.as_slice-log.ensures.value in
+    let before = subst (λ (ls : List (List ℕ)). AreBefore f c.args.reading all c.loop-number.next ls words) here c.loop-number.invariant in
+    subst (OrMemory (IsLogFault c.args.names.now c.args.reading all)) (sym c.refusal_for.ensures)
+    (fault_told f c.args.reading all c.loop-number.next text (bytes_of (drop (k + 1) logs)) words c.add_words.new.words.items c.in-Err.fault before c.in-Err.ensures)
 
-pub returns-in_default-word_for-clause-words : goal.returns-in_default-word_for-clause-words
-returns-in_default-word_for-clause-words c =
-    let names = c.args.names.now in
-    let left = entries_left c.loop-entry.reader in
-    let rest = entries_left c.next.new.self in
-    let w : WordAt = record { line = c.in-Ok.entry.line; word = stated_by c.in-Ok.entry.word } in
-    let first : left ≡ Ok w ∷ rest = search rules in
-    let is : None ≡ word_for names w.word = search rules in
-    fault_at names c.args.reading c.args.log.now w.line c.faulty-in_default-word_for.result c.faulty-in_default-word_for.ensures
-    (c.loop-entry.invariant.read ∙ words_none names c.loop-entry.words.items left rest w first is)
+pub loop-number-preserved : goal.loop-number-preserved
+loop-number-preserved c =
+    let f = word_for c.args.names.now in
+    let logs = c.args.logs.now in
+    let all = bytes_of logs in
+    let k = c.loop-number.number in
+    let text = c.as_slice-log.result.now in
+    let words = c.loop-number.words.items in
+    let here : bytes_of (drop k logs) ≡ text ∷ bytes_of (drop (k + 1) logs) = logs_left logs k c.index-logs-number.result text c.loop-number-test.true c.index-logs-number.is c.as_slice-log.ensures.value in
+    let before = subst (λ (ls : List (List ℕ)). AreBefore f c.args.reading all c.loop-number.next ls words) here c.loop-number.invariant in
+    before_more f c.args.reading all c.loop-number.next c.in-Ok.after text (bytes_of (drop (k + 1) logs)) words c.add_words.new.words.items before c.in-Ok.ensures
 
 pub returns-clause-words : goal.returns-clause-words
+unfolding log_words
 returns-clause-words c =
-    let names = c.args.names.now in
-    let words = c.loop-entry.words.items in
-    let none : entries_left c.loop-entry.reader ≡ [] = search rules in
-    c.loop-entry.invariant.read
-    ∙ ap (λ (l : List (Result WordAt LogFault)). entries_before words (words_from names l)) none
-    ∙ ap Ok (append-nil words)
+    let f = word_for c.args.names.now in
+    let all = bytes_of c.args.logs.now in
+    let none : bytes_of (drop c.loop-number.number c.args.logs.now) ≡ [] = ap bytes_of (drop_of_length-le c.args.logs.now c.loop-number-test.false) in
+    before_all f c.args.reading all c.loop-number.next c.loop-number.words.items
+    (subst (λ (ls : List (List ℕ)). AreBefore f c.args.reading all c.loop-number.next ls c.loop-number.words.items) none c.loop-number.invariant)
 
 pub returns-clause-in_time : goal.returns-clause-in_time
-returns-clause-in_time c = c.loop-entry.invariant.times.1.in_time
+returns-clause-in_time c =
+    let names = c.args.names.now in
+    let f = word_for names in
+    let all = bytes_of c.args.logs.now in
+    let none : bytes_of (drop c.loop-number.number c.args.logs.now) ≡ [] = ap bytes_of (drop_of_length-le c.args.logs.now c.loop-number-test.false) in
+    let its : items_of f c.args.reading all ≡ Ok c.loop-number.words.items = before_all f c.args.reading all c.loop-number.next c.loop-number.words.items
+    (subst (λ (ls : List (List ℕ)). AreBefore f c.args.reading all c.loop-number.next ls c.loop-number.words.items) none c.loop-number.invariant) in
+    in_time_all names c.args.reading.clock.last (series_entries c.args.reading all) c.loop-number.words.items (series_fall c.args.reading all) its

@@ -1,0 +1,7 @@
+use Rattle.std.proofs.Common.{◌≡◌, drop}
+use Rattle.std.specs.List.{position_from}
+use Rattle.std.specs.Prelude.{nat_lt}
+use Rattle.a429_import.proofs.limits.first_above.Given as goal
+
+abbrev pub invariant-loop-place : goal.invariant-loop-place
+invariant-loop-place l = position_from (nat_lt 128) l.place (drop l.place l.outputs) ≡ position_from (nat_lt 128) 0 l.outputs

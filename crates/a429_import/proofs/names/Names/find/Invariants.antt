@@ -1,0 +1,15 @@
+use Rattle.std.proofs.Common.{◌≡◌, ◌≤◌, ℕ, length}
+use Rattle.a429_import.specs.Names.{chain_of, last_below, names_of}
+use Rattle.a429_import.proofs.NameChains.{found_from}
+use Rattle.a429_import.proofs.names.Names.find.Given as goal
+
+abbrev pub invariant-loop-next : goal.invariant-loop-next
+invariant-loop-next l = record {
+  bound : ℕ;
+  within : bound ≤ length (names_of l.self);
+  next : l.next ≡ last_below (length l.self.lasts.items) (chain_of (length l.self.lasts.items) l.name) (names_of l.self) bound;
+  found : l.found ≡ found_from (length l.self.lasts.items) l.name (names_of l.self) bound;
+}
+
+abbrev pub decreases-loop-next : goal.decreases-loop-next
+decreases-loop-next l = l.next

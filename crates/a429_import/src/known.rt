@@ -1,0 +1,57 @@
+//! What is known of rows, each of which is read once: their names, and what the first row of each name says. No row is
+//! kept.
+ghost use Rattle.std.specs.Prelude.{◌≡◌, ◌++◌, ◌∷◌, [], IfOk, List, OnOk};
+ghost use Rattle.a429_import.specs.declared.rows.ImportRow.{ImportRow};
+ghost use Rattle.a429_import.specs.ImportTexts.{row_view};
+ghost use Rattle.a429_import.specs.Known.{Knows};
+
+pub mod groups;
+pub mod receivers;
+pub mod sources;
+
+use crate::known::groups::KnownGroups;
+use crate::known::receivers::KnownReceivers;
+use crate::known::sources::KnownSources;
+use crate::rows::RowFields;
+use std::alloc::{AllocError, Global};
+
+/// What is known of rows.
+#[derive(Drop)]
+pub struct Known {
+    /// As many as there are rows. They take no memory.
+    rows: Vec<()>,
+    pub receivers: KnownReceivers,
+    pub sources: KnownSources,
+    pub groups: KnownGroups,
+}
+
+impl Known {
+    /// Before the first row. Error: an allocation failed.
+    pub fn new(alloc: Global, chains: usize) -> Result<Known, AllocError>
+        ensures { IfOk result (λ known. Knows known []) }
+    {
+        let receivers = KnownReceivers::new(alloc, chains)?;
+        let sources = KnownSources::new(alloc, chains)?;
+        let groups = KnownGroups::new(alloc, chains)?;
+        Ok(Known {
+            rows: Vec::new(alloc),
+            receivers,
+            sources,
+            groups,
+        })
+    }
+
+    /// Takes one more row. Error: an allocation failed.
+    pub fn note(&mut self, row: &RowFields<'_>) -> Result<(), AllocError>
+        requires { (rows : List ImportRow) × Knows self.old rows }
+        ensures { OnOk result ((rows : List ImportRow) → Knows self.old rows → Knows self.new (rows ++ row_view row.now ∷ [])) }
+    {
+        let number = self.rows.len();
+        let receiver = self.receivers.first_or(row, number);
+        self.sources.note(receiver, row, number)?;
+        self.receivers.note(row, number)?;
+        self.groups.note(row, number)?;
+        self.rows.push(())?;
+        Ok(())
+    }
+}

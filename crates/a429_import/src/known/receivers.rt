@@ -1,0 +1,124 @@
+//! The receivers of rows, each with its filters.
+ghost use Rattle.std.specs.Prelude.{◌≡◌, ◌++◌, ◌∷◌, [], if◌then◌else◌, IfOk, List, None, OnOk, Some, length};
+ghost use Rattle.std.specs.List.{position_from};
+ghost use Rattle.std.specs.Str.{bytes_eq};
+ghost use Rattle.a429_import.specs.declared.firsts.Part.TheVariants as part;
+ghost use Rattle.a429_import.specs.declared.rows.ImportRow.{ImportRow};
+ghost use Rattle.a429_import.specs.FirstRows.{first_from};
+ghost use Rattle.a429_import.specs.ImportClashes.{Agree, first_part_clash};
+ghost use Rattle.a429_import.specs.ImportFields.{field_in};
+ghost use Rattle.a429_import.specs.ImportLimits.{has_too_many_filters};
+ghost use Rattle.a429_import.specs.ImportTables.{firsts};
+ghost use Rattle.a429_import.specs.ImportTexts.{row_view};
+ghost use Rattle.a429_import.specs.Known.{KnowsReceivers, filters_clash};
+ghost use Rattle.a429_import.specs.Names.{AreTexts, texts_of};
+
+use crate::clashes::{RowClash, numbered};
+use crate::fault::ImportColumn;
+use crate::limits::{first_true, has_too_many_filters};
+use crate::named_rows::NamedRows;
+use crate::rows::RowFields;
+use crate::texts::Texts;
+use std::alloc::{AllocError, Global};
+
+/// The receivers of rows, each with the filters that its first row states.
+#[derive(Drop)]
+pub struct KnownReceivers {
+    pub named: NamedRows,
+    filters: Texts,
+    /// Whether there are too many filters.
+    too_many: Vec<bool>,
+}
+
+impl KnownReceivers {
+    /// Before the first row. Error: an allocation failed.
+    pub fn new(alloc: Global, chains: usize) -> Result<KnownReceivers, AllocError>
+        ensures { IfOk result (λ known. KnowsReceivers known []) }
+    {
+        Ok(KnownReceivers {
+            named: NamedRows::new(alloc, chains)?,
+            filters: Texts::new(alloc),
+            too_many: Vec::new(alloc),
+        })
+    }
+
+    /// The filters of a receiver, by its place; empty if there is none.
+    pub fn filters(&self, place: usize) -> &[u8]
+        requires { AreTexts self.now.filters }
+        ensures { result.now ≡ field_in place (texts_of self.now.filters) }
+    {
+        self.filters.get(place)
+    }
+
+    /// The column in which a row contradicts the first row of its receiver.
+    fn column_at(&self, place: usize, row: &RowFields<'_>) -> Option<ImportColumn>
+        requires { AreTexts self.now.filters }
+        ensures { result ≡ filters_clash (field_in place (texts_of self.now.filters)) row.now.texts.filters.now }
+    {
+        if self.filters(place) == row.texts.filters.as_bytes() {
+            None
+        } else {
+            Some(ImportColumn::Filters)
+        }
+    }
+
+    /// The first row that a row contradicts about its receiver.
+    pub fn clash(&self, row: &RowFields<'_>) -> Option<RowClash>
+        requires { (rows : List ImportRow) × KnowsReceivers self.now rows }
+        ensures { (rows : List ImportRow) → Agree rows → KnowsReceivers self.now rows
+            → result ≡ first_part_clash part.Receivers 0 rows (row_view row.now) }
+    {
+        match self.named.find(row.texts.receiver) {
+            Some(found) => numbered(found.first, self.column_at(found.place, row)),
+            None => None,
+        }
+    }
+
+    /// Takes one more row, with its number. Error: an allocation failed.
+    pub fn note(&mut self, row: &RowFields<'_>, number: usize) -> Result<(), AllocError>
+        requires { (rows : List ImportRow) × KnowsReceivers self.old rows }
+        ensures { OnOk result ((rows : List ImportRow) → number ≡ length rows → KnowsReceivers self.old rows
+            → KnowsReceivers self.new (rows ++ row_view row.now ∷ [])) }
+    {
+        match self.named.find(row.texts.receiver) {
+            Some(_found) => return Ok(()),
+            None => {}
+        }
+        self.named.push(row.texts.receiver, number)?;
+        self.filters.push(row.texts.filters.as_bytes())?;
+        self.too_many.push(has_too_many_filters(row.texts.filters))?;
+        Ok(())
+    }
+
+    /// The number of the first row with the receiver of a row, which is the next row itself if there is none before it.
+    pub fn first_or(&self, row: &RowFields<'_>, number: usize) -> usize
+        requires { (rows : List ImportRow) × KnowsReceivers self.now rows }
+        ensures { (rows : List ImportRow) → number ≡ length rows → KnowsReceivers self.now rows
+            → first_from part.Receivers row.now.texts.receiver.now 0 (rows ++ row_view row.now ∷ []) ≡ Some result }
+    {
+        match self.named.find(row.texts.receiver) {
+            Some(found) => found.first,
+            None => number,
+        }
+    }
+
+    /// The number of the first row with the receiver of a row. `None` if there is none.
+    pub fn first(&self, row: &RowFields<'_>) -> Option<usize>
+        requires { (rows : List ImportRow) × KnowsReceivers self.now rows }
+        ensures { (rows : List ImportRow) → KnowsReceivers self.now rows
+            → result ≡ first_from part.Receivers row.now.texts.receiver.now 0 rows }
+    {
+        match self.named.find(row.texts.receiver) {
+            Some(found) => Some(found.first),
+            None => None,
+        }
+    }
+
+    /// The first receiver with too many filters.
+    pub fn too_many_filters(&self) -> Option<usize>
+        ensures { (rows : List ImportRow) → KnowsReceivers self.now rows
+            → result ≡ position_from has_too_many_filters 0 (firsts part.Receivers rows) }
+    {
+        first_true(&self.too_many)
+    }
+}

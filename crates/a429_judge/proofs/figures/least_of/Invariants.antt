@@ -1,0 +1,7 @@
+use Rattle.std.proofs.Common.{◌≡◌, take, None}
+use Rattle.std.specs.Prelude.{fold}
+use Rattle.a429_judge.specs.Figures.{lesser}
+use Rattle.a429_judge.proofs.figures.least_of.Given as goal
+
+abbrev pub invariant-loop-number : goal.invariant-loop-number
+invariant-loop-number l = l.least ≡ fold lesser None (take l.number-index l.numbers)

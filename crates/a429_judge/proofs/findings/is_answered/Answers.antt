@@ -1,0 +1,11 @@
+use Rattle.std.proofs.Common.{◌∙◌}
+use Rattle.a429_judge.proofs.Firsts.{first_decides, none_answers}
+use Rattle.a429_judge.proofs.findings.is_answered.Goals as goal
+
+pub returns-then-answer-sends : goal.returns-then-answer-sends
+returns-then-answer-sends c =
+    c.is_in_reach.ensures ∙ first_decides c.args.facts.now c.args.accepted.now c.args.sends.now c.args.word c.args.answer c.requires.times c.requires.first c.if-answer-sends.true
+
+pub returns-else-answer-sends : goal.returns-else-answer-sends
+returns-else-answer-sends c =
+    none_answers c.args.facts.now c.args.accepted.now c.args.sends.now c.args.word c.args.answer c.requires.first c.if-answer-sends.false

@@ -1,0 +1,14 @@
+use Rattle.std.specs.Prelude.{◌==◌}
+use Rattle.a429_judge.specs.declared.duties.Heard.{Heard}
+use Rattle.a429_judge.specs.Judgements.{accepted_by, sent_by}
+use Rattle.a429_judge.specs.Judging.{no_mark}
+use Rattle.a429_judge.specs.Recordings.{span_of}
+use Rattle.a429_judge.proofs.Logs.{taken_rise}
+use Rattle.a429_judge.proofs.RecordedBoxes.{recorded_is_right}
+use Rattle.a429_judge.proofs.RightBoxes.{right_box_is_ok}
+use Rattle.a429_judge.proofs.laws.recorded_box_is_ok.Goals as goal
+
+pub returns : goal.returns
+returns c = λ duties d r kept few plan b.
+    let rise = taken_rise (λ (h : Heard). h.source == d.source) (λ h. h.mark) r.heard (record { source = 0; mark = no_mark }) kept.heard in
+    right_box_is_ok duties d r rise few plan (recorded_is_right d.facts (span_of d.group r) (accepted_by d r) (sent_by d r) rise plan b)

@@ -1,0 +1,10 @@
+pub mod Figures
+pub mod Judgements
+pub mod Judging
+pub mod Known
+pub mod Laws
+pub mod Machine
+pub mod RecordExample
+pub mod Recordings
+pub mod Rows
+pub mod Tolerance

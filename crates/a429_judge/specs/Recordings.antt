@@ -1,0 +1,99 @@
+-- The logs of a box, and which words of them are an output's.
+use Rattle.std.specs.Prelude.{ℕ, ◌-◌, ◌==◌, ◌&&◌, ◌≤◌, List, [], ◌∷◌, ◌++◌, Bool, Option, None, Some, true, count_by, filter, length, map, min, not, slice_index_or}
+use Rattle.std.specs.List.{find, list_any}
+use Rattle.std.specs.List.Sorted.{IsNonDecreasingBy}
+use Rattle.std.specs.Option.{option_map_or}
+use Rattle.a429_word.specs.Bits.{has_odd_parity, label_of, sdi_of}
+use Rattle.a429_judge.specs.declared.duties.Duty.{Duty}
+use Rattle.a429_judge.specs.declared.duties.Heard.{Heard}
+use Rattle.a429_judge.specs.declared.duties.Sent.{Sent}
+use Rattle.a429_judge.specs.declared.facts.Mark.{Mark}
+use Rattle.a429_judge.specs.declared.facts.Span.{Span}
+
+-- Two logs on one clock: the words that sources accepted, the time of the last word that came in, accepted or not, and the words that
+-- were sent, with the time of the last.
+pub record Recording : Type 0 where
+  pub heard : List Heard
+  pub last_heard : ℕ
+  pub sent : List Sent
+  pub last_sent : ℕ
+
+-- no words
+abbrev pub no_words : Recording
+no_words = record { heard = []; last_heard = 0; sent = []; last_sent = 0 }
+
+-- the accepted word of a source, if one accepted it
+abbrev pub heard_by : Option ℕ → Mark → List Heard
+heard_by None mark = []
+heard_by (Some source) mark = record { source = source; mark = mark } ∷ []
+
+-- one more word that came in, accepted by this source, or by none
+abbrev pub with_heard : Option ℕ → Mark → Recording → Recording
+with_heard source mark r = record { heard = r.heard ++ heard_by source mark; last_heard = mark.time; sent = r.sent; last_sent = r.last_sent }
+
+-- one more word that was sent
+abbrev pub with_sent : Sent → Recording → Recording
+with_sent word r = record { heard = r.heard; last_heard = r.last_heard; sent = r.sent ++ word ∷ []; last_sent = word.mark.time }
+
+-- ---- the words of an output
+
+-- what is read past the end of a list of outputs
+abbrev pub no_duty : Duty
+no_duty = record {
+  group = 0;
+  source = 0;
+  label = 0;
+  sdi = None;
+  bus = 0;
+  facts = record { rate = 0; period = 0; least = 0; greatest = 0; hold = None; tolerance = 0 };
+}
+
+abbrev pub duty_at : List Duty → ℕ → Duty
+duty_at duties k = slice_index_or duties k no_duty
+
+-- A word that was sent is of an output: it is of its group and, if the log names buses, on its bus. It has odd parity, and the label
+-- and the SDI of the output's source.
+abbrev pub fits : Duty → Sent → Bool
+fits d w =
+    w.group == d.group && (has_odd_parity w.mark.raw && (d.label == label_of w.mark.raw
+    && (option_map_or (λ k. k == sdi_of w.mark.raw) d.sdi true && option_map_or (λ bus. bus == d.bus) w.bus true)))
+
+-- the words of an output that were sent
+abbrev pub sends_of : Duty → List Sent → List Mark
+sends_of d sent = map (λ w. w.mark) (filter (fits d) sent)
+
+-- the words that a source accepted
+abbrev pub accepted_of : ℕ → List Heard → List Mark
+accepted_of source heard = map (λ h. h.mark) (filter (λ h. h.source == source) heard)
+
+-- a word of a group is of none of these outputs
+abbrev pub is_foreign : List Duty → ℕ → Sent → Bool
+is_foreign duties group w = w.group == group && not (list_any (λ d. fits d w) duties)
+
+abbrev pub foreign_of : List Duty → ℕ → List Sent → List Mark
+foreign_of duties group sent = map (λ w. w.mark) (filter (is_foreign duties group) sent)
+
+-- a label and an SDI may be those of both outputs
+abbrev pub overlaps : Duty → Duty → Bool
+overlaps d e = d.label == e.label && option_map_or (λ j. option_map_or (λ k. j == k) e.sdi true) d.sdi true
+
+-- the outputs of a list that have a label and an SDI in common with this one, itself among them
+abbrev pub overlapping : Duty → List Duty → ℕ
+overlapping d duties = count_by (overlaps d) duties
+
+-- the time of the first word of a group that was sent, or 0 if there is none
+abbrev pub first_sent : ℕ → List Sent → ℕ
+first_sent group sent = option_map_or (λ w. w.mark.time) (find (λ w. w.group == group) sent) 0
+
+-- from when on until when accepted words can be judged
+abbrev pub span_of : ℕ → Recording → Span
+span_of group r = record { first = first_sent group r.sent; last = min r.last_heard r.last_sent }
+
+-- ---- what a recording keeps to
+
+-- times do not fall, and the last times are kept
+pub record IsKept (r : Recording) : Type 0 where
+  pub heard : IsNonDecreasingBy (λ (h : Heard). h.mark.time) r.heard
+  pub heard_last : (d : Heard) → 1 ≤ length r.heard → (slice_index_or r.heard (length r.heard - 1) d).mark.time ≤ r.last_heard
+  pub sent : IsNonDecreasingBy (λ (w : Sent). w.mark.time) r.sent
+  pub sent_last : (d : Sent) → 1 ≤ length r.sent → (slice_index_or r.sent (length r.sent - 1) d).mark.time ≤ r.last_sent

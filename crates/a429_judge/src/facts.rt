@@ -1,0 +1,43 @@
+//! What is known of an output, and the words of logs.
+ghost use Rattle.std.specs.Prelude.{◌≡◌, ◌≤◌};
+ghost use Rattle.a429_judge.specs.Tolerance.{two_slots};
+
+/// A word of a log: its time in microseconds, and its 32 bits.
+#[derive(Clone, Copy)]
+pub struct Mark {
+    pub time: u64,
+    pub raw: u32,
+}
+
+/// What is known of an output. Times are in microseconds.
+#[derive(Clone, Copy)]
+pub struct Facts {
+    /// The bit rate of its group, in bit/s.
+    pub rate: u32,
+    /// Its period in slots.
+    pub period: u32,
+    /// The minimum interval from one word to the next.
+    pub least: u64,
+    /// The maximum.
+    pub greatest: u64,
+    /// One accepted word is sent at most this number of times; `None`: no limit.
+    pub hold: Option<u32>,
+    /// How far times in the logs may be from the times that are right.
+    pub tolerance: u64,
+}
+
+/// From when on until when words that come in can be judged, in microseconds: from the first word of the group that the
+/// log of sends has, until the end of the log that ends first.
+#[derive(Clone, Copy)]
+pub struct Span {
+    pub first: u64,
+    pub last: u64,
+}
+
+/// Two slots at a bit rate in bit/s, in microseconds, rounded up: the tolerance if none is given.
+pub fn two_slots(rate: u32) -> u64
+    requires { 1 ≤ rate }
+    ensures { result ≡ two_slots rate }
+{
+    72_000_000u64.div_ceil(u64::from(rate))
+}

@@ -1,0 +1,194 @@
+//! What is said of an output.
+ghost use Rattle.std.specs.Prelude.{◌≡◌, ◌<◌, length, IfOk};
+ghost use Rattle.std.specs.List.Sorted.{IsNonDecreasingBy};
+ghost use Rattle.a429_judge.specs.Figures.{delays, greatest_of, intervals, least_of};
+ghost use Rattle.a429_judge.specs.Judgements.{accepted_by, found_at, found_by, is_alike, judgement_by, judgement_of, sent_by, verdict_of};
+ghost use Rattle.a429_judge.specs.Recordings.{foreign_of, overlapping};
+
+use crate::duties::Duty;
+use crate::facts::{Facts, Mark, Span};
+use crate::figures::{count_of, delays, greatest_of, intervals, least_of};
+use crate::findings::{Finding, Kind, findings};
+use crate::recordings::Judge;
+use a429_text::Gathered;
+use std::alloc::{AllocError, Global};
+
+/// What is said of an output in a word.
+#[derive(Clone, Copy, Debug, PartialEq, Eq)]
+pub enum Verdict {
+    /// Nothing is wrong with its sends.
+    Ok,
+    /// It sent no word.
+    NotSent,
+    /// Its words may be those of another output of its group, so it is not judged.
+    Alike,
+    /// Something is wrong.
+    Bad,
+}
+
+/// What is said of an output. Times are in microseconds.
+#[derive(Clone, Copy)]
+pub struct Judgement {
+    /// How many words it sent.
+    pub sent: u64,
+    /// The least interval from a send to the next, if there is one.
+    pub least: Option<u64>,
+    /// The greatest.
+    pub greatest: Option<u64>,
+    /// The greatest time from when a word came in until it or a later one was sent, if one was.
+    pub delay: Option<u64>,
+    /// How many findings of each kind there are.
+    pub wrong: u64,
+    pub stale: u64,
+    pub soon: u64,
+    pub late: u64,
+    pub missed: u64,
+    pub again: u64,
+    pub verdict: Verdict,
+}
+
+/// How many outputs of a list may have a label and an SDI in common with one.
+fn overlapping(duty: &Duty, duties: &[Duty]) -> usize
+    ensures { result ≡ overlapping duty.now duties.now }
+{
+    let mut count = 0;
+    for other in duties {
+        if duty.overlaps(other) {
+            count += 1;
+        }
+    }
+    count
+}
+
+/// Whether another output may have the same label and SDI.
+fn is_alike(duties: &[Duty], duty: &Duty) -> bool
+    ensures { result ≡ is_alike duties.now duty.now }
+{
+    overlapping(duty, duties) > 1
+}
+
+/// The verdict on an output.
+fn verdict_of(alike: bool, sent: usize, found: &[Finding]) -> Verdict
+    ensures { result ≡ verdict_of alike sent found.now }
+{
+    if alike {
+        return Verdict::Alike;
+    }
+    if sent == 0 {
+        return Verdict::NotSent;
+    }
+    if found.is_empty() {
+        Verdict::Ok
+    } else {
+        Verdict::Bad
+    }
+}
+
+/// The least and the greatest interval between sends. Error: an allocation failed.
+fn interval_bounds(alloc: Global, sends: &[Mark]) -> Result<(Option<u64>, Option<u64>), AllocError>
+    ensures least { IfOk result (λ r. r.0 ≡ least_of (intervals sends.now)) }
+    ensures greatest { IfOk result (λ r. r.1 ≡ greatest_of (intervals sends.now)) }
+{
+    let numbers = intervals(alloc, sends);
+    let numbers = numbers.as_slice()?;
+    Ok((least_of(numbers), greatest_of(numbers)))
+}
+
+/// What is found at an output with these words. Error: an allocation failed.
+fn found_by(
+    alloc: Global,
+    duties: &[Duty],
+    duty: &Duty,
+    span: &Span,
+    accepted: &[Mark],
+    sends: &[Mark],
+) -> Result<Gathered<Finding>, AllocError>
+    requires accepted { IsNonDecreasingBy (λ (a : Mark). a.time) accepted.now }
+    requires sends { IsNonDecreasingBy (λ (s : Mark). s.time) sends.now }
+    ensures { IfOk result (λ found. found ≡ found_by duties.now duty.now span.now accepted.now sends.now) }
+{
+    if is_alike(duties, duty) {
+        return Ok(Gathered::new(alloc));
+    }
+    findings(alloc, &duty.facts, span, accepted, sends)
+}
+
+/// The greatest delay. Error: an allocation failed.
+fn delay_bound(
+    alloc: Global,
+    facts: &Facts,
+    accepted: &[Mark],
+    sends: &[Mark],
+) -> Result<Option<u64>, AllocError>
+    requires { IsNonDecreasingBy (λ (a : Mark). a.time) accepted.now }
+    ensures { IfOk result (λ r. r ≡ greatest_of (delays facts.now accepted.now sends.now)) }
+{
+    let numbers = delays(alloc, facts, accepted, sends);
+    Ok(greatest_of(numbers.as_slice()?))
+}
+
+/// The judgement by these words and findings. Error: an allocation failed.
+#[tactic(auto, unfolding(crate::specs::Judgements::judgement_by))]
+fn judgement_by(
+    alloc: Global,
+    duties: &[Duty],
+    duty: &Duty,
+    accepted: &[Mark],
+    sends: &[Mark],
+    found: &[Finding],
+) -> Result<Judgement, AllocError>
+    requires { IsNonDecreasingBy (λ (a : Mark). a.time) accepted.now }
+    ensures { IfOk result (λ j. j ≡ judgement_by duties.now duty.now accepted.now sends.now found.now) }
+{
+    let (least, greatest) = interval_bounds(alloc, sends)?;
+    let delay = delay_bound(alloc, &duty.facts, accepted, sends)?;
+    Ok(Judgement {
+        sent: sends.len() as u64,
+        least,
+        greatest,
+        delay,
+        wrong: count_of(Kind::Wrong, found),
+        stale: count_of(Kind::Stale, found),
+        soon: count_of(Kind::Soon, found),
+        late: count_of(Kind::Late, found),
+        missed: count_of(Kind::Missed, found),
+        again: count_of(Kind::Again, found),
+        verdict: verdict_of(is_alike(duties, duty), sends.len(), found),
+    })
+}
+
+impl Judge {
+    /// What is found at an output of a group with these outputs: at its sends in their order, and then at the words that
+    /// it missed. Nothing is found at an output that is alike another. Error: an allocation failed.
+    pub fn found(
+        &self,
+        alloc: Global,
+        duties: &[Duty],
+        duty: &Duty,
+    ) -> Result<Gathered<Finding>, AllocError>
+        ensures { IfOk result (λ found. found ≡ found_at duties.now duty.now self.now) }
+    {
+        let accepted = self.accepted(alloc, duty.source);
+        let sends = self.sends(alloc, duty);
+        let span = self.span(duty.group);
+        let (accepted, sends) = (accepted.as_slice()?, sends.as_slice()?);
+        found_by(alloc, duties, duty, &span, accepted, sends)
+    }
+
+    /// What is said of an output of a group with these outputs. Error: an allocation failed.
+    pub fn judgement(
+        &self,
+        alloc: Global,
+        duties: &[Duty],
+        duty: &Duty,
+    ) -> Result<Judgement, AllocError>
+        ensures { IfOk result (λ judgement. judgement ≡ judgement_of duties.now duty.now self.now) }
+    {
+        let accepted = self.accepted(alloc, duty.source);
+        let sends = self.sends(alloc, duty);
+        let span = self.span(duty.group);
+        let (accepted, sends) = (accepted.as_slice()?, sends.as_slice()?);
+        let found = found_by(alloc, duties, duty, &span, accepted, sends)?;
+        judgement_by(alloc, duties, duty, accepted, sends, found.as_slice()?)
+    }
+}

@@ -1,0 +1,41 @@
+//! Whether what a box sent is right, by a log of what came in and a log of what it sent.
+//!
+//! A `Judge` takes the words of both logs. It says of each output (`Duty`) whether its words were the latest accepted
+//! ones, and whether their times are those of its plan. Times may be wrong by the tolerance.
+//!
+//! ```text
+//! let mut judge = Judge::new(rt.alloc());
+//! for (time, raw) in HEARD {
+//!     judge.heard(Some(0), Mark { time, raw }).expect(&rt, "a word");
+//! }
+//! for (time, raw) in SENT {
+//!     let word = Sent {
+//!         group: 0,
+//!         bus: Some(0),
+//!         mark: Mark { time, raw },
+//!     };
+//!     judge.sent(word).expect(&rt, "a word");
+//! }
+//! let judgement = judge.judgement(rt.alloc(), &DUTIES, &DUTIES[0]).expect(&rt, "a judgement");
+//! ```
+#![tactic(auto)]
+
+mod duties;
+mod facts;
+mod figures;
+mod findings;
+mod judgements;
+mod known;
+pub mod laws;
+mod recordings;
+mod rows;
+#[cfg(test)]
+mod tests;
+mod windows;
+
+pub use duties::{Duty, Heard, Sent};
+pub use facts::{Facts, Mark, Span, two_slots};
+pub use findings::{Finding, Kind};
+pub use judgements::{Judgement, Verdict};
+pub use recordings::{Judge, NoteFault};
+pub use rows::{COLUMNS, add_foreign_row, add_output_row};

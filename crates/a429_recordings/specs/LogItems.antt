@@ -1,0 +1,48 @@
+-- Logs as commands take them: what each word becomes is given, and a word that becomes nothing makes its line faulty (profile: log).
+use Rattle.std.specs.Prelude.{◌≡◌, ◌∷◌, [], ⊤, ℕ, List, Option, Some, None, Result, Ok, Err}
+use Rattle.a429_logs.specs.Logs.{WordAt, log_entries, reading_after, series_entries}
+use Rattle.a429_logs.specs.LogRows.{Stated}
+use Rattle.a429_logs.specs.declared.reader.LogFault.{LogFault}
+use Rattle.a429_logs.specs.declared.reading.Reading.{Reading}
+use Rattle.a429_console.specs.Lines.{entries_before}
+use Rattle.a429_console.specs.declared.refusals.CommandRefusal.{CommandRefusal}
+use Rattle.a429_console.specs.declared.refusals.CommandRefusal.TheVariants as refused
+use Rattle.a429_recordings.specs.declared.logs.ReadFault.{ReadFault}
+use Rattle.a429_recordings.specs.declared.logs.ReadFault.TheVariants as fault
+
+abbrev pub item_then : {A : Type 0} → ℕ → Option A → Result (List A) ℕ → Result (List A) ℕ
+item_then line None later = Err line
+item_then line (Some x) later = entries_before (x ∷ []) later
+
+-- the items of what logs state, or the number of the first line that is faulty or whose word becomes nothing
+abbrev pub items_from : {A : Type 0} → (Stated → Option A) → List (Result WordAt LogFault) → Result (List A) ℕ
+items_from item [] = Ok []
+items_from item (Err fault ∷ later) = Err fault.line
+items_from item (Ok w ∷ later) = item_then w.line (item w.word) (items_from item later)
+
+-- the items of several logs, read as if they were one; a line is numbered from 1 in the log that has it
+abbrev pub items_of : {A : Type 0} → (Stated → Option A) → Reading → List (List ℕ) → Result (List A) ℕ
+items_of item reading texts = items_from item (series_entries reading texts)
+
+-- the refusal names the first faulty line
+abbrev pub IsItemFault : {A : Type 0} → (Stated → Option A) → Reading → List (List ℕ) → CommandRefusal → Type 0
+IsItemFault item reading texts (refused.LogLine n) = items_of item reading texts ≡ Err n
+IsItemFault item reading texts _ = ⊥
+
+-- ---- what calls answer
+
+-- a fault is at this line
+abbrev pub IsFaultAt : ℕ → ReadFault → Type 0
+IsFaultAt line (fault.Line f) = f.line ≡ line
+IsFaultAt line fault.NoMemory = ⊥
+
+-- the items of a log come after those that there are, and the next log is read so; or the line is the first faulty one
+abbrev pub AddsLog : {A : Type 0} → (Stated → Option A) → Reading → List ℕ → List A → List A → Result Reading ReadFault → Type 0
+AddsLog item reading text old new (Ok next) = (next ≡ reading_after reading text) × (entries_before old (items_from item (log_entries reading text)) ≡ Ok new)
+AddsLog item reading text old new (Err (fault.Line f)) = items_from item (log_entries reading text) ≡ Err f.line
+AddsLog item reading text old new (Err fault.NoMemory) = ⊤
+
+-- the refusal for a fault
+abbrev pub refusal_for : ReadFault → CommandRefusal
+refusal_for (fault.Line f) = refused.LogLine f.line
+refusal_for fault.NoMemory = refused.Memory

@@ -1,0 +1,62 @@
+-- The command `survey`: what it prints, and why it prints nothing.
+use Rattle.std.specs.Prelude.{◌≡◌, ◌∷◌, ◌++◌, [], ◌⊎◌, ⊤, ℕ, List, Option, Some, None, Ok, Err, Result, MatchResult, if◌then◌else◌, option_map, unwrap_or}
+use Rattle.std.specs.declared.vec.Vec.{Vec}
+use Rattle.std.specs.declared.alloc.Global.{Global}
+use Rattle.std.specs.Str.{is_utf8}
+use Rattle.a429_text.specs.Sheets.{sheet_text}
+use Rattle.a429_text.specs.declared.sheets.SheetForm.TheVariants as form
+use Rattle.a429_logs.specs.LogRows.{Stated}
+use Rattle.a429_survey.specs.Figures.{Noted}
+use Rattle.a429_survey.specs.Starts.{start_columns, start_rows}
+use Rattle.a429_survey.specs.Survey.{survey_columns, survey_rows}
+use Rattle.a429_console.specs.FileReadings.{AreReadLogs, IsFirstUnreadLog}
+use Rattle.a429_console.specs.RefusalText.{OrMemory}
+use Rattle.a429_console.specs.Requests.{OptionBytes}
+use Rattle.a429_console.specs.declared.refusals.CommandRefusal.{CommandRefusal}
+use Rattle.a429_recordings.specs.LogItems.{IsItemFault, items_of}
+use Rattle.a429_recordings.specs.SimulationReplies.{reading_for}
+use Rattle.a429_recordings.specs.declared.logs.ReadFault.{ReadFault}
+use Rattle.a429_recordings.specs.declared.logs.ReadFault.TheVariants as fault
+use Rattle.a429_recordings.specs.declared.survey.SurveyForm.{SurveyForm}
+
+-- a name, if it is UTF-8
+unfoldable pub text_in : List ℕ → Option (List ℕ)
+text_in name = if is_utf8 name then Some name else None
+
+-- a word, if its name is UTF-8
+unfoldable pub noted_of : Stated → Option Noted
+noted_of w = option_map (λ name. record { time = w.time; name = name; raw = w.raw }) (text_in w.name)
+
+-- a word was noted, or its line is faulty
+abbrev pub IsNoted : {A : Type 0} → Stated → ℕ → List Noted → List Noted → Result A ReadFault → Type 0
+IsNoted w line old new (Ok _) = (n : Noted) × (noted_of w ≡ Some n) × (new ≡ old ++ n ∷ [])
+IsNoted w line old new (Err (fault.Line f)) = (noted_of w ≡ None) × (f.line ≡ line)
+IsNoted w line old new (Err fault.NoMemory) = ⊤
+
+-- what the options ask for: a bit rate of 100000 bit/s, and intervals widened by 25 per cent, unless others are given
+abbrev pub survey_form : OptionBytes → SurveyForm
+survey_form o = record {
+  rate = unwrap_or o.rate 100000;
+  slack = (if o.rows then Some (unwrap_or o.slack 25) else None);
+  form = o.form;
+  reading = reading_for o;
+}
+
+-- the sheet of some words: the survey in a form, or rows for `import`
+abbrev pub survey_text : SurveyForm → Option ℕ → List Noted → List ℕ
+survey_text f None words = sheet_text f.form survey_columns (survey_rows f.rate words)
+survey_text f (Some slack) words = sheet_text form.Csv start_columns (start_rows slack f.rate words)
+
+-- what `survey` prints of the logs of these names
+abbrev pub IsSurvey : (List ℕ → Option (List ℕ)) → List (List ℕ) → SurveyForm → List ℕ → Type 0
+IsSurvey file names f bytes =
+    (logs : List (List ℕ)) × (words : List Noted) × AreReadLogs file names logs × (items_of noted_of f.reading logs ≡ Ok words) × (bytes ≡ survey_text f f.slack words)
+
+-- why it prints nothing: a log that cannot be read, or the first faulty line
+abbrev pub IsNoSurvey : (List ℕ → Option (List ℕ)) → List (List ℕ) → SurveyForm → CommandRefusal → Type 0
+IsNoSurvey file names f refusal =
+    IsFirstUnreadLog file names refusal ⊎ ((logs : List (List ℕ)) × AreReadLogs file names logs × IsItemFault noted_of f.reading logs refusal)
+
+-- what the call answers
+abbrev pub IsSurveyAnswer : (List ℕ → Option (List ℕ)) → List (List ℕ) → SurveyForm → Result (Vec ℕ Global) CommandRefusal → Type 0
+IsSurveyAnswer file names f result = MatchResult result (λ text. IsSurvey file names f text.items) (OrMemory (IsNoSurvey file names f))

@@ -1,0 +1,70 @@
+//! Faulty lines of logs.
+ghost use Rattle.std.specs.Prelude.{◌≡◌};
+ghost use Rattle.a429_console.specs.Requests.{given_of};
+ghost use Rattle.a429_recordings.specs.LogItems.{IsFaultAt};
+ghost use Rattle.a429_recordings.specs.SimulationReplies.{clock_from, reading_for};
+
+use a429_console::arguments::requests::Options;
+use a429_console::arguments::times::LogOrigin;
+use a429_console::hints::{LogRefusal, SeenLog};
+use a429_logs::{Clock, LogReader, Reading};
+use std::alloc::AllocFailed;
+
+/// A faulty line of a log, by its number from 1, and what a hint needs of it.
+#[derive(Clone, Copy)]
+pub struct FaultyLine {
+    pub line: usize,
+    pub seen: SeenLog,
+}
+
+/// Why a log cannot be read.
+#[derive(Clone, Copy)]
+pub enum ReadFault {
+    /// This line is the first that is faulty.
+    Line(FaultyLine),
+    /// An allocation failed.
+    NoMemory,
+}
+
+impl<T: Drop> From<AllocFailed<T>> for ReadFault {
+    ghost use Rattle.std.specs.Prelude.{◌≡◌};
+    ghost use Rattle.a429_recordings.specs.declared.logs.ReadFault.TheVariants.{NoMemory};
+
+    ghost from_gives = { λ _ e. e ≡ NoMemory };
+
+    fn from(_error: AllocFailed<T>) -> ReadFault {
+        ReadFault::NoMemory
+    }
+}
+
+/// A faulty line of a log that is read so.
+pub fn faulty(reader: &LogReader<'_>, reading: Reading, line: usize, why: LogRefusal) -> ReadFault
+    ensures { IsFaultAt line result }
+{
+    ReadFault::Line(FaultyLine {
+        line,
+        seen: SeenLog {
+            why,
+            number: 0,
+            shape: reader.shape(),
+            unit: reading.unit,
+        },
+    })
+}
+
+/// The clock that counts from this time on.
+fn clock_from(from: LogOrigin) -> Clock
+    ensures { result ≡ clock_from from }
+{
+    match from {
+        LogOrigin::Time(base) => Clock::from_time(base),
+        LogOrigin::First => Clock::from_first(),
+    }
+}
+
+/// How the first line of a log is read, as these options ask for it.
+pub fn reading_for(options: &Options) -> Reading
+    ensures { result ≡ reading_for (given_of options.now) }
+{
+    Reading::new(options.time, clock_from(options.from))
+}
