@@ -36,6 +36,7 @@ replay_has_words table script a b = record {
   options = can_give_nothing;
   summarized = λ _ json. absurd (false≢true json);
   coded = λ code. absurd (false≢true code);
+  widened = λ given. absurd (false≢true given);
   encoded = λ made. absurd (cc made);
   others = λ name none. nothing_given name;
 }

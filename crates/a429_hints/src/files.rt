@@ -19,3 +19,20 @@ pub fn tell_trouble(trouble: FileTrouble, name: &str, hint: &mut HintText) {
         FileTrouble::TooLarge(_) | FileTrouble::Unknown => return,
     });
 }
+
+/// What kind of file begins with these bytes, if it is none of text in UTF-8.
+pub fn other_file(bytes: &[u8]) -> Option<&'static str> {
+    match bytes {
+        [0xFF, 0xFE, ..] | [0xFE, 0xFF, ..] | [_, 0, ..] => {
+            Some("the file is UTF-16; save it as UTF-8")
+        }
+        [0x1F, 0x8B, ..] => Some("the file is compressed (gzip); unpack it first"),
+        [0xD4, 0xC3, 0xB2, 0xA1, ..] | [0xA1, 0xB2, 0xC3, 0xD4, ..] => {
+            Some("this is a capture file (pcap); export it as text")
+        }
+        [b'P', b'K', 3, 4, ..] => {
+            Some("this is a workbook or an archive; save it as comma-separated values")
+        }
+        _ => None,
+    }
+}

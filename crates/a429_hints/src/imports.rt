@@ -1,5 +1,6 @@
 //! Hints about rows of comma-separated values that `import` refuses.
 
+use crate::files::other_file;
 use crate::hint::HintText;
 use crate::imported::tell_imported;
 use crate::lists::{LISTED, say_more};
@@ -9,11 +10,18 @@ use a429_console::hints::SeenRows;
 use a429_console::refusals::{CommandRefusal, CsvKind};
 use a429_filter::Filter;
 use a429_import::{CsvLine, IMPORT_COLUMNS, ImportColumn, LineCount, csv_lines};
+use std::alloc::{AllocError, Global};
 use std::cmp::min;
+
+/// How many bytes of a file are read for a hint.
+const LARGEST_READ: usize = 1_048_576;
 
 /// Says what is wrong with the rows of a file.
 pub fn tell_rows(refusal: &CommandRefusal, seen: &SeenRows, hint: &mut HintText) {
-    let Ok(lines) = csv_lines(hint.alloc, &seen.bytes) else {
+    if let Some(kind) = other_rows(&seen.bytes) {
+        return hint.say_line(kind);
+    }
+    let Ok(lines) = csv_lines(hint.alloc, first_lines(&seen.bytes)) else {
         return hint.give_up();
     };
     hint.turn_to_line(1);
@@ -26,6 +34,31 @@ pub fn tell_rows(refusal: &CommandRefusal, seen: &SeenRows, hint: &mut HintText)
             tell_sheet(sheet, refusal, seen, hint);
         }
     }
+}
+
+/// The lines of a file that are read for a hint: as many as 1 MiB has. Rows of a person have fewer bytes, and a hint needs
+/// more memory for a row than the command does.
+fn first_lines(bytes: &[u8]) -> &[u8] {
+    let Some(first) = bytes.get(..LARGEST_READ) else {
+        return bytes;
+    };
+    match first.iter().rposition(|byte| *byte == b'\n') {
+        Some(end) => first.get(..end).unwrap_or(first),
+        None => first,
+    }
+}
+
+/// What kind of file begins with these bytes, if it is none with rows.
+fn other_rows(bytes: &[u8]) -> Option<&'static str> {
+    if bytes.starts_with(b"refused ") {
+        return Some(
+            "this is the answer of a command that refused its file; correct that, and run the command again",
+        );
+    }
+    if bytes.starts_with(b"version =") || bytes.starts_with(b"[[") {
+        return Some("this is an equipment table (TOML); import reads comma-separated values");
+    }
+    other_file(bytes)
 }
 
 fn tell_sheet(sheet: Sheet, refusal: &CommandRefusal, seen: &SeenRows, hint: &mut HintText) {
@@ -59,6 +92,17 @@ fn tell_heading(sheet: Sheet, hint: &mut HintText) {
     for column in IMPORT_COLUMNS.as_slice() {
         tell_column(sheet.heading, *column, hint);
     }
+    tell_fields(sheet.heading, hint);
+}
+
+/// Names the fields of a heading.
+fn tell_fields(heading: &CsvLine, hint: &mut HintText) {
+    hint.begin(": the heading has");
+    for place in 0..min(heading.len(), LISTED) {
+        hint.say_quoted(" ", heading_text(heading, place));
+    }
+    say_more(heading.len(), hint);
+    hint.end("");
 }
 
 /// How many fields of a heading have this name.
@@ -91,28 +135,44 @@ fn heading_text(heading: &CsvLine, place: usize) -> &str {
     str::from_utf8(heading.field(place)).unwrap_or("")
 }
 
+/// The letters and digits of a text, in lower case: names of one column differ in case, spaces and signs.
+fn letters(alloc: Global, text: &str) -> Result<String, AllocError> {
+    text.chars()
+        .filter(|c| c.is_ascii_alphanumeric())
+        .map(|c| c.to_ascii_lowercase())
+        .collect(alloc)
+}
+
+/// Whether two texts have the same letters and digits.
+fn are_alike(alloc: Global, a: &str, b: &str) -> bool {
+    match (letters(alloc, a), letters(alloc, b)) {
+        (Ok(a), Ok(b)) => a.as_str() == b.as_str(),
+        _ => false,
+    }
+}
+
 /// Says which field of a heading is nearest to the name of a column. Fields that name a column are left out.
 fn say_nearest_field(heading: &CsvLine, name: &str, hint: &mut HintText) {
     let mut nearest = Nearest::to(name);
     for place in 0..min(heading.len(), LISTED) {
         let text = heading_text(heading, place);
-        if !is_column(text) {
-            nearest = nearest.or(hint.alloc, text);
+        if is_column(text) {
+            continue;
         }
+        if are_alike(hint.alloc, text, name) {
+            return hint.say_quoted("; the nearest is ", text);
+        }
+        nearest = nearest.or(hint.alloc, text);
     }
     if let Some(near) = nearest.name() {
         hint.say_quoted("; the nearest is ", near);
     }
 }
 
-/// Says which column the heading lacks, and which it has.
+/// Says which column the heading lacks.
 fn tell_missing(heading: &CsvLine, name: &str, hint: &mut HintText) {
     hint.begin(": the column ");
-    hint.say_text(name, " is missing; the heading has");
-    for place in 0..min(heading.len(), LISTED) {
-        hint.say_quoted(" ", heading_text(heading, place));
-    }
-    say_more(heading.len(), hint);
+    hint.say_text(name, " is missing");
     say_nearest_field(heading, name, hint);
     hint.end("");
 }

@@ -1,5 +1,6 @@
 //! Hints about lines of logs, and about logs that are too long.
 
+use crate::files::other_file;
 use crate::hint::HintText;
 use crate::lists::{has_name, tell_names};
 use crate::scripts::{NOT_UTF8, is_script_word};
@@ -52,23 +53,6 @@ pub fn tell_log_line(line: &SeenLine, log: &SeenLog, hint: &mut HintText) {
         LogRefusal::Late => hint.say_line(
             "the time is 100000000000000 us or more; to count times from the first word, give --from first",
         ),
-    }
-}
-
-/// What kind of file begins with these bytes, if it is none of text in UTF-8.
-fn other_file(bytes: &[u8]) -> Option<&'static str> {
-    match bytes {
-        [0xFF, 0xFE, ..] | [0xFE, 0xFF, ..] | [_, 0, ..] => {
-            Some("the log is UTF-16; save it as UTF-8")
-        }
-        [0x1F, 0x8B, ..] => Some("the log is compressed (gzip); unpack it first"),
-        [0xD4, 0xC3, 0xB2, 0xA1, ..] | [0xA1, 0xB2, 0xC3, 0xD4, ..] => {
-            Some("this is a capture file (pcap); export it as text")
-        }
-        [b'P', b'K', 3, 4, ..] => {
-            Some("this is a workbook or an archive; save it as comma-separated values")
-        }
-        _ => None,
     }
 }
 

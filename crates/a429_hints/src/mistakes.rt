@@ -25,6 +25,25 @@ pub fn tell_nearest_word(words: &[&str], hint: &mut HintText) {
     }
 }
 
+/// Says how to write what other programs take: the name of a file for the answer, a number with `%`, or a negative number
+/// after an option.
+pub fn tell_habits(words: &[&str], hint: &mut HintText) {
+    let mut before = "";
+    for word in words {
+        if word.ends_with(".svg") || word.ends_with(".html") {
+            hint.say_short("a429: to write a file, add > before its name: >", word);
+            hint.end("");
+        } else if before == "--bnr" && word.starts_with('-') {
+            hint.say_short("a429: write --bnr=", word);
+            hint.end("");
+        } else if let Some(number) = word.strip_suffix('%') {
+            hint.say_short("a429: write ", number);
+            hint.end(" without %");
+        }
+        before = word;
+    }
+}
+
 /// The names of the commands, separated by spaces. If two are equally near, the hint names the first. So `word`,
 /// `encode` and `lines`, the first three commands, come last: they are meant least often.
 fn command_names(alloc: Global) -> Result<String, AllocError> {

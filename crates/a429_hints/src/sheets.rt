@@ -2,6 +2,7 @@
 
 use crate::hint::HintText;
 use a429_import::CsvLine;
+use std::alloc::{AllocError, Global};
 
 /// The rows of a file below their heading.
 #[derive(Clone, Copy)]
@@ -149,7 +150,67 @@ pub fn tell_field(row: &CsvLine, column: &str, text: &str, hint: &mut HintText) 
         Some(rate) if column == "rate" => hint.end_text("; the unit is bit/s: write ", rate),
         _ => {
             hint.say_text(" is not ", thing_in(column));
-            hint.end_text("; it must be ", form);
+            hint.say_text("; it must be ", form);
+            say_remedy(column, text, hint);
+            hint.end("");
         }
     }
+}
+
+/// Says what to write instead of a text, if it is known.
+fn say_remedy(column: &str, text: &str, hint: &mut HintText) {
+    match column {
+        "min_us" | "max_us" => {
+            if let Some(us) = millis(text) {
+                hint.say_number("; if it is in ms, write ", us);
+            }
+        }
+        "group" | "source" | "receiver" => match lawful_name(hint.alloc, text) {
+            Ok(name) if !name.is_empty() => hint.say_text("; for example ", name.as_str()),
+            _ => {}
+        },
+        _ => {}
+    }
+}
+
+/// The microseconds of a decimal number of milliseconds with one to three decimals. `None` for another text.
+fn millis(text: &str) -> Option<u64> {
+    let (whole, fraction) = text.split_once('.').or(text.split_once(','))?;
+    if whole.len() > 5 || fraction.is_empty() || fraction.len() > 3 {
+        return None;
+    }
+    let mut us = 0u64;
+    for digit in whole.bytes().chain(fraction.bytes()) {
+        if !digit.is_ascii_digit() {
+            return None;
+        }
+        us = us
+            .saturating_mul(10)
+            .saturating_add(u64::from(digit.saturating_sub(b'0')));
+    }
+    for _ in fraction.len()..3 {
+        us = us.saturating_mul(10);
+    }
+    Some(us)
+}
+
+/// A name like a text: its letters in lower case and its digits, `-` between them, at most 16 characters.
+fn lawful_name(alloc: Global, text: &str) -> Result<String, AllocError> {
+    let mut name = String::new(alloc);
+    let mut is_apart = false;
+    for c in text.chars() {
+        if name.len() >= 16 {
+            break;
+        }
+        if !c.is_ascii_alphanumeric() && c != '_' {
+            is_apart = !name.is_empty();
+            continue;
+        }
+        if is_apart && name.len() < 15 {
+            name.push('-')?;
+        }
+        is_apart = false;
+        name.push(c.to_ascii_lowercase())?;
+    }
+    Ok(name)
 }

@@ -8,7 +8,7 @@ use crate::findings::tell_findings;
 use crate::hint::HintText;
 use crate::imports::tell_rows;
 use crate::logs::{tell_log_line, tell_too_long};
-use crate::mistakes::tell_nearest_word;
+use crate::mistakes::{tell_habits, tell_nearest_word};
 use crate::plans::{tell_all_unfit, tell_fewer_buses, tell_groups};
 use crate::scripts::{tell_script_line, tell_words_line};
 use crate::words::{
@@ -44,6 +44,7 @@ impl Hints for HintLines {
     fn tell_mistake<V: Write>(&self, alloc: Global, words: &[&str], err: &mut V) -> io::Result<()> {
         let mut hint = HintText::new(alloc);
         tell_nearest_word(words, &mut hint);
+        tell_habits(words, &mut hint);
         hint.put(err)
     }
 

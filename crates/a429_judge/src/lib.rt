@@ -4,19 +4,30 @@
 //! ones, and whether their times are those of its plan. Times may be wrong by the tolerance.
 //!
 //! ```text
-//! let mut judge = Judge::new(rt.alloc());
-//! for (time, raw) in HEARD {
-//!     judge.heard(Some(0), Mark { time, raw }).expect(&rt, "a word");
+//! let mut judge = Judge::new(alloc);
+//! for (time, raw) in heard {
+//!     let mark = Mark {
+//!         time: *time,
+//!         raw: *raw,
+//!     };
+//!     judge.heard(Some(0), mark).expect(rt, "a word");
 //! }
-//! for (time, raw) in SENT {
+//! ..
+//! for (time, raw) in sent {
 //!     let word = Sent {
 //!         group: 0,
-//!         bus: Some(0),
-//!         mark: Mark { time, raw },
+//!         bus: None,
+//!         mark: Mark {
+//!             time: *time,
+//!             raw: *raw,
+//!         },
 //!     };
-//!     judge.sent(word).expect(&rt, "a word");
+//!     judge.sent(word).expect(rt, "a word");
 //! }
-//! let judgement = judge.judgement(rt.alloc(), &DUTIES, &DUTIES[0]).expect(&rt, "a judgement");
+//! let duties = [duty(0, 0, hold)];
+//! judge
+//!     .judgement(alloc, &duties, &duties[0])
+//!     .expect(rt, "a judgement")
 //! ```
 #![tactic(auto)]
 

@@ -43,18 +43,12 @@ group,rate,source,receiver,label,sdi,min_us,max_us
 ,12500,wide-001,wide,001,0,,
 ";
 
-/// A survey of these words.
-fn survey_of_words(rt: &HostRuntime) -> Survey {
-    let mut survey = Survey::new(rt.alloc());
-    for (time, name, raw) in WORDS {
-        survey.note(name, time, raw).expect(rt, "a word");
-    }
-    survey
-}
-
 #[test]
 fn starts_are_as_by_hand(rt: HostRuntime) {
-    let survey = survey_of_words(&rt);
+    let mut survey = Survey::new(rt.alloc());
+    for (time, name, raw) in WORDS {
+        survey.note(name, time, raw).expect(&rt, "a word");
+    }
     let sheet = survey
         .start_sheet(rt.alloc(), 12500, 25)
         .expect(&rt, "a sheet");
@@ -66,7 +60,10 @@ fn starts_are_as_by_hand(rt: HostRuntime) {
 
 #[test]
 fn sheet_is_as_by_hand(rt: HostRuntime) {
-    let survey = survey_of_words(&rt);
+    let mut survey = Survey::new(rt.alloc());
+    for (time, name, raw) in WORDS {
+        survey.note(name, time, raw).expect(&rt, "a word");
+    }
     let sheet = survey.sheet(rt.alloc(), 100000).expect(&rt, "a sheet");
     let text = sheet
         .render(rt.alloc(), SheetForm::Csv)
