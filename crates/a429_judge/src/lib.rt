@@ -6,25 +6,12 @@
 //! ```text
 //! let mut judge = Judge::new(alloc);
 //! for (time, raw) in heard {
-//!     let mark = Mark {
-//!         time: *time,
-//!         raw: *raw,
-//!     };
+//!     ..
 //!     judge.heard(Some(0), mark).expect(rt, "a word");
 //! }
 //! ..
-//! for (time, raw) in sent {
-//!     let word = Sent {
-//!         group: 0,
-//!         bus: None,
-//!         mark: Mark {
-//!             time: *time,
-//!             raw: *raw,
-//!         },
-//!     };
 //!     judge.sent(word).expect(rt, "a word");
-//! }
-//! let duties = [duty(0, 0, hold)];
+//! ..
 //! judge
 //!     .judgement(alloc, &duties, &duties[0])
 //!     .expect(rt, "a judgement")
