@@ -7,8 +7,8 @@ use a429_word::{Label, Sdi};
 use std::alloc::{AllocError, Global};
 use std::marker::Model;
 
-/// A name of a receiver, a source or a group. In an equipment it is 1 to 16 of `a` to `z`, `0` to `9`, `-` and `_`
-/// (profile).
+/// A name of a receiver, a source or a group. In an equipment it is 1 to 16 characters of `a` to `z`, `0` to `9`, `-`
+/// and `_` (profile).
 #[derive(Debug, Drop)]
 pub struct Name {
     text: String,

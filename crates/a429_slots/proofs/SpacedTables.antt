@@ -1,4 +1,4 @@
--- The slot tables of plans keep to the least spacings of their outputs.
+-- In the slot table of a plan, two cells of one output are at least its least spacing apart.
 use Rattle.std.proofs.Common.{◌≡◌, ℕ, zero, suc, ◌^◌, ◌<◌, ◌∷◌, [], List, length, get_or, map, ◌∙◌, sym, ap, subst, refl, arith}
 use Rattle.std.specs.Prelude.{Some, slice_get}
 use Rattle.std.specs.List.{AllZip}

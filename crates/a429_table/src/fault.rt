@@ -33,8 +33,8 @@ pub enum FaultKind {
     Name,
     /// A name is that of an earlier table of the same array. At the later one.
     DuplicateName,
-    /// A label is not three octal digits, 000 to 377, or a filter is not two such with a slash between them. At that
-    /// table.
+    /// A label is not three octal digits, 000 to 377, or a filter is not two labels with a slash between them. At
+    /// that table.
     Label,
     /// An SDI is neither 0 to 3 nor `any`. At that source.
     Sdi,

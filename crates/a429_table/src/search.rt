@@ -22,7 +22,7 @@ use crate::walk::{Stop, walk};
 use std::alloc::{AllocError, Global};
 use toml::Value;
 
-/// The kinds that a document can have, in the order in which they are asked.
+/// The kinds of faults that a document can have, in the order in which they are sought.
 const KINDS: [FaultKind; 16] = [
     FaultKind::Version,
     FaultKind::UnknownKey,

@@ -90,7 +90,7 @@ fn misfits(value: &Value, c: &Column) -> bool
     }
 }
 
-/// Whether the value is no table, or one of its values is not of the kind of its column.
+/// Whether the value is something other than a table, or a value in it is not of the kind of its column.
 #[tactic(auto, unfolding(crate::specs::Faults::has_wrong_kind))]
 pub fn has_wrong_kind(version: TableVersion, stop: &Stop) -> bool
     ensures { result ≡ has_wrong_kind version stop.now.place (view stop.now.value.now) }

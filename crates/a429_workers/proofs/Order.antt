@@ -365,7 +365,7 @@ module _ (C : ℕ) (o : Opening) (g : ℕ) (p : SlotTable) (later : List Propose
   after_meeting F loads calls events each zero c l there loaded = let no' : Meets loads ≡ Asks (Some c) = same_Some (Meets loads) (Asks (Some c)) there in absurd (cc)
   after_meeting F loads calls events each (suc n) c l there loaded = let K = each n c l there loaded in record { count = K.count; asked = K.asked; sends = K.sends; latest = K.latest }
 
-  -- a meeting is no event
+  -- a meeting adds no event
   meeting : (F : List Event) (cut : ℕ → ℕ) (s : GroupState) (rest : List Proposed) (loads : List Load) (calls : List Call) (events : List (Event × Answer)) → At F cut s rest → AllByRecursion (IsCounted C o F) loads
       → ((n : ℕ) → Leads F s events (take n calls)) → (n : ℕ) → Leads F s events (take n (Meets loads ∷ calls))
   meeting F cut s rest loads calls events A shown leads zero = leads_here F cut s rest events A

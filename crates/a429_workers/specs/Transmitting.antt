@@ -182,11 +182,11 @@ pub record IsLoaded (old : ends.TransmitterEnd) (sends : List Recent) (slot : �
   pub no_less : CountsNoLess old.loads (load_of due.source found)
   pub sent : (word, kept) ≡ sent_by sends slot due found
 
--- for an output of a source of which sends are kept that is done, for an empty cell nothing
+-- an output of a source whose sends are kept is loaded; an empty cell changes nothing
 abbrev pub IsDone : ends.TransmitterEnd → List Recent → ℕ → Option Due → Option ℕ → ends.TransmitterEnd → List Recent → Type 0
 IsDone old sends slot None word new kept = (word ≡ None) × (new ≡ old) × (kept ≡ sends)
 IsDone old sends slot (Some due) word new kept = due.source < length sends → IsLoaded old sends slot due word new kept
 
--- a receiver was met, and the loads agree with the words of the other receivers as they did
+-- a receiver was met, and the loads still agree with the words of the other receivers
 abbrev pub KeepsOthers : Transmitting → ℕ → Transmitting → Type 0
 KeepsOthers old receiver new = OthersStayAgreed old.transmitter.at.station receiver old.transmitter.loads new.transmitter.loads

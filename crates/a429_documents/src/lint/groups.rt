@@ -137,7 +137,7 @@ fn are_alike(demands: &[Demand], output: usize, other: usize) -> bool
     output < other && first.label == later.label && one_is_any(first.sdi, later.sdi)
 }
 
-/// Adds an output with a later one, if a display cannot distinguish them.
+/// Adds an output and a later one, if a display cannot distinguish their words.
 fn add_alike(
     found: &mut Rows,
     sources: &[SourceRow],
